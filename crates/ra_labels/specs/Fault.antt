@@ -1,0 +1,41 @@
+-- When records hold, and the first label at which they do not.
+use Rattle.std.specs.Prelude.{ℕ, [], ◌∷◌, Option, Some, None, option_map, is_none, not, if◌then◌else◌}
+use Rattle.std.specs.Option.{option_or}
+use Rattle.ra_labels.specs.declared.kind.Kind.{Kind}
+use Rattle.ra_labels.specs.declared.command.Command.TheVariants.{Operate}
+use Rattle.ra_labels.specs.declared.reply.Cause.{Cause}
+use Rattle.ra_labels.specs.declared.reply.Cause.TheVariants.{Order, Update, Query}
+use Rattle.ra_labels.specs.declared.reply.Fault.{Fault}
+use Rattle.ra_labels.specs.Records.{Records, label_count}
+use Rattle.ra_labels.specs.Linearization.{IsRaLinearization, extends_visibility, updates_admitted, queries_admitted}
+use Rattle.ra_labels.specs.NamedOrder.{named_sequence}
+
+-- the named sequence is an RA-linearization
+abbrev pub Holds : Kind → Records → Type 0
+Holds kind records = IsRaLinearization kind records (named_sequence kind records)
+
+-- the first condition that the named sequence fails
+abbrev pub cause_of : Kind → Records → Option Cause
+cause_of kind records =
+    let sequence = named_sequence kind records in
+    if not (extends_visibility records sequence) then Some Order
+    else if not (updates_admitted kind sequence) then Some Update
+    else if not (queries_admitted kind records sequence) then Some Query
+    else None
+
+abbrev pub fault_at : ℕ → Cause → Fault
+fault_at n why = record { label = n; cause = why }
+
+-- the first label at which the records do not hold: that of the records before, else this one
+abbrev pub fault_of : Kind → Records → Option Fault
+fault_of kind [] = None
+fault_of kind (Operate replica op clock ∷ before) =
+    let records = Operate replica op clock ∷ before in
+    option_or (fault_of kind before) (option_map (fault_at (label_count before)) (cause_of kind records))
+fault_of kind (_ ∷ before) = fault_of kind before
+
+-- the longest front of the records that has no fault
+abbrev pub records_before_fault : Kind → Records → Records
+records_before_fault kind [] = []
+records_before_fault kind (command ∷ before) =
+    if is_none (fault_of kind (command ∷ before)) then command ∷ before else records_before_fault kind before

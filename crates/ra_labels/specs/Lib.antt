@@ -1,0 +1,9 @@
+pub mod Specification
+pub mod Records
+pub mod Visibility
+pub mod Rewriting
+pub mod Linearization
+pub mod NamedOrder
+pub mod Fault
+pub mod Answer
+pub mod Worked

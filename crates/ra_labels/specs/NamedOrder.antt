@@ -1,0 +1,43 @@
+-- The named order of each kind, and the sequence of all parts in that order.
+use Rattle.std.specs.Prelude.{ℕ, List, [], ◌∷◌, flat_map, if◌then◌else◌}
+use Rattle.std.specs.Ordering.{nat_cmp, ordering_then, is_lt}
+use Rattle.std.specs.declared.cmp.Ordering.{Ordering}
+use Rattle.ra_labels.specs.declared.kind.Kind.{Kind}
+use Rattle.ra_labels.specs.declared.kind.Kind.TheVariants.{Counter}
+use Rattle.ra_labels.specs.declared.label.Stamp.{Stamp}
+use Rattle.ra_labels.specs.declared.label.Label.{Label}
+use Rattle.ra_labels.specs.Records.{Records, labels_of}
+use Rattle.ra_labels.specs.Rewriting.{Part, parts_of}
+
+-- below every stamp
+abbrev pub lowest_rank : Stamp
+lowest_rank = record { clock = 0; replica = 0 }
+
+-- what a label is sorted by before its number: in order of execution nothing
+abbrev pub rank_of : Kind → Records → Label → Stamp
+rank_of Counter records label = lowest_rank
+
+abbrev pub stamp_cmp : Stamp → Stamp → Ordering
+stamp_cmp s t = ordering_then (nat_cmp s.clock t.clock) (nat_cmp s.replica t.replica)
+
+-- by rank, and then by number
+abbrev pub label_cmp : Kind → Records → Label → Label → Ordering
+label_cmp kind records l m =
+    ordering_then (stamp_cmp (rank_of kind records l) (rank_of kind records m)) (nat_cmp l.number m.number)
+
+-- x is put before the first element that it is below
+abbrev pub insert_by : {A : Type 0} → (A → A → Ordering) → A → List A → List A
+insert_by cmp x [] = x ∷ []
+insert_by cmp x (y ∷ ys) = if is_lt (cmp x y) then x ∷ y ∷ ys else y ∷ insert_by cmp x ys
+
+abbrev pub sort_by : {A : Type 0} → (A → A → Ordering) → List A → List A
+sort_by cmp [] = []
+sort_by cmp (x ∷ xs) = insert_by cmp x (sort_by cmp xs)
+
+-- the labels in the named order
+abbrev pub named_labels : Kind → Records → List Label
+named_labels kind records = sort_by (label_cmp kind records) (labels_of records)
+
+-- the parts in the named order, a query half right before its update half
+abbrev pub named_sequence : Kind → Records → List Part
+named_sequence kind records = flat_map parts_of (named_labels kind records)

@@ -1,0 +1,49 @@
+-- The rewriting: a query-update becomes a query half and an update half; any other label is its own one part.
+use Rattle.std.specs.Prelude.{ℕ, ◌∷◌, [], List, map, Bool, true, false, Option, Some, None, filter_map}
+use Rattle.ra_labels.specs.declared.operation.Op.{Op}
+use Rattle.ra_labels.specs.declared.operation.Op.TheVariants as op
+use Rattle.ra_labels.specs.declared.operation.Update.{Update}
+use Rattle.ra_labels.specs.declared.operation.Update.TheVariants.{Inc, Dec}
+use Rattle.ra_labels.specs.declared.operation.Query.{Query}
+use Rattle.ra_labels.specs.declared.operation.Query.TheVariants.{Count}
+use Rattle.ra_labels.specs.declared.label.Label.{Label}
+
+-- which part of its label: all of it, or one of two halves
+pub data Half : Type 0 where
+  Whole : Half
+  QueryHalf : Half
+  UpdateHalf : Half
+
+-- what a part does, or asks
+pub data Act : Type 0 where
+  Does : Update → Act
+  Asks : Query → Act
+
+pub record Part : Type 0 where
+  pub label : Label
+  pub half : Half
+  pub act : Act
+
+-- what an operation is rewritten into, a query half before its update half
+abbrev pub acts_of : Op → List (Half × Act)
+acts_of op.Inc = (Whole, Does Inc) ∷ []
+acts_of op.Dec = (Whole, Does Dec) ∷ []
+acts_of (op.Count v) = (Whole, Asks (Count v)) ∷ []
+
+abbrev pub part_of : Label → Half × Act → Part
+part_of from act = record { label = from; half = act.0; act = act.1 }
+
+abbrev pub parts_of : Label → List Part
+parts_of label = map (part_of label) (acts_of label.op)
+
+abbrev pub update_of : Act → Option Update
+update_of (Does update) = Some update
+update_of (Asks query) = None
+
+abbrev pub query_of : Act → Option Query
+query_of (Does update) = None
+query_of (Asks query) = Some query
+
+-- the updates among the parts, in their order
+abbrev pub updates_of : List Part → List Update
+updates_of parts = filter_map (λ part. update_of part.act) parts

@@ -1,0 +1,39 @@
+-- What a replica had, what a label sees, and when records are causal.
+use Rattle.std.specs.Prelude.{◌≡◌, ℕ, ◌==◌, Bool, true, false, ◌&&◌, ◌||◌, [], ◌∷◌, if◌then◌else◌}
+use Rattle.std.specs.Option.{option_map_or}
+use Rattle.ra_labels.specs.declared.operation.Op.{Op}
+use Rattle.ra_labels.specs.declared.operation.Op.TheVariants.{Inc, Dec, Count}
+use Rattle.ra_labels.specs.declared.command.Command.TheVariants.{Operate, Deliver}
+use Rattle.ra_labels.specs.Records.{Records, label_count, label_at}
+
+-- does the operation change the state, be it an update or a query-update?
+abbrev pub is_update : Op → Bool
+is_update Inc = true
+is_update Dec = true
+is_update (Count v) = false
+
+-- is label n there, and an update?
+abbrev pub is_update_at : Records → ℕ → Bool
+is_update_at records n = option_map_or (λ label. is_update label.op) (label_at records n) false
+
+-- is label n an update that the replica issued, or reported as delivered?
+abbrev pub had : Records → ℕ → ℕ → Bool
+had [] replica n = false
+had (Operate by op clock ∷ before) replica n =
+    (by == replica && n == label_count before && is_update op) || had before replica n
+had (Deliver to label ∷ before) replica n =
+    (to == replica && n == label && is_update_at before n) || had before replica n
+had (_ ∷ before) replica n = had before replica n
+
+-- does label n see label m: had n's replica m when it issued n?
+abbrev pub sees : Records → ℕ → ℕ → Bool
+sees [] n m = false
+sees (Operate by op clock ∷ before) n m = if n == label_count before then had before by m else sees before n m
+sees (_ ∷ before) n m = sees before n m
+
+-- whatever was delivered was new to the receiver, which had all that it saw
+abbrev pub IsCausal : Records → Type 0
+IsCausal [] = Unit {0}
+IsCausal (Deliver to label ∷ before) =
+    (had before to label ≡ false) × ((m : ℕ) → sees before label m ≡ true → had before to m ≡ true) × IsCausal before
+IsCausal (_ ∷ before) = IsCausal before

@@ -1,0 +1,1 @@
+//! Laws above the definitions, each the clause of a function that does nothing.

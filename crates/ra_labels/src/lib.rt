@@ -1,0 +1,30 @@
+//! What replicas report, and what the monitor answers.
+//!
+//! The types are those of every layer: kinds, operations, labels, commands, replies. Their meaning stands
+//! beside them in `specs/`, for a person to read in one sitting (docs/MODEL.md has it in words): the
+//! sequential specification, records and visibility, the rewriting, RA-linearization, the named sequence,
+//! the fault, and the one-thread monitor's answer, after Wang, Enea, Mutluergil and Petri,
+//! "Replication-Aware Linearizability" (PLDI 2019).
+//!
+//! The one contract for the layers above: `fits` answers the first refusal that an operation's own form
+//! deserves. The laws of the definitions are the clauses of the functions of `laws`, and worked histories
+//! are computed in `worked`.
+#![tactic(auto)]
+
+mod command;
+mod kind;
+mod label;
+pub mod laws;
+mod memory;
+mod operation;
+mod refusal;
+mod reply;
+pub mod worked;
+
+pub use command::Command;
+pub use kind::Kind;
+pub use label::{Label, Stamp};
+pub use memory::NoMemory;
+pub use operation::{Op, Query, Update};
+pub use refusal::{Refusal, fits};
+pub use reply::{Cause, Fault, Reply};
