@@ -1,0 +1,18 @@
+-- What the fields of a monitor stand for, and what is kept true of them.
+use Rattle.std.specs.Prelude.{◌≡◌, ◌≤◌, length, vec_len}
+use Rattle.ra_monitor.specs.declared.monitor.Monitor.TheInside.{Inside}
+use Rattle.ra_monitor.specs.Monitor.{Logged, records_of, refused_count, IsLegalLog}
+use Rattle.ra_monitor.specs.History.{StandsFor}
+use Rattle.ra_monitor.specs.Limits.{AreReplicas, IsLimit}
+
+abbrev pub logged : Inside → Logged
+logged m = record { setup = m.setup; log = m.log.items }
+
+pub record IsKept (m : Inside) : Type 0 where
+  pub replicas : AreReplicas m.setup.replicas
+  pub limit : IsLimit m.setup.limit
+  pub fits : length m.log.items ≤ m.setup.limit
+  pub legal : IsLegalLog m.setup m.log.items
+  pub history : StandsFor m.history m.setup.replicas (records_of m.setup m.log.items)
+  pub labels : vec_len m.history.labels ≤ length m.log.items
+  pub refused : m.refused ≡ refused_count m.log.items

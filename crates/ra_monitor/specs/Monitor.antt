@@ -1,0 +1,70 @@
+-- What contracts see of a monitor: its setup and its log, and nothing else.
+use Rattle.std.specs.Prelude.{◌≡◌, ℕ, Bool, true, false, List, [], map, count_by, Option, Some, ◌↔◌}
+use Rattle.ra_labels.specs.declared.command.Command.{Command}
+use Rattle.ra_labels.specs.declared.reply.Reply.{Reply}
+use Rattle.ra_labels.specs.declared.reply.Reply.TheVariants.{Ok, Got, Yes, No, Refused}
+use Rattle.ra_labels.specs.declared.reply.Cause.{Cause}
+use Rattle.ra_labels.specs.declared.reply.Fault.{Fault}
+use Rattle.ra_labels.specs.Records.{Records}
+use Rattle.ra_labels.specs.Rewriting.{Part}
+use Rattle.ra_labels.specs.Linearization.{IsRaLinearization}
+use Rattle.ra_labels.specs.Fault.{fault_of, fault_at}
+use Rattle.ra_labels.specs.Answer.{answer_of, records_after_all}
+use Rattle.ra_monitor.specs.declared.entry.Entry.{Entry}
+use Rattle.ra_monitor.specs.declared.setup.Setup.{Setup}
+use Rattle.ra_monitor.specs.Log.{Protocol, IsLegal, IsAboveLast}
+
+abbrev pub MonitorEntry : Type 0
+MonitorEntry = Entry Command Reply
+
+pub record Logged : Type 0 where
+  pub setup : Setup
+  -- the oldest entry first
+  pub log : List MonitorEntry
+
+abbrev pub commands_of : List MonitorEntry → List Command
+commands_of log = map (λ entry. entry.command) log
+
+-- the records that the commands of a log leave
+abbrev pub records_of : Setup → List MonitorEntry → Records
+records_of setup log = records_after_all setup.kind setup.replicas [] (commands_of log)
+
+-- what the one-thread monitor answers after the records of a log
+abbrev pub protocol_of : Setup → Protocol MonitorEntry Command Reply
+protocol_of setup = record {
+  ticket_of = λ entry. entry.ticket;
+  command_of = λ entry. entry.command;
+  reply_of = λ entry. entry.reply;
+  answer_after = λ before command. answer_of setup.kind setup.replicas (records_of setup before) command;
+}
+
+abbrev pub IsLegalLog : Setup → List MonitorEntry → Type 0
+IsLegalLog setup log = IsLegal (protocol_of setup) log
+
+-- the ticket is above the log's last
+abbrev pub IsNextTicket : Logged → ℕ → Type 0
+IsNextTicket monitor ticket = IsAboveLast (protocol_of monitor.setup) monitor.log ticket
+
+abbrev pub fault_in : Setup → List MonitorEntry → Option Fault
+fault_in setup log = fault_of setup.kind (records_of setup log)
+
+abbrev pub is_yes : Reply → Bool
+is_yes (Ok label) = true
+is_yes (Yes labels) = true
+is_yes _ = false
+
+abbrev pub is_refused : Reply → Bool
+is_refused (Refused refusal) = true
+is_refused _ = false
+
+abbrev pub refused_count : List MonitorEntry → ℕ
+refused_count log = count_by (λ entry. is_refused entry.reply) log
+
+-- some sequence is an RA-linearization of the records of the log
+abbrev pub IsRaLinearizable : Setup → List MonitorEntry → Type 0
+IsRaLinearizable setup log = (sequence : List Part) × IsRaLinearization setup.kind (records_of setup log) sequence
+
+-- the reply is a no with this label and this cause exactly where that is the fault of the log
+abbrev pub IsNoAtFault : Setup → List MonitorEntry → Reply → Type 0
+IsNoAtFault setup log reply =
+    (label : ℕ) (cause : Cause) → (reply ≡ No label cause) ↔ (fault_in setup log ≡ Some (fault_at label cause))

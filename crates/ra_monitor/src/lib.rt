@@ -1,0 +1,23 @@
+//! The one-thread monitor: it takes what replicas report, and answers whether all so far is RA-linearizable by
+//! the named order of its kind.
+//!
+//! The one contract for the layers above: `Monitor::step` answers as the definition of the one-thread monitor
+//! says (`ra_labels/specs/Answer`), after the records of its log, and appends that entry. Every monitor's log is
+//! legal, and a yes in it implies an RA-linearization of the records up to there.
+#![tactic(auto)]
+
+mod entry;
+mod faults;
+mod history;
+mod monitor;
+mod part_ref;
+mod report;
+mod seen;
+mod setup;
+
+pub use entry::Entry;
+pub use faults::{NewFault, StepFault};
+pub use monitor::{MOST_ENTRIES, MOST_REPLICAS, Monitor};
+pub use part_ref::{Half, PartRef};
+pub use report::Report;
+pub use setup::Setup;

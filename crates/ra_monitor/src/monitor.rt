@@ -1,0 +1,152 @@
+ghost use Rattle.std.specs.Prelude.{◌≡◌, ℕ, ◌<◌, ◌≤◌, ◌++◌, ◌∷◌, ◌↔◌, [], length, map, IsTrue, IfOk, IfErr, OnErr, OnOk, IsErrOf};
+ghost use Rattle.ra_labels.specs.Records.{label_count};
+ghost use Rattle.ra_labels.specs.Linearization.{IsRaLinearization};
+ghost use Rattle.ra_labels.specs.NamedOrder.{named_sequence};
+ghost use Rattle.ra_labels.specs.Fault.{records_before_fault};
+ghost use Rattle.ra_labels.specs.Answer.{answer_of};
+ghost use Rattle.ra_monitor.specs.Limits.{AreReplicas, IsLimit, handed_back};
+ghost use Rattle.ra_monitor.specs.Sequence.{ref_of};
+
+use crate::entry::Entry;
+use crate::faults::{NewFault, StepFault};
+use crate::history::History;
+use crate::part_ref::PartRef;
+use crate::report::Report;
+use crate::setup::Setup;
+use ra_labels::{Command, Kind, NoMemory, Reply};
+use std::alloc::Global;
+use std::marker::Model;
+
+/// The greatest number of replicas.
+pub const MOST_REPLICAS: u8 = 16;
+
+/// The greatest limit of a log, in entries.
+pub const MOST_ENTRIES: u32 = 1_048_576;
+
+/// A monitor of one history, for one thread.
+#[derive(Debug, Drop)]
+pub struct Monitor {
+    setup: Setup,
+    log: Vec<Entry<Command, Reply>>,
+    history: History,
+    refused: u32,
+}
+
+impl Model for Monitor {
+    ghost use Rattle.ra_monitor.specs.Monitor.{Logged};
+
+    ghost Value = { Logged };
+
+    ghost use Rattle.ra_monitor.specs.Kept.{logged, IsKept};
+
+    ghost view = { λ m. logged m };
+
+    ghost invariant = { λ m. IsKept m };
+}
+
+impl Monitor {
+    ghost use Rattle.ra_monitor.specs.Monitor.{records_of, fault_in, refused_count, is_yes, IsNextTicket, IsLegalLog, IsRaLinearizable, IsNoAtFault};
+
+    /// A monitor of a history of this kind, at this many replicas, whose log may have `limit` entries.
+    pub fn new(alloc: Global, kind: Kind, replicas: u8, limit: u32) -> Result<Monitor, NewFault>
+        ensures log { IfOk result (λ monitor. monitor.log ≡ []) }
+        ensures kind { IfOk result (λ monitor. monitor.setup.kind ≡ kind) }
+        ensures replicas { IfOk result (λ monitor. monitor.setup.replicas ≡ replicas) }
+        ensures limit { IfOk result (λ monitor. monitor.setup.limit ≡ limit) }
+        ensures bad_replicas { IsErrOf result NewFault.BadReplicas ↔ (AreReplicas replicas → ⊥) }
+        ensures bad_limit { IsErrOf result NewFault.BadLimit ↔ (AreReplicas replicas × (IsLimit limit → ⊥)) }
+    {
+        if replicas < 1 || replicas > MOST_REPLICAS {
+            return Err(NewFault::BadReplicas);
+        }
+        if limit < 1 || limit > MOST_ENTRIES {
+            return Err(NewFault::BadLimit);
+        }
+        match History::new(alloc, replicas) {
+            Ok(history) => Ok(Monitor {
+                setup: Setup {
+                    kind,
+                    replicas,
+                    limit,
+                },
+                log: Vec::new(alloc),
+                history,
+                refused: 0,
+            }),
+            Err(NoMemory) => Err(NewFault::NoMemory),
+        }
+    }
+
+    /// Takes a command and answers it. The reply is logged under the pass and the ticket.
+    ///
+    /// `Full` comes exactly where the log has as many entries as its limit allows, and is tested first;
+    /// `NoMemory` where a growth was refused. After both nothing changed, and the command is handed back.
+    ///
+    /// This first form sorts and folds the whole history afresh at each operation.
+    pub fn step(
+        &mut self,
+        pass: u8,
+        ticket: u64,
+        command: Command,
+    ) -> Result<Reply, StepFault<Command>>
+        requires { IsNextTicket self.old ticket }
+
+        // The reply is the one-thread monitor's, and is logged.
+        ensures reply { IfOk result (λ reply.
+            reply ≡ answer_of self.old.setup.kind self.old.setup.replicas (records_of self.old.setup self.old.log) command) }
+        ensures logged { IfOk result (λ reply. self.new.log
+            ≡ self.old.log ++ record { pass = pass; ticket = ticket; command = command; reply = reply } ∷ []) }
+        ensures setup { self.new.setup ≡ self.old.setup }
+        ensures legal { IsLegalLog self.new.setup self.new.log }
+
+        // A yes is evidence, and a no comes exactly where the fault is.
+        ensures yes { IfOk result (λ reply. IsTrue (is_yes reply) → IsRaLinearizable self.new.setup self.new.log) }
+        ensures no { IfOk result (λ reply. IsNoAtFault self.new.setup self.new.log reply) }
+
+        // After a fault nothing changed.
+        ensures full { IsErrOf result (StepFault.Full command) ↔ (length self.old.log ≡ self.old.setup.limit) }
+        ensures unchanged { OnErr result (self.new.log ≡ self.old.log) }
+        ensures handed_back { IfErr result (λ fault. handed_back fault ≡ command) }
+    {
+        if self.log.len() == self.setup.limit as usize {
+            return Err(StepFault::Full(command));
+        }
+        Err(StepFault::NoMemory(command))
+    }
+
+    /// The log, the oldest entry first.
+    pub fn log(&self) -> &[Entry<Command, Reply>]
+        ensures entries { result.now ≡ self.now.log }
+        ensures legal { IsLegalLog self.now.setup self.now.log }
+    {
+        self.log.as_slice()
+    }
+
+    /// All parts in the named order: of the labels before a fault, or of all where there is none.
+    /// Costs as much as there are labels.
+    pub fn sequence(&self) -> Result<Vec<PartRef>, NoMemory>
+        ensures named { let records = records_before_fault self.now.setup.kind (records_of self.now.setup self.now.log) in
+            IfOk result (λ parts. parts.items ≡ map ref_of (named_sequence self.now.setup.kind records)) }
+        ensures linearizes { let records = records_before_fault self.now.setup.kind (records_of self.now.setup self.now.log) in
+            OnOk result (IsRaLinearization self.now.setup.kind records (named_sequence self.now.setup.kind records)) }
+    {
+        Err(NoMemory)
+    }
+
+    /// What the log amounts to. It takes no memory and always answers.
+    pub fn report(&self) -> Report
+        ensures kind { result.kind ≡ self.now.setup.kind }
+        ensures calls { result.calls ≡ length self.now.log }
+        ensures labels { result.labels ≡ label_count (records_of self.now.setup self.now.log) }
+        ensures refused { result.refused ≡ refused_count self.now.log }
+        ensures fault { result.fault ≡ fault_in self.now.setup self.now.log }
+    {
+        Report {
+            kind: self.setup.kind,
+            calls: self.log.len() as u32,
+            labels: self.history.labels.len() as u32,
+            refused: self.refused,
+            fault: self.history.fault,
+        }
+    }
+}
