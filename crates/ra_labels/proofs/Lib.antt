@@ -1,0 +1,4 @@
+pub mod Sorting
+pub mod Numbers
+pub mod Seen
+pub mod Holding
