@@ -2,3 +2,4 @@ pub mod Sorting
 pub mod Numbers
 pub mod Seen
 pub mod Holding
+pub mod Standing

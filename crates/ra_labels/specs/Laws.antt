@@ -1,5 +1,5 @@
 -- Words of the laws above the definitions.
-use Rattle.std.specs.Prelude.{◌≡◌, ℕ, zero, suc, ◌<◌, List, [], ◌∷◌, Some}
+use Rattle.std.specs.Prelude.{◌≡◌, ℕ, zero, suc, ◌<◌, List, [], ◌∷◌, ◌++◌, Some}
 use Rattle.ra_labels.specs.declared.kind.Kind.{Kind}
 use Rattle.ra_labels.specs.declared.reply.Fault.{Fault}
 use Rattle.ra_labels.specs.Records.{Records, label_count, records_to}
@@ -15,3 +15,7 @@ pub record IsLeastFault (kind : Kind) (records : Records) (fault : Fault) : Type
   pub there : fault.label < label_count records
   pub fails : cause_of kind (records_to records fault.label) ≡ Some fault.cause
   pub holds_before : (n : ℕ) → n < fault.label → Holds kind (records_to records n)
+
+-- p stands before q in the list
+abbrev pub StandsBefore : {A : Type 0} → A → A → List A → Type 0
+StandsBefore {A} p q list = (before between after : List A) × (list ≡ before ++ p ∷ between ++ q ∷ after)
