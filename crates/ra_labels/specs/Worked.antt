@@ -1,13 +1,10 @@
 -- Worked histories, by what they show.
-use Rattle.std.specs.Prelude.{ℕ, pos, List, [], ◌∷◌, Some, None}
+use Rattle.std.specs.Prelude.{pos, List, [], ◌∷◌, None}
 use Rattle.ra_labels.specs.declared.kind.Kind.TheVariants.{Counter}
-use Rattle.ra_labels.specs.declared.operation.Op.TheVariants.{Inc, Dec, Count}
+use Rattle.ra_labels.specs.declared.operation.Op.TheVariants.{Inc, Count}
 use Rattle.ra_labels.specs.declared.command.Command.{Command}
 use Rattle.ra_labels.specs.declared.command.Command.TheVariants.{Operate, Deliver, Verdict}
 use Rattle.ra_labels.specs.declared.reply.Reply.{Reply}
-use Rattle.ra_labels.specs.declared.reply.Reply.TheVariants as reply
-use Rattle.ra_labels.specs.declared.reply.Cause.TheVariants as cause
-use Rattle.ra_labels.specs.declared.refusal.Refusal.TheVariants as refusal
 use Rattle.ra_labels.specs.Answer.{answers_to}
 
 -- `a inc`; `b got 0`; `b read 1`

@@ -1,1 +1,5 @@
 //! Laws above the definitions, each the clause of a function that does nothing.
+pub mod fault;
+pub mod linearization;
+pub mod sequence;
+pub mod visibility;

@@ -1,0 +1,5 @@
+pub mod Sorting
+pub mod Numbers
+pub mod Seen
+pub mod Holding
+pub mod Standing

@@ -1,0 +1,94 @@
+-- Which part stands before which, in a sequence that extends what must stand before.
+use Rattle.std.proofs.Common.{◌≡◌, ℕ, zero, suc, Bool, true, false, List, [], ◌∷◌, ◌++◌, refl, sym, ap, ◌∙◌, inl, inr, arith}
+use Rattle.std.specs.Prelude.{◌⊎◌, ◌==◌, ◌||◌, nat_lt, not, is_some, Contains}
+use Rattle.std.specs.List.{list_all, list_any}
+use Rattle.std.proofs.lemmas.Bool.{true≢false, not-true, and_parts, and_right, le-ltb, false_from_ne_true, or_from}
+use Rattle.std.proofs.lemmas.List.Sorted.{Contains-permutation}
+use Rattle.ra_labels.specs.declared.kind.Kind.{Kind}
+use Rattle.ra_labels.specs.declared.operation.Op.{Op}
+use Rattle.ra_labels.specs.declared.operation.Op.TheVariants as op
+use Rattle.ra_labels.specs.Records.{Records}
+use Rattle.ra_labels.specs.Visibility.{is_update, sees}
+use Rattle.ra_labels.specs.Rewriting.{Half, Whole, QueryHalf, UpdateHalf, Part, acts_of, update_of}
+use Rattle.ra_labels.specs.Linearization.{parts_in, extends, must_precede, are_halves, is_visible_to, is_earlier_there, is_query_half_of, IsRaLinearization}
+use Rattle.ra_labels.specs.Laws.{StandsBefore}
+use Rattle.ra_labels.proofs.Seen.{sees_earlier}
+
+-- an element of a list is its head, or stands behind it
+Contains-cons_cases : {A : Type 0} (x : A) (xs : List A) (y : A) → Contains (x ∷ xs) y → (x ≡ y) ⊎ Contains xs y
+Contains-cons_cases x xs y (zero, within, is) = inl is
+Contains-cons_cases x xs y (suc k, within, is) = inr (k, omega arith, is)
+
+-- the list round one of its elements
+split_at : {A : Type 0} (xs : List A) (y : A) → Contains xs y → (before after : List A) × (xs ≡ before ++ y ∷ after)
+split_at [] y (k, within, is) = absurd (omega arith)
+split_at (x ∷ xs) y found = elim (Contains-cons_cases x xs y found) [
+  | inl here ↦ ([], xs, ap (λ z. z ∷ xs) here)
+  | inr further ↦ let rest = split_at xs y further in (x ∷ rest.0, rest.1, ap (λ zs. x ∷ zs) rest.2)
+]
+
+-- a test that each element passes
+list_all-contains : {A : Type 0} (p : A → Bool) (xs : List A) (y : A) → list_all p xs ≡ true → Contains xs y → p y ≡ true
+list_all-contains p [] y pass (k, within, is) = absurd (omega arith)
+list_all-contains p (x ∷ xs) y pass found =
+    let parts = and_parts (p x) (list_all p xs) pass in
+    elim (Contains-cons_cases x xs y found) [
+      | inl here ↦ sym (ap p here) ∙ parts.0
+      | inr further ↦ list_all-contains p xs y parts.1 further
+    ]
+
+-- in a sequence that extends an order, p stands before q where it must
+pub extends-stands : {A : Type 0} (precedes : A → A → Bool) → ((p : A) → precedes p p ≡ false) → (xs : List A) (p q : A) → extends precedes xs ≡ true → Contains xs p → Contains xs q → precedes p q ≡ true → StandsBefore p q xs
+extends-stands precedes irreflexive [] p q extended (k, within, is) found_q must = absurd (omega arith)
+extends-stands precedes irreflexive (x ∷ xs) p q extended found_p found_q must =
+    let parts = and_parts (list_all (λ r. not (precedes r x)) xs) (extends precedes xs) extended in
+    elim (Contains-cons_cases x xs p found_p) [
+      | inl p_here ↦ elim (Contains-cons_cases x xs q found_q) [
+        | inl q_here ↦
+            let same : p ≡ q = sym p_here ∙ q_here in
+            absurd (true≢false (sym must ∙ ap (λ r. precedes p r) (sym same) ∙ irreflexive p))
+        | inr q_further ↦
+            let rest = split_at xs q q_further in
+            ([], rest.0, rest.1, (λ i. p_here i ∷ rest.2 i))
+      ]
+      | inr p_further ↦ elim (Contains-cons_cases x xs q found_q) [
+        | inl q_here ↦
+            let not_so = not-true (precedes p x) (list_all-contains (λ r. not (precedes r x)) xs p parts.0 p_further) in
+            absurd (true≢false (sym must ∙ ap (λ r. precedes p r) (sym q_here) ∙ not_so))
+        | inr q_further ↦
+            let rest = extends-stands precedes irreflexive xs p q parts.1 p_further q_further must in
+            (x ∷ rest.0, rest.1, rest.2, ap (λ ys. x ∷ ys) rest.3)
+      ]
+    ]
+
+no_halves : (half : Half) → are_halves half half ≡ false
+no_halves Whole = refl
+no_halves QueryHalf = refl
+no_halves UpdateHalf = refl
+
+-- no label sees itself
+pub sees_not_itself : (records : Records) (n : ℕ) → sees records n n ≡ false
+sees_not_itself records n = false_from_ne_true (sees records n n) (λ seen. let earlier = sees_earlier records n n seen in absurd (omega (arith, earlier.0)))
+
+-- no part must stand before itself
+pub must_precede-irreflexive : (records : Records) (p : Part) → must_precede records p p ≡ false
+must_precede-irreflexive records p =
+    or_from (is_visible_to records p p || is_earlier_there p p) (is_query_half_of p p)
+    (or_from (is_visible_to records p p) (is_earlier_there p p)
+    (and_right (is_some (update_of p.act)) (sees records p.label.number p.label.number) (sees_not_itself records p.label.number))
+    (and_right (p.label.replica == p.label.replica) (nat_lt p.label.number p.label.number) (le-ltb p.label.number p.label.number (omega arith))))
+    (and_right (p.label.number == p.label.number) (are_halves p.half p.half) (no_halves p.half))
+
+-- in an RA-linearization each part stands where it must
+pub linearization-stands : (kind : Kind) (records : Records) (sequence : List Part) → IsRaLinearization kind records sequence → (p q : Part) → Contains (parts_in records) p → Contains (parts_in records) q → must_precede records p q ≡ true → StandsBefore p q sequence
+linearization-stands kind records sequence linearizes p q there_p there_q must =
+    extends-stands (must_precede records) (must_precede-irreflexive records) sequence p q linearizes.visibility
+    (Contains-permutation (parts_in records) sequence p linearizes.each_part_once there_p)
+    (Contains-permutation (parts_in records) sequence q linearizes.each_part_once there_q)
+    must
+
+-- an operation is an update where one of its parts is
+pub is_update-acts : (operation : Op) → is_update operation ≡ list_any (λ act. is_some (update_of act.1)) (acts_of operation)
+is_update-acts op.Inc = refl
+is_update-acts op.Dec = refl
+is_update-acts (op.Count v) = refl
