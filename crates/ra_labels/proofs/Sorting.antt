@@ -1,10 +1,11 @@
 -- Sorting by insertion: nothing is lost, and what comes out is in order.
 use Rattle.std.proofs.Common.{◌≡◌, zero, suc, ◌+◌, true, false, List, [], ◌∷◌, ◌++◌, refl, sym, ap, ◌∙◌, arith, append_assoc, Ordering}
-use Rattle.std.specs.Prelude.{flat_map, IsPermutation, IsSorted}
+use Rattle.std.specs.Prelude.{flat_map, IsPermutation, IsSorted, All}
 use Rattle.std.specs.Ordering.{is_lt, ordering_reverse}
 use Rattle.std.specs.declared.cmp.Ordering.TheVariants.{Less, Equal, Greater}
 use Rattle.std.specs.Cmp.{IsTotalOrder}
-use Rattle.std.proofs.lemmas.Bool.{cond_both, true≢false}
+use Rattle.std.proofs.lemmas.Bool.{cond_both, cond-false, true≢false}
+use Rattle.std.proofs.lemmas.List.Elements.{All-head, All-tail}
 use Rattle.std.proofs.lemmas.List.Sorted.{IsPermutation-refl, IsPermutation-trans, IsPermutation-append_left, IsPermutation-append_right, IsPermutation-append_comm}
 use Rattle.ra_labels.specs.NamedOrder.{insert_by, sort_by}
 
@@ -87,3 +88,21 @@ module _ {A : Type 0} (cmp : A → A → Ordering) where
     -- what a sort gives is in order
     pub IsSorted-sort_by : (xs : List A) → IsSorted cmp (sort_by cmp xs)
     IsSorted-sort_by xs = IsSorted-rises_all (sort_by cmp xs) (sort_rises xs)
+
+  -- a list is what its one-element pieces make
+  flat_map-units : (xs : List A) → flat_map (λ x. x ∷ []) xs ≡ xs
+  flat_map-units [] = refl
+  flat_map-units (x ∷ xs) = ap (λ ys. x ∷ ys) (flat_map-units xs)
+
+  -- a sort keeps the elements
+  pub IsPermutation-sort_by : (xs : List A) → IsPermutation xs (sort_by cmp xs)
+  IsPermutation-sort_by xs =
+      let mapped : IsPermutation (flat_map (λ x. x ∷ []) xs) (flat_map (λ x. x ∷ []) (sort_by cmp xs)) = flat_map-sort_by (λ x. x ∷ []) xs in
+      rw (flat_map-units xs, flat_map-units (sort_by cmp xs)) at mapped
+
+  -- what is below nothing is inserted at the end
+  pub insert_by-last : (x : A) (ys : List A) → All (λ y. is_lt (cmp x y) ≡ false) ys → insert_by cmp x ys ≡ ys ++ x ∷ []
+  insert_by-last x [] above = refl
+  insert_by-last x (y ∷ ys) above =
+      cond-false (is_lt (cmp x y)) _ _ (All-head (λ z. is_lt (cmp x z) ≡ false) y ys above)
+      ∙ ap (λ zs. y ∷ zs) (insert_by-last x ys (All-tail (λ z. is_lt (cmp x z) ≡ false) y ys above))

@@ -1,9 +1,13 @@
 -- Words of the laws above the definitions.
-use Rattle.std.specs.Prelude.{◌≡◌, ℕ, zero, suc, ◌<◌, List, [], ◌∷◌, ◌++◌, Some}
+use Rattle.std.specs.Prelude.{◌≡◌, ℕ, zero, suc, ◌<◌, List, [], ◌∷◌, ◌++◌, Some, None}
 use Rattle.ra_labels.specs.declared.kind.Kind.{Kind}
+use Rattle.ra_labels.specs.declared.command.Command.{Command}
 use Rattle.ra_labels.specs.declared.reply.Fault.{Fault}
+use Rattle.ra_labels.specs.declared.reply.Reply.{Reply}
+use Rattle.ra_labels.specs.declared.reply.Reply.TheVariants as reply
 use Rattle.ra_labels.specs.Records.{Records, label_count, records_to}
-use Rattle.ra_labels.specs.Fault.{Holds, cause_of}
+use Rattle.ra_labels.specs.Fault.{Holds, cause_of, fault_of, fault_at}
+use Rattle.ra_labels.specs.Answer.{refusal_of, records_after}
 
 -- n - 1, .., 1, 0
 abbrev pub numbers_below : ℕ → List ℕ
@@ -19,3 +23,18 @@ pub record IsLeastFault (kind : Kind) (records : Records) (fault : Fault) : Type
 -- p stands before q in the list
 abbrev pub StandsBefore : {A : Type 0} → A → A → List A → Type 0
 StandsBefore {A} p q list = (before between after : List A) × (list ≡ before ++ p ∷ between ++ q ∷ after)
+
+-- what a reply says of the records that the command meets, and of those that it leaves
+abbrev pub ReplySays : Kind → ℕ → Records → Command → Reply → Type 0
+ReplySays kind replicas records command (reply.Ok n) =
+    (n ≡ label_count records) × (records_after kind replicas records command ≡ command ∷ records)
+    × (fault_of kind (command ∷ records) ≡ None)
+ReplySays kind replicas records command (reply.Got n) =
+    (records_after kind replicas records command ≡ command ∷ records) × (fault_of kind (command ∷ records) ≡ None)
+ReplySays kind replicas records command (reply.Yes n) =
+    (n ≡ label_count records) × (records_after kind replicas records command ≡ records) × (fault_of kind records ≡ None)
+ReplySays kind replicas records command (reply.No n why) =
+    fault_of kind (records_after kind replicas records command) ≡ Some (fault_at n why)
+ReplySays kind replicas records command (reply.Refused why) =
+    (refusal_of kind replicas records command ≡ Some why) × (records_after kind replicas records command ≡ records)
+    × (fault_of kind records ≡ None)

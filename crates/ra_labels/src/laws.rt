@@ -1,4 +1,5 @@
 //! Laws above the definitions, each the clause of a function that does nothing.
+pub mod answer;
 pub mod fault;
 pub mod linearization;
 pub mod sequence;
