@@ -4,4 +4,6 @@ pub mod Limits
 pub mod Kept
 pub mod Sequence
 pub mod Seen
+pub mod Had
 pub mod History
+pub mod Fold

@@ -1,39 +1,36 @@
-ghost use Rattle.std.specs.Prelude.{◌≡◌, [], IfOk, vec_len};
+ghost use Rattle.std.specs.Prelude.{◌≡◌, ◌+◌, ◌<◌, ◌∷◌, [], IfOk, OnErr, OnOk, IfErr, None, vec_len};
+ghost use Rattle.ra_labels.specs.Records.{Records, label_count};
+ghost use Rattle.ra_labels.specs.Visibility.{had, is_update_at};
+ghost use Rattle.ra_labels.specs.Fault.{fault_of};
+ghost use Rattle.ra_labels.specs.Answer.{refusal_of, answer_of, answer_to_accepted, records_after};
 ghost use Rattle.ra_monitor.specs.History.{StandsFor};
 
-use crate::seen::Seen;
-use ra_labels::{Fault, Label, NoMemory};
+use crate::accepted::Accepted;
+use crate::fold::cause_of;
+use crate::had::Had;
+use crate::refusing::refusal_of;
+use crate::rewriting::update_of;
+use crate::setup::Setup;
+use ra_labels::{Command, Fault, Label, NoMemory, Op, Reply, Stamp};
 use std::alloc::Global;
-
-/// A label with what it sees.
-#[derive(Debug, Drop)]
-pub struct Accepted {
-    /// The label.
-    pub label: Label,
-    /// What its replica had when it was issued.
-    pub seen: Seen,
-}
 
 /// The accepted commands, as what they amount to.
 #[derive(Debug, Drop)]
 pub struct History {
     /// The labels, the oldest first.
     pub labels: Vec<Accepted>,
-    /// For each replica the updates that it issued or got.
-    pub had: Vec<Seen>,
+    /// What each replica had.
+    pub had: Had,
     /// The first label at which the named order failed.
     pub fault: Option<Fault>,
 }
 
 impl History {
-    /// No records, at this many replicas.
-    pub fn new(alloc: Global, replicas: u8) -> Result<History, NoMemory>
-        ensures { IfOk result (λ history. StandsFor history replicas []) }
+    /// No records.
+    pub fn new(alloc: Global, setup: &Setup) -> Result<History, NoMemory>
+        ensures { IfOk result (λ history. StandsFor history setup.now []) }
     {
-        let mut had = Vec::with_capacity(alloc, replicas as usize)?;
-        for _ in 0..replicas {
-            had.push(Seen::new(alloc))?;
-        }
+        let had = Had::new(alloc, setup.replicas)?;
         Ok(History {
             labels: Vec::new(alloc),
             had,

@@ -62,13 +62,14 @@ impl Monitor {
         if limit < 1 || limit > MOST_ENTRIES {
             return Err(NewFault::BadLimit);
         }
-        match History::new(alloc, replicas) {
+        let setup = Setup {
+            kind,
+            replicas,
+            limit,
+        };
+        match History::new(alloc, &setup) {
             Ok(history) => Ok(Monitor {
-                setup: Setup {
-                    kind,
-                    replicas,
-                    limit,
-                },
+                setup,
                 log: Vec::new(alloc),
                 history,
                 refused: 0,

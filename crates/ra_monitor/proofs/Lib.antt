@@ -1,0 +1,3 @@
+pub mod Folding
+pub mod Execution
+pub mod Queries
