@@ -1,3 +1,4 @@
 pub mod Folding
 pub mod Execution
 pub mod Queries
+pub mod Growth

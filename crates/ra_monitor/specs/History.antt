@@ -1,6 +1,9 @@
 -- The records that the fields of a history stand for.
-use Rattle.std.specs.Prelude.{◌≡◌, ℕ, ◌<◌, List, map, reverse, length, vec_len, get_or, Some}
+use Rattle.std.specs.Prelude.{◌≡◌, ℕ, ◌<◌, List, map, reverse, length, vec_len, get_or, Option, Some, option_map}
+use Rattle.ra_labels.specs.declared.label.Stamp.{Stamp}
 use Rattle.ra_labels.specs.declared.label.Label.{Label}
+use Rattle.ra_labels.specs.declared.command.Command.{Command}
+use Rattle.ra_labels.specs.declared.command.Command.TheVariants.{Operate, Deliver, Verdict}
 use Rattle.ra_labels.specs.Records.{Records, label_count, label_at, labels_of}
 use Rattle.ra_labels.specs.Visibility.{had, sees}
 use Rattle.ra_labels.specs.Fault.{fault_of}
@@ -12,6 +15,16 @@ use Rattle.ra_monitor.specs.Seen.{has_in}
 
 abbrev pub bare : List Accepted → List Label
 bare labels = map (λ accepted. accepted.label) labels
+
+-- the command is of a replica that is there, or of none
+abbrev pub IsAtReplica : ℕ → Command → Type 0
+IsAtReplica replicas (Operate replica op clock) = replica < replicas
+IsAtReplica replicas (Deliver replica label) = replica < replicas
+IsAtReplica replicas Verdict = Unit {0}
+
+-- the stamp that an operation's clock and its replica make
+abbrev pub stamp_of : ℕ → Option ℕ → Option Stamp
+stamp_of replica clock = option_map (λ at. record { clock = at; replica = replica }) clock
 
 -- these are the labels of the records, the oldest first, each with what it sees
 pub record AreLabelsOf (labels : List Accepted) (records : Records) : Type 0 where

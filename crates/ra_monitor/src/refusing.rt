@@ -1,7 +1,7 @@
-ghost use Rattle.std.specs.Prelude.{◌≡◌, vec_len};
+ghost use Rattle.std.specs.Prelude.{◌≡◌, ◌<◌, None, vec_len};
 ghost use Rattle.ra_labels.specs.Records.{Records};
 ghost use Rattle.ra_labels.specs.Answer.{refusal_of, refusal_of_operation, refusal_of_delivery};
-ghost use Rattle.ra_monitor.specs.History.{StandsFor};
+ghost use Rattle.ra_monitor.specs.History.{StandsFor, IsAtReplica};
 
 use crate::history::History;
 use crate::rewriting::update_of;
@@ -11,8 +11,9 @@ use ra_labels::{Command, Refusal, fits};
 /// The first refusal that the command deserves, if any. Look-ups by label number, no walk.
 pub fn refusal_of(history: &History, setup: &Setup, command: &Command) -> Option<Refusal>
     requires { vec_len history.now.had.sets ≡ setup.now.replicas }
-    ensures { (records : Records) → StandsFor history.now setup.now records
+    ensures first { (records : Records) → StandsFor history.now setup.now records
         → result ≡ refusal_of setup.now.kind setup.now.replicas records command.now }
+    ensures known { result ≡ None → IsAtReplica setup.now.replicas command.now }
 {
     match command {
         Command::Operate { replica, .. } => refusal_of_operation(setup, command, *replica),
@@ -24,7 +25,8 @@ pub fn refusal_of(history: &History, setup: &Setup, command: &Command) -> Option
 }
 
 fn refusal_of_operation(setup: &Setup, command: &Command, replica: u8) -> Option<Refusal>
-    ensures { result ≡ refusal_of_operation setup.now.kind setup.now.replicas command.now replica }
+    ensures first { result ≡ refusal_of_operation setup.now.kind setup.now.replicas command.now replica }
+    ensures known { result ≡ None → replica < setup.now.replicas }
 {
     if replica >= setup.replicas {
         return Some(Refusal::UnknownReplica);
@@ -34,8 +36,9 @@ fn refusal_of_operation(setup: &Setup, command: &Command, replica: u8) -> Option
 
 fn refusal_of_delivery(history: &History, setup: &Setup, replica: u8, label: u32) -> Option<Refusal>
     requires { vec_len history.now.had.sets ≡ setup.now.replicas }
-    ensures { (records : Records) → StandsFor history.now setup.now records
+    ensures first { (records : Records) → StandsFor history.now setup.now records
         → result ≡ refusal_of_delivery setup.now.replicas records replica label }
+    ensures known { result ≡ None → replica < setup.now.replicas }
 {
     if replica >= setup.replicas {
         return Some(Refusal::UnknownReplica);
