@@ -5,3 +5,5 @@ pub mod Holding
 pub mod Standing
 pub mod Order
 pub mod Answering
+pub mod Places
+pub mod Unique

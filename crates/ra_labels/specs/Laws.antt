@@ -1,5 +1,5 @@
 -- Words of the laws above the definitions.
-use Rattle.std.specs.Prelude.{◌≡◌, ℕ, zero, suc, ◌<◌, List, [], ◌∷◌, ◌++◌, Some, None}
+use Rattle.std.specs.Prelude.{◌≡◌, ℕ, zero, suc, ◌<◌, Bool, true, List, [], ◌∷◌, ◌++◌, Contains, Some, None}
 use Rattle.ra_labels.specs.declared.kind.Kind.{Kind}
 use Rattle.ra_labels.specs.declared.command.Command.{Command}
 use Rattle.ra_labels.specs.declared.reply.Fault.{Fault}
@@ -38,3 +38,13 @@ ReplySays kind replicas records command (reply.No n why) =
 ReplySays kind replicas records command (reply.Refused why) =
     (refusal_of kind replicas records command ≡ Some why) × (records_after kind replicas records command ≡ records)
     × (fault_of kind records ≡ None)
+
+-- no element stands twice
+abbrev pub NoneTwice : {A : Type 0} → List A → Type 0
+NoneTwice [] = Unit {0}
+NoneTwice (x ∷ xs) = (¬ Contains xs x) × NoneTwice xs
+
+-- each element that must stand before another does
+abbrev pub AllStandBefore : {A : Type 0} → (A → A → Bool) → List A → Type 0
+AllStandBefore {A} precedes list =
+    (p q : A) → Contains list p → Contains list q → precedes p q ≡ true → StandsBefore p q list

@@ -7,18 +7,20 @@ ghost use Rattle.ra_labels.specs.Records.{Records};
 ghost use Rattle.ra_labels.specs.Visibility.{is_update};
 ghost use Rattle.ra_labels.specs.Rewriting.{Part, acts_of, update_of};
 ghost use Rattle.ra_labels.specs.Linearization.{parts_in, extends, must_precede, IsRaLinearization};
-ghost use Rattle.ra_labels.specs.Laws.{StandsBefore};
+ghost use Rattle.ra_labels.specs.Laws.{StandsBefore, AllStandBefore, NoneTwice};
 
 /// No part must stand before itself.
 pub fn no_part_precedes_itself()
     ensures { (records : Records) (p : Part) → must_precede records p p ≡ false }
 {}
 
-/// In a sequence that extends an order, what must stand before another element does.
+/// In a sequence that extends an order each part stands before those that it must stand before; and the other way
+/// round, where no part stands twice.
 pub fn extending_puts_before()
-    ensures { (precedes : Part → Part → Bool) → ((p : Part) → precedes p p ≡ false)
-        → (sequence : List Part) (p q : Part) → extends precedes sequence ≡ true
-        → Contains sequence p → Contains sequence q → precedes p q ≡ true → StandsBefore p q sequence }
+    ensures stands { (precedes : Part → Part → Bool) → ((p : Part) → precedes p p ≡ false)
+        → (sequence : List Part) → extends precedes sequence ≡ true → AllStandBefore precedes sequence }
+    ensures extends { (precedes : Part → Part → Bool) (sequence : List Part) → NoneTwice sequence
+        → AllStandBefore precedes sequence → extends precedes sequence ≡ true }
 {}
 
 /// In an RA-linearization each part stands before those that it must stand before.

@@ -1,5 +1,5 @@
 //! The labels, the named order and the named sequence.
-ghost use Rattle.std.specs.Prelude.{◌≡◌, ℕ, ◌<◌, ◌≤◌, map, reverse, flat_map, IsPermutation, IsSorted, Some, None};
+ghost use Rattle.std.specs.Prelude.{◌≡◌, ℕ, ◌<◌, ◌≤◌, List, map, reverse, Contains, flat_map, IsPermutation, IsSorted, Some, None};
 ghost use Rattle.ra_labels.specs.declared.kind.Kind.{Kind};
 ghost use Rattle.ra_labels.specs.declared.kind.Kind.TheVariants as kind;
 ghost use Rattle.ra_labels.specs.declared.label.Label.{Label};
@@ -14,11 +14,13 @@ pub fn labels_are_numbered_in_turn()
     ensures { (records : Records) → map (λ label. label.number) (labels_of records) ≡ numbers_below (label_count records) }
 {}
 
-/// There is a label at each number below their count, and none elsewhere.
+/// There is a label at each number below their count, and none elsewhere; and each label is found at its number.
 pub fn each_number_has_its_label()
     ensures there { (records : Records) (n : ℕ) → n < label_count records
         → (label : Label) × (label_at records n ≡ Some label) × (label.number ≡ n) }
     ensures none { (records : Records) (n : ℕ) → label_count records ≤ n → label_at records n ≡ None }
+    ensures found { (records : Records) (label : Label) → Contains (labels_of records) label
+        → label_at records label.number ≡ Some label }
 {}
 
 /// The named sequence lists each part once, and nothing else.
@@ -30,6 +32,12 @@ pub fn each_part_once()
 pub fn named_labels_are_sorted()
     ensures same { (kind : Kind) (records : Records) → IsPermutation (labels_of records) (named_labels kind records) }
     ensures sorted { (kind : Kind) (records : Records) → IsSorted (label_cmp kind records) (named_labels kind records) }
+{}
+
+/// The labels, each once, in the named order are the named labels: no other list is.
+pub fn the_order_is_pinned()
+    ensures { (kind : Kind) (records : Records) (labels : List Label) → IsPermutation (labels_of records) labels
+        → IsSorted (label_cmp kind records) labels → labels ≡ named_labels kind records }
 {}
 
 /// Where no label has a rank of its own, the named order is that of acceptance: the order of execution.
