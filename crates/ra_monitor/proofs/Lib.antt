@@ -2,3 +2,5 @@ pub mod Folding
 pub mod Execution
 pub mod Queries
 pub mod Growth
+pub mod Legal
+pub mod Keeping

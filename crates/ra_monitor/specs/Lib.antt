@@ -1,4 +1,5 @@
 pub mod Log
+pub mod Replies
 pub mod Monitor
 pub mod Limits
 pub mod Kept

@@ -1,4 +1,4 @@
-ghost use Rattle.std.specs.Prelude.{◌≡◌, ℕ, ◌<◌, ◌≤◌, ◌++◌, ◌∷◌, ◌↔◌, [], length, map, IsTrue, IfOk, IfErr, OnErr, OnOk, IsErrOf};
+ghost use Rattle.std.specs.Prelude.{◌≡◌, ℕ, ◌<◌, ◌≤◌, ◌++◌, ◌∷◌, ◌↔◌, [], length, map, cond, vec_len, vec_capacity, IsTrue, IfOk, IfErr, OnErr, OnOk, IsErrOf};
 ghost use Rattle.ra_labels.specs.Records.{label_count};
 ghost use Rattle.ra_labels.specs.Linearization.{IsRaLinearization};
 ghost use Rattle.ra_labels.specs.NamedOrder.{named_sequence};
@@ -6,6 +6,7 @@ ghost use Rattle.ra_labels.specs.Fault.{records_before_fault};
 ghost use Rattle.ra_labels.specs.Answer.{answer_of};
 ghost use Rattle.ra_monitor.specs.Limits.{AreReplicas, IsLimit, handed_back};
 ghost use Rattle.ra_monitor.specs.Sequence.{ref_of};
+ghost use Rattle.ra_monitor.specs.Replies.{is_yes, is_refused};
 
 use crate::entry::Entry;
 use crate::faults::{NewFault, StepFault};
@@ -45,7 +46,7 @@ impl Model for Monitor {
 }
 
 impl Monitor {
-    ghost use Rattle.ra_monitor.specs.Monitor.{records_of, fault_in, refused_count, is_yes, IsNextTicket, IsLegalLog, IsRaLinearizable, IsNoAtFault};
+    ghost use Rattle.ra_monitor.specs.Monitor.{records_of, fault_in, refused_count, IsNextTicket, IsLegalLog, IsRaLinearizable, IsNoAtFault};
 
     /// A monitor of a history of this kind, at this many replicas, whose log may have `limit` entries.
     pub fn new(alloc: Global, kind: Kind, replicas: u8, limit: u32) -> Result<Monitor, NewFault>
@@ -112,7 +113,23 @@ impl Monitor {
         if self.log.len() == self.setup.limit as usize {
             return Err(StepFault::Full(command));
         }
-        Err(StepFault::NoMemory(command))
+        if self.log.reserve(1).is_err() {
+            return Err(StepFault::NoMemory(command));
+        }
+        match self.history.take(&self.setup, &command) {
+            Ok(reply) => {
+                self.refused += refusals(reply);
+                let entry = Entry {
+                    pass,
+                    ticket,
+                    command,
+                    reply,
+                };
+                append(&mut self.log, entry);
+                Ok(reply)
+            }
+            Err(NoMemory) => Err(StepFault::NoMemory(command)),
+        }
     }
 
     /// The log, the oldest entry first.
@@ -150,4 +167,22 @@ impl Monitor {
             fault: self.history.fault,
         }
     }
+}
+
+/// How many refusals the reply is: one or none.
+fn refusals(reply: Reply) -> u32
+    ensures { result ≡ cond (is_refused reply) 1 0 }
+{
+    match reply {
+        Reply::Refused(_) => 1,
+        Reply::Ok(_) | Reply::Got(_) | Reply::Yes(_) | Reply::No { .. } => 0,
+    }
+}
+
+/// Puts the entry at the log's end, where room was made for it.
+fn append(log: &mut Vec<Entry<Command, Reply>>, entry: Entry<Command, Reply>)
+    requires { vec_len log.old < vec_capacity log.old }
+    ensures { log.new.items ≡ log.old.items ++ entry ∷ [] }
+{
+    log.push(entry).unwrap();
 }
