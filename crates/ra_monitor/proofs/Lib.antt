@@ -4,3 +4,4 @@ pub mod Queries
 pub mod Growth
 pub mod Legal
 pub mod Keeping
+pub mod BeforeFault

@@ -1,12 +1,12 @@
-ghost use Rattle.std.specs.Prelude.{◌≡◌, ℕ, ◌+◌, ◌<◌, ◌≤◌, ◌∷◌, [], IfOk, OnErr, OnOk, None, true, MatchBool, option_map, vec_len, get_or};
+ghost use Rattle.std.specs.Prelude.{◌≡◌, ℕ, ◌+◌, ◌<◌, ◌≤◌, ◌∷◌, [], IfOk, OnErr, OnOk, None, true, MatchBool, option_map, vec_len, get_or, reverse};
 ghost use Rattle.std.specs.Option.{option_map_or};
-ghost use Rattle.ra_labels.specs.Records.{Records};
+ghost use Rattle.ra_labels.specs.Records.{Records, labels_of};
 ghost use Rattle.ra_labels.specs.Visibility.{is_update, is_update_at};
-ghost use Rattle.ra_labels.specs.Fault.{fault_of, fault_at};
+ghost use Rattle.ra_labels.specs.Fault.{fault_of, fault_at, records_before_fault};
 ghost use Rattle.ra_labels.specs.Answer.{no_at, answer_of, answer_to_accepted, records_after};
 ghost use Rattle.ra_monitor.specs.Seen.{has_in};
 ghost use Rattle.ra_monitor.specs.Had.{SameHad, AddsHad, HasRoom};
-ghost use Rattle.ra_monitor.specs.History.{StandsFor, stamp_of};
+ghost use Rattle.ra_monitor.specs.History.{bare, StandsFor, stamp_of};
 ghost use Rattle.ra_monitor.specs.declared.seen.Seen.{Seen};
 ghost use Rattle.ra_monitor.specs.declared.setup.Setup.{Setup};
 
@@ -41,6 +41,20 @@ impl History {
             had,
             fault: None,
         })
+    }
+
+    /// The labels before the fault, or all of them where there is none.
+    pub fn before_fault(&self) -> &[Accepted]
+        ensures { (setup : Setup) (records : Records) → StandsFor self.now setup records
+            → bare result.now ≡ reverse (labels_of (records_before_fault setup.kind records)) }
+    {
+        match self.fault {
+            None => self.labels.as_slice(),
+            Some(fault) => {
+                let end = self.labels.len().min(fault.label as usize);
+                &self.labels.as_slice()[..end]
+            }
+        }
     }
 
     /// Takes a command and answers it as the one-thread monitor. After `NoMemory` the records are as before.

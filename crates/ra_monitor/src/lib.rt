@@ -19,6 +19,7 @@ mod report;
 mod rewriting;
 mod scope;
 mod seen;
+mod sequence;
 mod setup;
 
 pub use entry::Entry;

@@ -13,6 +13,7 @@ use crate::faults::{NewFault, StepFault};
 use crate::history::History;
 use crate::part_ref::PartRef;
 use crate::report::Report;
+use crate::sequence::parts_of;
 use crate::setup::Setup;
 use ra_labels::{Command, Kind, NoMemory, Reply};
 use std::alloc::Global;
@@ -148,7 +149,7 @@ impl Monitor {
         ensures linearizes { let records = records_before_fault self.now.setup.kind (records_of self.now.setup self.now.log) in
             OnOk result (IsRaLinearization self.now.setup.kind records (named_sequence self.now.setup.kind records)) }
     {
-        Err(NoMemory)
+        parts_of(*self.log.allocator(), self.history.before_fault())
     }
 
     /// What the log amounts to. It takes no memory and always answers.
