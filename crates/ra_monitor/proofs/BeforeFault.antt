@@ -1,15 +1,11 @@
 -- The labels before the fault are the first ones, as many as the fault's label says.
-use Rattle.std.proofs.Common.{◌≡◌, ℕ, zero, suc, ◌+◌, ◌<◌, ◌≤◌, Bool, true, false, cond, List, [], ◌∷◌, ◌++◌, length, take, map, reverse, Option, Some, None, refl, sym, ap, ◌∙◌, ⊎_elim, arith, length-append}
+use Rattle.std.proofs.Common.{◌≡◌, ℕ, zero, suc, ◌+◌, ◌≤◌, Bool, true, false, cond, List, [], ◌∷◌, length, take, map, reverse, Option, Some, None, refl, sym, ap, ◌∙◌, ⊎_elim, arith, length-append}
 use mathlib.Core.List.{reverse-cons}
-use Rattle.std.specs.Prelude.{option_map, is_none, flat_map}
-use Rattle.std.specs.Option.{option_or}
+use Rattle.std.specs.Prelude.{is_none, flat_map}
 use Rattle.std.proofs.lemmas.List.{take_all, take-append-le}
 use Rattle.ra_labels.specs.declared.kind.Kind.{Kind}
 use Rattle.ra_labels.specs.declared.kind.Kind.TheVariants.{Counter}
-use Rattle.ra_labels.specs.declared.label.Label.{Label}
-use Rattle.ra_labels.specs.declared.command.Command.{Command}
 use Rattle.ra_labels.specs.declared.command.Command.TheVariants.{Operate, Deliver, Verdict}
-use Rattle.ra_labels.specs.declared.reply.Cause.{Cause}
 use Rattle.ra_labels.specs.declared.reply.Fault.{Fault}
 use Rattle.ra_labels.specs.Records.{Records, label_count, labels_of, next_label}
 use Rattle.ra_labels.specs.Rewriting.{parts_of}
@@ -57,8 +53,8 @@ is_front kind (Operate by op clock ∷ before) =
     let r = records_before_fault kind before in
     front_or (is_none (fault_of kind (Operate by op clock ∷ before))) (Operate by op clock ∷ before) r
     (ap (take (label_count r)) (reverse-cons label (labels_of before))
-      ∙ take-append-le (label_count r) (reverse (labels_of before)) (label ∷ []) (omega (arith, fewer_before kind before, length-in_turn before))
-      ∙ is_front kind before)
+    ∙ take-append-le (label_count r) (reverse (labels_of before)) (label ∷ []) (omega (arith, fewer_before kind before, length-in_turn before))
+    ∙ is_front kind before)
 is_front kind (Deliver to label ∷ before) =
     front_or (is_none (fault_of kind before)) (Deliver to label ∷ before) (records_before_fault kind before) (is_front kind before)
 is_front kind (Verdict ∷ before) =
@@ -75,9 +71,9 @@ count_before kind (Operate by op clock ∷ before) fault at =
     let records = Operate by op clock ∷ before in
     passed_over (fault_of kind records) fault records (records_before_fault kind before) at
     ∙ ⊎_elim
-      (λ earlier. count_before kind before fault earlier)
-      (λ here. ap label_count (all_before_fault kind before here.0) ∙ ap (λ f. f.label) here.3)
-      (first_or (fault_at (label_count before)) (fault_of kind before) (cause_of kind records) fault at)
+    (λ earlier. count_before kind before fault earlier)
+    (λ here. ap label_count (all_before_fault kind before here.0) ∙ ap (λ f. f.label) here.3)
+    (first_or (fault_at (label_count before)) (fault_of kind before) (cause_of kind records) fault at)
 count_before kind (Deliver to label ∷ before) fault at =
     passed_over (fault_of kind before) fault (Deliver to label ∷ before) (records_before_fault kind before) at ∙ count_before kind before fault at
 count_before kind (Verdict ∷ before) fault at =

@@ -1,12 +1,11 @@
 -- What a history stands for after one record more.
-use Rattle.std.proofs.Common.{◌≡◌, ℕ, zero, suc, ◌+◌, ◌<◌, ◌≤◌, Bool, true, false, cond, eqb, List, [], ◌∷◌, ◌++◌, map, length, get_or, take, reverse, Option, Some, None, refl, sym, ap, ◌∙◌, subst, ⊎_elim, arith, length-append}
+use Rattle.std.proofs.Common.{◌≡◌, ℕ, zero, suc, ◌+◌, ◌<◌, Bool, true, false, List, [], ◌∷◌, ◌++◌, length, get_or, take, reverse, Option, Some, None, refl, sym, ap, ◌∙◌, subst, ⊎_elim, arith, length-append}
 use mathlib.Core.List.{reverse-cons}
 use Rattle.std.specs.Prelude.{◌==◌, not, ◌&&◌, ◌||◌, option_map, vec_len, MatchBool, nat_lt}
 use Rattle.std.specs.Option.{option_or, option_map_or}
 use Rattle.std.proofs.lemmas.List.{map-append, take-append-le, take_all}
 use Rattle.std.proofs.lemmas.Bool.{eqb-true, cases_lt, eq-eqb, ne_eqb, not-false}
 use Rattle.ra_labels.specs.declared.operation.Op.{Op}
-use Rattle.ra_labels.specs.declared.label.Label.{Label}
 use Rattle.ra_labels.specs.declared.command.Command.TheVariants.{Operate, Deliver}
 use Rattle.ra_labels.specs.declared.refusal.Refusal.{Refusal}
 use Rattle.ra_labels.specs.declared.refusal.Refusal.TheVariants.{UnknownReplica, UnknownLabel, NotAnUpdate, AlreadySeen}
@@ -25,7 +24,7 @@ use Rattle.ra_monitor.specs.declared.seen.Seen.{Seen}
 use Rattle.ra_monitor.specs.declared.had.Had.{Had}
 use Rattle.ra_monitor.specs.Seen.{has_in}
 use Rattle.ra_monitor.specs.Had.{AddsHad, SameHad}
-use Rattle.ra_monitor.specs.History.{bare, AreLabelsOf, StandsFor}
+use Rattle.ra_monitor.specs.History.{AreLabelsOf, StandsFor}
 
 -- an element of a list with one more at the end
 get_or-front : {A : Type 0} (xs : List A) (y d : A) (n : ℕ) → n < length xs → get_or (xs ++ y ∷ []) n d ≡ get_or xs n d
@@ -51,8 +50,8 @@ at_each : (P : ℕ → Accepted → Type 0) (labels : List Accepted) (a : Accept
 at_each P labels a front end n d l = ⊎_elim
     (λ lower. subst (P n) (sym (get_or-front labels a d n lower)) (front n d lower))
     (λ above.
-      let e : n ≡ length labels = omega (arith, length-append labels (a ∷ [])) in
-      subst (P n) (sym (get_or-end labels a d n e)) (subst (λ k. P k a) (sym e) end))
+    let e : n ≡ length labels = omega (arith, length-append labels (a ∷ [])) in
+    subst (P n) (sym (get_or-end labels a d n e)) (subst (λ k. P k a) (sym e) end))
     (cases_lt n (length labels))
 
 -- the labels with one more
@@ -64,18 +63,18 @@ labels_grow labels records a by op clock are is sees_had = record {
   in_order = map-append (λ (x : Accepted). x.label) labels (a ∷ []) ∙ ap (λ ls. ls ++ a.label ∷ []) are.in_order ∙ ap (λ l. reverse (labels_of records) ++ l ∷ []) is ∙ sym (reverse-cons (next_label records by op clock) (labels_of records));
   numbered = at_each (λ n x. x.label.number ≡ n) labels a are.numbered (ap (λ l. l.number) is ∙ sym are.count);
   at = at_each (λ n x. label_at (Operate by op clock ∷ records) n ≡ Some x.label) labels a
-    (λ n d lower.
+      (λ n d lower.
       let other : (label_count records == n) ≡ false = ne_eqb (label_count records) n (λ e. absurd (omega (arith, are.count, e, lower))) in
       rw other (are.at n d lower))
-    (let this : (label_count records == length labels) ≡ true = eq-eqb (label_count records) (length labels) (sym are.count) in
+      (let this : (label_count records == length labels) ≡ true = eq-eqb (label_count records) (length labels) (sym are.count) in
       rw this (ap Some (sym is)));
   seen = λ n m d l. at_each (λ k x. has_in x.seen m ≡ sees (Operate by op clock ∷ records) k m) labels a
-    (λ k d lower.
+      (λ k d lower.
       let other : (k == label_count records) ≡ false = ne_eqb k (label_count records) (λ e. absurd (omega (arith, are.count, e, lower))) in
       rw other (are.seen k m d lower))
-    (let this : (length labels == label_count records) ≡ true = eq-eqb (length labels) (label_count records) are.count in
+      (let this : (length labels == label_count records) ≡ true = eq-eqb (length labels) (label_count records) are.count in
       rw this (sees_had m))
-    n d l;
+      n d l;
 }
 
 -- a refusal that does not apply

@@ -1,10 +1,10 @@
 -- What is kept true of a monitor when an entry joins its log.
-use Rattle.std.proofs.Common.{◌≡◌, ℕ, ◌+◌, ◌<◌, ◌≤◌, cond, [], ◌∷◌, ◌++◌, length, sym, ap, ◌∙◌, subst, arith, length-append}
+use Rattle.std.proofs.Common.{◌≡◌, ℕ, ◌+◌, ◌<◌, ◌≤◌, cond, [], ◌∷◌, ◌++◌, length, sym, ap, ◌∙◌, arith, length-append}
 use Rattle.std.specs.Prelude.{vec_len}
 use Rattle.ra_labels.specs.Answer.{answer_of, records_after}
 use Rattle.ra_monitor.specs.declared.monitor.Monitor.TheInside.{Inside}
 use Rattle.ra_monitor.specs.Replies.{is_refused}
-use Rattle.ra_monitor.specs.Monitor.{MonitorEntry, Logged, protocol_of, records_of, refused_count, IsLegalLog, IsNextTicket}
+use Rattle.ra_monitor.specs.Monitor.{MonitorEntry, protocol_of, records_of, refused_count, IsLegalLog, IsNextTicket}
 use Rattle.ra_monitor.specs.History.{StandsFor}
 use Rattle.ra_monitor.specs.Kept.{logged, IsKept}
 use Rattle.ra_monitor.proofs.Legal.{legal-push, records_of-push, refused_count-push}

@@ -1,5 +1,5 @@
 -- A legal log with one entry more.
-use Rattle.std.proofs.Common.{◌≡◌, ℕ, ◌+◌, true, cond, None, List, [], ◌∷◌, ◌++◌, map, sym, ap, ◌∙◌, subst, append_assoc}
+use Rattle.std.proofs.Common.{◌≡◌, ℕ, ◌+◌, true, cond, None, List, [], ◌∷◌, ◌++◌, sym, ap, ◌∙◌, subst, append_assoc}
 use Rattle.std.proofs.lemmas.List.{map-append, append-nil}
 use Rattle.std.proofs.lemmas.List.Sums.{sum_by_push}
 use Rattle.ra_labels.specs.declared.kind.Kind.{Kind}
@@ -22,9 +22,11 @@ pub legal-push : {Entry Command Reply : Type 0} (protocol : Protocol Entry Comma
     → IsLegalAfter protocol before log → MayFollow protocol (before ++ log) entry → IsLegalAfter protocol before (log ++ entry ∷ [])
 legal-push {Entry} protocol before [] entry legal follows =
     (subst (λ (l : List Entry). MayFollow protocol l entry) (append-nil before) follows, tt)
-legal-push {Entry} protocol before (first ∷ log) entry legal follows =
-    (legal.0, legal-push protocol (before ++ first ∷ []) log entry legal.1
-      (subst (λ (l : List Entry). MayFollow protocol l entry) (sym (append_assoc before (first ∷ []) log)) follows))
+legal-push {Entry} protocol before (first ∷ log) entry legal follows = (
+  legal.0,
+  legal-push protocol (before ++ first ∷ []) log entry legal.1
+      (subst (λ (l : List Entry). MayFollow protocol l entry) (sym (append_assoc before (first ∷ []) log)) follows),
+)
 
 -- the records of a log with one entry more
 pub records_of-push : (setup : Setup) (log : List MonitorEntry) (entry : MonitorEntry)
@@ -53,7 +55,7 @@ linearizable_after setup log entry answered said =
     let records = records_of setup log in
     let says = subst (ReplySays setup.kind setup.replicas records entry.command) (sym answered) (reply_says setup.kind setup.replicas records entry.command) in
     let none : fault_of setup.kind (records_of setup (log ++ entry ∷ [])) ≡ None =
-        ap (fault_of setup.kind) (records_of-push setup log entry) ∙ no_fault_after setup.kind setup.replicas records entry.command entry.reply says said in
+    ap (fault_of setup.kind) (records_of-push setup log entry) ∙ no_fault_after setup.kind setup.replicas records entry.command entry.reply says said in
     (named_sequence setup.kind (records_of setup (log ++ entry ∷ [])), holds_from_no_fault setup.kind (records_of setup (log ++ entry ∷ [])) none)
 
 -- a no comes exactly where the fault is

@@ -128,7 +128,13 @@ impl History {
     }
 
     /// The next label, with what its replica had.
-    fn label(&self, number: u32, replica: u8, op: &Op, clock: Option<u32>) -> Result<Accepted, NoMemory>
+    fn label(
+        &self,
+        number: u32,
+        replica: u8,
+        op: &Op,
+        clock: Option<u32>,
+    ) -> Result<Accepted, NoMemory>
         requires { replica < vec_len self.now.had.sets }
         ensures label { IfOk result (λ accepted. accepted.label
             ≡ record { number = number; replica = replica; op = op.now; stamp = stamp_of replica clock }) }

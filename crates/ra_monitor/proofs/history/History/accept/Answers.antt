@@ -29,9 +29,9 @@ returns-in-Ok-clause-taken c = λ records stands none.
     let is : accepted.label ≡ next_label records by op clock = c.in_ok-accepted.ensures.label ∙ ap labelled numbered in
     let known : by < setup.replicas = omega (arith, c.requires.replica, stands.replicas) in
     let sees_had : (m : ℕ) → has_in accepted.seen m ≡ had records by m =
-        λ m. c.in_ok-accepted.ensures.seen m accepted.seen ∙ roomy_stands.had by m accepted.seen known in
+    λ m. c.in_ok-accepted.ensures.seen m accepted.seen ∙ roomy_stands.had by m accepted.seen known in
     let grown : AreLabelsOf c.push.new.self.items taken =
-        subst (λ (l : List Accepted). AreLabelsOf l taken) (sym c.in_ok-push.ensures.items) (labels_grow old.labels.items records accepted by op clock stands.labels is sees_had) in
+    subst (λ (l : List Accepted). AreLabelsOf l taken) (sym c.in_ok-push.ensures.items) (labels_grow old.labels.items records accepted by op clock stands.labels is sees_had) in
     let because = c.in-Ok.ensures taken (subst (λ (l : List Accepted). AreLabelsOf l taken) (sym c.as_slice.ensures.value) grown) in
     let labels = subst (λ (l : List Accepted). AreLabelsOf l taken) (sym (ap (λ v. v.items) c.settle.ensures.labels)) grown in
     let fault = c.settle.ensures.fault ∙ ap (λ (n : ℕ). option_map (fault_at n) c.in-Ok.cause) numbered in
@@ -43,5 +43,5 @@ returns-in-Ok-clause-taken c = λ records stands none.
 pub returns-in-Err-clause-err : goal.returns-in-Err-clause-err
 returns-in-Err-clause-err c = λ records stands.
     let back = pushed_and_popped c.args.self.now.labels.items c.push.new.self.items c.pop.new.self.items c.in_ok-accepted.accepted _ c.in_ok-push.ensures.items c.pop.ensures.rest
-        (omega (arith, c.in_ok-push.ensures.len, c.args.self.now.labels.ok.0)) in
+    (omega (arith, c.in_ok-push.ensures.len, c.args.self.now.labels.ok.0)) in
     stands_same c.args.self.now (record { labels = c.pop.new.self; had = c.make_room.new.self; fault = c.args.self.now.fault }) c.args.setup.now records stands back refl c.in_ok-make_room.ensures.same

@@ -1,6 +1,5 @@
-use Rattle.std.proofs.Common.{◌≡◌, Some, None, sym, ap, ◌∙◌, subst, arith}
+use Rattle.std.proofs.Common.{◌≡◌, Some, None, sym, ap, ◌∙◌, arith}
 use Rattle.ra_labels.specs.Fault.{fault_of}
-use Rattle.ra_monitor.specs.declared.accepted.Accepted.{Accepted}
 use Rattle.ra_monitor.specs.History.{bare}
 use Rattle.ra_monitor.proofs.BeforeFault.{all_labels_before, labels_before, fault_below}
 use Rattle.ra_monitor.proofs.history.History.before_fault.Goals as goal

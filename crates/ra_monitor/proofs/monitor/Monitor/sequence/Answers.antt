@@ -1,9 +1,9 @@
 use Rattle.std.proofs.Common.{◌≡◌, List, Ok, Err, map, sym, ap, ◌∙◌, subst}
-use Rattle.std.specs.Prelude.{flat_map, IfOk, OnOk, Result, Vec}
+use Rattle.std.specs.Prelude.{flat_map, IfOk, OnOk, Result}
 use Rattle.ra_labels.specs.Records.{Records}
 use Rattle.ra_labels.specs.Rewriting.{parts_of}
 use Rattle.ra_labels.specs.NamedOrder.{named_sequence}
-use Rattle.ra_labels.specs.Fault.{Holds, records_before_fault}
+use Rattle.ra_labels.specs.Fault.{records_before_fault}
 use Rattle.ra_labels.proofs.Holding.{holds_from_no_fault, no_fault_before}
 use Rattle.ra_monitor.specs.declared.part_ref.PartRef.{PartRef}
 use Rattle.ra_monitor.specs.Sequence.{ref_of}

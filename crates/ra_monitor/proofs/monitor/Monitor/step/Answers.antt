@@ -1,7 +1,5 @@
-use Rattle.std.proofs.Common.{◌≡◌, ℕ, ◌+◌, ◌<◌, ◌∷◌, ◌++◌, [], List, length, refl, sym, ap, ◌∙◌, subst, arith}
-use Rattle.std.specs.Prelude.{IsTrue}
-use Rattle.ra_monitor.specs.Monitor.{MonitorEntry, Logged, records_of, IsLegalLog, IsRaLinearizable, IsNoAtFault, IsNextTicket}
-use Rattle.ra_monitor.specs.Kept.{logged}
+use Rattle.std.proofs.Common.{ℕ, ◌+◌, ◌<◌, ◌∷◌, ◌++◌, [], List, length, refl, sym, ap, ◌∙◌, subst, arith}
+use Rattle.ra_monitor.specs.Monitor.{MonitorEntry, Logged, records_of, IsRaLinearizable, IsNoAtFault, IsNextTicket}
 use Rattle.ra_monitor.proofs.Legal.{linearizable_after, no_after}
 use Rattle.ra_monitor.proofs.Keeping.{legal_after, kept_after}
 use Rattle.ra_monitor.proofs.monitor.Monitor.step.Goals as goal
