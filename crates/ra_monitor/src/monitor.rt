@@ -1,9 +1,10 @@
-ghost use Rattle.std.specs.Prelude.{◌≡◌, ℕ, ◌<◌, ◌≤◌, ◌++◌, ◌∷◌, ◌↔◌, [], length, map, cond, vec_len, vec_capacity, IsTrue, IfOk, IfErr, OnErr, OnOk, IsErrOf};
+ghost use Rattle.std.specs.Prelude.{◌≡◌, ℕ, ◌<◌, ◌≤◌, ◌++◌, ◌∷◌, ◌↔◌, [], length, map, cond, vec_len, vec_capacity, option_map, IsTrue, IfSome, IfOk, IfErr, OnErr, OnOk, IsErrOf};
 ghost use Rattle.ra_labels.specs.Records.{label_count};
 ghost use Rattle.ra_labels.specs.Linearization.{IsRaLinearization};
 ghost use Rattle.ra_labels.specs.NamedOrder.{named_sequence};
 ghost use Rattle.ra_labels.specs.Fault.{records_before_fault};
 ghost use Rattle.ra_labels.specs.Answer.{answer_of};
+ghost use Rattle.ra_monitor.specs.Log.{last_of};
 ghost use Rattle.ra_monitor.specs.Limits.{AreReplicas, IsLimit, handed_back};
 ghost use Rattle.ra_monitor.specs.Sequence.{ref_of};
 ghost use Rattle.ra_monitor.specs.Replies.{is_yes, is_refused};
@@ -130,6 +131,17 @@ impl Monitor {
                 Ok(reply)
             }
             Err(NoMemory) => Err(StepFault::NoMemory(command)),
+        }
+    }
+
+    /// The ticket of the log's last entry, above which the next has to be.
+    pub fn last_ticket(&self) -> Option<u64>
+        ensures last { result ≡ option_map (λ entry. entry.ticket) (last_of self.now.log) }
+        ensures next { (ticket : ℕ) → IfSome result (λ last. last < ticket) → IsNextTicket self.now ticket }
+    {
+        match self.log.as_slice().last() {
+            Some(entry) => Some(entry.ticket),
+            None => None,
         }
     }
 
