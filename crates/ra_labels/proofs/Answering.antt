@@ -15,7 +15,11 @@ use Rattle.ra_labels.specs.declared.reply.Fault.{Fault}
 use Rattle.ra_labels.specs.Records.{Records, label_count}
 use Rattle.ra_labels.specs.Fault.{fault_of, fault_at}
 use Rattle.ra_labels.specs.Answer.{no_at, refusal_of, misfit_of, answer_to_accepted, with_accepted, answer_of, records_after, answers_to, records_after_all}
+use Rattle.ra_labels.specs.Rewriting.{Part}
+use Rattle.ra_labels.specs.Linearization.{IsRaLinearization}
+use Rattle.ra_labels.specs.NamedOrder.{named_sequence}
 use Rattle.ra_labels.specs.Laws.{ReplySays}
+use Rattle.ra_labels.proofs.Holding.{holds_from_no_fault}
 
 module _ (kind : Kind) (replicas : ℕ) (records : Records) (command : Command) where
   -- after a fault each answer is the fault, and the records stay
@@ -91,3 +95,14 @@ records_after_all-append kind replicas records (command ∷ first) then = record
 -- where the replica is known, what the command's own form deserves is the first refusal
 pub misfit_refuses : (kind : Kind) (replicas : ℕ) (records : Records) (by : ℕ) (op : Op) (clock : Option ℕ) (why : Refusal) → by < replicas → misfit_of kind (Operate by op clock) ≡ Some why → refusal_of kind replicas records (Operate by op clock) ≡ Some why
 misfit_refuses kind replicas records by op clock why below is = rw (lt-ltb by replicas below, is)
+
+-- a reply Ok or Yes is given where some sequence is an RA-linearization of the records that the command leaves
+pub ok_is_evidence : (kind : Kind) (replicas : ℕ) (records : Records) (command : Command) (n : ℕ) → answer_of kind replicas records command ≡ reply.Ok n → (sequence : List Part) × IsRaLinearization kind (records_after kind replicas records command) sequence
+ok_is_evidence kind replicas records command n is =
+    let known = subst (ReplySays kind replicas records command) is (reply_says kind replicas records command) in
+    (named_sequence kind (records_after kind replicas records command), holds_from_no_fault kind (records_after kind replicas records command) (ap (fault_of kind) known.1 ∙ known.2))
+
+pub yes_is_evidence : (kind : Kind) (replicas : ℕ) (records : Records) (command : Command) (n : ℕ) → answer_of kind replicas records command ≡ reply.Yes n → (sequence : List Part) × IsRaLinearization kind (records_after kind replicas records command) sequence
+yes_is_evidence kind replicas records command n is =
+    let known = subst (ReplySays kind replicas records command) is (reply_says kind replicas records command) in
+    (named_sequence kind (records_after kind replicas records command), holds_from_no_fault kind (records_after kind replicas records command) (ap (fault_of kind) known.1 ∙ known.2))

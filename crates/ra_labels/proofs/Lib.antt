@@ -7,3 +7,4 @@ pub mod Order
 pub mod Answering
 pub mod Places
 pub mod Unique
+pub mod Counting

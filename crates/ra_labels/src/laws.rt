@@ -3,4 +3,5 @@ pub mod answer;
 pub mod fault;
 pub mod linearization;
 pub mod sequence;
+pub mod specification;
 pub mod visibility;

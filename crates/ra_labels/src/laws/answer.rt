@@ -6,7 +6,10 @@ ghost use Rattle.ra_labels.specs.declared.command.Command.{Command};
 ghost use Rattle.ra_labels.specs.declared.command.Command.TheVariants.{Operate, Deliver, Verdict};
 ghost use Rattle.ra_labels.specs.declared.refusal.Refusal.{Refusal};
 ghost use Rattle.ra_labels.specs.declared.reply.Fault.{Fault};
+ghost use Rattle.ra_labels.specs.declared.reply.Reply.TheVariants as reply;
 ghost use Rattle.ra_labels.specs.Records.{Records};
+ghost use Rattle.ra_labels.specs.Rewriting.{Part};
+ghost use Rattle.ra_labels.specs.Linearization.{IsRaLinearization};
 ghost use Rattle.ra_labels.specs.Fault.{fault_of};
 ghost use Rattle.ra_labels.specs.Answer.{no_at, misfit_of, refusal_of, answer_of, records_after, answers_to, records_after_all};
 ghost use Rattle.ra_labels.specs.Laws.{ReplySays};
@@ -15,6 +18,16 @@ ghost use Rattle.ra_labels.specs.Laws.{ReplySays};
 pub fn what_a_reply_says()
     ensures { (kind : Kind) (replicas : ℕ) (records : Records) (command : Command)
         → ReplySays kind replicas records command (answer_of kind replicas records command) }
+{}
+
+/// Where the reply is Ok or Yes, some sequence is an RA-linearization of the records that the command leaves.
+pub fn ok_and_yes_are_evidence()
+    ensures ok { (kind : Kind) (replicas : ℕ) (records : Records) (command : Command) (n : ℕ)
+        → answer_of kind replicas records command ≡ reply.Ok n
+        → (sequence : List Part) × IsRaLinearization kind (records_after kind replicas records command) sequence }
+    ensures yes { (kind : Kind) (replicas : ℕ) (records : Records) (command : Command) (n : ℕ)
+        → answer_of kind replicas records command ≡ reply.Yes n
+        → (sequence : List Part) × IsRaLinearization kind (records_after kind replicas records command) sequence }
 {}
 
 /// The reply is a no exactly where the records that the command leaves have a fault, and names it.

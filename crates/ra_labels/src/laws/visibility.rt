@@ -1,7 +1,7 @@
 //! What a label sees, and what a replica had.
 ghost use Rattle.std.specs.Prelude.{◌≡◌, ℕ, ◌<◌, ◌++◌, true};
 ghost use Rattle.ra_labels.specs.Records.{Records, label_count};
-ghost use Rattle.ra_labels.specs.Visibility.{had, is_update_at, sees};
+ghost use Rattle.ra_labels.specs.Visibility.{had, is_update_at, sees, IsCausal};
 
 /// A label that is there sees the same in all later records.
 pub fn sees_the_same_later()
@@ -29,4 +29,13 @@ pub fn had_updates()
 /// What a replica had it keeps.
 pub fn had_is_kept()
     ensures { (later records : Records) (replica n : ℕ) → had records replica n ≡ true → had (later ++ records) replica n ≡ true }
+{}
+
+/// In causal records a replica that had a label had all that the label sees, and a label sees all that the labels
+/// see that it sees.
+pub fn causal_records_leave_nothing_out()
+    ensures had { (records : Records) → IsCausal records → (replica m k : ℕ) → had records replica m ≡ true
+        → sees records m k ≡ true → had records replica k ≡ true }
+    ensures sees { (records : Records) → IsCausal records → (n m k : ℕ) → sees records n m ≡ true
+        → sees records m k ≡ true → sees records n k ≡ true }
 {}
