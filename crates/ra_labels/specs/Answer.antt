@@ -1,9 +1,7 @@
 -- The refusals, and the one-thread monitor's answer.
-use Rattle.std.specs.Prelude.{ℕ, ◌==◌, nat_lt, Bool, true, false, not, ◌&&◌, ◌||◌, List, [], ◌∷◌, Option, Some, None, is_some, if◌then◌else◌}
+use Rattle.std.specs.Prelude.{ℕ, nat_lt, Bool, false, not, ◌&&◌, ◌||◌, List, [], ◌∷◌, Option, Some, None, is_some, if◌then◌else◌}
 use Rattle.std.specs.Option.{option_or, option_map_or}
-use Rattle.std.specs.List.{list_any}
 use Rattle.ra_labels.specs.declared.kind.Kind.{Kind}
-use Rattle.ra_labels.specs.declared.kind.Kind.TheVariants.{Counter}
 use Rattle.ra_labels.specs.declared.operation.Op.{Op}
 use Rattle.ra_labels.specs.declared.operation.Op.TheVariants.{Inc, Dec, Count}
 use Rattle.ra_labels.specs.declared.command.Command.{Command}
@@ -38,8 +36,8 @@ misfit_of kind (Operate replica op clock) = first_of (when (not (carries_stamp o
 misfit_of kind command = None
 
 -- the refusals of an operation, in their order
-abbrev pub refusal_of_operation : Kind → ℕ → Command → ℕ → Option Refusal
-refusal_of_operation kind replicas command by =
+abbrev pub refusal_of_operation : Kind → ℕ → Records → Command → ℕ → Option Refusal
+refusal_of_operation kind replicas records command by =
     first_of (when (not (nat_lt by replicas)) UnknownReplica ∷ misfit_of kind command ∷ [])
 
 -- the refusals of a delivery, in their order
@@ -54,7 +52,7 @@ refusal_of_delivery replicas records to label = first_of (
 
 -- the first refusal whose sentence is true of the command after these records
 abbrev pub refusal_of : Kind → ℕ → Records → Command → Option Refusal
-refusal_of kind replicas records (Operate by op clock) = refusal_of_operation kind replicas (Operate by op clock) by
+refusal_of kind replicas records (Operate by op clock) = refusal_of_operation kind replicas records (Operate by op clock) by
 refusal_of kind replicas records (Deliver to label) = refusal_of_delivery replicas records to label
 refusal_of kind replicas records Verdict = None
 

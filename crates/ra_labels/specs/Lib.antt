@@ -7,3 +7,4 @@ pub mod NamedOrder
 pub mod Fault
 pub mod Answer
 pub mod Worked
+pub mod Laws

@@ -7,7 +7,7 @@ use Rattle.ra_labels.specs.declared.operation.Update.{Update}
 use Rattle.ra_labels.specs.Specification.{is_admitted, is_answered_after}
 use Rattle.ra_labels.specs.Records.{Records, labels_of}
 use Rattle.ra_labels.specs.Visibility.{sees}
-use Rattle.ra_labels.specs.Rewriting.{Half, Whole, QueryHalf, UpdateHalf, Part, parts_of, update_of, query_of, updates_of}
+use Rattle.ra_labels.specs.Rewriting.{Half, QueryHalf, UpdateHalf, Part, parts_of, update_of, query_of, updates_of}
 
 -- the parts of all labels
 abbrev pub parts_in : Records → List Part

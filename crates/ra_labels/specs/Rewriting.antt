@@ -1,5 +1,5 @@
 -- The rewriting: a query-update becomes a query half and an update half; any other label is its own one part.
-use Rattle.std.specs.Prelude.{ℕ, ◌∷◌, [], List, map, Bool, true, false, Option, Some, None, filter_map}
+use Rattle.std.specs.Prelude.{◌∷◌, [], List, map, Option, Some, None, filter_map}
 use Rattle.ra_labels.specs.declared.operation.Op.{Op}
 use Rattle.ra_labels.specs.declared.operation.Op.TheVariants as op
 use Rattle.ra_labels.specs.declared.operation.Update.{Update}

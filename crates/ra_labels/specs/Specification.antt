@@ -1,6 +1,6 @@
 -- The sequential specification of each kind: a state at first, a partial step for each update, and a yes or
 -- no for each query.
-use Rattle.std.specs.Prelude.{◌≡◌, ℕ, ℤ, pos, ◌+ℤ◌, ◌-ℤ◌, Bool, true, false, List, Option, Some, None, option_and_then, fold, is_some}
+use Rattle.std.specs.Prelude.{ℤ, pos, ◌+ℤ◌, ◌-ℤ◌, Bool, false, List, Option, Some, option_and_then, fold, is_some}
 use Rattle.std.specs.Option.{option_map_or}
 use Rattle.std.specs.Ordering.{int_eq}
 use Rattle.ra_labels.specs.declared.kind.Kind.{Kind}

@@ -1,27 +1,67 @@
--- Worked histories, by what they show.
-use Rattle.std.specs.Prelude.{ℕ, pos, List, [], ◌∷◌, Some, None}
+-- Worked histories of a counter, by what they show.
+use Rattle.std.specs.Prelude.{pos, negsuc, List, [], ◌∷◌, Some, None}
 use Rattle.ra_labels.specs.declared.kind.Kind.TheVariants.{Counter}
 use Rattle.ra_labels.specs.declared.operation.Op.TheVariants.{Inc, Dec, Count}
+use Rattle.ra_labels.specs.declared.operation.Update.TheVariants as update
+use Rattle.ra_labels.specs.declared.operation.Query.TheVariants as query
 use Rattle.ra_labels.specs.declared.command.Command.{Command}
 use Rattle.ra_labels.specs.declared.command.Command.TheVariants.{Operate, Deliver, Verdict}
 use Rattle.ra_labels.specs.declared.reply.Reply.{Reply}
-use Rattle.ra_labels.specs.declared.reply.Reply.TheVariants as reply
-use Rattle.ra_labels.specs.declared.reply.Cause.TheVariants as cause
-use Rattle.ra_labels.specs.declared.refusal.Refusal.TheVariants as refusal
-use Rattle.ra_labels.specs.Answer.{answers_to}
+use Rattle.ra_labels.specs.Records.{Records}
+use Rattle.ra_labels.specs.Rewriting.{Whole, Does, Asks, Part}
+use Rattle.ra_labels.specs.Answer.{answers_to, records_after_all}
 
 -- `a inc`; `b got 0`; `b read 1`
 abbrev pub delivered_and_read : List Command
 delivered_and_read = Operate 0 Inc None ∷ Deliver 1 0 ∷ Operate 1 (Count (pos 1)) None ∷ Verdict ∷ []
 
+-- the increment of `delivered_and_read`, as a part
+abbrev pub the_increment : Part
+the_increment = record { label = record { number = 0; replica = 0; op = Inc; stamp = None }; half = Whole; act = Does update.Inc }
+
+-- and its read
+abbrev pub the_read : Part
+the_read = record {
+  label = record { number = 1; replica = 1; op = Count (pos 1); stamp = None };
+  half = Whole;
+  act = Asks (query.Count (pos 1));
+}
+
 -- `a inc`; `b read 1`; `a inc`; `verdict`
 abbrev pub nothing_was_delivered : List Command
 nothing_was_delivered = Operate 0 Inc None ∷ Operate 1 (Count (pos 1)) None ∷ Operate 0 Inc None ∷ Verdict ∷ []
+
+-- `verdict`; `verdict`
+abbrev pub only_verdicts : List Command
+only_verdicts = Verdict ∷ Verdict ∷ []
 
 -- `a read 1`
 abbrev pub nothing_to_count : List Command
 nothing_to_count = Operate 0 (Count (pos 1)) None ∷ []
 
+-- `a inc`; `b dec`; `b read -1`; `a got 1`; `a read 0`: each read counts what its replica had
+abbrev pub each_counts_what_it_had : List Command
+each_counts_what_it_had =
+    Operate 0 Inc None ∷ Operate 1 Dec None ∷ Operate 1 (Count (negsuc 0)) None ∷ Deliver 0 1 ∷ Operate 0 (Count (pos 0)) None ∷ []
+
+-- `a inc @3`; `z inc`, where there are two replicas
+abbrev pub stamped_and_unknown : List Command
+stamped_and_unknown = Operate 0 Inc (Some 3) ∷ Operate 2 Inc None ∷ []
+
+-- each refusal that a counter can meet, of two replicas, the earlier one where two apply
+abbrev pub each_refusal : List Command
+each_refusal =
+    Operate 2 Inc (Some 3) ∷ Operate 0 Inc (Some 0) ∷ Deliver 2 0 ∷ Deliver 1 0 ∷ Operate 0 Inc None ∷ Operate 1 (Count (pos 0)) None
+    ∷ Deliver 1 1 ∷ Deliver 0 0 ∷ Deliver 1 0 ∷ Deliver 1 0 ∷ Deliver 1 2 ∷ Verdict ∷ []
+
 -- the answers of a counter of three replicas, from the beginning
 abbrev pub answers_of_three : List Command → List Reply
 answers_of_three commands = answers_to Counter 3 [] commands
+
+-- the records that they leave
+abbrev pub records_of_three : List Command → Records
+records_of_three commands = records_after_all Counter 3 [] commands
+
+-- the answers of a counter of two replicas
+abbrev pub answers_of_two : List Command → List Reply
+answers_of_two commands = answers_to Counter 2 [] commands

@@ -1,1 +1,7 @@
 //! Laws above the definitions, each the clause of a function that does nothing.
+pub mod answer;
+pub mod fault;
+pub mod linearization;
+pub mod sequence;
+pub mod specification;
+pub mod visibility;

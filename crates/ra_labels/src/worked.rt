@@ -1,16 +1,54 @@
-//! Worked histories, answered by computing the definitions.
-ghost use Rattle.std.specs.Prelude.{◌≡◌, [], ◌∷◌};
-ghost use Rattle.ra_labels.specs.Worked.{answers_of_three, delivered_and_read, nothing_was_delivered};
+//! Worked histories of a counter, answered by computing the definitions.
+ghost use Rattle.std.specs.Prelude.{◌≡◌, [], ◌∷◌, Some, None};
+ghost use Rattle.ra_labels.specs.declared.kind.Kind.TheVariants.{Counter};
 ghost use Rattle.ra_labels.specs.declared.reply.Reply.TheVariants as reply;
 ghost use Rattle.ra_labels.specs.declared.reply.Cause.TheVariants as cause;
+ghost use Rattle.ra_labels.specs.declared.refusal.Refusal.TheVariants as refusal;
+ghost use Rattle.ra_labels.specs.NamedOrder.{named_sequence};
+ghost use Rattle.ra_labels.specs.Fault.{fault_of, fault_at};
+ghost use Rattle.ra_labels.specs.Worked.{answers_of_three, records_of_three, answers_of_two, delivered_and_read, the_increment, the_read, nothing_was_delivered, only_verdicts, nothing_to_count, each_counts_what_it_had, stamped_and_unknown, each_refusal};
 
 /// An increment that was delivered is counted.
 pub fn delivered_and_read_holds()
-    ensures { answers_of_three delivered_and_read ≡ reply.Ok 0 ∷ reply.Got 0 ∷ reply.Ok 1 ∷ reply.Yes 2 ∷ [] }
+    ensures replies { answers_of_three delivered_and_read ≡ reply.Ok 0 ∷ reply.Got 0 ∷ reply.Ok 1 ∷ reply.Yes 2 ∷ [] }
+    ensures sequence { named_sequence Counter (records_of_three delivered_and_read) ≡ the_increment ∷ the_read ∷ [] }
+    ensures fault { fault_of Counter (records_of_three delivered_and_read) ≡ None }
 {}
 
 /// An increment that was not delivered is not, and after the no nothing else is accepted.
 pub fn nothing_was_delivered_fails()
-    ensures { answers_of_three nothing_was_delivered
+    ensures replies { answers_of_three nothing_was_delivered
         ≡ reply.Ok 0 ∷ reply.No 1 cause.Query ∷ reply.No 1 cause.Query ∷ reply.No 1 cause.Query ∷ [] }
+    ensures fault { fault_of Counter (records_of_three nothing_was_delivered) ≡ Some (fault_at 1 cause.Query) }
+{}
+
+/// Without a command all holds.
+pub fn only_verdicts_hold()
+    ensures { answers_of_three only_verdicts ≡ reply.Yes 0 ∷ reply.Yes 0 ∷ [] }
+{}
+
+/// The first label can be the one that fails.
+pub fn nothing_to_count_fails()
+    ensures { answers_of_three nothing_to_count ≡ reply.No 0 cause.Query ∷ [] }
+{}
+
+/// A read counts the updates that its replica had, and not all that there are.
+pub fn each_counts_what_it_had_holds()
+    ensures { answers_of_three each_counts_what_it_had
+        ≡ reply.Ok 0 ∷ reply.Ok 1 ∷ reply.Ok 2 ∷ reply.Got 1 ∷ reply.Ok 3 ∷ [] }
+{}
+
+/// A counter's operations carry no stamp, and a replica has to be one of those that there are.
+pub fn stamped_and_unknown_are_refused()
+    ensures { answers_of_two stamped_and_unknown
+        ≡ reply.Refused refusal.StampUnwanted ∷ reply.Refused refusal.UnknownReplica ∷ [] }
+{}
+
+/// Each refusal that a counter can meet. Where two apply, the earlier one is given.
+pub fn each_refusal_in_its_order()
+    ensures { answers_of_two each_refusal
+        ≡ reply.Refused refusal.UnknownReplica ∷ reply.Refused refusal.StampUnwanted ∷ reply.Refused refusal.UnknownReplica
+        ∷ reply.Refused refusal.UnknownLabel ∷ reply.Ok 0 ∷ reply.Ok 1 ∷ reply.Refused refusal.NotAnUpdate
+        ∷ reply.Refused refusal.AlreadySeen ∷ reply.Got 0 ∷ reply.Refused refusal.AlreadySeen
+        ∷ reply.Refused refusal.UnknownLabel ∷ reply.Yes 2 ∷ [] }
 {}

@@ -13,6 +13,6 @@ pub record IsKept (m : Inside) : Type 0 where
   pub limit : IsLimit m.setup.limit
   pub fits : length m.log.items ≤ m.setup.limit
   pub legal : IsLegalLog m.setup m.log.items
-  pub history : StandsFor m.history m.setup.replicas (records_of m.setup m.log.items)
+  pub history : StandsFor m.history m.setup (records_of m.setup m.log.items)
   pub labels : vec_len m.history.labels ≤ length m.log.items
   pub refused : m.refused ≡ refused_count m.log.items

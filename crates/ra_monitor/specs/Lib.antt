@@ -1,7 +1,10 @@
 pub mod Log
+pub mod Replies
 pub mod Monitor
 pub mod Limits
 pub mod Kept
 pub mod Sequence
 pub mod Seen
+pub mod Had
 pub mod History
+pub mod Fold

@@ -1,8 +1,8 @@
 -- What contracts see of a monitor: its setup and its log, and nothing else.
-use Rattle.std.specs.Prelude.{◌≡◌, ℕ, Bool, true, false, List, [], map, count_by, Option, Some, ◌↔◌}
+use Rattle.std.specs.Prelude.{◌≡◌, ℕ, List, [], map, count_by, Option, Some, ◌↔◌}
 use Rattle.ra_labels.specs.declared.command.Command.{Command}
 use Rattle.ra_labels.specs.declared.reply.Reply.{Reply}
-use Rattle.ra_labels.specs.declared.reply.Reply.TheVariants.{Ok, Got, Yes, No, Refused}
+use Rattle.ra_labels.specs.declared.reply.Reply.TheVariants.{No}
 use Rattle.ra_labels.specs.declared.reply.Cause.{Cause}
 use Rattle.ra_labels.specs.declared.reply.Fault.{Fault}
 use Rattle.ra_labels.specs.Records.{Records}
@@ -12,6 +12,7 @@ use Rattle.ra_labels.specs.Fault.{fault_of, fault_at}
 use Rattle.ra_labels.specs.Answer.{answer_of, records_after_all}
 use Rattle.ra_monitor.specs.declared.entry.Entry.{Entry}
 use Rattle.ra_monitor.specs.declared.setup.Setup.{Setup}
+use Rattle.ra_monitor.specs.Replies.{is_refused}
 use Rattle.ra_monitor.specs.Log.{Protocol, IsLegal, IsAboveLast}
 
 abbrev pub MonitorEntry : Type 0
@@ -47,15 +48,6 @@ IsNextTicket monitor ticket = IsAboveLast (protocol_of monitor.setup) monitor.lo
 
 abbrev pub fault_in : Setup → List MonitorEntry → Option Fault
 fault_in setup log = fault_of setup.kind (records_of setup log)
-
-abbrev pub is_yes : Reply → Bool
-is_yes (Ok label) = true
-is_yes (Yes labels) = true
-is_yes _ = false
-
-abbrev pub is_refused : Reply → Bool
-is_refused (Refused refusal) = true
-is_refused _ = false
 
 abbrev pub refused_count : List MonitorEntry → ℕ
 refused_count log = count_by (λ entry. is_refused entry.reply) log

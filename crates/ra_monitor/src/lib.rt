@@ -6,13 +6,20 @@
 //! legal, and a yes in it implies an RA-linearization of the records up to there.
 #![tactic(auto)]
 
+mod accepted;
 mod entry;
 mod faults;
+mod fold;
+mod had;
 mod history;
 mod monitor;
 mod part_ref;
+mod refusing;
 mod report;
+mod rewriting;
+mod scope;
 mod seen;
+mod sequence;
 mod setup;
 
 pub use entry::Entry;

@@ -1,17 +1,20 @@
-ghost use Rattle.std.specs.Prelude.{◌≡◌, ℕ, ◌<◌, ◌≤◌, ◌++◌, ◌∷◌, ◌↔◌, [], length, map, IsTrue, IfOk, IfErr, OnErr, OnOk, IsErrOf};
+ghost use Rattle.std.specs.Prelude.{◌≡◌, ℕ, ◌<◌, ◌≤◌, ◌++◌, ◌∷◌, ◌↔◌, [], length, map, cond, vec_len, vec_capacity, option_map, IsTrue, IfSome, IfOk, IfErr, OnErr, OnOk, IsErrOf};
 ghost use Rattle.ra_labels.specs.Records.{label_count};
 ghost use Rattle.ra_labels.specs.Linearization.{IsRaLinearization};
 ghost use Rattle.ra_labels.specs.NamedOrder.{named_sequence};
 ghost use Rattle.ra_labels.specs.Fault.{records_before_fault};
 ghost use Rattle.ra_labels.specs.Answer.{answer_of};
+ghost use Rattle.ra_monitor.specs.Log.{last_of};
 ghost use Rattle.ra_monitor.specs.Limits.{AreReplicas, IsLimit, handed_back};
 ghost use Rattle.ra_monitor.specs.Sequence.{ref_of};
+ghost use Rattle.ra_monitor.specs.Replies.{is_yes, is_refused};
 
 use crate::entry::Entry;
 use crate::faults::{NewFault, StepFault};
 use crate::history::History;
 use crate::part_ref::PartRef;
 use crate::report::Report;
+use crate::sequence::parts_of;
 use crate::setup::Setup;
 use ra_labels::{Command, Kind, NoMemory, Reply};
 use std::alloc::Global;
@@ -45,7 +48,7 @@ impl Model for Monitor {
 }
 
 impl Monitor {
-    ghost use Rattle.ra_monitor.specs.Monitor.{records_of, fault_in, refused_count, is_yes, IsNextTicket, IsLegalLog, IsRaLinearizable, IsNoAtFault};
+    ghost use Rattle.ra_monitor.specs.Monitor.{records_of, fault_in, refused_count, IsNextTicket, IsLegalLog, IsRaLinearizable, IsNoAtFault};
 
     /// A monitor of a history of this kind, at this many replicas, whose log may have `limit` entries.
     pub fn new(alloc: Global, kind: Kind, replicas: u8, limit: u32) -> Result<Monitor, NewFault>
@@ -62,13 +65,14 @@ impl Monitor {
         if limit < 1 || limit > MOST_ENTRIES {
             return Err(NewFault::BadLimit);
         }
-        match History::new(alloc, replicas) {
+        let setup = Setup {
+            kind,
+            replicas,
+            limit,
+        };
+        match History::new(alloc, &setup) {
             Ok(history) => Ok(Monitor {
-                setup: Setup {
-                    kind,
-                    replicas,
-                    limit,
-                },
+                setup,
                 log: Vec::new(alloc),
                 history,
                 refused: 0,
@@ -111,7 +115,34 @@ impl Monitor {
         if self.log.len() == self.setup.limit as usize {
             return Err(StepFault::Full(command));
         }
-        Err(StepFault::NoMemory(command))
+        if self.log.reserve(1).is_err() {
+            return Err(StepFault::NoMemory(command));
+        }
+        match self.history.take(&self.setup, &command) {
+            Ok(reply) => {
+                self.refused += refusals(reply);
+                let entry = Entry {
+                    pass,
+                    ticket,
+                    command,
+                    reply,
+                };
+                append(&mut self.log, entry);
+                Ok(reply)
+            }
+            Err(NoMemory) => Err(StepFault::NoMemory(command)),
+        }
+    }
+
+    /// The ticket of the log's last entry, above which the next has to be.
+    pub fn last_ticket(&self) -> Option<u64>
+        ensures last { result ≡ option_map (λ entry. entry.ticket) (last_of self.now.log) }
+        ensures next { (ticket : ℕ) → IfSome result (λ last. last < ticket) → IsNextTicket self.now ticket }
+    {
+        match self.log.as_slice().last() {
+            Some(entry) => Some(entry.ticket),
+            None => None,
+        }
     }
 
     /// The log, the oldest entry first.
@@ -130,7 +161,7 @@ impl Monitor {
         ensures linearizes { let records = records_before_fault self.now.setup.kind (records_of self.now.setup self.now.log) in
             OnOk result (IsRaLinearization self.now.setup.kind records (named_sequence self.now.setup.kind records)) }
     {
-        Err(NoMemory)
+        parts_of(*self.log.allocator(), self.history.before_fault())
     }
 
     /// What the log amounts to. It takes no memory and always answers.
@@ -149,4 +180,22 @@ impl Monitor {
             fault: self.history.fault,
         }
     }
+}
+
+/// How many refusals the reply is: one or none.
+fn refusals(reply: Reply) -> u32
+    ensures { result ≡ cond (is_refused reply) 1 0 }
+{
+    match reply {
+        Reply::Refused(_) => 1,
+        Reply::Ok(_) | Reply::Got(_) | Reply::Yes(_) | Reply::No { .. } => 0,
+    }
+}
+
+/// Puts the entry at the log's end, where room was made for it.
+fn append(log: &mut Vec<Entry<Command, Reply>>, entry: Entry<Command, Reply>)
+    requires { vec_len log.old < vec_capacity log.old }
+    ensures { log.new.items ≡ log.old.items ++ entry ∷ [] }
+{
+    log.push(entry).unwrap();
 }

@@ -1,0 +1,30 @@
+-- The states that a counter's updates lead to.
+use Rattle.std.proofs.Common.{◌≡◌, List, [], ◌∷◌, ◌++◌, length, Some, refl, arith}
+use Rattle.std.specs.Prelude.{ℤ, pos, neg_ℤ, ◌+ℤ◌, ◌-ℤ◌, ◌≤ℤ◌, fold, option_and_then}
+use Rattle.std.proofs.lemmas.Int.{ints}
+use Rattle.std.proofs.lemmas.List.Sums.{fold-append}
+use Rattle.ra_labels.specs.declared.kind.Kind.{Kind}
+use Rattle.ra_labels.specs.declared.kind.Kind.TheVariants.{Counter}
+use Rattle.ra_labels.specs.declared.operation.Update.{Update}
+use Rattle.ra_labels.specs.declared.operation.Update.TheVariants.{Inc, Dec}
+use Rattle.ra_labels.specs.Specification.{Number, start_of, step_of, state_after}
+
+-- one more update is one more step
+pub state_after-push : (kind : Kind) (updates : List Update) (update : Update) → state_after kind (updates ++ update ∷ []) ≡ option_and_then (λ state. step_of state update) (state_after kind updates)
+state_after-push kind updates update = fold-append (λ state update. option_and_then (λ s. step_of s update) state) (Some (start_of kind)) updates (update ∷ [])
+
+-- from a number on, updates lead no further than their count
+number_after : (n : ℤ) (updates : List Update) → (m : ℤ) × (fold (λ state update. option_and_then (λ s. step_of s update) state) (Some (Number n)) updates ≡ Some (Number m)) × (n ≤ℤ (m +ℤ pos (length updates))) × (m ≤ℤ (n +ℤ pos (length updates)))
+number_after n [] = (n, refl, omega (arith, ints), omega (arith, ints))
+number_after n (Inc ∷ updates) =
+    let rest = number_after (n +ℤ pos 1) updates in
+    (rest.0, rest.1, omega (arith, ints, rest.2, rest.3), omega (arith, ints, rest.2, rest.3))
+number_after n (Dec ∷ updates) =
+    let rest = number_after (n -ℤ pos 1) updates in
+    (rest.0, rest.1, omega (arith, ints, rest.2, rest.3), omega (arith, ints, rest.2, rest.3))
+
+-- a counter admits all updates, and its number is no further from 0 than their count
+pub counter_within : (updates : List Update) → (number : ℤ) × (state_after Counter updates ≡ Some (Number number)) × (neg_ℤ (pos (length updates)) ≤ℤ number) × (number ≤ℤ pos (length updates))
+counter_within updates =
+    let state = number_after (pos 0) updates in
+    (state.0, state.1, omega (arith, ints, state.2), omega (arith, ints, state.3))

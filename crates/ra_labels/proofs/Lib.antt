@@ -1,0 +1,10 @@
+pub mod Sorting
+pub mod Numbers
+pub mod Seen
+pub mod Holding
+pub mod Standing
+pub mod Order
+pub mod Answering
+pub mod Places
+pub mod Unique
+pub mod Counting

@@ -1,0 +1,49 @@
+-- How labels are numbered.
+use Rattle.std.proofs.Common.{◌≡◌, ℕ, ◌<◌, ◌≤◌, eqb, [], ◌∷◌, ◌++◌, Some, None, refl, ap, ◌∙◌, inl, inr, arith, add-one}
+use Rattle.std.specs.Prelude.{map}
+use Rattle.std.proofs.lemmas.Bool.{cases_eq, eq-eqb, ne_eqb, cond-true, cond-false}
+use Rattle.ra_labels.specs.declared.label.Label.{Label}
+use Rattle.ra_labels.specs.declared.command.Command.TheVariants.{Operate}
+use Rattle.ra_labels.specs.Records.{Records, label_count, labels_of, label_at, next_label}
+use Rattle.ra_labels.specs.Laws.{numbers_below}
+
+-- the labels are numbered from the number of labels down to 0
+pub numbers_of_labels : (records : Records) → map (λ label. label.number) (labels_of records) ≡ numbers_below (label_count records)
+numbers_of_labels [] = refl
+numbers_of_labels (Operate by op clock ∷ before) =
+    rw (add-one (label_count before)) (ap (λ ns. label_count before ∷ ns) (numbers_of_labels before))
+numbers_of_labels (_ ∷ before) = numbers_of_labels before
+
+-- behind later labels, the number of labels does not shrink
+pub label_count-append : (later records : Records) → label_count records ≤ label_count (later ++ records)
+label_count-append [] records = omega arith
+label_count-append (Operate by op clock ∷ later) records = let rest = label_count-append later records in omega arith
+label_count-append (_ ∷ later) records = label_count-append later records
+
+-- there is a label at each number below their count
+pub label_there : (records : Records) (n : ℕ) → n < label_count records → (label : Label) × (label_at records n ≡ Some label) × (label.number ≡ n)
+label_there [] n below = absurd (omega arith)
+label_there (Operate by op clock ∷ before) n below = elim (cases_eq (label_count before) n) [
+  | inl is ↦ (next_label before by op clock, cond-true (eqb (label_count before) n) _ _ (eq-eqb _ _ is), is)
+  | inr other ↦
+      let older = label_there before n (omega arith) in
+      (older.0, cond-false (eqb (label_count before) n) _ _ (ne_eqb _ _ other) ∙ older.1, older.2)
+]
+label_there (_ ∷ before) n below = label_there before n below
+
+-- and none from there on
+pub no_label_there : (records : Records) (n : ℕ) → label_count records ≤ n → label_at records n ≡ None
+no_label_there [] n above = refl
+no_label_there (Operate by op clock ∷ before) n above =
+    let other : label_count before ≡ n → ⊥ = λ is. absurd (omega arith) in
+    cond-false (eqb (label_count before) n) _ _ (ne_eqb _ _ other) ∙ no_label_there before n (omega arith)
+no_label_there (_ ∷ before) n above = no_label_there before n above
+
+-- later records leave a label as it is
+pub label_at-append : (later records : Records) (n : ℕ) → n < label_count records → label_at (later ++ records) n ≡ label_at records n
+label_at-append [] records n below = refl
+label_at-append (Operate by op clock ∷ later) records n below =
+    let grows = label_count-append later records in
+    let other : label_count (later ++ records) ≡ n → ⊥ = λ is. absurd (omega arith) in
+    cond-false (eqb (label_count (later ++ records)) n) _ _ (ne_eqb _ _ other) ∙ label_at-append later records n below
+label_at-append (_ ∷ later) records n below = label_at-append later records n below

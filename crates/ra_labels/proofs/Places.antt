@@ -1,0 +1,28 @@
+-- Where an element stands in a list.
+use Rattle.std.proofs.Common.{◌≡◌, zero, suc, Bool, true, List, [], ◌∷◌, ◌++◌, sym, ap, ◌∙◌, inl, inr, arith}
+use Rattle.std.specs.Prelude.{◌⊎◌, Contains}
+use Rattle.std.specs.List.{list_all}
+use Rattle.std.proofs.lemmas.Bool.{and_parts}
+
+-- an element of a list is its head, or stands behind it
+pub Contains-cons_cases : {A : Type 0} (x : A) (xs : List A) (y : A) → Contains (x ∷ xs) y → (x ≡ y) ⊎ Contains xs y
+Contains-cons_cases x xs y (zero, within, is) = inl is
+Contains-cons_cases x xs y (suc k, within, is) = inr (k, omega arith, is)
+
+-- the list round one of its elements
+pub split_at : {A : Type 0} (xs : List A) (y : A) → Contains xs y → (before after : List A) × (xs ≡ before ++ y ∷ after)
+split_at [] y (k, within, is) = absurd (omega arith)
+split_at (x ∷ xs) y found = elim (Contains-cons_cases x xs y found) [
+  | inl here ↦ ([], xs, ap (λ z. z ∷ xs) here)
+  | inr further ↦ let rest = split_at xs y further in (x ∷ rest.0, rest.1, ap (λ zs. x ∷ zs) rest.2)
+]
+
+-- a test that each element passes
+pub list_all-contains : {A : Type 0} (p : A → Bool) (xs : List A) (y : A) → list_all p xs ≡ true → Contains xs y → p y ≡ true
+list_all-contains p [] y pass (k, within, is) = absurd (omega arith)
+list_all-contains p (x ∷ xs) y pass found =
+    let parts = and_parts (p x) (list_all p xs) pass in
+    elim (Contains-cons_cases x xs y found) [
+      | inl here ↦ sym (ap p here) ∙ parts.0
+      | inr further ↦ list_all-contains p xs y parts.1 further
+    ]

@@ -1,0 +1,5 @@
+use Rattle.ra_labels.proofs.Holding.{fault_stays}
+use Rattle.ra_labels.proofs.laws.fault.a_fault_stays.Goals as goal
+
+pub returns : goal.returns
+returns c = fault_stays

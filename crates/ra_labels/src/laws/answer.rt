@@ -1,0 +1,66 @@
+//! The refusals and the answers.
+ghost use Rattle.std.specs.Prelude.{◌≡◌, ◌↔◌, ℕ, ◌<◌, List, ◌++◌, Option, Some, None};
+ghost use Rattle.ra_labels.specs.declared.kind.Kind.{Kind};
+ghost use Rattle.ra_labels.specs.declared.operation.Op.{Op};
+ghost use Rattle.ra_labels.specs.declared.command.Command.{Command};
+ghost use Rattle.ra_labels.specs.declared.command.Command.TheVariants.{Operate, Deliver, Verdict};
+ghost use Rattle.ra_labels.specs.declared.refusal.Refusal.{Refusal};
+ghost use Rattle.ra_labels.specs.declared.reply.Fault.{Fault};
+ghost use Rattle.ra_labels.specs.declared.reply.Reply.TheVariants as reply;
+ghost use Rattle.ra_labels.specs.Records.{Records};
+ghost use Rattle.ra_labels.specs.Rewriting.{Part};
+ghost use Rattle.ra_labels.specs.Linearization.{IsRaLinearization};
+ghost use Rattle.ra_labels.specs.Fault.{fault_of};
+ghost use Rattle.ra_labels.specs.Answer.{no_at, misfit_of, refusal_of, answer_of, records_after, answers_to, records_after_all};
+ghost use Rattle.ra_labels.specs.Laws.{ReplySays};
+
+/// What each reply says of the records that the command meets, and of those that it leaves.
+pub fn what_a_reply_says()
+    ensures { (kind : Kind) (replicas : ℕ) (records : Records) (command : Command)
+        → ReplySays kind replicas records command (answer_of kind replicas records command) }
+{}
+
+/// Where the reply is Ok or Yes, some sequence is an RA-linearization of the records that the command leaves.
+pub fn ok_and_yes_are_evidence()
+    ensures ok { (kind : Kind) (replicas : ℕ) (records : Records) (command : Command) (n : ℕ)
+        → answer_of kind replicas records command ≡ reply.Ok n
+        → (sequence : List Part) × IsRaLinearization kind (records_after kind replicas records command) sequence }
+    ensures yes { (kind : Kind) (replicas : ℕ) (records : Records) (command : Command) (n : ℕ)
+        → answer_of kind replicas records command ≡ reply.Yes n
+        → (sequence : List Part) × IsRaLinearization kind (records_after kind replicas records command) sequence }
+{}
+
+/// The reply is a no exactly where the records that the command leaves have a fault, and names it.
+pub fn no_exactly_at_a_fault()
+    ensures { (kind : Kind) (replicas : ℕ) (records : Records) (command : Command) (fault : Fault)
+        → (fault_of kind (records_after kind replicas records command) ≡ Some fault)
+        ↔ (answer_of kind replicas records command ≡ no_at fault) }
+{}
+
+/// After a fault each reply is that no, and the records stay.
+pub fn no_ever_after_a_fault()
+    ensures reply { (kind : Kind) (replicas : ℕ) (records : Records) (command : Command) (fault : Fault)
+        → fault_of kind records ≡ Some fault → answer_of kind replicas records command ≡ no_at fault }
+    ensures records { (kind : Kind) (replicas : ℕ) (records : Records) (command : Command) (fault : Fault)
+        → fault_of kind records ≡ Some fault → records_after kind replicas records command ≡ records }
+{}
+
+/// Commands one after another are answered one after another.
+pub fn answers_in_turn()
+    ensures replies { (kind : Kind) (replicas : ℕ) (records : Records) (first later : List Command)
+        → answers_to kind replicas records (first ++ later)
+        ≡ answers_to kind replicas records first ++ answers_to kind replicas (records_after_all kind replicas records first) later }
+    ensures records { (kind : Kind) (replicas : ℕ) (records : Records) (first later : List Command)
+        → records_after_all kind replicas records (first ++ later)
+        ≡ records_after_all kind replicas (records_after_all kind replicas records first) later }
+{}
+
+/// What a command's own form deserves is the first refusal of an operation of a known replica. Deliveries and
+/// verdicts have no form of their own that could deserve one, and a verdict is never refused.
+pub fn misfits_are_refused()
+    ensures operation { (kind : Kind) (replicas : ℕ) (records : Records) (by : ℕ) (op : Op) (clock : Option ℕ) (why : Refusal)
+        → by < replicas → misfit_of kind (Operate by op clock) ≡ Some why
+        → refusal_of kind replicas records (Operate by op clock) ≡ Some why }
+    ensures delivery { (kind : Kind) (to label : ℕ) → misfit_of kind (Deliver to label) ≡ None }
+    ensures verdict { (kind : Kind) (replicas : ℕ) (records : Records) → refusal_of kind replicas records Verdict ≡ None }
+{}

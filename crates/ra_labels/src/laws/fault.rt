@@ -1,0 +1,41 @@
+//! When records hold, and the fault.
+ghost use Rattle.std.specs.Prelude.{◌≡◌, ◌↔◌, ℕ, ◌<◌, ◌++◌, Some, None};
+ghost use Rattle.ra_labels.specs.declared.kind.Kind.{Kind};
+ghost use Rattle.ra_labels.specs.declared.reply.Fault.{Fault};
+ghost use Rattle.ra_labels.specs.Records.{Records, label_count, records_to};
+ghost use Rattle.ra_labels.specs.Fault.{Holds, cause_of, fault_of, records_before_fault};
+ghost use Rattle.ra_labels.specs.Laws.{IsLeastFault};
+
+/// Records hold exactly where their named sequence fails none of the three conditions.
+pub fn no_cause_where_records_hold()
+    ensures { (kind : Kind) (records : Records) → (cause_of kind records ≡ None) ↔ Holds kind records }
+{}
+
+/// Where records have no fault the named sequence is an RA-linearization.
+pub fn no_fault_holds()
+    ensures { (kind : Kind) (records : Records) → fault_of kind records ≡ None → Holds kind records }
+{}
+
+/// There is no fault exactly where the records up to each label hold.
+pub fn no_fault_where_each_label_holds()
+    ensures { (kind : Kind) (records : Records) → (fault_of kind records ≡ None)
+        ↔ ((n : ℕ) → n < label_count records → Holds kind (records_to records n)) }
+{}
+
+/// The fault is the first label at which the records do not hold, with the first condition that fails there.
+pub fn fault_is_the_least()
+    ensures { (kind : Kind) (records : Records) (fault : Fault) → (fault_of kind records ≡ Some fault)
+        ↔ IsLeastFault kind records fault }
+{}
+
+/// A fault stays.
+pub fn a_fault_stays()
+    ensures { (kind : Kind) (later records : Records) (fault : Fault) → fault_of kind records ≡ Some fault
+        → fault_of kind (later ++ records) ≡ Some fault }
+{}
+
+/// The records before the fault have none, and are all records where there is none.
+pub fn records_before_fault_have_none()
+    ensures none { (kind : Kind) (records : Records) → fault_of kind (records_before_fault kind records) ≡ None }
+    ensures all { (kind : Kind) (records : Records) → fault_of kind records ≡ None → records_before_fault kind records ≡ records }
+{}

@@ -1,0 +1,49 @@
+//! The labels, the named order and the named sequence.
+ghost use Rattle.std.specs.Prelude.{◌≡◌, ℕ, ◌<◌, ◌≤◌, List, map, reverse, Contains, flat_map, IsPermutation, IsSorted, Some, None};
+ghost use Rattle.ra_labels.specs.declared.kind.Kind.{Kind};
+ghost use Rattle.ra_labels.specs.declared.kind.Kind.TheVariants as kind;
+ghost use Rattle.ra_labels.specs.declared.label.Label.{Label};
+ghost use Rattle.ra_labels.specs.Records.{Records, label_count, label_at, labels_of};
+ghost use Rattle.ra_labels.specs.Rewriting.{parts_of};
+ghost use Rattle.ra_labels.specs.Linearization.{parts_in};
+ghost use Rattle.ra_labels.specs.NamedOrder.{label_cmp, named_labels, named_sequence, rank_of, lowest_rank};
+ghost use Rattle.ra_labels.specs.Laws.{numbers_below};
+
+/// Labels are numbered in turn: the newest by their number less one, the oldest by 0.
+pub fn labels_are_numbered_in_turn()
+    ensures { (records : Records) → map (λ label. label.number) (labels_of records) ≡ numbers_below (label_count records) }
+{}
+
+/// There is a label at each number below their count, and none elsewhere; and each label is found at its number.
+pub fn each_number_has_its_label()
+    ensures there { (records : Records) (n : ℕ) → n < label_count records
+        → (label : Label) × (label_at records n ≡ Some label) × (label.number ≡ n) }
+    ensures none { (records : Records) (n : ℕ) → label_count records ≤ n → label_at records n ≡ None }
+    ensures found { (records : Records) (label : Label) → Contains (labels_of records) label
+        → label_at records label.number ≡ Some label }
+{}
+
+/// The named sequence lists each part once, and nothing else.
+pub fn each_part_once()
+    ensures { (kind : Kind) (records : Records) → IsPermutation (parts_in records) (named_sequence kind records) }
+{}
+
+/// The named labels are the labels, each once, in the named order.
+pub fn named_labels_are_sorted()
+    ensures same { (kind : Kind) (records : Records) → IsPermutation (labels_of records) (named_labels kind records) }
+    ensures sorted { (kind : Kind) (records : Records) → IsSorted (label_cmp kind records) (named_labels kind records) }
+{}
+
+/// The labels, each once, in the named order are the named labels: no other list is.
+pub fn the_order_is_pinned()
+    ensures { (kind : Kind) (records : Records) (labels : List Label) → IsPermutation (labels_of records) labels
+        → IsSorted (label_cmp kind records) labels → labels ≡ named_labels kind records }
+{}
+
+/// Where no label has a rank of its own, the named order is that of acceptance: the order of execution.
+pub fn named_in_order_of_execution()
+    ensures labels { (kind : Kind) (records : Records) → ((label : Label) → rank_of kind records label ≡ lowest_rank)
+        → named_labels kind records ≡ reverse (labels_of records) }
+    ensures counter { (records : Records) → named_sequence kind.Counter records
+        ≡ flat_map parts_of (reverse (labels_of records)) }
+{}

@@ -1,0 +1,41 @@
+//! What a label sees, and what a replica had.
+ghost use Rattle.std.specs.Prelude.{◌≡◌, ℕ, ◌<◌, ◌++◌, true};
+ghost use Rattle.ra_labels.specs.Records.{Records, label_count};
+ghost use Rattle.ra_labels.specs.Visibility.{had, is_update_at, sees, IsCausal};
+
+/// A label that is there sees the same in all later records.
+pub fn sees_the_same_later()
+    ensures { (later records : Records) (n m : ℕ) → n < label_count records → sees (later ++ records) n m ≡ sees records n m }
+{}
+
+/// A label is an update in all later records exactly where it is one.
+pub fn is_the_same_later()
+    ensures { (later records : Records) (n : ℕ) → n < label_count records
+        → is_update_at (later ++ records) n ≡ is_update_at records n }
+{}
+
+/// What a label sees are updates before it.
+pub fn sees_earlier_updates()
+    ensures earlier { (records : Records) (n m : ℕ) → sees records n m ≡ true → m < n }
+    ensures updates { (records : Records) (n m : ℕ) → sees records n m ≡ true → is_update_at records m ≡ true }
+{}
+
+/// What a replica had are updates that are there.
+pub fn had_updates()
+    ensures updates { (records : Records) (replica n : ℕ) → had records replica n ≡ true → is_update_at records n ≡ true }
+    ensures there { (records : Records) (n : ℕ) → is_update_at records n ≡ true → n < label_count records }
+{}
+
+/// What a replica had it keeps.
+pub fn had_is_kept()
+    ensures { (later records : Records) (replica n : ℕ) → had records replica n ≡ true → had (later ++ records) replica n ≡ true }
+{}
+
+/// In causal records a replica that had a label had all that the label sees, and a label sees all that the labels
+/// see that it sees.
+pub fn causal_records_leave_nothing_out()
+    ensures had { (records : Records) → IsCausal records → (replica m k : ℕ) → had records replica m ≡ true
+        → sees records m k ≡ true → had records replica k ≡ true }
+    ensures sees { (records : Records) → IsCausal records → (n m k : ℕ) → sees records n m ≡ true
+        → sees records m k ≡ true → sees records n k ≡ true }
+{}

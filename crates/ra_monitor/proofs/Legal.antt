@@ -1,0 +1,69 @@
+-- A legal log with one entry more.
+use Rattle.std.proofs.Common.{◌≡◌, ℕ, ◌+◌, true, cond, None, List, [], ◌∷◌, ◌++◌, sym, ap, ◌∙◌, subst, append_assoc}
+use Rattle.std.proofs.lemmas.List.{map-append, append-nil}
+use Rattle.std.proofs.lemmas.List.Sums.{sum_by_push}
+use Rattle.ra_labels.specs.declared.kind.Kind.{Kind}
+use Rattle.ra_labels.specs.declared.command.Command.{Command}
+use Rattle.ra_labels.specs.declared.reply.Reply.{Reply}
+use Rattle.ra_labels.specs.declared.reply.Reply.TheVariants.{Ok, Got, Yes, No, Refused}
+use Rattle.ra_labels.specs.Records.{Records}
+use Rattle.ra_labels.specs.NamedOrder.{named_sequence}
+use Rattle.ra_labels.specs.Fault.{fault_of, fault_at}
+use Rattle.ra_labels.specs.Answer.{answer_of, records_after, records_after_all}
+use Rattle.ra_labels.specs.Laws.{ReplySays}
+use Rattle.ra_labels.proofs.Holding.{holds_from_no_fault}
+use Rattle.ra_labels.proofs.Answering.{reply_says, no_at_fault, records_after_all-append}
+use Rattle.ra_monitor.specs.declared.setup.Setup.{Setup}
+use Rattle.ra_monitor.specs.Log.{Protocol, MayFollow, IsLegalAfter}
+use Rattle.ra_monitor.specs.Replies.{is_yes, is_refused}
+use Rattle.ra_monitor.specs.Monitor.{MonitorEntry, commands_of, records_of, refused_count, IsRaLinearizable, IsNoAtFault}
+
+pub legal-push : {Entry Command Reply : Type 0} (protocol : Protocol Entry Command Reply) (before log : List Entry) (entry : Entry)
+    → IsLegalAfter protocol before log → MayFollow protocol (before ++ log) entry → IsLegalAfter protocol before (log ++ entry ∷ [])
+legal-push {Entry} protocol before [] entry legal follows =
+    (subst (λ (l : List Entry). MayFollow protocol l entry) (append-nil before) follows, tt)
+legal-push {Entry} protocol before (first ∷ log) entry legal follows = (
+  legal.0,
+  legal-push protocol (before ++ first ∷ []) log entry legal.1
+      (subst (λ (l : List Entry). MayFollow protocol l entry) (sym (append_assoc before (first ∷ []) log)) follows),
+)
+
+-- the records of a log with one entry more
+pub records_of-push : (setup : Setup) (log : List MonitorEntry) (entry : MonitorEntry)
+    → records_of setup (log ++ entry ∷ []) ≡ records_after setup.kind setup.replicas (records_of setup log) entry.command
+records_of-push setup log entry =
+    ap (λ commands. records_after_all setup.kind setup.replicas [] commands) (map-append (λ (e : MonitorEntry). e.command) log (entry ∷ []))
+    ∙ records_after_all-append setup.kind setup.replicas [] (commands_of log) (entry.command ∷ [])
+
+pub refused_count-push : (log : List MonitorEntry) (entry : MonitorEntry) → refused_count (log ++ entry ∷ []) ≡ refused_count log + cond (is_refused entry.reply) 1 0
+refused_count-push log entry = sum_by_push (λ (e : MonitorEntry). cond (is_refused e.reply) 1 0) log entry
+
+-- after a yes the records have no fault
+no_fault_after : (kind : Kind) (replicas : ℕ) (records : Records) (command : Command) (reply : Reply)
+    → ReplySays kind replicas records command reply → is_yes reply ≡ true → fault_of kind (records_after kind replicas records command) ≡ None
+no_fault_after kind replicas records command (Ok n) says said = ap (fault_of kind) says.1 ∙ says.2
+no_fault_after kind replicas records command (Yes n) says said = ap (fault_of kind) says.1 ∙ says.2
+no_fault_after kind replicas records command (Got n) says said = absurd (cc (said))
+no_fault_after kind replicas records command (No n why) says said = absurd (cc (said))
+no_fault_after kind replicas records command (Refused why) says said = absurd (cc (said))
+
+-- a yes is evidence
+pub linearizable_after : (setup : Setup) (log : List MonitorEntry) (entry : MonitorEntry)
+    → entry.reply ≡ answer_of setup.kind setup.replicas (records_of setup log) entry.command
+    → is_yes entry.reply ≡ true → IsRaLinearizable setup (log ++ entry ∷ [])
+linearizable_after setup log entry answered said =
+    let records = records_of setup log in
+    let says = subst (ReplySays setup.kind setup.replicas records entry.command) (sym answered) (reply_says setup.kind setup.replicas records entry.command) in
+    let none : fault_of setup.kind (records_of setup (log ++ entry ∷ [])) ≡ None =
+    ap (fault_of setup.kind) (records_of-push setup log entry) ∙ no_fault_after setup.kind setup.replicas records entry.command entry.reply says said in
+    (named_sequence setup.kind (records_of setup (log ++ entry ∷ [])), holds_from_no_fault setup.kind (records_of setup (log ++ entry ∷ [])) none)
+
+-- a no comes exactly where the fault is
+pub no_after : (setup : Setup) (log : List MonitorEntry) (entry : MonitorEntry)
+    → entry.reply ≡ answer_of setup.kind setup.replicas (records_of setup log) entry.command
+    → IsNoAtFault setup (log ++ entry ∷ []) entry.reply
+no_after setup log entry answered label why =
+    let records = records_of setup log in
+    let both = no_at_fault setup.kind setup.replicas records entry.command (fault_at label why) in
+    let pushed = ap (fault_of setup.kind) (records_of-push setup log entry) in
+    (λ is. pushed ∙ both.1 (sym answered ∙ is), λ at. answered ∙ both.0 (sym pushed ∙ at))

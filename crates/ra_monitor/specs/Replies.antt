@@ -1,0 +1,13 @@
+-- Which replies are a yes, and which a refusal.
+use Rattle.std.specs.Prelude.{Bool, true, false}
+use Rattle.ra_labels.specs.declared.reply.Reply.{Reply}
+use Rattle.ra_labels.specs.declared.reply.Reply.TheVariants.{Ok, Yes, Refused}
+
+abbrev pub is_yes : Reply → Bool
+is_yes (Ok label) = true
+is_yes (Yes labels) = true
+is_yes _ = false
+
+abbrev pub is_refused : Reply → Bool
+is_refused (Refused refusal) = true
+is_refused _ = false

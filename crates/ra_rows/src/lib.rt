@@ -1,0 +1,12 @@
+//! Tests that cross the libraries: worked histories as lists of commands, and each public call with ample memory.
+//! There is nothing else here.
+#![tactic(auto)]
+
+#[cfg(test)]
+mod commands;
+#[cfg(test)]
+mod counter_rows;
+#[cfg(test)]
+mod first_calls;
+#[cfg(test)]
+mod limits;
