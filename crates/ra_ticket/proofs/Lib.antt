@@ -1,0 +1,5 @@
+pub mod Seats
+pub mod Moves
+pub mod Cuts
+pub mod Pushes
+pub mod Tickets
