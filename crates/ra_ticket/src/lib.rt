@@ -13,6 +13,8 @@ mod open;
 mod pass;
 mod plays;
 mod release;
+#[cfg(test)]
+mod tests;
 
 pub use entry::Entry;
 pub use fault::{CallFault, OpenFault};
