@@ -63,7 +63,8 @@ module _ {M C R : Type 0} (log : M → List (Entry C R)) where
     drawn = λ seat t a. let none_drawn : None ≡ Some t = ap ticket_of (only v a.0 seat a.1).1 ∙ a.2 in absurd (cc);
     tickets_apart = λ a b t p q. (only v p.0 a p.1).0 ∙ sym (only v q.0 b q.1).0;
     out = λ seat t a. let none_held : None ≡ Some t = ap held_of (only v a.0 seat a.1).1 ∙ a.2 in absurd (cc);
-    home = λ _. (journal, refl, subst (λ (es : List (Entry C R)). AllBelow first es) (sym empty) (λ k d l. absurd (omega arith)));
+    home = λ _. (journal, refl);
+    served = λ j at. let is : journal ≡ j = cc in subst (λ (m : M). AllBelow first (log m)) is (subst (λ (es : List (Entry C R)). AllBelow first es) (sym empty) (λ k d l. absurd (omega arith)));
     passes_apart = λ a b j k number p q. (
       (only v p.0 a p.1).0 ∙ sym (only v q.0 b q.1).0,
       let x : number ≡ 0 + j = number_at 0 passes j number (ap (λ (u : View). get_elem? (numbers_of u) j) (only v p.0 a p.1).1 ∙ p.2) in
@@ -133,6 +134,7 @@ module _ {M C R : Type 0} (log : M → List (Entry C R)) where
       tickets_apart = λ a b t p q. r.tickets_apart a b t (back ticket_of no_ticket no_ticket a t p) (back ticket_of no_ticket no_ticket b t q);
       out = λ seat t a. r.out seat t (back held_of not_held not_held seat t a);
       home = λ nobody. r.home (λ seat t a. nobody seat t (forth held_of not_held seat t a));
+      served = r.served;
       passes_apart = λ a b i j number p q. let x = was a i number p in let y = was b j number q in
           told_apart a b i j x.0 y.0 x.1 y.1 (inside s.views id (Knows k) here) (r.passes_apart x.0 y.0 x.1 y.1 number x.2 y.2) x.3 y.3;
     }

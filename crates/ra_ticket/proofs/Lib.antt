@@ -1,4 +1,5 @@
 pub mod Seats
+pub mod Changes
 pub mod Moves
 pub mod Cuts
 pub mod Pushes

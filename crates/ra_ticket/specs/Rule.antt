@@ -16,22 +16,29 @@ At of views seat x = (v : View) × (get_elem? views seat ≡ some v) × (of v �
 abbrev pub SitsAt : List View → ℕ → ℕ → ℕ → Type 0
 SitsAt views seat k number = (v : View) × (get_elem? views seat ≡ some v) × (get_elem? (numbers_of v) k ≡ some number)
 
+-- no seat holds the slot
+abbrev pub NobodyHolds : List View → Type 0
+NobodyHolds views = (seat ticket : ℕ) → ¬ (At held_of views seat ticket)
+
 module _ {M C R : Type 0} (log : M → List (Entry C R)) where
   pub record Kept (s : State (Option M) View) : Type 0 where
+    -- the words begin with `next` and `serving`
     pub next : ℕ
     pub serving : ℕ
     pub others : List ℕ
     pub words : s.words ≡ next ∷ serving ∷ others
-    -- `serving` is at most `next`, which does not wrap, and no seat knows more than the words have reached
+    -- `serving` is at most `next`, which fits its word, and no seat knows of more than the words have reached
     pub order : serving ≤ next
     pub fits : next < 2 ^ 64
     pub reached : (seat : ℕ) (v : View) → get_elem? s.views seat ≡ some v → (next_of v ≤ next) × (serving_of v ≤ serving)
-    -- the tickets that are out lie from `serving` up to below `next`, and no two seats have one
-    pub drawn : (seat t : ℕ) → At ticket_of s.views seat t → (serving ≤ t) × (t < next)
-    pub tickets_apart : (a b t : ℕ) → At ticket_of s.views a t → At ticket_of s.views b t → a ≡ b
-    -- the slot is out where a seat holds, and then the seat's ticket is served
-    pub out : (seat t : ℕ) → At held_of s.views seat t → (t ≡ serving) × (s.homes ≡ none ∷ [])
-    -- else it is at home, and the tickets in its log have been served
-    pub home : ((seat t : ℕ) → At held_of s.views seat t → ⊥) → (journal : M) × (s.homes ≡ some (Some journal) ∷ []) × AllBelow serving (log journal)
+    -- the tickets that are out lie from `serving` up to below `next`, and no two seats have the same
+    pub drawn : (seat ticket : ℕ) → At ticket_of s.views seat ticket → (serving ≤ ticket) × (ticket < next)
+    pub tickets_apart : (a b ticket : ℕ) → At ticket_of s.views a ticket → At ticket_of s.views b ticket → a ≡ b
+    -- a seat that holds does so by the ticket that is served, and then the slot is out
+    pub out : (seat ticket : ℕ) → At held_of s.views seat ticket → (ticket ≡ serving) × (s.homes ≡ none ∷ [])
+    -- where none holds, the slot is at home with a journal
+    pub home : NobodyHolds s.views → (journal : M) × (s.homes ≡ some (Some journal) ∷ [])
+    -- all tickets in the log of the journal at home are below `serving`
+    pub served : (journal : M) → s.homes ≡ some (Some journal) ∷ [] → AllBelow serving (log journal)
     -- each pass sits in one place
     pub passes_apart : (a b j k number : ℕ) → SitsAt s.views a j number → SitsAt s.views b k number → (a ≡ b) × (j ≡ k)
