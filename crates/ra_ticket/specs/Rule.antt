@@ -27,18 +27,18 @@ module _ {M C R : Type 0} (log : M → List (Entry C R)) where
     pub serving : ℕ
     pub others : List ℕ
     pub words : s.words ≡ next ∷ serving ∷ others
-    -- `serving` is at most `next`, which fits its word, and no seat knows of more than the words have reached
+    -- bounds: `serving` is at most `next`, which fits its word, and no seat knows of more than the words have reached
     pub order : serving ≤ next
     pub fits : next < 2 ^ 64
     pub reached : (seat : ℕ) (v : View) → get_elem? s.views seat ≡ some v → (next_of v ≤ next) × (serving_of v ≤ serving)
-    -- the tickets that are out lie from `serving` up to below `next`, and no two seats have the same
+    -- tickets: those that are out lie from `serving` up to below `next`, and no two seats have the same
     pub drawn : (seat ticket : ℕ) → At ticket_of s.views seat ticket → (serving ≤ ticket) × (ticket < next)
     pub tickets_apart : (a b ticket : ℕ) → At ticket_of s.views a ticket → At ticket_of s.views b ticket → a ≡ b
-    -- a seat that holds does so by the ticket that is served, and then the slot is out
+    -- slot: a seat that holds does so by the ticket that is served, and then the slot is out
     pub out : (seat ticket : ℕ) → At held_of s.views seat ticket → (ticket ≡ serving) × (s.homes ≡ none ∷ [])
     -- where none holds, the slot is at home with a journal
     pub home : NobodyHolds s.views → (journal : M) × (s.homes ≡ some (Some journal) ∷ [])
     -- all tickets in the log of the journal at home are below `serving`
     pub served : (journal : M) → s.homes ≡ some (Some journal) ∷ [] → AllBelow serving (log journal)
-    -- each pass sits in one place
+    -- seats: each pass sits in one place
     pub passes_apart : (a b j k number : ℕ) → SitsAt s.views a j number → SitsAt s.views b k number → (a ≡ b) × (j ≡ k)

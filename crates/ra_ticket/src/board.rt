@@ -63,7 +63,7 @@ impl<M: Journal> TableRule<Option<M>, View, About> for Turns<M> {
 pub type Board<M> = Shared<Option<M>, View, About, Turns<M>>;
 
 /// The table with its memory.
-pub type Desk<M> = Table<Option<M>, View, About, Turns<M>, Global>;
+pub type LockTable<M> = Table<Option<M>, View, About, Turns<M>, Global>;
 
 /// A seat at the table. It has no bytes.
 pub type Place<M> = Seat<Option<M>, View>;

@@ -1,4 +1,8 @@
-//! A ticket lock over a journal: threads take turns at one object, and each call is one step of it.
+//! A ticket lock over a journal: threads that hold passes take turns at one object, in the order of the tickets that they draw.
+//!
+//! The crate's one contract is that of `TicketLock::submit`, for any `Journal`: a reply is the journal's answer to the command after some log, under some setup, with a ticket above that log's last; a fault hands the command back.
+//! Behind it stands the rule of the lock (`specs/Rule`), which each step on the table keeps: no two calls hold one ticket, and the journal is out of its slot with one call at most, the one whose ticket is served.
+//! That anyone is ever served is not said.
 #![tactic(auto)]
 
 mod backoff;

@@ -1,7 +1,7 @@
 //! The lock, and a call on it.
 ghost use Rattle.std.specs.Prelude.{◌≡◌};
 
-use crate::board::Desk;
+use crate::board::LockTable;
 use crate::draw::draw_ticket;
 use crate::enter::enter;
 use crate::fault::CallFault;
@@ -13,7 +13,7 @@ use std::sync::Wait;
 /// A journal that passes take turns at, in the order of the tickets that they draw.
 #[derive(Drop)]
 pub struct TicketLock<M: Journal> {
-    pub(crate) table: Desk<M>,
+    pub(crate) table: LockTable<M>,
     ghost sized: { (table.shared.table_id.words ≡ 2) × (table.shared.table_id.slots ≡ 1) },
 }
 
@@ -23,8 +23,10 @@ impl<M: Journal> TicketLock<M> {
     ghost use Rattle.ra_ticket.specs.Faults.{unserved, IsWorn, IsFull, IsBusy, IsAtLimit};
     ghost use Rattle.ra_ticket.specs.Passes.{IsPassOf, IsSamePass, next_reached};
 
-    /// Draws a ticket, waits until it is served and lets the journal answer the command. The wait is for the calls that drew their tickets before, and looks at the lock with growing pauses, which end in leaving the processor to others.
+    /// Draws a ticket, waits until it is served and lets the journal answer the command.
     /// `Worn` comes before a ticket is drawn; after `Full` and `NoMemory` the ticket is served and leaves no entry.
+    ///
+    /// It costs the journal's step and a few atomic steps, one more for each pass that draws at the same time, and the wait for all calls that drew before. A waiting call looks at one word, with pauses of 1, 2, 4 .. 64 spins, and then leaves the processor to others between two looks. The journal's own bytes, not what it owns, are copied twice.
     pub fn submit<R: Wait>(
         &self,
         rt: &R,

@@ -5,7 +5,7 @@ ghost use Rattle.ra_ticket.specs.Views.{stage_of, numbers_of, next_of, serving_o
 ghost use Rattle.ra_ticket.specs.Passes.{number_of, next_reached, serving_reached, IsPassOf};
 ghost use Rattle.ra_ticket.specs.declared.board.Stage.TheVariants.{Idle};
 
-use crate::board::{About, Board, Desk, Place};
+use crate::board::{About, Board, LockTable, Place};
 use crate::fault::OpenFault;
 use crate::journal::Journal;
 use crate::lock::TicketLock;
@@ -33,7 +33,7 @@ fn set_table<M: Journal>(
     state: M,
     passes: u8,
     first: u64,
-) -> Result<(Desk<M>, Place<M>), AllocError>
+) -> Result<(LockTable<M>, Place<M>), AllocError>
     requires { M.log state ≡ [] }
     ensures table { IfOk result (λ t. (t.0.shared.table_id.words ≡ 2) × (t.0.shared.table_id.slots ≡ 1) × (t.1.table_id ≡ t.0.shared.table_id)) }
     ensures seat { IfOk result (λ t. t.1.me ≡ (starting passes first, [])) }

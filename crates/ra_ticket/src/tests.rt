@@ -4,7 +4,7 @@ ghost use Rattle.ra_ticket.specs.Passes.{IsPassOf, IsSamePass};
 mod tally;
 mod threads;
 
-use crate::{CallFault, Journal, OpenFault, Pass, TicketLock};
+use crate::{CallFault, Journal, OpenFault, Pass, StepFault, TicketLock};
 use std::sync::Wait;
 use std::test::Fail;
 use tally::Tally;
@@ -29,6 +29,27 @@ fn call<M: Journal, R: Wait>(
     is_shared(lock);
     is_sent(pass);
     lock.submit(rt, pass, command)
+}
+
+// What a journal tells of itself, by the bound alone.
+fn told<M: Journal>(journal: &M) -> (u32, u32, Option<u32>, Option<u64>) {
+    (
+        journal.limit(),
+        journal.calls(),
+        journal.fault(),
+        journal.last_ticket(),
+    )
+}
+
+#[test]
+fn a_tally_replies_its_total_and_logs_each_step(rt: HostRuntime) {
+    let mut tally = Tally::new(rt.alloc(), 2);
+    assert_eq!(rt; told(&tally), (2, 0, None, None));
+    assert_eq!(rt; tally.step(3, 0, u32::MAX), Ok(u32::MAX));
+    assert_eq!(rt; told(&tally), (2, 1, None, Some(0)));
+    assert_eq!(rt; tally.step(1, 9, 5), Ok(4));
+    assert_eq!(rt; tally.step(1, 10, 6), Err(StepFault::Full(6)));
+    assert_eq!(rt; told(&tally), (2, 2, None, Some(9)));
 }
 
 #[test]

@@ -27,10 +27,6 @@ impl Tally {
             log: Vec::new(alloc),
         }
     }
-
-    pub fn total(&self) -> u32 {
-        self.total
-    }
 }
 
 impl Journal for Tally {
