@@ -10,11 +10,11 @@ use std::marker::PhantomData;
 /// The word that has the next ticket to be drawn.
 pub const NEXT: usize = 0;
 
-/// The slot of the journal.
-pub const JOURNAL: usize = 0;
-
 /// The word that has the ticket that may enter.
 pub const SERVING: usize = 1;
+
+/// The slot of the journal.
+pub const JOURNAL: usize = 0;
 
 /// What a seat is about. The number is its ticket.
 pub enum Stage {

@@ -14,8 +14,8 @@ use crate::plays::CutFirst;
 use atomic_table::Table;
 use std::alloc::{AllocError, Global};
 
-/// The most passes that a lock may have.
-pub const MOST_PASSES: u8 = 64;
+// The most passes that a lock may have.
+const MOST_PASSES: u8 = 64;
 
 // Splits a seat: the first pass gets a seat of its own.
 fn split_first<M: Journal>(board: &Board<M>, rest: &mut Place<M>) -> Place<M>
