@@ -83,7 +83,18 @@ fn nothing_happened(rt: HostRuntime) -> Result<(), Fail> {
 fn a_read_is_held_against_what_it_sees(rt: HostRuntime) -> Result<(), Fail> {
     let alloc = rt.alloc();
     let mut monitor = of_three(&rt, alloc, 100);
-    let commands = vec![in alloc; inc(0), dec(1), inc(1), read(1, 0), got(1, 0), read(1, 1), read(0, 1), read(2, 0), got(2, 1), read(2, -1)]?;
+    let commands = vec![in alloc;
+        inc(0),
+        dec(1),
+        inc(1),
+        read(1, 0),
+        got(1, 0),
+        read(1, 1),
+        read(0, 1),
+        read(2, 0),
+        got(2, 1),
+        read(2, -1),
+    ]?;
     let replies = replies_to(&rt, alloc, &mut monitor, commands)?;
     let expected = [
         Reply::Ok(0),
@@ -130,7 +141,7 @@ fn refusals_come_in_their_order(rt: HostRuntime) -> Result<(), Fail> {
         got(0, 1),
         got(1, 1),
         got(1, 1),
-        Command::Verdict
+        Command::Verdict,
     ]?;
     let replies = replies_to(&rt, alloc, &mut monitor, commands)?;
     let expected = [
