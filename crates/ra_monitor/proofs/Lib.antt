@@ -6,3 +6,4 @@ pub mod Legal
 pub mod Keeping
 pub mod BeforeFault
 pub mod LastEntry
+pub mod LogLaws

@@ -12,6 +12,7 @@ mod faults;
 mod fold;
 mod had;
 mod history;
+pub mod laws;
 mod monitor;
 mod part_ref;
 mod refusing;

@@ -52,12 +52,23 @@ pub fn step_at(
     ticket: u64,
     command: Command,
 ) -> Result<Reply, StepFault<Command>> {
+    step_by(rt, monitor, 0, ticket, command)
+}
+
+/// The outcome of one step of this pass, with this ticket, which has to be above the last.
+pub fn step_by(
+    rt: &impl Abort,
+    monitor: &mut Monitor,
+    pass: u8,
+    ticket: u64,
+    command: Command,
+) -> Result<Reply, StepFault<Command>> {
     match monitor.last_ticket() {
         Some(last) => {
             assert!(rt; last < ticket);
-            monitor.step(0, ticket, command)
+            monitor.step(pass, ticket, command)
         }
-        None => monitor.step(0, ticket, command),
+        None => monitor.step(pass, ticket, command),
     }
 }
 

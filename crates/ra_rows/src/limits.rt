@@ -1,7 +1,7 @@
 //! Limits of a monitor.
 
-use crate::commands::{inc, of_three, step_at};
-use ra_labels::{Command, Kind, Reply};
+use crate::commands::{inc, of_three, read, replies_to, step_at, step_by};
+use ra_labels::{Cause, Command, Kind, Reply};
 use ra_monitor::{Monitor, NewFault, StepFault};
 use std::process::Abort;
 use std::test::Fail;
@@ -36,5 +36,58 @@ fn replicas_are_one_to_sixteen_and_tested_first(rt: HostRuntime) -> Result<(), F
         let made = Monitor::new(alloc, Kind::Counter, replicas, limit);
         assert!(rt; made.is_ok(), "at {replicas} and {limit}");
     }
+    Ok(())
+}
+
+#[test]
+fn the_greatest_pass_ticket_and_replica_are_taken(rt: HostRuntime) -> Result<(), Fail> {
+    let mut monitor = match Monitor::new(rt.alloc(), Kind::Counter, 16, 3) {
+        Ok(monitor) => monitor,
+        Err(_) => panic!(rt; "no monitor"),
+    };
+    let first = step_by(&rt, &mut monitor, 255, 0, inc(15));
+    assert_eq!(rt; first, Ok(Reply::Ok(0)));
+    let second = step_by(&rt, &mut monitor, 63, 1, read(15, 1));
+    assert_eq!(rt; second, Ok(Reply::Ok(1)));
+    let third = step_by(
+        &rt,
+        &mut monitor,
+        1,
+        18_446_744_073_709_551_615,
+        Command::Verdict,
+    );
+    assert_eq!(rt; third, Ok(Reply::Yes(2)));
+    Ok(())
+}
+
+#[test]
+fn a_long_history_is_taken(rt: HostRuntime) -> Result<(), Fail> {
+    let alloc = rt.alloc();
+    let mut monitor = of_three(&rt, alloc, 1_048_576);
+    let mut commands = Vec::new(alloc);
+    for number in 0..300u16 {
+        commands.push(inc((number % 3) as u8))?;
+    }
+    commands.push(read(0, 100))?;
+    let replies = replies_to(&rt, alloc, &mut monitor, commands)?;
+    assert_eq!(rt; replies.as_slice().last().copied(), Some(Reply::Ok(300)));
+    Ok(())
+}
+
+#[test]
+fn a_sequence_can_be_empty(rt: HostRuntime) -> Result<(), Fail> {
+    let mut monitor = of_three(&rt, rt.alloc(), 2);
+    let nothing = monitor.sequence();
+    assert!(rt; nothing.is_ok_and(|parts| parts.is_empty()));
+    let no = step_at(&rt, &mut monitor, 0, read(0, 1));
+    assert_eq!(rt;
+        no,
+        Ok(Reply::No {
+            label: 0,
+            cause: Cause::Query
+        })
+    );
+    let before = monitor.sequence();
+    assert!(rt; before.is_ok_and(|parts| parts.is_empty()));
     Ok(())
 }
