@@ -1,0 +1,75 @@
+-- What is kept true of a recorder, step by step.
+use Rattle.std.proofs.Common.{◌≡◌, ℕ, ◌+◌, ◌<◌, ◌≤◌, true, ltb, List, [], ◌∷◌, ◌++◌, length, map, Result, Ok, Err, IfSome, refl, sym, ap, ◌∙◌, arith, inl, inr}
+use Rattle.std.specs.Prelude.{◌↔◌, IsErrOf}
+use Rattle.std.proofs.lemmas.Bool.{cases_eq, and_parts, and_from, ltb-true, lt-ltb}
+use Rattle.std.proofs.lemmas.List.{length_push, map_push}
+use Rattle.ra_labels.specs.declared.kind.Kind.{Kind}
+use Rattle.ra_labels.specs.declared.command.Command.{Command}
+use Rattle.ra_labels.specs.declared.reply.Reply.{Reply}
+use Rattle.ra_labels.specs.Records.{Records}
+use Rattle.ra_labels.specs.Answer.{answer_of, answers_to, records_after, records_after_all}
+use Rattle.ra_monitor.specs.Log.{last_of}
+use Rattle.ra_monitor.specs.Monitor.{Logged, MonitorEntry, commands_of, records_of}
+use Rattle.ra_monitor_cli.specs.declared.check.recorder.Recorder.TheInside.{Inside}
+use Rattle.ra_monitor_cli.specs.Recorded.{are_tickets_below}
+use Rattle.ra_monitor_cli.specs.Recorder.{IsKept}
+
+pub next_ticket : (count : ℕ) (log : List MonitorEntry) → are_tickets_below count log ≡ true → IfSome (last_of log) (λ last. last.ticket < count)
+next_ticket count [] below = tt
+next_ticket count (entry ∷ []) below = ltb-true entry.ticket count (and_parts (ltb entry.ticket count) true below).0
+next_ticket count (entry ∷ another ∷ log) below = next_ticket count (another ∷ log) (and_parts (ltb entry.ticket count) (are_tickets_below count (another ∷ log)) below).1
+
+tickets_push : (count : ℕ) (log : List MonitorEntry) (entry : MonitorEntry) → are_tickets_below count log ≡ true → entry.ticket ≡ count → are_tickets_below (count + 1) (log ++ entry ∷ []) ≡ true
+tickets_push count [] entry below is = and_from (ltb entry.ticket (count + 1)) true (lt-ltb entry.ticket (count + 1) (omega arith)) refl
+tickets_push count (first ∷ log) entry below is =
+    let parts = and_parts (ltb first.ticket count) (are_tickets_below count log) below in
+    let here : first.ticket < count + 1 = omega (arith, ltb-true first.ticket count parts.0) in
+    and_from (ltb first.ticket (count + 1)) (are_tickets_below (count + 1) (log ++ entry ∷ [])) (lt-ltb first.ticket (count + 1) here) (tickets_push count log entry parts.1 is)
+
+answers_push : (kind : Kind) (n : ℕ) (records : Records) (commands : List Command) (command : Command)
+    → answers_to kind n records (commands ++ command ∷ []) ≡ answers_to kind n records commands ++ answer_of kind n (records_after_all kind n records commands) command ∷ []
+answers_push kind n records [] command = refl
+answers_push kind n records (first ∷ commands) command =
+    ap (λ (replies : List Reply). answer_of kind n records first ∷ replies) (answers_push kind n (records_after kind n records first) commands command)
+
+-- nothing changed
+pub kept_same : (r : Inside) (m : Logged) → IsKept r → m.log ≡ r.monitor.log → m.setup ≡ r.monitor.setup → IsKept (record { kind = r.kind; names = r.names; monitor = m })
+kept_same r m kept log setup = record {
+  kind = ap (λ s. s.kind) setup ∙ kept.kind;
+  replicas = ap (λ s. s.replicas) setup ∙ kept.replicas;
+  limit = ap (λ s. s.limit) setup ∙ kept.limit;
+  fits = rw log kept.fits;
+  tickets = rw log kept.tickets;
+  answered = rw log kept.answered;
+}
+
+-- a command was answered and logged
+pub kept_next : (r : Inside) (m : Logged) (entry : MonitorEntry) → IsKept r → m.log ≡ r.monitor.log ++ entry ∷ [] → m.setup ≡ r.monitor.setup
+    → entry.ticket ≡ length r.monitor.log → length r.monitor.log < 1048576
+    → entry.reply ≡ answer_of r.monitor.setup.kind r.monitor.setup.replicas (records_of r.monitor.setup r.monitor.log) entry.command
+    → IsKept (record { kind = r.kind; names = r.names; monitor = m })
+kept_next r m entry kept log setup ticket room reply = record {
+  kind = ap (λ s. s.kind) setup ∙ kept.kind;
+  replicas = ap (λ s. s.replicas) setup ∙ kept.replicas;
+  limit = ap (λ s. s.limit) setup ∙ kept.limit;
+  fits = omega (arith, ap length log, length_push r.monitor.log entry);
+  tickets =
+      let len : length m.log ≡ length r.monitor.log + 1 = ap length log ∙ length_push r.monitor.log entry in
+      rw (len, log) (tickets_push (length r.monitor.log) r.monitor.log entry kept.tickets ticket);
+  answered =
+      let replies : map (λ (e : MonitorEntry). e.reply) m.log ≡ map (λ (e : MonitorEntry). e.reply) r.monitor.log ++ entry.reply ∷ [] =
+      ap (map (λ (e : MonitorEntry). e.reply)) log ∙ map_push (λ (e : MonitorEntry). e.reply) r.monitor.log entry in
+      let commands : commands_of m.log ≡ commands_of r.monitor.log ++ entry.command ∷ [] =
+      ap commands_of log ∙ map_push (λ (e : MonitorEntry). e.command) r.monitor.log entry in
+      let answer : entry.reply ≡ answer_of r.kind (length r.names) (records_after_all r.kind (length r.names) [] (commands_of r.monitor.log)) entry.command =
+      rw (kept.kind, kept.replicas) at reply in
+      rw (replies, commands, kept.answered, answer) (sym (answers_push r.kind (length r.names) [] (commands_of r.monitor.log) entry.command));
+}
+
+-- a log that is not full has room below its limit
+pub has_room : {T E : Type 0} (r : Result T E) (x : T) (e : E) (count limit : ℕ) → r ≡ Ok x → (IsErrOf r e ↔ (count ≡ limit)) → count ≤ 1048576 → limit ≡ 1048576 → count < 1048576
+has_room r x e count limit is full fits most =
+    elim (cases_eq count limit) [
+      | inl same ↦ let failed : r ≡ Err e = full.1 same in absurd (let both = sym is ∙ failed in cc)
+      | inr apart ↦ omega (arith, apart)
+    ]

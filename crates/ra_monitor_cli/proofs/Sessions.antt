@@ -1,0 +1,185 @@
+-- What a session took, step by step.
+use Rattle.std.proofs.Common.{◌≡◌, ◌≢◌, ℕ, List, [], ◌∷◌, ◌++◌, map, All, Result, Ok, Err, refl, sym, ap, subst, ◌∙◌, arith}
+use Rattle.std.specs.Prelude.{flat_map, OnOk}
+use Rattle.std.specs.List.{AllByRecursion}
+use Rattle.std.proofs.lemmas.List.{append_assoc, append-nil, map_push}
+use Rattle.std.proofs.lemmas.List.Concat.{flat_map-append}
+use Rattle.std.proofs.lemmas.List.Elements.{All-append}
+use Rattle.ra_labels.specs.Fault.{fault_of}
+use Rattle.ra_labels.specs.Records.{label_count}
+use Rattle.ra_labels.specs.declared.kind.Kind.{Kind}
+use Rattle.ra_labels.specs.declared.command.Command.{Command}
+use Rattle.ra_monitor.specs.Monitor.{MonitorEntry, commands_of}
+use Rattle.ra_monitor.specs.declared.report.Report.{Report}
+use Rattle.ra_monitor_cli.specs.declared.check.session.Stage.{Stage}
+use Rattle.ra_monitor_cli.specs.declared.check.session.Stage.TheVariants.{Commands}
+use Rattle.ra_monitor_cli.specs.declared.check.session.Session.{Session}
+use Rattle.ra_monitor_cli.specs.Bytes.{Grows}
+use Rattle.ra_monitor_cli.specs.Fields.{IsCutAt}
+use Rattle.ra_monitor_cli.specs.Grammar.{IsLine, bytes_of, first_line, Spells, SpellEach}
+use Rattle.ra_monitor_cli.specs.Output.{reply_line, end_line, answers_in, records_in, IsReportOf, IsAnswered}
+use Rattle.ra_monitor_cli.specs.Recorded.{Recorded, LogsCommand}
+use Rattle.ra_monitor_cli.specs.Progress.{AreTaken, replies_at, TakesLine, IsAfter, Extends, EndsLine, Takes, IsFedUpTo}
+
+-- ---- a line at the stage of commands
+
+SpellEach-push : (kind : Kind) (names lines : List (List ℕ)) (commands : List Command) (line : List ℕ) (command : Command)
+    → SpellEach kind names lines commands → Spells kind names line command → SpellEach kind names (lines ++ line ∷ []) (commands ++ command ∷ [])
+SpellEach-push kind names [] [] line command each here = (here, tt)
+SpellEach-push kind names [] (c ∷ commands) line command each here = absurd each
+SpellEach-push kind names (l ∷ lines) [] line command each here = absurd each
+SpellEach-push kind names (l ∷ lines) (c ∷ commands) line command each here = (each.0, SpellEach-push kind names lines commands line command each.1 here)
+
+-- a recorder with one more entry
+abbrev with_entry : Recorded → MonitorEntry → Recorded
+with_entry old entry = record old { log = old.log ++ entry ∷ [] }
+
+taken_command : (old : Recorded) (entry : MonitorEntry) (line : List ℕ) → Spells old.kind old.names line entry.command → (lines : List (List ℕ))
+    → AreTaken (Commands old) lines → AreTaken (Commands (with_entry old entry)) (lines ++ line ∷ [])
+taken_command old entry line here lines taken =
+    let commands : commands_of (old.log ++ entry ∷ []) ≡ commands_of old.log ++ entry.command ∷ [] = map_push (λ (e : MonitorEntry). e.command) old.log entry in
+    let each = SpellEach-push old.kind old.names taken.1 (commands_of old.log) line entry.command taken.4 here in (
+      taken.0,
+      taken.1 ++ line ∷ [],
+      ap (λ (ls : List (List ℕ)). ls ++ line ∷ []) taken.2,
+      taken.3,
+      subst (SpellEach old.kind old.names (taken.1 ++ line ∷ [])) (sym commands) each,
+    )
+
+replied_command : (old : Recorded) (entry : MonitorEntry) → replies_at (Commands (with_entry old entry)) ≡ replies_at (Commands old) ++ reply_line entry.reply
+replied_command old entry =
+    let replies : map (λ (e : MonitorEntry). e.reply) (old.log ++ entry ∷ []) ≡ map (λ (e : MonitorEntry). e.reply) old.log ++ entry.reply ∷ [] = map_push (λ (e : MonitorEntry). e.reply) old.log entry in
+    ap (flat_map reply_line) replies ∙ flat_map-append reply_line (map (λ (e : MonitorEntry). e.reply) old.log) (entry.reply ∷ [])
+    ∙ ap (λ (bs : List ℕ). flat_map reply_line (map (λ (e : MonitorEntry). e.reply) old.log) ++ bs) (append-nil (reply_line entry.reply))
+
+pub TakesLine-command : (old new : Recorded) (line more : List ℕ) → LogsCommand old new line more → TakesLine (Commands old) (Commands new) line more
+TakesLine-command old new line more logs =
+    let made : TakesLine (Commands old) (Commands (with_entry old logs.entry)) line (reply_line logs.entry.reply) = record {
+      taken = λ lines taken. taken_command old logs.entry line logs.spelled lines taken;
+      replied = replied_command old logs.entry;
+    } in
+    subst (λ (r : Recorded). TakesLine (Commands old) (Commands r) line more) (sym logs.logged)
+    (subst (TakesLine (Commands old) (Commands (with_entry old logs.entry)) line) (sym logs.replied) made)
+
+-- ---- pieces
+
+lines_push : (P : List ℕ → Type 0) (lines : List (List ℕ)) (line : List ℕ) → AllByRecursion P lines → P line → AllByRecursion P (lines ++ line ∷ [])
+lines_push P [] line each here = (here, tt)
+lines_push P (l ∷ lines) line each here = (each.0, lines_push P lines line each.1 here)
+
+bytes_push : (lines : List (List ℕ)) (line : List ℕ) → bytes_of (lines ++ line ∷ []) ≡ bytes_of lines ++ (line ++ 10 ∷ [])
+bytes_push lines line =
+    flat_map-append (λ (l : List ℕ). l ++ 10 ∷ []) lines (line ∷ []) ∙ ap (λ (bs : List ℕ). bytes_of lines ++ bs) (append-nil (line ++ 10 ∷ []))
+
+IsLine-nil : IsLine []
+IsLine-nil = record { one = λ k d lt. absurd (omega arith); short = omega arith }
+
+pub IsAfter-extend : (old new : Session) (stream part : List ℕ) → IsAfter old stream → Extends old new part → All (λ b. b ≢ 10) part → IsAfter new (stream ++ part)
+IsAfter-extend old new stream part after extends none = record {
+  lines = after.lines;
+  taken = subst (λ (s : Stage). AreTaken s after.lines) (sym extends.stage) after.taken;
+  are_lines = after.are_lines;
+  parts = ap (λ (bs : List ℕ). bs ++ part) after.parts ∙ append_assoc (bytes_of after.lines) old.partial.items part ∙ ap (λ (bs : List ℕ). bytes_of after.lines ++ bs) (sym extends.partial);
+  rest = record {
+    one = subst (All (λ b. b ≢ 10)) (sym extends.partial) (All-append (λ b. b ≢ 10) old.partial.items part after.rest.one none);
+    short = extends.short after.rest.short;
+  };
+}
+
+pub IsAfter-end : (old new : Session) (stream more : List ℕ) → IsAfter old stream → EndsLine old new more → IsAfter new (stream ++ 10 ∷ [])
+IsAfter-end old new stream more after ends = record {
+  lines = after.lines ++ old.partial.items ∷ [];
+  taken = ends.line.taken after.lines after.taken;
+  are_lines = lines_push IsLine after.lines old.partial.items after.are_lines after.rest;
+  parts =
+      ap (λ (bs : List ℕ). bs ++ 10 ∷ []) after.parts ∙ append_assoc (bytes_of after.lines) old.partial.items (10 ∷ [])
+      ∙ sym (bytes_push after.lines old.partial.items) ∙ sym (append-nil (bytes_of (after.lines ++ old.partial.items ∷ [])))
+      ∙ ap (λ (bs : List ℕ). bytes_of (after.lines ++ old.partial.items ∷ []) ++ bs) (sym ends.partial);
+  rest = subst IsLine (sym ends.partial) IsLine-nil;
+}
+
+-- nothing is taken yet
+pub fed_none : (session : Session) (piece out : List ℕ) → IsFedUpTo session session piece piece out out
+fed_none session piece out = record {
+  front = [];
+  more = [];
+  parts = refl;
+  grows = sym (append-nil out);
+  takes = record {
+    after = λ stream after. subst (IsAfter session) (sym (append-nil stream)) after;
+    replied = sym (append-nil (replies_at session.stage));
+  };
+}
+
+-- one more line is taken
+pub fed_line : (first old mid new : Session) (piece rest front behind out_first out_old out_new more : List ℕ)
+    → IsFedUpTo first old piece rest out_first out_old → IsCutAt 10 rest front behind → Extends old mid front
+    → Grows out_old out_new more → EndsLine mid new more → IsFedUpTo first new piece behind out_first out_new
+fed_line first old mid new piece rest front behind out_first out_old out_new more fed cut extends grows ends = record {
+  front = fed.front ++ (front ++ 10 ∷ []);
+  more = fed.more ++ more;
+  parts =
+      fed.parts ∙ ap (λ (bs : List ℕ). fed.front ++ bs) (cut.parts ∙ sym (append_assoc front (10 ∷ []) behind))
+      ∙ sym (append_assoc fed.front (front ++ 10 ∷ []) behind);
+  grows = grows ∙ ap (λ (bs : List ℕ). bs ++ more) fed.grows ∙ append_assoc out_first fed.more more;
+  takes = record {
+    after = λ stream after.
+        let here = IsAfter-end mid new ((stream ++ fed.front) ++ front) more (IsAfter-extend old mid (stream ++ fed.front) front (fed.takes.after stream after) extends cut.first) ends in
+        subst (IsAfter new) (append_assoc (stream ++ fed.front) front (10 ∷ []) ∙ append_assoc stream fed.front (front ++ 10 ∷ [])) here;
+    replied =
+        ends.line.replied ∙ ap (λ (s : Stage). replies_at s ++ more) extends.stage ∙ ap (λ (bs : List ℕ). bs ++ more) fed.takes.replied
+        ∙ append_assoc (replies_at first.stage) fed.more more;
+  };
+}
+
+-- the rest has no whole line
+pub fed_all : (first old new : Session) (piece rest out_first out_old : List ℕ) → IsFedUpTo first old piece rest out_first out_old → All (λ b. b ≢ 10) rest → Extends old new rest
+    → (more : List ℕ) × Grows out_first out_old more × Takes first new piece more
+fed_all first old new piece rest out_first out_old fed none extends = (
+  fed.more,
+  fed.grows,
+  record {
+    after = λ stream after.
+        let here = IsAfter-extend old new (stream ++ fed.front) rest (fed.takes.after stream after) extends none in
+        subst (IsAfter new) (append_assoc stream fed.front rest ∙ ap (λ (bs : List ℕ). stream ++ bs) (sym fed.parts)) here;
+    replied = ap replies_at extends.stage ∙ fed.takes.replied;
+  },
+)
+
+-- ---- the end
+
+pub answered : (session : Session) (recorded : Recorded) (text end : List ℕ) (report : Report)
+    → session.stage ≡ Commands recorded → session.partial.items ≡ [] → IsReportOf recorded.kind recorded.names (commands_of recorded.log) report
+    → map (λ entry. entry.reply) recorded.log ≡ answers_in recorded.kind recorded.names (commands_of recorded.log)
+    → end ≡ end_line report.labels report.fault → IsAfter session text → IsAnswered text (replies_at session.stage ++ end) report
+answered session recorded text end report stage nothing reported replies ended after =
+    let taken : AreTaken (Commands recorded) after.lines = subst (λ (s : Stage). AreTaken s after.lines) stage after.taken in
+    let commands = commands_of recorded.log in
+    let lines : AllByRecursion IsLine (first_line recorded.kind ∷ taken.0 ∷ taken.1) = subst (AllByRecursion IsLine) taken.2 after.are_lines in
+    let whole : text ≡ bytes_of (first_line recorded.kind ∷ taken.0 ∷ taken.1) =
+    after.parts ∙ ap (λ (bs : List ℕ). bytes_of after.lines ++ bs) nothing ∙ append-nil (bytes_of after.lines) ∙ ap bytes_of taken.2 in
+    let last : end ≡ end_line (label_count (records_in recorded.kind recorded.names commands)) (fault_of recorded.kind (records_in recorded.kind recorded.names commands)) =
+    ended ∙ ap (λ (n : ℕ). end_line n report.fault) reported.labels ∙ ap (end_line (label_count (records_in recorded.kind recorded.names commands))) reported.fault in
+    let before : replies_at session.stage ≡ flat_map reply_line (answers_in recorded.kind recorded.names commands) = ap replies_at stage ∙ ap (flat_map reply_line) replies in
+    record {
+      kind = recorded.kind;
+      names = recorded.names;
+      commands = commands;
+      says = record { second = taken.0; lines = taken.1; whole = whole; are_lines = lines; lists = taken.3; spell = taken.4 };
+      written = rw (before, last) refl;
+      reported = reported;
+    }
+
+-- ---- in the words of the contracts
+
+pub take_command : {T E : Type 0} (r : Result T E) (old new : Recorded) (line out_old out_new : List ℕ)
+    → OnOk r ((more : List ℕ) × Grows out_old out_new more × LogsCommand old new line more)
+    → OnOk r ((more : List ℕ) × Grows out_old out_new more × TakesLine (Commands old) (Commands new) line more)
+take_command (Ok x) old new line out_old out_new h = (h.0, h.1, TakesLine-command old new line h.0 h.2)
+take_command (Err e) old new line out_old out_new h = tt
+
+pub feed_rest : {T E : Type 0} (r : Result T E) (first old new : Session) (piece rest out_first out_old : List ℕ)
+    → IsFedUpTo first old piece rest out_first out_old → All (λ b. b ≢ 10) rest → OnOk r (Extends old new rest)
+    → OnOk r ((more : List ℕ) × Grows out_first out_old more × Takes first new piece more)
+feed_rest (Ok x) first old new piece rest out_first out_old fed none extends = fed_all first old new piece rest out_first out_old fed none extends
+feed_rest (Err e) first old new piece rest out_first out_old fed none extends = tt

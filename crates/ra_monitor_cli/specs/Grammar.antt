@@ -1,0 +1,139 @@
+-- The text of a history, RAH 1: which bytes are its lines, and which command a line spells.
+use Rattle.std.specs.Prelude.{◌≡◌, ℕ, ◌+◌, ◌^◌, ◌<◌, ◌≤◌, ◌==◌, nat_le, Bool, true, false, not, ◌&&◌, ◌||◌, List, [], ◌∷◌, ◌++◌, length, Option, Some, None, IfSome, All, ◌≢◌, codes, decimal, bytes_eq, FitsSigned, if◌then◌else◌}
+use Rattle.std.specs.Char.{is_ascii_lowercase, is_ascii_digit}
+use Rattle.std.specs.Fmt.{signed_decimal}
+use Rattle.std.specs.Int.{w32}
+use Rattle.std.specs.List.{list_all, slice_split, flat_map, IsDistinct, AllByRecursion}
+use Rattle.ra_labels.specs.declared.kind.Kind.{Kind}
+use Rattle.ra_labels.specs.declared.kind.Kind.TheVariants.{Counter}
+use Rattle.ra_labels.specs.declared.operation.Op.{Op}
+use Rattle.ra_labels.specs.declared.operation.Op.TheVariants.{Inc, Dec, Count}
+use Rattle.ra_labels.specs.declared.command.Command.{Command}
+use Rattle.ra_labels.specs.declared.command.Command.TheVariants.{Operate, Deliver, Verdict}
+
+-- ---- lines
+
+-- A line has no line feed, which is the byte 10, and at most 1,048,576 bytes.
+pub record IsLine (line : List ℕ) : Type 0 where
+  pub one : All (λ byte. byte ≢ 10) line
+  pub short : length line ≤ 1048576
+
+-- lines as bytes: a line feed after each
+abbrev pub bytes_of : List (List ℕ) → List ℕ
+bytes_of lines = flat_map (λ line. line ++ 10 ∷ []) lines
+
+-- the fields of a line: what stands before, between and behind its spaces
+abbrev pub fields_of : List ℕ → List (List ℕ)
+fields_of line = slice_split (λ byte. byte == 32) line
+
+-- ---- names
+
+-- a letter from a to z, and up to 15 letters or digits
+abbrev pub has_form_of_name : List ℕ → Bool
+has_form_of_name [] = false
+has_form_of_name (first ∷ more) =
+    is_ascii_lowercase first && nat_le (length more) 15 && list_all (λ byte. is_ascii_lowercase byte || is_ascii_digit byte) more
+
+-- words of the format, which name no replica
+abbrev pub is_reserved : List ℕ → Bool
+is_reserved word = bytes_eq word (codes "verdict") || bytes_eq word (codes "join")
+
+abbrev pub is_name : List ℕ → Bool
+is_name word = has_form_of_name word && not (is_reserved word)
+
+-- the names of a history: from 1 to 16, each of them a name, and no two the same
+pub record AreNames (names : List (List ℕ)) : Type 0 where
+  pub some : 0 < length names
+  pub few : length names ≤ 16
+  pub each : list_all is_name names ≡ true
+  pub distinct : IsDistinct bytes_eq names
+
+-- the replica that a name stands for: its place among the names, from 0; the number of names where it is not there
+abbrev pub place_of : List (List ℕ) → List ℕ → ℕ
+place_of [] name = 0
+place_of (first ∷ others) name = if bytes_eq first name then 0 else place_of others name + 1
+
+-- ---- the two lines before the commands
+
+abbrev pub kind_word : Kind → List ℕ
+kind_word Counter = codes "counter"
+
+abbrev pub first_line : Kind → List ℕ
+first_line kind = codes "RAH 1 " ++ kind_word kind
+
+-- the second line holds these names
+abbrev pub ListsNames : List ℕ → List (List ℕ) → Type 0
+ListsNames line names = AreNames names × (fields_of line ≡ codes "replicas" ∷ names)
+
+-- ---- commands
+
+-- Is the operation one that a history of this kind has words for? A `read` is always the kind's own.
+abbrev pub has_words : Kind → Op → Bool
+has_words Counter Inc = true
+has_words Counter Dec = true
+has_words Counter (Count value) = true
+
+-- the fields of an operation, with its return value
+abbrev pub operation_fields : Op → List (List ℕ)
+operation_fields Inc = codes "inc" ∷ []
+operation_fields Dec = codes "dec" ∷ []
+operation_fields (Count value) = codes "read" ∷ signed_decimal value ∷ []
+
+-- the field of a clock: a commercial at, which is the byte 64, and the number
+abbrev pub clock_fields : Option ℕ → List (List ℕ)
+clock_fields None = []
+clock_fields (Some clock) = (64 ∷ decimal clock) ∷ []
+
+-- the numbers of an operation are of 32 bits
+abbrev pub HasSmallNumbers : Op → Type 0
+HasSmallNumbers Inc = Unit {0}
+HasSmallNumbers Dec = Unit {0}
+HasSmallNumbers (Count value) = FitsSigned w32 value
+
+-- the name stands for the replica
+pub record StandsFor (names : List (List ℕ)) (name : List ℕ) (replica : ℕ) : Type 0 where
+  pub form : is_name name ≡ true
+  pub place : replica ≡ place_of names name
+
+-- a line with these fields delivers the label to the replica
+pub record SpellsDelivery (names : List (List ℕ)) (fields : List (List ℕ)) (replica label : ℕ) : Type 0 where
+  pub name : List ℕ
+  pub who : StandsFor names name replica
+  pub small : label < 2 ^ 32
+  pub words : fields ≡ name ∷ codes "got" ∷ decimal label ∷ []
+
+-- a line with these fields is the operation at the replica, with this clock
+pub record SpellsOperation (kind : Kind) (names : List (List ℕ)) (fields : List (List ℕ)) (replica : ℕ) (op : Op) (clock : Option ℕ) : Type 0 where
+  pub name : List ℕ
+  pub who : StandsFor names name replica
+  pub own : has_words kind op ≡ true
+  pub small : HasSmallNumbers op
+  pub small_clock : IfSome clock (λ at. at < 2 ^ 32)
+  pub words : fields ≡ name ∷ (operation_fields op ++ clock_fields clock)
+
+-- in a history of this kind with these names, a line with these fields is the command
+abbrev pub AreFieldsOf : Kind → List (List ℕ) → List (List ℕ) → Command → Type 0
+AreFieldsOf kind names fields Verdict = fields ≡ codes "verdict" ∷ []
+AreFieldsOf kind names fields (Deliver replica label) = SpellsDelivery names fields replica label
+AreFieldsOf kind names fields (Operate replica op clock) = SpellsOperation kind names fields replica op clock
+
+-- in a history of this kind with these names, the line spells the command
+abbrev pub Spells : Kind → List (List ℕ) → List ℕ → Command → Type 0
+Spells kind names line command = AreFieldsOf kind names (fields_of line) command
+
+-- each of the lines spells the command in its place
+abbrev pub SpellEach : Kind → List (List ℕ) → List (List ℕ) → List Command → Type 0
+SpellEach kind names [] [] = Unit {0}
+SpellEach kind names (line ∷ lines) (command ∷ commands) = Spells kind names line command × SpellEach kind names lines commands
+SpellEach kind names _ _ = ⊥
+
+-- ---- the text
+
+-- the text is a first line, a line of names and lines of commands, and ends behind the last one's line feed
+pub record Says (text : List ℕ) (kind : Kind) (names : List (List ℕ)) (commands : List Command) : Type 0 where
+  pub second : List ℕ
+  pub lines : List (List ℕ)
+  pub whole : text ≡ bytes_of (first_line kind ∷ second ∷ lines)
+  pub are_lines : AllByRecursion IsLine (first_line kind ∷ second ∷ lines)
+  pub lists : ListsNames second names
+  pub spell : SpellEach kind names lines commands

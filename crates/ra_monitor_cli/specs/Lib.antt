@@ -1,0 +1,12 @@
+pub mod Grammar
+pub mod Output
+pub mod Fields
+pub mod Names
+pub mod Reading
+pub mod Bytes
+pub mod Faults
+pub mod Recorded
+pub mod Recorder
+pub mod Progress
+pub mod Run
+pub mod Written

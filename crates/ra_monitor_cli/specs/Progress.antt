@@ -1,0 +1,63 @@
+-- How far a text is taken in.
+use Rattle.std.specs.Prelude.{◌≡◌, ℕ, ◌≤◌, List, [], ◌∷◌, ◌++◌, length, map, flat_map}
+use Rattle.std.specs.List.{AllByRecursion}
+use Rattle.ra_monitor.specs.Monitor.{commands_of}
+use Rattle.ra_monitor_cli.specs.Bytes.{Grows}
+use Rattle.ra_monitor_cli.specs.declared.check.session.Stage.{Stage}
+use Rattle.ra_monitor_cli.specs.declared.check.session.Stage.TheVariants.{FirstLine, NamesLine, Commands}
+use Rattle.ra_monitor_cli.specs.declared.check.session.Session.{Session}
+use Rattle.ra_monitor_cli.specs.Grammar.{IsLine, bytes_of, first_line, ListsNames, SpellEach}
+use Rattle.ra_monitor_cli.specs.Output.{reply_line}
+
+-- these lines were taken in, and lead to this stage
+abbrev pub AreTaken : Stage → List (List ℕ) → Type 0
+AreTaken FirstLine lines = lines ≡ []
+AreTaken (NamesLine kind) lines = lines ≡ first_line kind ∷ []
+AreTaken (Commands recorded) lines = (second : List ℕ) × (others : List (List ℕ))
+    × (lines ≡ first_line recorded.kind ∷ second ∷ others) × ListsNames second recorded.names
+    × SpellEach recorded.kind recorded.names others (commands_of recorded.log)
+
+-- the reply lines so far
+abbrev pub replies_at : Stage → List ℕ
+replies_at FirstLine = []
+replies_at (NamesLine kind) = []
+replies_at (Commands recorded) = flat_map reply_line (map (λ entry. entry.reply) recorded.log)
+
+-- a stage takes a line, and these bytes are the reply to it
+pub record TakesLine (old new : Stage) (line more : List ℕ) : Type 0 where
+  pub taken : (lines : List (List ℕ)) → AreTaken old lines → AreTaken new (lines ++ line ∷ [])
+  pub replied : replies_at new ≡ replies_at old ++ more
+
+-- the stream so far: whole lines, and what has come of the next one
+pub record IsAfter (session : Session) (stream : List ℕ) : Type 0 where
+  pub lines : List (List ℕ)
+  pub taken : AreTaken session.stage lines
+  pub are_lines : AllByRecursion IsLine lines
+  pub parts : stream ≡ bytes_of lines ++ session.partial.items
+  pub rest : IsLine session.partial.items
+
+-- ---- steps of a session
+
+-- the next line has come this much further
+pub record Extends (old new : Session) (part : List ℕ) : Type 0 where
+  pub stage : new.stage ≡ old.stage
+  pub partial : new.partial.items ≡ old.partial.items ++ part
+  pub short : length old.partial.items ≤ 1048576 → length new.partial.items ≤ 1048576
+
+-- the next line is whole, and taken, and these bytes are the reply to it
+pub record EndsLine (old new : Session) (more : List ℕ) : Type 0 where
+  pub line : TakesLine old.stage new.stage old.partial.items more
+  pub partial : new.partial.items ≡ []
+
+-- the session took a piece of the stream, and these bytes are the reply lines of its whole lines
+pub record Takes (old new : Session) (piece more : List ℕ) : Type 0 where
+  pub after : (stream : List ℕ) → IsAfter old stream → IsAfter new (stream ++ piece)
+  pub replied : replies_at new.stage ≡ replies_at old.stage ++ more
+
+-- a piece of which a part is taken, and what is left of it
+pub record IsFedUpTo (old new : Session) (piece rest out_old out_new : List ℕ) : Type 0 where
+  pub front : List ℕ
+  pub more : List ℕ
+  pub parts : piece ≡ front ++ rest
+  pub grows : Grows out_old out_new more
+  pub takes : Takes old new front more

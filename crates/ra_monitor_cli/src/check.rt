@@ -1,0 +1,64 @@
+//! The check of a text, bytes in and bytes out.
+ghost use Rattle.std.specs.Prelude.{OnOk, IfOk, IfSome};
+ghost use Rattle.std.specs.Io.KnownBytes.{IsAtEnd};
+ghost use Rattle.ra_monitor_cli.specs.Run.{WritesAnswer};
+
+pub mod command;
+pub mod fault;
+pub mod fields;
+pub mod laws;
+pub mod name;
+pub mod number;
+pub mod outcome;
+pub mod recorder;
+pub mod reply;
+pub mod session;
+pub mod write;
+
+use crate::check::fault::CheckFault;
+use crate::check::outcome::Outcome;
+use crate::check::session::Session;
+use crate::check::write::write_out;
+use std::alloc::Global;
+use std::io::{Read, Write};
+
+/// The most reads of one check, that which finds the end among them.
+pub const MOST_READS: u64 = 4_294_967_296;
+
+/// The most bytes that one read asks for.
+pub const PIECE: usize = 4_096;
+
+/// Checks the text that the reader gives, and writes the line of each reply and the last line.
+///
+/// The reply lines to the lines that are whole are written before the next read is made, and before the check
+/// ends. Costs as much as the steps of the monitor, and a write a piece.
+pub fn check<R: Read, W: Write>(
+    alloc: Global,
+    reader: &mut R,
+    writer: &mut W,
+) -> Result<Outcome, CheckFault>
+    // Nothing is left to read.
+    ensures end { OnOk result (IsAtEnd (R.remaining reader.new)) }
+    // What was written is what is stated of the bytes that were there to read, and nothing else.
+    ensures written { IfOk result (λ outcome. IfSome (R.remaining reader.old) (λ text.
+        WritesAnswer text (W.contents writer.old) (W.contents writer.new) outcome.report)) }
+{
+    let mut session = Session::new(alloc);
+    let mut out = String::new(alloc);
+    let mut piece = [0u8; PIECE];
+    for _ in 0..MOST_READS {
+        let Ok(count) = reader.read(&mut piece) else {
+            return Err(CheckFault::Read);
+        };
+        if count == 0 {
+            let report = session.finish(&mut out)?;
+            write_out(writer, out.as_bytes())?;
+            return Ok(Outcome { report });
+        }
+        let fed = session.feed(&piece[..count], &mut out);
+        write_out(writer, out.as_bytes())?;
+        fed?;
+        out.clear();
+    }
+    Err(CheckFault::Endless)
+}

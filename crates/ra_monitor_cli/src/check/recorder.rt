@@ -1,0 +1,99 @@
+//! The commands of a history, given to the monitor.
+ghost use Rattle.std.specs.Prelude.{◌≡◌, ◌+◌, ◌^◌, ℕ, List, [], map, length, IfOk, OnOk, string_bytes};
+ghost use Rattle.ra_monitor.specs.Monitor.{commands_of};
+ghost use Rattle.ra_monitor_cli.specs.Grammar.{AreNames};
+ghost use Rattle.ra_monitor_cli.specs.Output.{IsReportOf, answers_in};
+ghost use Rattle.ra_monitor_cli.specs.Recorded.{Logs, LogsCommand};
+ghost use Rattle.ra_monitor_cli.specs.Bytes.{Grows};
+
+use crate::check::command::command;
+use crate::check::fault::{CheckFault, LineFault};
+use crate::check::name::Names;
+use crate::check::reply::reply_line;
+use ra_labels::{Command, Kind, Reply};
+use ra_monitor::{MOST_ENTRIES, Monitor, Report, StepFault};
+use std::alloc::Global;
+use std::marker::Model;
+
+/// How many lines stand before the first command.
+const LINES_BEFORE: u32 = 2;
+
+/// Reads the commands of a history, and has a monitor answer them.
+#[derive(Debug, Drop)]
+pub struct Recorder {
+    kind: Kind,
+    names: Names,
+    monitor: Monitor,
+}
+
+impl Model for Recorder {
+    ghost use Rattle.ra_monitor_cli.specs.Recorded.{Recorded};
+
+    ghost Value = { Recorded };
+
+    ghost use Rattle.ra_monitor_cli.specs.Recorder.{recorded, IsKept};
+
+    ghost view = { λ r. recorded r };
+
+    ghost invariant = { λ r. IsKept r };
+}
+
+impl Recorder {
+    /// A recorder of a history of this kind, at the replicas with these names.
+    pub fn new(alloc: Global, kind: Kind, names: Names) -> Result<Recorder, LineFault>
+        requires { AreNames names }
+        ensures kind { IfOk result (λ recorder. recorder.kind ≡ kind) }
+        ensures names { IfOk result (λ recorder. recorder.names ≡ names) }
+        ensures log { IfOk result (λ recorder. recorder.log ≡ []) }
+    {
+        // There are 1 to 16 names, and the limit is the greatest: memory alone can be missing.
+        match Monitor::new(alloc, kind, names.count(), MOST_ENTRIES) {
+            Ok(monitor) => Ok(Recorder {
+                kind,
+                names,
+                monitor,
+            }),
+            Err(_) => Err(LineFault::NoMemory),
+        }
+    }
+
+    /// The number of the line that comes next.
+    pub fn line(&self) -> u32
+        ensures { result ≡ length self.now.log + 3 }
+    {
+        self.monitor.log().len() as u32 + LINES_BEFORE + 1
+    }
+
+    /// Reads a line, gives its command to the monitor, and puts the line of its reply behind the others.
+    pub fn record(&mut self, alloc: Global, line: &[u8], out: &mut String) -> Result<(), CheckFault>
+        ensures { OnOk result ((more : List ℕ) × Grows (string_bytes out.old) (string_bytes out.new) more × LogsCommand self.old self.new line.now more) }
+    {
+        let Some(command) = command(self.kind, &self.names, line) else {
+            return Err(CheckFault::Syntax(self.line()));
+        };
+        let reply = self.answer(command)?;
+        let answer = reply_line(alloc, reply)?;
+        out.push_str(answer.as_str())?;
+        Ok(())
+    }
+
+    fn answer(&mut self, command: Command) -> Result<Reply, CheckFault>
+        ensures { IfOk result (λ reply. Logs self.old self.new command reply) }
+    {
+        let number = self.line();
+        let ticket = self.monitor.log().len() as u64;
+        match self.monitor.step(0, ticket, command) {
+            Ok(reply) => Ok(reply),
+            Err(StepFault::Full(_)) => Err(CheckFault::Full(number)),
+            Err(StepFault::NoMemory(_)) => Err(CheckFault::NoMemory),
+        }
+    }
+
+    /// What the history amounts to.
+    pub fn report(&self) -> Report
+        ensures report { IsReportOf self.now.kind self.now.names (commands_of self.now.log) result }
+        ensures replies { map (λ entry. entry.reply) self.now.log ≡ answers_in self.now.kind self.now.names (commands_of self.now.log) }
+    {
+        self.monitor.report()
+    }
+}

@@ -1,0 +1,171 @@
+//! A text that is taken in piece by piece.
+ghost use Rattle.std.specs.Prelude.{◌≡◌, ◌≢◌, ◌++◌, ◌≤◌, ℕ, List, [], All, length, IfOk, IfSome, OnOk, Some, string_bytes};
+ghost use Rattle.ra_labels.specs.declared.kind.Kind.{Kind};
+ghost use Rattle.ra_monitor_cli.specs.Bytes.{Grows};
+ghost use Rattle.ra_monitor_cli.specs.Grammar.{first_line};
+ghost use Rattle.ra_monitor_cli.specs.Output.{IsAnswered};
+ghost use Rattle.ra_monitor_cli.specs.Progress.{replies_at, TakesLine, IsAfter, Extends, EndsLine, Takes};
+ghost use Rattle.ra_monitor_cli.specs.declared.check.session.Stage.TheVariants as stage;
+
+use crate::check::fault::CheckFault;
+use crate::check::fields::cut_at;
+use crate::check::name::Names;
+use crate::check::recorder::Recorder;
+use crate::check::reply::end_line;
+use ra_labels::Kind;
+use ra_monitor::Report;
+use std::alloc::Global;
+
+/// The most bytes of a line, its line feed left out.
+pub const LONGEST_LINE: usize = 1_048_576;
+
+/// Which line of the text comes next.
+#[derive(Debug, Drop)]
+pub enum Stage {
+    /// The first, which names the kind.
+    FirstLine,
+    /// The second, which lists the names, in a text of this kind.
+    NamesLine(Kind),
+    /// A command.
+    Commands(Recorder),
+}
+
+impl Stage {
+    /// The number of the line that comes next.
+    pub fn line(&self) -> u32 {
+        match self {
+            Stage::FirstLine => 1,
+            Stage::NamesLine(_) => 2,
+            Stage::Commands(recorder) => recorder.line(),
+        }
+    }
+
+    // Takes a line, and puts the line of the reply, if it has one, behind the others.
+    fn take_line(&mut self, alloc: Global, line: &[u8], out: &mut String) -> Result<(), CheckFault>
+        ensures { OnOk result ((more : List ℕ) × Grows (string_bytes out.old) (string_bytes out.new) more × TakesLine self.old self.new line.now more) }
+    {
+        match self {
+            Stage::FirstLine => {
+                *self = after_first(line)?;
+                Ok(())
+            }
+            Stage::NamesLine(kind) => {
+                *self = after_names(alloc, *kind, line)?;
+                Ok(())
+            }
+            Stage::Commands(recorder) => recorder.record(alloc, line, out),
+        }
+    }
+}
+
+/// The kind that a first line names.
+fn kind_of(line: &[u8]) -> Option<Kind>
+    ensures found { IfSome result (λ kind. line.now ≡ first_line kind) }
+    ensures only { (kind : Kind) → line.now ≡ first_line kind → result ≡ Some kind }
+{
+    if line == b"RAH 1 counter".as_slice() {
+        Some(Kind::Counter)
+    } else {
+        None
+    }
+}
+
+fn after_first(line: &[u8]) -> Result<Stage, CheckFault>
+    ensures { IfOk result (λ next. TakesLine stage.FirstLine next line.now []) }
+{
+    match kind_of(line) {
+        Some(kind) => Ok(Stage::NamesLine(kind)),
+        None => Err(CheckFault::Syntax(1)),
+    }
+}
+
+fn after_names(alloc: Global, kind: Kind, line: &[u8]) -> Result<Stage, CheckFault>
+    ensures { IfOk result (λ next. TakesLine (stage.NamesLine kind) next line.now []) }
+{
+    let names = match Names::read(alloc, line) {
+        Ok(names) => names,
+        Err(fault) => return Err(fault.at(2)),
+    };
+    match Recorder::new(alloc, kind, names) {
+        Ok(recorder) => Ok(Stage::Commands(recorder)),
+        Err(fault) => Err(fault.at(2)),
+    }
+}
+
+/// What was taken of a text so far.
+#[derive(Debug, Drop)]
+pub struct Session {
+    alloc: Global,
+    stage: Stage,
+    partial: Vec<u8>,
+}
+
+impl Session {
+    /// Nothing was taken.
+    pub fn new(alloc: Global) -> Session
+        ensures after { IsAfter result [] }
+        ensures replies { replies_at result.stage ≡ [] }
+    {
+        Session {
+            alloc,
+            stage: Stage::FirstLine,
+            partial: Vec::new(alloc),
+        }
+    }
+
+    /// Takes the next piece of the text, and puts the reply lines of the lines that are whole now behind the
+    /// others. After a fault the session is of no further use; the reply lines of the lines before are there.
+    pub fn feed(&mut self, piece: &[u8], out: &mut String) -> Result<(), CheckFault>
+        ensures { OnOk result ((more : List ℕ) × Grows (string_bytes out.old) (string_bytes out.new) more × Takes self.old self.new piece.now more) }
+    {
+        let mut rest = piece;
+        while let Some((front, behind)) = cut_at(b'\n', rest) {
+            self.extend(front)?;
+            self.end_line(out)?;
+            rest = behind;
+        }
+        self.extend(rest)
+    }
+
+    /// Ends the text, and puts the last line behind the others.
+    pub fn finish(&self, out: &mut String) -> Result<Report, CheckFault>
+        ensures { IfOk result (λ report. (end : List ℕ) × Grows (string_bytes out.old) (string_bytes out.new) end
+            × ((text : List ℕ) → IsAfter self.now text → IsAnswered text (replies_at self.now.stage ++ end) report)) }
+    {
+        if !self.partial.is_empty() {
+            return Err(CheckFault::Truncated(self.stage.line()));
+        }
+        match &self.stage {
+            Stage::Commands(recorder) => {
+                let report = recorder.report();
+                let line = end_line(self.alloc, report.labels, report.fault)?;
+                out.push_str(line.as_str())?;
+                Ok(report)
+            }
+            Stage::FirstLine | Stage::NamesLine(_) => {
+                Err(CheckFault::Truncated(self.stage.line()))
+            }
+        }
+    }
+
+    // A part of the next line, with no line feed in it.
+    fn extend(&mut self, part: &[u8]) -> Result<(), CheckFault>
+        ensures { OnOk result (Extends self.old self.new part.now) }
+    {
+        let room = LONGEST_LINE.saturating_sub(self.partial.len());
+        if part.len() > room {
+            return Err(CheckFault::LineTooLong(self.stage.line()));
+        }
+        self.partial.extend_from_slice(part)?;
+        Ok(())
+    }
+
+    // The next line is whole.
+    fn end_line(&mut self, out: &mut String) -> Result<(), CheckFault>
+        ensures { OnOk result ((more : List ℕ) × Grows (string_bytes out.old) (string_bytes out.new) more × EndsLine self.old self.new more) }
+    {
+        self.stage.take_line(self.alloc, &self.partial, out)?;
+        self.partial.clear();
+        Ok(())
+    }
+}

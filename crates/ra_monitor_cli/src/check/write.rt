@@ -1,0 +1,21 @@
+//! Bytes to a writer.
+ghost use Rattle.std.specs.Prelude.{OnOk};
+ghost use Rattle.std.specs.Io.KnownBytes.{Appends};
+
+use crate::check::fault::CheckFault;
+use std::io::Write;
+
+/// Writes all of the bytes. Any error of the writer, or a write that takes no byte, is `Write`, and the bytes
+/// before it were written.
+pub fn write_out<W: Write>(writer: &mut W, bytes: &[u8]) -> Result<(), CheckFault>
+    ensures { OnOk result (Appends (W.contents writer.old) (W.contents writer.new) bytes.now) }
+{
+    let mut rest = bytes;
+    while !rest.is_empty() {
+        match writer.write(rest) {
+            Ok(count) if count > 0 => rest = &rest[count..],
+            _ => return Err(CheckFault::Write),
+        }
+    }
+    Ok(())
+}
