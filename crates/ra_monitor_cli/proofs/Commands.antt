@@ -1,10 +1,9 @@
 -- A line is read as a command just where it spells that command.
-use Rattle.std.proofs.Common.{◌≡◌, ℕ, ◌^◌, ◌<◌, ◌⊎◌, inl, inr, Bool, true, false, cond, eqb, List, [], ◌∷◌, ◌++◌, Option, Some, None, refl, sym, ap, subst, ◌∙◌, arith}
-use Rattle.std.specs.Prelude.{bytes_eq, codes, decimal, FitsSigned, IfSome, option_map, option_and_then}
+use Rattle.std.proofs.Common.{◌≡◌, ℕ, ◌^◌, ◌<◌, ◌⊎◌, inl, inr, Bool, true, false, cond, eqb, List, [], ◌∷◌, ◌++◌, Option, Some, None, refl, sym, ap, subst, ◌∙◌}
+use Rattle.std.specs.Prelude.{bytes_eq, codes, decimal, IfSome, option_map}
 use Rattle.std.specs.Fmt.{signed_decimal}
-use Rattle.std.specs.Int.{w32}
-use Rattle.std.proofs.lemmas.Bool.{cases_Bool, eqb-true}
-use Rattle.std.proofs.lemmas.Option.{cond_some, option_and_then_some}
+use Rattle.std.proofs.lemmas.Bool.{eqb-true}
+use Rattle.std.proofs.lemmas.Option.{option_and_then_some}
 use Rattle.std.proofs.lemmas.Slice.Eq.{bytes_eq-Decides}
 use Rattle.ra_labels.specs.declared.kind.Kind.{Kind}
 use Rattle.ra_labels.specs.declared.kind.Kind.TheVariants.{Counter}
@@ -12,7 +11,7 @@ use Rattle.ra_labels.specs.declared.operation.Op.{Op}
 use Rattle.ra_labels.specs.declared.operation.Op.TheVariants.{Inc, Dec, Count}
 use Rattle.ra_labels.specs.declared.command.Command.{Command}
 use Rattle.ra_labels.specs.declared.command.Command.TheVariants.{Operate, Deliver, Verdict}
-use Rattle.ra_monitor_cli.specs.Grammar.{is_name, place_of, fields_of, has_words, operation_fields, clock_fields, HasSmallNumbers, StandsFor, SpellsDelivery, SpellsOperation, AreFieldsOf, Spells}
+use Rattle.ra_monitor_cli.specs.Grammar.{is_name, place_of, fields_of, has_words, operation_fields, clock_fields, HasSmallNumbers, StandsFor, AreFieldsOf, Spells}
 use Rattle.ra_monitor_cli.specs.Reading.{number_read, signed_read, clock_read, operation_read, delivery_read, count_read, report_read, command_read}
 use Rattle.ra_monitor_cli.proofs.Numbers.{number_read-Some, number_read-decimal, signed_read-Some, signed_read-decimal}
 

@@ -1,6 +1,5 @@
 -- The fields of a line that is cut at a space.
-use Rattle.std.proofs.Common.{◌≡◌, ℕ, ◌≢◌, true, false, eqb, List, [], ◌∷◌, ◌++◌, refl, ap, ◌∙◌, All}
-use Rattle.std.specs.List.{slice_split}
+use Rattle.std.proofs.Common.{◌≡◌, ℕ, ◌≢◌, false, eqb, List, [], ◌∷◌, refl, ap, ◌∙◌, All}
 use Rattle.std.proofs.lemmas.Bool.{ne_eqb}
 use Rattle.std.proofs.lemmas.List.Splits.{slice_split_at, slice_split_none}
 use Rattle.ra_monitor_cli.specs.Grammar.{fields_of}

@@ -1,8 +1,8 @@
 -- What is kept true of a recorder, step by step.
-use Rattle.std.proofs.Common.{◌≡◌, ℕ, ◌+◌, ◌<◌, ◌≤◌, Bool, true, false, ◌&&◌, ltb, List, [], ◌∷◌, ◌++◌, length, map, Result, Ok, Err, IfSome, refl, sym, ap, subst, ◌∙◌, arith, inl, inr}
-use Rattle.std.specs.Prelude.{◌↔◌, IsErrOf, count_by}
+use Rattle.std.proofs.Common.{◌≡◌, ℕ, ◌+◌, ◌<◌, ◌≤◌, true, ltb, List, [], ◌∷◌, ◌++◌, length, map, Result, Ok, Err, IfSome, refl, sym, ap, ◌∙◌, arith, inl, inr}
+use Rattle.std.specs.Prelude.{◌↔◌, IsErrOf}
 use Rattle.std.proofs.lemmas.Bool.{cases_eq, and_parts, and_from, ltb-true, lt-ltb}
-use Rattle.std.proofs.lemmas.List.{length_push, map_push, map-append}
+use Rattle.std.proofs.lemmas.List.{length_push, map_push}
 use Rattle.ra_labels.specs.declared.kind.Kind.{Kind}
 use Rattle.ra_labels.specs.declared.command.Command.{Command}
 use Rattle.ra_labels.specs.declared.reply.Reply.{Reply}
@@ -13,7 +13,6 @@ use Rattle.ra_monitor.specs.Monitor.{Logged, MonitorEntry, commands_of, records_
 use Rattle.ra_monitor_cli.specs.declared.check.recorder.Recorder.TheInside.{Inside}
 use Rattle.ra_monitor_cli.specs.Recorded.{are_tickets_below}
 use Rattle.ra_monitor_cli.specs.Recorder.{IsKept}
-use Rattle.ra_monitor_cli.specs.Output.{answers_in}
 
 pub next_ticket : (count : ℕ) (log : List MonitorEntry) → are_tickets_below count log ≡ true → IfSome (last_of log) (λ last. last.ticket < count)
 next_ticket count [] below = tt

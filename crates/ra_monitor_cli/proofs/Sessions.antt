@@ -1,5 +1,5 @@
 -- What a session took, step by step.
-use Rattle.std.proofs.Common.{◌≡◌, ◌≢◌, ℕ, ◌<◌, ◌≤◌, List, [], ◌∷◌, ◌++◌, length, map, All, Result, Ok, Err, refl, sym, ap, subst, ◌∙◌, arith}
+use Rattle.std.proofs.Common.{◌≡◌, ◌≢◌, ℕ, List, [], ◌∷◌, ◌++◌, map, All, Result, Ok, Err, refl, sym, ap, subst, ◌∙◌, arith}
 use Rattle.std.specs.Prelude.{flat_map, OnOk}
 use Rattle.std.specs.List.{AllByRecursion}
 use Rattle.std.proofs.lemmas.List.{append_assoc, append-nil, map_push}
@@ -9,7 +9,6 @@ use Rattle.ra_labels.specs.Fault.{fault_of}
 use Rattle.ra_labels.specs.Records.{label_count}
 use Rattle.ra_labels.specs.declared.kind.Kind.{Kind}
 use Rattle.ra_labels.specs.declared.command.Command.{Command}
-use Rattle.ra_labels.specs.declared.reply.Reply.{Reply}
 use Rattle.ra_monitor.specs.Monitor.{MonitorEntry, commands_of}
 use Rattle.ra_monitor.specs.declared.report.Report.{Report}
 use Rattle.ra_monitor_cli.specs.declared.check.session.Stage.{Stage}
@@ -17,8 +16,8 @@ use Rattle.ra_monitor_cli.specs.declared.check.session.Stage.TheVariants.{Comman
 use Rattle.ra_monitor_cli.specs.declared.check.session.Session.{Session}
 use Rattle.ra_monitor_cli.specs.Bytes.{Grows}
 use Rattle.ra_monitor_cli.specs.Fields.{IsCutAt}
-use Rattle.ra_monitor_cli.specs.Grammar.{IsLine, bytes_of, first_line, ListsNames, Spells, SpellEach, Says}
-use Rattle.ra_monitor_cli.specs.Output.{reply_line, end_line, output_of, answers_in, records_in, IsReportOf, IsAnswered}
+use Rattle.ra_monitor_cli.specs.Grammar.{IsLine, bytes_of, first_line, Spells, SpellEach}
+use Rattle.ra_monitor_cli.specs.Output.{reply_line, end_line, answers_in, records_in, IsReportOf, IsAnswered}
 use Rattle.ra_monitor_cli.specs.Recorded.{Recorded, LogsCommand}
 use Rattle.ra_monitor_cli.specs.Progress.{AreTaken, replies_at, TakesLine, IsAfter, Extends, EndsLine, Takes, IsFedUpTo}
 

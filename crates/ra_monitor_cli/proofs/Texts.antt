@@ -1,5 +1,5 @@
 -- A text is cut into lines in one way, and says one history.
-use Rattle.std.proofs.Common.{◌≡◌, ◌≢◌, ℕ, eqb, List, [], ◌∷◌, ◌++◌, length, All, refl, sym, ap, subst, ◌∙◌}
+use Rattle.std.proofs.Common.{◌≡◌, ℕ, eqb, List, [], ◌∷◌, ◌++◌, refl, sym, ap, ◌∙◌}
 use Rattle.std.specs.Prelude.{codes}
 use Rattle.std.specs.List.{slice_split, AllByRecursion}
 use Rattle.std.proofs.lemmas.Bool.{ne_eqb}
@@ -9,8 +9,8 @@ use Rattle.ra_labels.specs.declared.kind.Kind.{Kind}
 use Rattle.ra_labels.specs.declared.kind.Kind.TheVariants.{Counter}
 use Rattle.ra_labels.specs.declared.command.Command.{Command}
 use Rattle.ra_monitor.specs.declared.report.Report.{Report}
-use Rattle.ra_monitor_cli.specs.Grammar.{IsLine, bytes_of, fields_of, first_line, Spells, SpellEach, Says}
-use Rattle.ra_monitor_cli.specs.Output.{output_of, IsAnswered}
+use Rattle.ra_monitor_cli.specs.Grammar.{IsLine, bytes_of, fields_of, first_line, SpellEach, Says}
+use Rattle.ra_monitor_cli.specs.Output.{IsAnswered}
 use Rattle.ra_monitor_cli.proofs.Commands.{one_command}
 
 -- cut at its line feeds, a text of lines gives the lines, and nothing behind the last

@@ -1,5 +1,5 @@
 -- What is written for a text, and the exit status.
-use Rattle.std.specs.Prelude.{◌≡◌, ℕ, ◌==◌, Bool, List, [], ◌∷◌, ◌++◌, length, map, count_by, flat_map, Option, Some, None, is_some, Result, Ok, Err, codes, decimal, if◌then◌else◌}
+use Rattle.std.specs.Prelude.{◌≡◌, ℕ, ◌==◌, List, [], ◌∷◌, ◌++◌, length, count_by, flat_map, Option, Some, None, is_some, Result, Ok, Err, codes, decimal, if◌then◌else◌}
 use Rattle.ra_labels.specs.declared.kind.Kind.{Kind}
 use Rattle.ra_labels.specs.declared.command.Command.{Command}
 use Rattle.ra_labels.specs.declared.reply.Cause.{Cause}
@@ -13,7 +13,7 @@ use Rattle.ra_labels.specs.Records.{Records, label_count}
 use Rattle.ra_labels.specs.Fault.{fault_of}
 use Rattle.ra_labels.specs.Answer.{answers_to, records_after_all}
 use Rattle.ra_monitor.specs.declared.report.Report.{Report}
-use Rattle.ra_monitor.specs.Monitor.{is_refused}
+use Rattle.ra_monitor.specs.Replies.{is_refused}
 use Rattle.ra_monitor_cli.specs.declared.check.fault.CheckFault.{CheckFault}
 use Rattle.ra_monitor_cli.specs.declared.check.outcome.Outcome.{Outcome}
 use Rattle.ra_monitor_cli.specs.Grammar.{Says}

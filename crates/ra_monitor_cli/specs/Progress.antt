@@ -1,18 +1,13 @@
 -- How far a text is taken in.
-use Rattle.std.specs.Prelude.{◌≡◌, ◌≢◌, ℕ, ◌<◌, ◌≤◌, List, [], ◌∷◌, ◌++◌, length, map, flat_map, All, Option, Some, None, IfSome, string_bytes}
+use Rattle.std.specs.Prelude.{◌≡◌, ℕ, ◌≤◌, List, [], ◌∷◌, ◌++◌, length, map, flat_map}
 use Rattle.std.specs.List.{AllByRecursion}
-use Rattle.std.specs.Global as global
-use Rattle.ra_labels.specs.declared.kind.Kind.{Kind}
-use Rattle.ra_labels.specs.declared.reply.Reply.{Reply}
-use Rattle.ra_monitor.specs.Monitor.{MonitorEntry, commands_of}
-use Rattle.ra_monitor.specs.declared.report.Report.{Report}
+use Rattle.ra_monitor.specs.Monitor.{commands_of}
 use Rattle.ra_monitor_cli.specs.Bytes.{Grows}
-use Rattle.ra_monitor_cli.specs.Recorded.{Recorded}
 use Rattle.ra_monitor_cli.specs.declared.check.session.Stage.{Stage}
 use Rattle.ra_monitor_cli.specs.declared.check.session.Stage.TheVariants.{FirstLine, NamesLine, Commands}
 use Rattle.ra_monitor_cli.specs.declared.check.session.Session.{Session}
-use Rattle.ra_monitor_cli.specs.Grammar.{IsLine, bytes_of, first_line, ListsNames, Spells, SpellEach}
-use Rattle.ra_monitor_cli.specs.Output.{reply_line, IsAnswered}
+use Rattle.ra_monitor_cli.specs.Grammar.{IsLine, bytes_of, first_line, ListsNames, SpellEach}
+use Rattle.ra_monitor_cli.specs.Output.{reply_line}
 
 -- these lines were taken in, and lead to this stage
 abbrev pub AreTaken : Stage → List (List ℕ) → Type 0

@@ -1,6 +1,6 @@
 -- How the line of a command is read, field by field. What is read so is just what is spelled: that is the
 -- contract of `command`, in the words of Grammar alone.
-use Rattle.std.specs.Prelude.{ℕ, ◌^◌, ◌+◌, ◌==◌, nat_lt, Bool, true, false, not, ◌&&◌, List, [], ◌∷◌, length, Option, Some, None, option_map, option_and_then, codes, decimal, bytes_eq, ℤ, if◌then◌else◌}
+use Rattle.std.specs.Prelude.{ℕ, ◌^◌, ◌==◌, nat_lt, Bool, false, not, ◌&&◌, List, [], ◌∷◌, length, Option, Some, None, option_map, option_and_then, codes, decimal, bytes_eq, ℤ, if◌then◌else◌}
 use Rattle.std.specs.Char.{is_ascii_digit}
 use Rattle.std.specs.Fmt.{signed_decimal}
 use Rattle.std.specs.Str.Parse.{digits_value, signed_digits_value}

@@ -62,3 +62,6 @@ pub fn check<R: Read, W: Write>(
     }
     Err(CheckFault::Endless)
 }
+
+#[cfg(test)]
+mod tests;

@@ -1,4 +1,4 @@
-use Rattle.std.proofs.Common.{◌≡◌, ◌<◌, ℕ, take, arith, subst, string_bytes}
+use Rattle.std.proofs.Common.{ℕ, take, arith, subst, string_bytes}
 use Rattle.std.specs.Io.KnownBytes.{Appends, Consumes, IsAtEnd}
 use Rattle.ra_monitor_cli.proofs.Runs.{run_first, run_next, run_last}
 use Rattle.ra_monitor_cli.proofs.check.check.Goals as goal

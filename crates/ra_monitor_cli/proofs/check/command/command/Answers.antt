@@ -1,4 +1,4 @@
-use Rattle.std.proofs.Common.{◌≡◌, rules, sym, ap, ◌∙◌}
+use Rattle.std.proofs.Common.{◌≡◌}
 use Rattle.ra_monitor_cli.specs.Grammar.{fields_of}
 use Rattle.ra_monitor_cli.specs.Reading.{command_read}
 use Rattle.ra_monitor_cli.proofs.Commands.{reader_found, reader_only}

@@ -1,5 +1,4 @@
-use Rattle.std.proofs.Common.{◌≡◌, ℕ, None, true, false, rules, arith, sym, subst, ◌∙◌}
-use Rattle.std.specs.Str.Parse.{ParsesUnsigned}
+use Rattle.std.proofs.Common.{◌≡◌, None, true, false, rules}
 use Rattle.ra_monitor_cli.specs.Reading.{begins_as_number}
 use Rattle.ra_monitor_cli.proofs.Numbers.{number_is, found_number, only_number, no_number, decimal_text}
 use Rattle.ra_monitor_cli.proofs.check.number.number.Goals as goal

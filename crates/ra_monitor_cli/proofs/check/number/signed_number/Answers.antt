@@ -1,4 +1,4 @@
-use Rattle.std.proofs.Common.{◌≡◌, ℕ, None, true, false, rules, arith, sym, subst, ◌∙◌}
+use Rattle.std.proofs.Common.{◌≡◌, None, true, false, rules}
 use Rattle.ra_monitor_cli.specs.Reading.{begins_as_signed}
 use Rattle.ra_monitor_cli.proofs.Numbers.{signed_is, found_signed, only_signed, no_signed, signed_text}
 use Rattle.ra_monitor_cli.proofs.check.number.signed_number.Goals as goal

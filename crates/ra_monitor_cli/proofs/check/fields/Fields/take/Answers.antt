@@ -1,4 +1,4 @@
-use Rattle.std.proofs.Common.{◌≡◌, rules, arith, ◌∙◌}
+use Rattle.std.proofs.Common.{◌≡◌, rules, ◌∙◌}
 use Rattle.ra_monitor_cli.specs.Grammar.{fields_of}
 use Rattle.ra_monitor_cli.proofs.Cuts.{fields-cut, fields-whole}
 use Rattle.ra_monitor_cli.proofs.check.fields.Fields.take.Goals as goal

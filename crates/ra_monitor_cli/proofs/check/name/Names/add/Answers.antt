@@ -1,7 +1,6 @@
 use Rattle.std.proofs.lemmas.List.{length-map}
 use Rattle.std.proofs.Common.{◌≡◌, ◌<◌, rules, arith, length, sym, ap, ◌∙◌}
 use Rattle.ra_monitor_cli.specs.Grammar.{place_of}
-use Rattle.ra_monitor_cli.specs.Names.{bytes_of_each}
 use Rattle.ra_monitor_cli.proofs.check.name.Names.add.Goals as goal
 
 pub returns-clause-may : goal.returns-clause-may

@@ -1,4 +1,4 @@
-use Rattle.std.proofs.Common.{◌≡◌, ◌∷◌, rules, sym, ap, ◌∙◌}
+use Rattle.std.proofs.Common.{◌∷◌, rules, ap}
 use Rattle.std.proofs.lemmas.Result.{err_from_is_err_and}
 use Rattle.ra_monitor_cli.specs.Names.{IsFrontOf}
 use Rattle.ra_monitor_cli.specs.declared.check.fault.LineFault.TheVariants.{Syntax}

@@ -1,4 +1,4 @@
-use Rattle.std.proofs.Common.{◌≡◌, ◌<◌, rules, arith, length, refl, sym, ap, subst, ◌∙◌}
+use Rattle.std.proofs.Common.{length, ap}
 use Rattle.ra_monitor_cli.proofs.Recording.{next_ticket, kept_same, kept_next, has_room}
 use Rattle.ra_monitor_cli.proofs.check.recorder.Recorder.answer.Goals as goal
 use Rattle.ra_monitor_cli.proofs.check.recorder.Recorder.answer.Goals.{in-Ok, in-Err-Full, in-Err-NoMemory}
