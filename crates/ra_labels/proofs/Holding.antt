@@ -1,5 +1,5 @@
 -- When records hold, and where they first do not.
-use Rattle.std.proofs.Common.{◌≡◌, ℕ, ◌<◌, Bool, true, false, eqb, [], ◌∷◌, ◌++◌, Option, Some, None, refl, sym, ap, ◌∙◌, subst, inl, inr, arith}
+use Rattle.std.proofs.Common.{◌≡◌, ℕ, ◌<◌, Bool, true, false, cond, eqb, [], ◌∷◌, ◌++◌, Option, Some, None, refl, sym, ap, ◌∙◌, subst, inl, inr, ⊎_elim, arith}
 use Rattle.std.specs.Prelude.{◌⊎◌, IsPermutation, not, if◌then◌else◌, option_map, is_none}
 use Rattle.std.specs.Option.{option_or}
 use Rattle.std.proofs.lemmas.Option.{none-some, same_Some}
@@ -184,3 +184,22 @@ pub all_before_fault : (kind : Kind) (records : Records) → fault_of kind recor
 all_before_fault kind [] none = refl
 all_before_fault kind (command ∷ before) none =
     cond-true (is_none (fault_of kind (command ∷ before))) _ _ (ap is_none none)
+
+-- where there is a fault, the records before it are found further on
+passed_over : (o : Option Fault) (fault : Fault) (whole front : Records) → o ≡ Some fault → label_count (cond (is_none o) whole front) ≡ label_count front
+passed_over o fault whole front at = ap (λ b. label_count (cond b whole front)) (ap is_none at)
+
+-- there are as many labels before a fault as its label says
+pub count_before : (kind : Kind) (records : Records) (fault : Fault) → fault_of kind records ≡ Some fault → label_count (records_before_fault kind records) ≡ fault.label
+count_before kind [] fault at = absurd (cc (at))
+count_before kind (Operate by op clock ∷ before) fault at =
+    let records = Operate by op clock ∷ before in
+    passed_over (fault_of kind records) fault records (records_before_fault kind before) at
+    ∙ ⊎_elim
+    (λ earlier. count_before kind before fault earlier)
+    (λ here. ap label_count (all_before_fault kind before here.0) ∙ ap (λ f. f.label) here.3)
+    (first_or (fault_at (label_count before)) (fault_of kind before) (cause_of kind records) fault at)
+count_before kind (Deliver to label ∷ before) fault at =
+    passed_over (fault_of kind before) fault (Deliver to label ∷ before) (records_before_fault kind before) at ∙ count_before kind before fault at
+count_before kind (Verdict ∷ before) fault at =
+    passed_over (fault_of kind before) fault (Verdict ∷ before) (records_before_fault kind before) at ∙ count_before kind before fault at

@@ -1,5 +1,5 @@
 -- The labels before the fault are the first ones, as many as the fault's label says.
-use Rattle.std.proofs.Common.{◌≡◌, ℕ, zero, suc, ◌+◌, ◌≤◌, Bool, true, false, cond, List, [], ◌∷◌, length, take, map, reverse, Option, Some, None, refl, sym, ap, ◌∙◌, ⊎_elim, arith, length-append}
+use Rattle.std.proofs.Common.{◌≡◌, ℕ, zero, suc, ◌+◌, ◌≤◌, Bool, true, false, cond, List, [], ◌∷◌, length, take, map, reverse, Some, None, refl, sym, ap, ◌∙◌, arith, length-append}
 use mathlib.Core.List.{reverse-cons}
 use Rattle.std.specs.Prelude.{is_none, flat_map}
 use Rattle.std.proofs.lemmas.List.{take_all, take-append-le}
@@ -10,8 +10,8 @@ use Rattle.ra_labels.specs.declared.reply.Fault.{Fault}
 use Rattle.ra_labels.specs.Records.{Records, label_count, labels_of, next_label}
 use Rattle.ra_labels.specs.Rewriting.{parts_of}
 use Rattle.ra_labels.specs.NamedOrder.{named_sequence}
-use Rattle.ra_labels.specs.Fault.{fault_of, fault_at, cause_of, records_before_fault}
-use Rattle.ra_labels.proofs.Holding.{first_or, all_before_fault}
+use Rattle.ra_labels.specs.Fault.{fault_of, records_before_fault}
+use Rattle.ra_labels.proofs.Holding.{all_before_fault, count_before}
 use Rattle.ra_monitor.specs.declared.accepted.Accepted.{Accepted}
 use Rattle.ra_monitor.specs.History.{bare}
 use Rattle.ra_monitor.proofs.Execution.{named-in_turn}
@@ -59,25 +59,6 @@ is_front kind (Deliver to label ∷ before) =
     front_or (is_none (fault_of kind before)) (Deliver to label ∷ before) (records_before_fault kind before) (is_front kind before)
 is_front kind (Verdict ∷ before) =
     front_or (is_none (fault_of kind before)) (Verdict ∷ before) (records_before_fault kind before) (is_front kind before)
-
--- where there is a fault, the records before it are found further on
-passed_over : (o : Option Fault) (fault : Fault) (whole front : Records) → o ≡ Some fault → label_count (cond (is_none o) whole front) ≡ label_count front
-passed_over o fault whole front at = ap (λ b. label_count (cond b whole front)) (ap is_none at)
-
--- there are as many labels before a fault as its label says
-count_before : (kind : Kind) (records : Records) (fault : Fault) → fault_of kind records ≡ Some fault → label_count (records_before_fault kind records) ≡ fault.label
-count_before kind [] fault at = absurd (cc (at))
-count_before kind (Operate by op clock ∷ before) fault at =
-    let records = Operate by op clock ∷ before in
-    passed_over (fault_of kind records) fault records (records_before_fault kind before) at
-    ∙ ⊎_elim
-    (λ earlier. count_before kind before fault earlier)
-    (λ here. ap label_count (all_before_fault kind before here.0) ∙ ap (λ f. f.label) here.3)
-    (first_or (fault_at (label_count before)) (fault_of kind before) (cause_of kind records) fault at)
-count_before kind (Deliver to label ∷ before) fault at =
-    passed_over (fault_of kind before) fault (Deliver to label ∷ before) (records_before_fault kind before) at ∙ count_before kind before fault at
-count_before kind (Verdict ∷ before) fault at =
-    passed_over (fault_of kind before) fault (Verdict ∷ before) (records_before_fault kind before) at ∙ count_before kind before fault at
 
 -- with no fault all labels are before it
 pub all_labels_before : (kind : Kind) (records : Records) (labels : List Accepted) → bare labels ≡ reverse (labels_of records) → fault_of kind records ≡ None

@@ -34,8 +34,11 @@ pub fn a_fault_stays()
         → fault_of kind (later ++ records) ≡ Some fault }
 {}
 
-/// The records before the fault have none, and are all records where there is none.
+/// The records before the fault have none, and are all records where there is none. Where there is one they have as
+/// many labels as its label says.
 pub fn records_before_fault_have_none()
     ensures none { (kind : Kind) (records : Records) → fault_of kind (records_before_fault kind records) ≡ None }
     ensures all { (kind : Kind) (records : Records) → fault_of kind records ≡ None → records_before_fault kind records ≡ records }
+    ensures count { (kind : Kind) (records : Records) (fault : Fault) → fault_of kind records ≡ Some fault
+        → label_count (records_before_fault kind records) ≡ fault.label }
 {}

@@ -1,7 +1,7 @@
-use Rattle.std.proofs.Common.{◌≡◌, ℕ, ◌-◌, ◌<◌, List, Option, Some, length, sym, ap, ◌∙◌, subst}
+use Rattle.std.proofs.Common.{◌≡◌, ◌-◌, ◌<◌, List, Option, Some, length, sym, ap, ◌∙◌, subst}
 use Rattle.std.specs.Prelude.{option_map, IfSome, slice_get}
 use Rattle.ra_monitor.specs.Log.{last_of}
-use Rattle.ra_monitor.specs.Monitor.{MonitorEntry, Logged, IsNextTicket}
+use Rattle.ra_monitor.specs.Monitor.{MonitorEntry, Logged}
 use Rattle.ra_monitor.proofs.LastEntry.{last-slice_get}
 use Rattle.ra_monitor.proofs.monitor.Monitor.last_ticket.Goals as goal
 
