@@ -3,14 +3,13 @@ ghost use Rattle.std.specs.Prelude.{◌≡◌, ◌≢◌, ◌∷◌, [], All, Ma
 ghost use Rattle.ra_monitor_cli.specs.Fields.{IsCutAt};
 ghost use Rattle.ra_monitor_cli.specs.Grammar.{fields_of};
 
-use memchr::memchr;
 use std::marker::Model;
 
 /// What stands before the first such byte, and what behind it. `None` where there is no such byte.
 pub fn cut_at(byte: u8, bytes: &[u8]) -> Option<(&[u8], &[u8])>
     ensures { MatchOption result (All (λ b. b ≢ byte) bytes.now) (λ cut. IsCutAt byte bytes.now cut.0.now cut.1.now) }
 {
-    let at = memchr(byte, bytes)?;
+    let at = bytes.iter().position(|b| *b == byte)?;
     Some((&bytes[..at], &bytes[at + 1..]))
 }
 

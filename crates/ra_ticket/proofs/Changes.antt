@@ -1,0 +1,110 @@
+-- One seat goes from one view to another, and the words go up: what the rule of the lock asks of that.
+use Rattle.std.proofs.Common.{◌≡◌, ◌≢◌, ℕ, ◌^◌, ◌<◌, ◌≤◌, List, [], ◌∷◌, set, Option, Some, refl, sym, ap, ◌∙◌, subst, ⊎_elim, le_refl, le_trans, arith}
+use mathlib.Core.Option.{none, some, some-injective}
+use mathlib.Core.Option as maybe
+use lib.ListN.{get_elem?}
+use Rattle.atomic_table.specs.Table.{State}
+use Rattle.atomic_table.proofs.Lists.{at_set}
+use Rattle.ra_ticket.specs.declared.entry.Entry.{Entry}
+use Rattle.ra_ticket.specs.declared.board.View.{View}
+use Rattle.ra_ticket.specs.declared.board.View.TheVariants.{Spent, Knows}
+use Rattle.ra_ticket.specs.declared.board.Known.{Known}
+use Rattle.ra_ticket.specs.declared.board.Stage.{Stage}
+use Rattle.ra_ticket.specs.declared.board.Stage.TheVariants.{Idle, Waiting, Holding}
+use Rattle.ra_ticket.specs.Log.{AllBelow}
+use Rattle.ra_ticket.specs.Views.{numbers_of, next_of, serving_of, ticket_at, ticket_of, held_at, held_of}
+use Rattle.ra_ticket.specs.Rule.{At, SitsAt, NobodyHolds, Kept}
+use Rattle.ra_ticket.proofs.Seats.{at_after, at_back, at_forth, apart_after}
+
+module _ {M C R : Type 0} (log : M → List (Entry C R)) where
+  abbrev pub Table : Type 0
+  Table = State (Option M) View
+
+  abbrev pub Homes : Type 0
+  Homes = List (maybe.Option (Option M))
+
+  abbrev pub Rule : Table → Type 0
+  Rule = Kept log
+
+  -- who holds has a ticket
+  held_ticket : (v : View) (t : ℕ) → held_of v ≡ Some t → ticket_of v ≡ Some t
+  held_ticket Spent t e = absurd (cc)
+  held_ticket (Knows k) t e = go k.stage e
+    where
+      go : (st : Stage) → held_at st ≡ Some t → ticket_at st ≡ Some t
+      go Idle e = e
+      go (Waiting n) e = absurd (cc)
+      go (Holding n) e = e
+
+  -- the seat whose ticket is served is the only one that can hold
+  pub holder_is : (s : Table) (r : Rule s) (id t : ℕ) → At ticket_of s.views id t → t ≡ r.serving → (seat u : ℕ) → At held_of s.views seat u → seat ≡ id
+  holder_is s r id t mine served seat u a =
+      r.tickets_apart seat id t (subst (At ticket_of s.views seat) ((r.out seat u a).0 ∙ sym served) (a.0, a.1, held_ticket a.0 u a.2)) mine
+
+  -- so nobody holds while it waits
+  pub nobody_holds : (s : Table) (r : Rule s) (id t : ℕ) (k : Known) → get_elem? s.views id ≡ some (Knows k) → k.stage ≡ Waiting t → t ≡ r.serving → NobodyHolds s.views
+  nobody_holds s r id t k here waits served seat u a =
+      let same : seat ≡ id = holder_is s r id t (Knows k, here, ap ticket_at waits) served seat u a in
+      let me : Knows k ≡ a.0 = some-injective (Knows k) a.0 (sym here ∙ (ap (get_elem? s.views) (sym same) ∙ a.1)) in
+      let held : held_at k.stage ≡ Some u = ap held_of me ∙ a.2 in
+      let none_held = ap held_at waits in cc
+
+  -- the seat id goes from v to w, the words to next' and serving', and the slots to homes'
+  pub record Change (s : Table) (r : Rule s) (id : ℕ) (v w : View) (next' serving' : ℕ) (homes' : Homes) : Type 0 where
+    pub order : serving' ≤ next'
+    pub fits : next' < 2 ^ 64
+    pub next_up : r.next ≤ next'
+    pub serving_up : r.serving ≤ serving'
+    pub reached : (next_of w ≤ next') × (serving_of w ≤ serving')
+    pub numbers : numbers_of w ≡ numbers_of v
+    pub others_drawn : (seat t : ℕ) → seat ≢ id → At ticket_of s.views seat t → serving' ≤ t
+    pub drawn : (t : ℕ) → ticket_of w ≡ Some t → (serving' ≤ t) × (t < next')
+    pub apart : (seat t : ℕ) → ticket_of w ≡ Some t → seat ≢ id → At ticket_of s.views seat t → ⊥
+    pub out : (seat t : ℕ) → At held_of (set s.views id w) seat t → (t ≡ serving') × (homes' ≡ none ∷ [])
+    pub home : NobodyHolds (set s.views id w) → (journal : M) × (homes' ≡ some (Some journal) ∷ [])
+    pub served : (journal : M) → homes' ≡ some (Some journal) ∷ [] → AllBelow serving' (log journal)
+
+  module _ (s : Table) (r : Rule s) (id : ℕ) (v w : View) (here : get_elem? s.views id ≡ some v) where
+    sits_back : numbers_of w ≡ numbers_of v → (seat k number : ℕ) → SitsAt (set s.views id w) seat k number → SitsAt s.views seat k number
+    sits_back same seat k number a = ⊎_elim
+        (λ (t : (seat ≡ id) × (w ≡ a.0)). (v, ap (get_elem? s.views) t.0 ∙ here, ap (λ (l : List ℕ). get_elem? l k) (sym same ∙ ap numbers_of t.1) ∙ a.2))
+        (λ (t : (seat ≢ id) × (get_elem? s.views seat ≡ some a.0)). (a.0, t.1, a.2)) (at_set s.views id seat w a.0 a.1)
+
+    -- such a change keeps the rule
+    pub changed : (next' serving' : ℕ) (homes' : Homes) → Change s r id v w next' serving' homes' → Rule record { words = next' ∷ serving' ∷ r.others; homes = homes'; views = set s.views id w }
+    changed next' serving' homes' c = record {
+      next = next';
+      serving = serving';
+      others = r.others;
+      words = refl;
+      order = c.order;
+      fits = c.fits;
+      reached = λ seat u at. ⊎_elim (λ (t : (seat ≡ id) × (w ≡ u)). subst (λ (x : View). (next_of x ≤ next') × (serving_of x ≤ serving')) t.1 c.reached)
+          (λ (t : (seat ≢ id) × (get_elem? s.views seat ≡ some u)). let low = r.reached seat u t.1 in (le_trans low.0 c.next_up, le_trans low.1 c.serving_up)) (at_set s.views id seat w u at);
+      drawn = λ seat t a. ⊎_elim (λ (e : (seat ≡ id) × (ticket_of w ≡ Some t)). c.drawn t e.1)
+          (λ (e : (seat ≢ id) × At ticket_of s.views seat t). (c.others_drawn seat t e.0 e.1, let b = r.drawn seat t e.1 in let up = c.next_up in omega arith)) (at_after ticket_of s.views id v w here seat t a);
+      tickets_apart = apart_after ticket_of s.views id v w here r.tickets_apart c.apart;
+      out = c.out;
+      home = c.home;
+      served = c.served;
+      passes_apart = λ a b j k number p q. r.passes_apart a b j k number (sits_back c.numbers a j number p) (sits_back c.numbers b k number q);
+    }
+
+    -- a change that leaves the slot and `serving` alone
+    pub unmoved : (next' : ℕ) → next' < 2 ^ 64 → r.next ≤ next' → (next_of w ≤ next') × (serving_of w ≤ r.serving) → numbers_of w ≡ numbers_of v → held_of w ≡ held_of v
+        → ((t : ℕ) → ticket_of w ≡ Some t → (r.serving ≤ t) × (t < next')) → ((seat t : ℕ) → ticket_of w ≡ Some t → seat ≢ id → At ticket_of s.views seat t → ⊥)
+        → Rule record { words = next' ∷ r.serving ∷ r.others; homes = s.homes; views = set s.views id w }
+    unmoved next' fits up reached numbers held drawn apart = changed next' r.serving s.homes record {
+      order = le_trans r.order up;
+      fits = fits;
+      next_up = up;
+      serving_up = le_refl r.serving;
+      reached = reached;
+      numbers = numbers;
+      others_drawn = λ seat t _ a. (r.drawn seat t a).0;
+      drawn = drawn;
+      apart = apart;
+      out = λ seat t a. r.out seat t (at_back held_of s.views id v w here held seat t a);
+      home = λ nobody. r.home (λ seat t a. nobody seat t (at_forth held_of s.views id v w here held seat t a));
+      served = r.served;
+    }

@@ -1,0 +1,169 @@
+-- The first state keeps the rule of the lock, and so does a seat that is cut in two.
+use Rattle.std.proofs.Common.{◌≡◌, ◌≢◌, ◌⊎◌, ℕ, zero, suc, ◌+◌, ◌^◌, ◌<◌, ◌≤◌, List, [], ◌∷◌, ◌++◌, length, set, Option, Some, None, refl, sym, ap, ◌∙◌, subst, ⊎_elim, inl, inr, le_refl, arith, length-set}
+use mathlib.Core.Logic.{dite}
+use mathlib.Core.Option.{some, some-ne-none, some-injective}
+use native.Mathlib.Decide.{ℕ_discrete}
+use lib.ListN.{get_elem?}
+use Rattle.atomic_table.specs.Table.{State, opening, Splits}
+use Rattle.atomic_table.proofs.Lists.{at_set, at_longer, set_else}
+use Rattle.ra_ticket.specs.declared.entry.Entry.{Entry}
+use Rattle.ra_ticket.specs.declared.board.View.{View}
+use Rattle.ra_ticket.specs.declared.board.View.TheVariants.{Spent, Knows}
+use Rattle.ra_ticket.specs.declared.board.Known.{Known}
+use Rattle.ra_ticket.specs.declared.board.Stage.TheVariants.{Idle}
+use Rattle.ra_ticket.specs.Log.{AllBelow}
+use Rattle.ra_ticket.specs.Views.{stage_of, numbers_of, next_of, serving_of, ticket_at, ticket_of, held_at, held_of, numbers_from, starting, first_only, others_only, first_pass, other_passes}
+use Rattle.ra_ticket.specs.Rule.{At, SitsAt, Kept}
+
+-- an element of a list with one more at its end
+at_end : {A : Type 0} (l : List A) (a b : A) (j : ℕ) → get_elem? (l ++ a ∷ []) j ≡ some b → ((j < length l) × (get_elem? l j ≡ some b)) ⊎ ((j ≡ length l) × (a ≡ b))
+at_end [] a b zero e = inr (refl, some-injective a b e)
+at_end [] a b (suc j) e = absurd (some-ne-none b (sym e))
+at_end (x ∷ xs) a b zero e = inl (omega arith, e)
+at_end (x ∷ xs) a b (suc j) e = ⊎_elim (λ (t : (j < length xs) × (get_elem? xs j ≡ some b)). let l = t.0 in inl (omega arith, t.1)) (λ (t : (j ≡ length xs) × (a ≡ b)). inr (ap suc t.0, t.1)) (at_end xs a b j e)
+
+inside : {A : Type 0} (l : List A) (j : ℕ) (b : A) → get_elem? l j ≡ some b → j < length l
+inside [] j b e = absurd (some-ne-none b (sym e))
+inside (x ∷ xs) zero b e = omega arith
+inside (x ∷ xs) (suc j) b e = let l = inside xs j b e in omega arith
+
+-- the j-th of some numbers from k on
+number_at : (k n j x : ℕ) → get_elem? (numbers_from k n) j ≡ some x → x ≡ k + j
+number_at k zero j x e = absurd (some-ne-none x (sym e))
+number_at k (suc n) zero x e = let s = some-injective k x e in omega arith
+number_at k (suc n) (suc j) x e = let s = number_at (suc k) n j x e in omega arith
+
+at_others_only : (l : List ℕ) (j x : ℕ) → get_elem? (others_only l) j ≡ some x → get_elem? l (suc j) ≡ some x
+at_others_only [] j x e = absurd (some-ne-none x (sym e))
+at_others_only (y ∷ ys) j x e = e
+
+at_first_only : (l : List ℕ) (j x : ℕ) → get_elem? (first_only l) j ≡ some x → (j ≡ 0) × (get_elem? l 0 ≡ some x)
+at_first_only [] j x e = absurd (some-ne-none x (sym e))
+at_first_only (y ∷ ys) zero x e = (refl, e)
+at_first_only (y ∷ ys) (suc j) x e = absurd (some-ne-none x (sym e))
+
+-- the only seat of the first table
+only : (v u : View) (seat : ℕ) → get_elem? (v ∷ []) seat ≡ some u → (seat ≡ 0) × (v ≡ u)
+only v u zero e = (refl, some-injective v u e)
+only v u (suc seat) e = absurd (some-ne-none u (sym e))
+
+module _ {M C R : Type 0} (log : M → List (Entry C R)) where
+  abbrev Rule : State (Option M) View → Type 0
+  Rule = Kept log
+
+  pub starts : (passes first : ℕ) (journal : M) → first < 2 ^ 64 → log journal ≡ [] → Rule (opening (first ∷ first ∷ []) (Some journal ∷ []) (starting passes first))
+  starts passes first journal fits empty = let v : View = starting passes first in record {
+    next = first;
+    serving = first;
+    others = [];
+    words = refl;
+    order = le_refl first;
+    fits = fits;
+    reached = λ seat u e. subst (λ (x : View). (next_of x ≤ first) × (serving_of x ≤ first)) (only v u seat e).1 (le_refl first, le_refl first);
+    drawn = λ seat t a. let none_drawn : None ≡ Some t = ap ticket_of (only v a.0 seat a.1).1 ∙ a.2 in absurd (cc);
+    tickets_apart = λ a b t p q. (only v p.0 a p.1).0 ∙ sym (only v q.0 b q.1).0;
+    out = λ seat t a. let none_held : None ≡ Some t = ap held_of (only v a.0 seat a.1).1 ∙ a.2 in absurd (cc);
+    home = λ _. (journal, refl);
+    served = λ j at. let is : journal ≡ j = cc in subst (λ (m : M). AllBelow first (log m)) is (subst (λ (es : List (Entry C R)). AllBelow first es) (sym empty) (λ k d l. absurd (omega arith)));
+    passes_apart = λ a b j k number p q. (
+      (only v p.0 a p.1).0 ∙ sym (only v q.0 b q.1).0,
+      let x : number ≡ 0 + j = number_at 0 passes j number (ap (λ (u : View). get_elem? (numbers_of u) j) (only v p.0 a p.1).1 ∙ p.2) in
+          let y : number ≡ 0 + k = number_at 0 passes k number (ap (λ (u : View). get_elem? (numbers_of u) k) (only v q.0 b q.1).1 ∙ q.2) in omega arith,
+    );
+  }
+
+  module _ (s : State (Option M) View) (r : Rule s) (id : ℕ) (k : Known) (here : get_elem? s.views id ≡ some (Knows k)) (idle : k.stage ≡ Idle) where
+    abbrev left : View
+    left = Knows (record k { numbers = others_only k.numbers })
+
+    abbrev right : View
+    right = Knows (record k { numbers = first_only k.numbers })
+
+    abbrev cut : List View
+    cut = set s.views id left ++ right ∷ []
+
+    abbrev IsCut : ℕ → View → Type 0
+    IsCut seat u = ((seat ≡ id) × (left ≡ u)) ⊎ (((seat ≢ id) × (get_elem? s.views seat ≡ some u)) ⊎ ((seat ≡ length s.views) × (right ≡ u)))
+
+    -- who sits at a seat after the cut
+    cut_at : (seat : ℕ) (u : View) → get_elem? cut seat ≡ some u → IsCut seat u
+    cut_at seat u e = ⊎_elim
+        (λ (t : (seat < length (set s.views id left)) × (get_elem? (set s.views id left) seat ≡ some u)). ⊎_elim (λ (x : (seat ≡ id) × (left ≡ u)). inl x) (λ (x : (seat ≢ id) × (get_elem? s.views seat ≡ some u)). inr (inl x)) (at_set s.views id seat left u t.1))
+        (λ (t : (seat ≡ length (set s.views id left)) × (right ≡ u)). inr (inr (t.0 ∙ length-set s.views id left, t.1))) (at_end (set s.views id left) right u seat e)
+
+    -- a reading that gives nothing at an idle view reads the same as before
+    back : (of : View → Option ℕ) → of left ≡ None → of right ≡ None → (seat t : ℕ) → At of cut seat t → At of s.views seat t
+    back of l i seat t a = ⊎_elim (λ (x : (seat ≡ id) × (left ≡ a.0)). let no : None ≡ Some t = sym l ∙ (ap of x.1 ∙ a.2) in absurd (cc))
+        (λ (y : ((seat ≢ id) × (get_elem? s.views seat ≡ some a.0)) ⊎ ((seat ≡ length s.views) × (right ≡ a.0))). ⊎_elim (λ (x : (seat ≢ id) × (get_elem? s.views seat ≡ some a.0)). (a.0, x.1, a.2))
+        (λ (x : (seat ≡ length s.views) × (right ≡ a.0)). let no : None ≡ Some t = sym i ∙ (ap of x.1 ∙ a.2) in absurd (cc)) y) (cut_at seat a.0 a.1)
+
+    forth : (of : View → Option ℕ) → of (Knows k) ≡ None → (seat t : ℕ) → At of s.views seat t → At of cut seat t
+    forth of i seat t a = dite (ℕ_discrete seat id)
+        (λ e. let no : None ≡ Some t = sym i ∙ (ap of (some-injective (Knows k) a.0 (sym here ∙ (ap (get_elem? s.views) (sym e) ∙ a.1))) ∙ a.2) in absurd (cc))
+        (λ other. (a.0, at_longer (set s.views id left) (right ∷ []) seat a.0 (set_else s.views id seat left other ∙ a.1), a.2))
+
+    -- where a pass sat before the cut
+    abbrev Was : ℕ → ℕ → ℕ → ℕ → Type 0
+    Was seat j seat' j' = ((seat ≡ id) × (seat' ≡ id) × (j' ≡ suc j)) ⊎ (((seat ≢ id) × (seat < length s.views) × (seat' ≡ seat) × (j' ≡ j)) ⊎ ((seat ≡ length s.views) × (seat' ≡ id) × (j' ≡ 0) × (j ≡ 0)))
+
+    was : (seat j number : ℕ) → SitsAt cut seat j number → (seat' j' : ℕ) × SitsAt s.views seat' j' number × Was seat j seat' j'
+    was seat j number a = ⊎_elim
+        (λ (x : (seat ≡ id) × (left ≡ a.0)). (id, suc j, (Knows k, here, at_others_only k.numbers j number (ap (λ (u : View). get_elem? (numbers_of u) j) x.1 ∙ a.2)), inl (x.0, refl, refl)))
+        (λ (y : ((seat ≢ id) × (get_elem? s.views seat ≡ some a.0)) ⊎ ((seat ≡ length s.views) × (right ≡ a.0))). ⊎_elim
+        (λ (x : (seat ≢ id) × (get_elem? s.views seat ≡ some a.0)). (seat, j, (a.0, x.1, a.2), inr (inl (x.0, inside s.views seat a.0 x.1, refl, refl))))
+        (λ (x : (seat ≡ length s.views) × (right ≡ a.0)). let f = at_first_only k.numbers j number (ap (λ (u : View). get_elem? (numbers_of u) j) x.1 ∙ a.2) in
+        (id, 0, (Knows k, here, f.1), inr (inr (x.0, refl, refl, f.0)))) y)
+        (cut_at seat a.0 a.1)
+
+    -- who sat in one place sits in one place
+    told_apart : (a b i j a' b' i' j' : ℕ) → id < length s.views → (a' ≡ b') × (i' ≡ j') → Was a i a' i' → Was b j b' j' → (a ≡ b) × (i ≡ j)
+    told_apart a b i j a' b' i' j' within same p q = (omega arith, omega arith)
+
+    pub splits_here : Rule record { words = s.words; homes = s.homes; views = cut }
+    splits_here = let no_ticket : ticket_at k.stage ≡ None = ap ticket_at idle in let not_held : held_at k.stage ≡ None = ap held_at idle in let low = r.reached id (Knows k) here in record {
+      next = r.next;
+      serving = r.serving;
+      others = r.others;
+      words = r.words;
+      order = r.order;
+      fits = r.fits;
+      reached = λ seat u e. ⊎_elim (λ (x : (seat ≡ id) × (left ≡ u)). subst (λ (z : View). (next_of z ≤ r.next) × (serving_of z ≤ r.serving)) x.1 low)
+          (λ (y : ((seat ≢ id) × (get_elem? s.views seat ≡ some u)) ⊎ ((seat ≡ length s.views) × (right ≡ u))). ⊎_elim (λ (x : (seat ≢ id) × (get_elem? s.views seat ≡ some u)). r.reached seat u x.1)
+          (λ (x : (seat ≡ length s.views) × (right ≡ u)). subst (λ (z : View). (next_of z ≤ r.next) × (serving_of z ≤ r.serving)) x.1 low) y) (cut_at seat u e);
+      drawn = λ seat t a. r.drawn seat t (back ticket_of no_ticket no_ticket seat t a);
+      tickets_apart = λ a b t p q. r.tickets_apart a b t (back ticket_of no_ticket no_ticket a t p) (back ticket_of no_ticket no_ticket b t q);
+      out = λ seat t a. r.out seat t (back held_of not_held not_held seat t a);
+      home = λ nobody. r.home (λ seat t a. nobody seat t (forth held_of not_held seat t a));
+      served = r.served;
+      passes_apart = λ a b i j number p q. let x = was a i number p in let y = was b j number q in
+          told_apart a b i j x.0 y.0 x.1 y.1 (inside s.views id (Knows k) here) (r.passes_apart x.0 y.0 x.1 y.1 number x.2 y.2) x.3 y.3;
+    }
+
+  -- an idle seat is cut in two
+  pub splits : (id : ℕ) (v : View) → stage_of v ≡ Some Idle → Splits Rule id v (other_passes v) (first_pass v)
+  splits id Spent idle s r at = absurd (cc)
+  splits id (Knows k) idle s r at = let is : k.stage ≡ Idle = cc in splits_here s r id k at is
+
+-- what an idle seat with numbers from k on is cut into
+pub record AreCut (v : View) (k n : ℕ) : Type 0 where
+  pub idle : stage_of (other_passes v) ≡ Some Idle
+  pub numbers : numbers_of (other_passes v) ≡ numbers_from (suc k) n
+  pub next : next_of (other_passes v) ≡ next_of v
+  pub serving : serving_of (other_passes v) ≡ serving_of v
+  pub first_idle : stage_of (first_pass v) ≡ Some Idle
+  pub first_number : numbers_of (first_pass v) ≡ k ∷ []
+  pub first_next : next_of (first_pass v) ≡ next_of v
+  pub first_serving : serving_of (first_pass v) ≡ serving_of v
+
+pub are_cut : (v : View) (k n : ℕ) → stage_of v ≡ Some Idle → numbers_of v ≡ numbers_from k (suc n) → AreCut v k n
+are_cut Spent k n idle numbers = absurd (cc)
+are_cut (Knows w) k n idle numbers = record {
+  idle = idle;
+  numbers = ap others_only numbers;
+  next = refl;
+  serving = refl;
+  first_idle = idle;
+  first_number = ap first_only numbers;
+  first_next = refl;
+  first_serving = refl;
+}

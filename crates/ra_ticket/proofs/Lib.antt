@@ -1,0 +1,6 @@
+pub mod Seats
+pub mod Changes
+pub mod Moves
+pub mod Cuts
+pub mod Pushes
+pub mod Tickets

@@ -1,0 +1,47 @@
+-- The views of the seats, after one of them has changed.
+use Rattle.std.proofs.Common.{◌≡◌, ◌≢◌, ◌⊎◌, ℕ, zero, suc, List, [], ◌∷◌, set, Option, Some, refl, sym, ap, ◌∙◌, subst, ⊎_elim, inl, inr}
+use mathlib.Core.Logic.{dite}
+use mathlib.Core.Option.{some, some-ne-none, some-injective}
+use native.Mathlib.Decide.{ℕ_discrete}
+use lib.ListN.{get_elem?}
+use Rattle.atomic_table.proofs.Lists.{at_set, set_else}
+use Rattle.ra_ticket.specs.declared.board.View.{View}
+use Rattle.ra_ticket.specs.Rule.{At}
+
+pub set_at : {A : Type 0} (l : List A) (i : ℕ) (a b : A) → get_elem? l i ≡ some a → get_elem? (set l i b) i ≡ some b
+set_at [] i a b e = absurd (some-ne-none a (sym e))
+set_at (x ∷ xs) zero a b e = refl
+set_at (x ∷ xs) (suc i) a b e = set_at xs i a b e
+
+module _ {X : Type 0} (of : View → Option X) (views : List View) (id : ℕ) (v w : View) (here : get_elem? views id ≡ some v) where
+  -- what stands at a seat after the change stood there before, or is new at the seat id
+  pub at_after : (seat : ℕ) (x : X) → At of (set views id w) seat x → ((seat ≡ id) × (of w ≡ Some x)) ⊎ ((seat ≢ id) × At of views seat x)
+  at_after seat x a = ⊎_elim (λ (t : (seat ≡ id) × (w ≡ a.0)). inl (t.0, ap of t.1 ∙ a.2))
+      (λ (t : (seat ≢ id) × (get_elem? views seat ≡ some a.0)). inr (t.0, (a.0, t.1, a.2))) (at_set views id seat w a.0 a.1)
+
+  -- what stood at another seat stands there still
+  pub at_others : (seat : ℕ) (x : X) → seat ≢ id → At of views seat x → At of (set views id w) seat x
+  at_others seat x other a = (a.0, set_else views id seat w other ∙ a.1, a.2)
+
+  pub at_new : (x : X) → of w ≡ Some x → At of (set views id w) id x
+  at_new x e = (w, set_at views id v w here, e)
+
+  -- where the reading stays, what stands at a seat is what stood there
+  module _ (same : of w ≡ of v) where
+    pub at_back : (seat : ℕ) (x : X) → At of (set views id w) seat x → At of views seat x
+    at_back seat x a = ⊎_elim (λ (t : (seat ≡ id) × (of w ≡ Some x)). subst (λ (k : ℕ). At of views k x) (sym t.0) (v, here, sym same ∙ t.1))
+        (λ (t : (seat ≢ id) × At of views seat x). t.1) (at_after seat x a)
+
+    pub at_forth : (seat : ℕ) (x : X) → At of views seat x → At of (set views id w) seat x
+    at_forth seat x a = dite (ℕ_discrete seat id)
+        (λ e. subst (λ (k : ℕ). At of (set views id w) k x) (sym e)
+        (at_new x (same ∙ (ap of (some-injective v a.0 (sym here ∙ (ap (get_elem? views) (sym e) ∙ a.1))) ∙ a.2))))
+        (λ other. at_others seat x other a)
+
+  -- a seat with a value that no other seat has keeps them apart
+  pub apart_after : ((a b : ℕ) (x : X) → At of views a x → At of views b x → a ≡ b) → ((seat : ℕ) (x : X) → of w ≡ Some x → seat ≢ id → At of views seat x → ⊥)
+      → (a b : ℕ) (x : X) → At of (set views id w) a x → At of (set views id w) b x → a ≡ b
+  apart_after apart new a b x p q = ⊎_elim
+      (λ (s : (a ≡ id) × (of w ≡ Some x)). ⊎_elim (λ (t : (b ≡ id) × (of w ≡ Some x)). s.0 ∙ sym t.0) (λ (t : (b ≢ id) × At of views b x). absurd (new b x s.1 t.0 t.1)) (at_after b x q))
+      (λ (s : (a ≢ id) × At of views a x). ⊎_elim (λ (t : (b ≡ id) × (of w ≡ Some x)). absurd (new a x t.1 s.0 s.1)) (λ (t : (b ≢ id) × At of views b x). apart a b x s.1 t.1) (at_after b x q))
+      (at_after a x p)

@@ -1,0 +1,14 @@
+use Rattle.std.proofs.Common.{◌≡◌, ◌^◌, ◌<◌, Some}
+use Rattle.ra_ticket.specs.Steps.{IsSameSeat}
+use Rattle.ra_ticket.specs.Views.{stage_of, next_of}
+use Rattle.ra_ticket.specs.declared.board.Stage.TheVariants.{Idle}
+use Rattle.ra_ticket.proofs.draw.draw_ticket.Given as goal
+
+abbrev pub invariant-loop : goal.invariant-loop
+invariant-loop g l = record {
+  seat : IsSameSeat l.fn.place l.place;
+  slot : l.place.me.1 ≡ l.fn.place.me.1;
+  idle : stage_of l.place.me.0 ≡ Some Idle;
+  learned : next_of l.place.me.0 ≡ l.ticket;
+  fits : l.ticket < 2 ^ 64;
+}

@@ -1,0 +1,12 @@
+use Rattle.std.proofs.Common.{◌≡◌, [], Some}
+use Rattle.ra_ticket.specs.Steps.{IsSameSeat}
+use Rattle.ra_ticket.specs.Views.{stage_of}
+use Rattle.ra_ticket.specs.declared.board.Stage.TheVariants.{Waiting}
+use Rattle.ra_ticket.proofs.enter.enter.Given as goal
+
+abbrev pub invariant-loop : goal.invariant-loop
+invariant-loop g l = record {
+  seat : IsSameSeat l.fn.place l.place;
+  waits : stage_of l.place.me.0 ≡ Some (Waiting l.ticket);
+  empty : l.place.me.1 ≡ [];
+}

@@ -1,0 +1,38 @@
+-- What a call that failed tells.
+use Rattle.std.specs.Prelude.{◌≡◌, ℕ, List, length}
+use Rattle.ra_ticket.specs.declared.entry.Entry.{Entry}
+use Rattle.ra_ticket.specs.declared.journal.StepFault as step
+use Rattle.ra_ticket.specs.declared.journal.StepFault.TheVariants as step_is
+use Rattle.ra_ticket.specs.declared.fault.CallFault.{CallFault}
+use Rattle.ra_ticket.specs.declared.fault.CallFault.TheVariants.{Worn, Full, NoMemory, Busy}
+
+module _ {C : Type 0} where
+  -- the command that comes back
+  abbrev pub unserved : CallFault C → C
+  unserved (Worn command) = command
+  unserved (Full command) = command
+  unserved (NoMemory command) = command
+  unserved (Busy at found command) = command
+
+  abbrev pub IsWorn : CallFault C → Type 0
+  IsWorn (Worn command) = Unit {0}
+  IsWorn _ = ⊥
+
+  abbrev pub IsFull : CallFault C → Type 0
+  IsFull (Full command) = Unit {0}
+  IsFull _ = ⊥
+
+  abbrev pub IsBusy : CallFault C → Type 0
+  IsBusy (Busy at found command) = Unit {0}
+  IsBusy _ = ⊥
+
+  -- the fault of the call whose step failed
+  abbrev pub fault_of_step : step.StepFault C → CallFault C
+  fault_of_step (step_is.Full command) = Full command
+  fault_of_step (step_is.NoMemory command) = NoMemory command
+
+-- some log has as many entries as its setup allows
+pub record IsAtLimit (C R : Type 0) {S : Type 0} (limit_of : S → ℕ) : Type 0 where
+  pub setup : S
+  pub log : List (Entry C R)
+  pub full : length log ≡ limit_of setup

@@ -1,0 +1,6 @@
+pub mod Log
+pub mod Faults
+pub mod Views
+pub mod Rule
+pub mod Steps
+pub mod Passes

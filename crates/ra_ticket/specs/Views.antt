@@ -1,0 +1,73 @@
+-- What a seat at the lock's table knows.
+use Rattle.std.specs.Prelude.{ℕ, zero, suc, List, [], ◌∷◌, Option, Some, None}
+use Rattle.ra_ticket.specs.declared.board.Stage.{Stage}
+use Rattle.ra_ticket.specs.declared.board.Stage.TheVariants.{Idle, Waiting, Holding}
+use Rattle.ra_ticket.specs.declared.board.View.{View}
+use Rattle.ra_ticket.specs.declared.board.View.TheVariants.{Spent, Knows}
+
+-- what it is about, where it is not spent
+abbrev pub stage_of : View → Option Stage
+stage_of Spent = None
+stage_of (Knows k) = Some k.stage
+
+-- the numbers of its passes
+abbrev pub numbers_of : View → List ℕ
+numbers_of Spent = []
+numbers_of (Knows k) = k.numbers
+
+-- a number that the word `next` has reached
+abbrev pub next_of : View → ℕ
+next_of Spent = 0
+next_of (Knows k) = k.next
+
+-- a number that the word `serving` has reached
+abbrev pub serving_of : View → ℕ
+serving_of Spent = 0
+serving_of (Knows k) = k.serving
+
+-- the ticket that it has drawn and that is not released
+abbrev pub ticket_at : Stage → Option ℕ
+ticket_at Idle = None
+ticket_at (Waiting t) = Some t
+ticket_at (Holding t) = Some t
+
+abbrev pub ticket_of : View → Option ℕ
+ticket_of Spent = None
+ticket_of (Knows k) = ticket_at k.stage
+
+-- the ticket by which it holds the slot
+abbrev pub held_at : Stage → Option ℕ
+held_at Idle = None
+held_at (Waiting t) = None
+held_at (Holding t) = Some t
+
+abbrev pub held_of : View → Option ℕ
+held_of Spent = None
+held_of (Knows k) = held_at k.stage
+
+-- n numbers from k on
+abbrev pub numbers_from : ℕ → ℕ → List ℕ
+numbers_from k zero = []
+numbers_from k (suc n) = k ∷ numbers_from (suc k) n
+
+-- the view of the first seat: all passes, idle, and both words at `first`
+abbrev pub starting : ℕ → ℕ → View
+starting passes first = Knows record { numbers = numbers_from 0 passes; next = first; serving = first; stage = Idle }
+
+-- the first of some numbers alone, and the others
+abbrev pub first_only : List ℕ → List ℕ
+first_only [] = []
+first_only (x ∷ xs) = x ∷ []
+
+abbrev pub others_only : List ℕ → List ℕ
+others_only [] = []
+others_only (x ∷ xs) = xs
+
+-- a view is cut in two: its first pass, and the others. All else is in both
+abbrev pub first_pass : View → View
+first_pass Spent = Spent
+first_pass (Knows k) = Knows record k { numbers = first_only k.numbers }
+
+abbrev pub other_passes : View → View
+other_passes Spent = Spent
+other_passes (Knows k) = Knows record k { numbers = others_only k.numbers }

@@ -1,0 +1,69 @@
+//! The table that the passes share.
+//! Word 0 is `next`, the next ticket to be drawn, and word 1 is `serving`, the ticket that may enter.
+//! Slot 0 holds the journal. It is out only with the seat whose ticket is served.
+use crate::journal::Journal;
+use atomic_table::{Seat, Shared, Table, TableRule};
+use std::alloc::Global;
+use std::collections::LinkedList;
+use std::marker::PhantomData;
+
+/// The word that has the next ticket to be drawn.
+pub const NEXT: usize = 0;
+
+/// The word that has the ticket that may enter.
+pub const SERVING: usize = 1;
+
+/// The slot of the journal.
+pub const JOURNAL: usize = 0;
+
+/// What a seat is about. The number is its ticket.
+pub enum Stage {
+    Idle,
+    Waiting(u64),
+    Holding(u64),
+}
+
+/// What a seat knows: the numbers of its passes, and a number that each word has reached.
+pub struct Known {
+    pub numbers: LinkedList<u8>,
+    pub next: u64,
+    pub serving: u64,
+    pub stage: Stage,
+}
+
+/// The view of a seat at the table. No value of it is made.
+pub enum View {
+    /// Another seat has taken in what it knew.
+    Spent,
+    Knows(Known),
+}
+
+/// What the table is told when it is made.
+#[derive(Drop)]
+pub struct About {
+    pub passes: u8,
+    pub first: u64,
+}
+
+/// The rule of the table.
+pub struct Turns<M> {
+    journal: PhantomData<M>,
+}
+
+impl<M: Journal> TableRule<Option<M>, View, About> for Turns<M> {
+    ghost use Rattle.ra_ticket.specs.Views.{starting};
+    ghost use Rattle.ra_ticket.specs.Rule.{Kept};
+
+    ghost holds = { λ _. Kept M.log };
+
+    ghost first = { λ about. starting about.passes about.first };
+}
+
+/// The steps on the table.
+pub type Board<M> = Shared<Option<M>, View, About, Turns<M>>;
+
+/// The table with its memory.
+pub type LockTable<M> = Table<Option<M>, View, About, Turns<M>, Global>;
+
+/// A seat at the table. It has no bytes.
+pub type Place<M> = Seat<Option<M>, View>;

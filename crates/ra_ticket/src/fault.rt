@@ -1,0 +1,50 @@
+//! Why a lock was not opened, and why a call was not served.
+use crate::journal::StepFault;
+use std::alloc::AllocError;
+
+/// Why a lock was not opened.
+#[derive(Debug, PartialEq, Eq, Drop)]
+pub enum OpenFault<M> {
+    /// The number of passes is not 1 to 64. The journal comes back.
+    BadPasses(M),
+    /// A growth was refused. The journal, whose log was empty, is given up.
+    NoMemory,
+}
+
+impl<M> From<AllocError> for OpenFault<M> {
+    ghost use Rattle.std.specs.Prelude.{◌≡◌};
+    ghost use Rattle.ra_ticket.specs.declared.fault.OpenFault.TheVariants.{NoMemory};
+
+    ghost from_gives = { λ _ fault. fault ≡ NoMemory };
+
+    fn from(_refused: AllocError) -> OpenFault<M> {
+        OpenFault::NoMemory
+    }
+}
+
+/// Why a call was not served. The command comes back, and nothing was logged.
+#[derive(Debug, PartialEq, Eq, Drop)]
+pub enum CallFault<C> {
+    /// All tickets are drawn: `next` is 18,446,744,073,709,551,615.
+    Worn(C),
+    /// The log has as many entries as its limit.
+    Full(C),
+    /// A growth was refused.
+    NoMemory(C),
+    /// The lock is in use, which a call of `submit` never answers: `serving` was `at`, and `next` was `found`, which is above it.
+    Busy { at: u64, found: u64, command: C },
+}
+
+impl<C> From<StepFault<C>> for CallFault<C> {
+    ghost use Rattle.std.specs.Prelude.{◌≡◌};
+    ghost use Rattle.ra_ticket.specs.Faults.{fault_of_step};
+
+    ghost from_gives = { λ step fault. fault ≡ fault_of_step step };
+
+    fn from(fault: StepFault<C>) -> CallFault<C> {
+        match fault {
+            StepFault::Full(command) => CallFault::Full(command),
+            StepFault::NoMemory(command) => CallFault::NoMemory(command),
+        }
+    }
+}

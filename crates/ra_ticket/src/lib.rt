@@ -1,0 +1,27 @@
+//! A ticket lock over a journal: threads that hold passes take turns at one object, in the order of the tickets that they draw.
+//!
+//! The crate's one contract is that of `TicketLock::submit`, for any `Journal`: a reply is the journal's answer to the command after some log, under some setup, with a ticket above that log's last; a fault hands the command back.
+//! Behind it stands the rule of the lock (`specs/Rule`), which each step on the table keeps: no two calls hold one ticket, and the journal is out of its slot with one call at most, the one whose ticket is served.
+//! That anyone is ever served is not said.
+#![tactic(auto)]
+
+mod backoff;
+mod board;
+mod draw;
+mod enter;
+mod entry;
+mod fault;
+mod journal;
+mod lock;
+mod open;
+mod pass;
+mod plays;
+mod release;
+#[cfg(test)]
+mod tests;
+
+pub use entry::Entry;
+pub use fault::{CallFault, OpenFault};
+pub use journal::{Journal, StepFault};
+pub use lock::TicketLock;
+pub use pass::Pass;

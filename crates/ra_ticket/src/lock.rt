@@ -1,0 +1,54 @@
+//! The lock, and a call on it.
+ghost use Rattle.std.specs.Prelude.{◌≡◌};
+
+use crate::board::LockTable;
+use crate::draw::draw_ticket;
+use crate::enter::enter;
+use crate::fault::CallFault;
+use crate::journal::Journal;
+use crate::pass::Pass;
+use crate::release::{put_back, release};
+use std::sync::Wait;
+
+/// A journal that passes take turns at, in the order of the tickets that they draw.
+#[derive(Drop)]
+pub struct TicketLock<M: Journal> {
+    pub(crate) table: LockTable<M>,
+    ghost sized: { (table.shared.table_id.words ≡ 2) × (table.shared.table_id.slots ≡ 1) },
+}
+
+impl<M: Journal> TicketLock<M> {
+    ghost use Rattle.std.specs.Prelude.{◌≡◌, IfOk, IfErr};
+    ghost use Rattle.ra_ticket.specs.Log.{IsAnswer};
+    ghost use Rattle.ra_ticket.specs.Faults.{unserved, IsWorn, IsFull, IsBusy, IsAtLimit};
+    ghost use Rattle.ra_ticket.specs.Passes.{IsPassOf, IsSamePass, next_reached};
+
+    /// Draws a ticket, waits until it is served and lets the journal answer the command.
+    /// `Worn` comes before a ticket is drawn; after `Full` and `NoMemory` the ticket is served and leaves no entry.
+    ///
+    /// It costs the journal's step and a few atomic steps, one more for each pass that draws at the same time, and the wait for all calls that drew before. A waiting call looks at one word, with pauses of 1, 2, 4 .. 64 spins, and then leaves the processor to others between two looks. The journal's own bytes, not what it owns, are copied twice.
+    pub fn submit<R: Wait>(
+        &self,
+        rt: &R,
+        pass: &mut Pass<M>,
+        command: M::Command,
+    ) -> Result<M::Reply, CallFault<M::Command>>
+        requires own { IsPassOf self.now pass.old }
+        ensures pass { IsSamePass pass.old pass.new }
+        ensures reply { IfOk result (λ r. IsAnswer M.reply_of command r) }
+        ensures handed_back { IfErr result (λ f. unserved f ≡ command) }
+        ensures worn_at_the_end { IfErr result (λ f. IsWorn f → next_reached pass.new ≡ u64.MAX) }
+        ensures full_at_the_limit { IfErr result (λ f. IsFull f → IsAtLimit M.Command M.Reply M.limit_of) }
+        ensures never_busy { IfErr result (λ f. ¬ (IsBusy f)) }
+    {
+        let board = &self.table.shared;
+        let Some(ticket) = draw_ticket(rt, board, &mut pass.seat) else {
+            return Err(CallFault::Worn(command));
+        };
+        let mut journal = enter(rt, board, &mut pass.seat, ticket);
+        let outcome = journal.step(pass.number, ticket, command);
+        put_back(board, &mut pass.seat, journal);
+        release(board, &mut pass.seat);
+        Ok(outcome?)
+    }
+}

@@ -1,0 +1,93 @@
+//! How a lock is opened and its passes are dealt out.
+ghost use Rattle.std.specs.Prelude.{◌≡◌, ◌+◌, ◌-◌, ◌<◌, ◌≤◌, ◌⊎◌, [], map, All, IfOk, IsOkUnless, Some};
+ghost use Rattle.ra_ticket.specs.Steps.{IsSeated, IsSameSeat};
+ghost use Rattle.ra_ticket.specs.Views.{stage_of, numbers_of, next_of, serving_of, first_pass, other_passes, numbers_from, starting};
+ghost use Rattle.ra_ticket.specs.Passes.{number_of, next_reached, serving_reached, IsPassOf};
+ghost use Rattle.ra_ticket.specs.declared.board.Stage.TheVariants.{Idle};
+
+use crate::board::{About, Board, LockTable, Place};
+use crate::fault::OpenFault;
+use crate::journal::Journal;
+use crate::lock::TicketLock;
+use crate::pass::Pass;
+use crate::plays::CutFirst;
+use atomic_table::Table;
+use std::alloc::{AllocError, Global};
+
+// The most passes that a lock may have.
+const MOST_PASSES: u8 = 64;
+
+// Splits a seat: the first pass gets a seat of its own.
+fn split_first<M: Journal>(board: &Board<M>, rest: &mut Place<M>) -> Place<M>
+    requires table { IsSeated rest.old.table_id board.now.table_id }
+    requires idle { stage_of rest.old.me.0 ≡ Some Idle }
+    ensures rest { (rest.new.table_id ≡ rest.old.table_id) × (rest.new.me ≡ (other_passes rest.old.me.0, rest.old.me.1)) }
+    ensures first { (result.table_id ≡ rest.old.table_id) × (result.me ≡ (first_pass rest.old.me.0, [])) }
+{
+    board.split_seat::<CutFirst>(rest)
+}
+
+// The table with the journal in its slot, and a seat with all passes.
+fn set_table<M: Journal>(
+    alloc: Global,
+    state: M,
+    passes: u8,
+    first: u64,
+) -> Result<(LockTable<M>, Place<M>), AllocError>
+    requires { M.log state ≡ [] }
+    ensures table { IfOk result (λ t. (t.0.shared.table_id.words ≡ 2) × (t.0.shared.table_id.slots ≡ 1) × (t.1.table_id ≡ t.0.shared.table_id)) }
+    ensures seat { IfOk result (λ t. t.1.me ≡ (starting passes first, [])) }
+{
+    let mut slots = Vec::new(alloc);
+    slots.push(Some(state))?;
+    match Table::new(alloc, &[first, first], slots, &About { passes, first }) {
+        Ok(made) => Ok(made),
+        Err(_) => Err(AllocError),
+    }
+}
+
+// Deals out seats of their own to the passes, in order.
+fn deal<M: Journal>(
+    alloc: Global,
+    board: &Board<M>,
+    mut rest: Place<M>,
+    passes: u8,
+) -> Result<Vec<Pass<M>>, AllocError>
+    requires table { IsSeated rest.table_id board.now.table_id }
+    requires idle { (stage_of rest.me.0 ≡ Some Idle) × (numbers_of rest.me.0 ≡ numbers_from 0 passes) }
+    ensures numbers { IfOk result (λ v. map number_of v.items ≡ numbers_from 0 passes) }
+    ensures own { IfOk result (λ v. All (λ p. p.seat.table_id ≡ board.now.table_id) v.items) }
+    ensures reached { IfOk result (λ v. All (λ p. (next_reached p ≡ next_of rest.me.0) × (serving_reached p ≡ serving_of rest.me.0)) v.items) }
+{
+    let mut dealt = Vec::with_capacity(alloc, usize::from(passes))?;
+    for number in 0..passes {
+        let seat = split_first(board, &mut rest);
+        dealt.push(Pass { number, seat })?;
+    }
+    Ok(dealt)
+}
+
+impl<M: Journal> TicketLock<M> {
+    /// Makes a lock over a journal with an empty log, and 1 to 64 passes of it, numbered from 0 in the list's order. The first ticket is `first`.
+    /// Its cost is linear in the number of passes.
+    pub fn open(
+        alloc: Global,
+        state: M,
+        passes: u8,
+        first: u64,
+    ) -> Result<(TicketLock<M>, Vec<Pass<M>>), OpenFault<M>>
+        requires { M.log state ≡ [] }
+        ensures numbers { IfOk result (λ l. map number_of l.1.items ≡ numbers_from 0 passes) }
+        ensures own { IfOk result (λ l. All (IsPassOf l.0) l.1.items) }
+        ensures reached { IfOk result (λ l. All (λ p. (next_reached p ≡ first) × (serving_reached p ≡ first)) l.1.items) }
+        ensures bad_passes { (passes ≡ 0) ⊎ (64 < passes) → result ≡ Err (OpenFault.BadPasses state) }
+        ensures else_no_memory { 0 < passes → passes ≤ 64 → IsOkUnless result OpenFault.NoMemory }
+    {
+        if passes == 0 || passes > MOST_PASSES {
+            return Err(OpenFault::BadPasses(state));
+        }
+        let (table, rest) = set_table(alloc, state, passes, first)?;
+        let dealt = deal(alloc, &table.shared, rest, passes)?;
+        Ok((TicketLock { table }, dealt))
+    }
+}

@@ -1,0 +1,82 @@
+//! A journal that adds each number to a wrapping total and replies the total.
+ghost use Rattle.std.specs.Prelude.{◌≡◌, ◌<◌, ◌≤◌, ◌+◌, ◌%◌, ◌^◌, [], length, sum_by, None};
+
+use crate::{Entry, Journal, StepFault};
+use std::alloc::Global;
+
+/// Its setup is its limit.
+#[derive(Debug, Drop)]
+pub struct Tally {
+    limit: u32,
+    total: u32,
+    log: Vec<Entry<u32, u32>>,
+    ghost in_range: { (0 < limit) × (limit ≤ 1048576) },
+    ghost within: { length log.items ≤ limit },
+    ghost totals: { total ≡ sum_by (λ e. e.command) log.items % 2 ^ 32 },
+}
+
+impl Tally {
+    /// An empty tally for 1 to 1,048,576 entries.
+    pub fn new(alloc: Global, limit: u32) -> Tally
+        requires { (0 < limit) × (limit ≤ 1048576) }
+        ensures { (result.limit ≡ limit) × (result.log.items ≡ []) }
+    {
+        Tally {
+            limit,
+            total: 0,
+            log: Vec::new(alloc),
+        }
+    }
+}
+
+impl Journal for Tally {
+    type Command = u32;
+
+    type Reply = u32;
+
+    type Setup = u32;
+
+    ghost setup = { λ t. t.limit };
+
+    ghost log = { λ t. t.log.items };
+
+    ghost reply_of = { λ _ log command. (sum_by (λ e. e.command) log + command) % 2 ^ 32 };
+
+    ghost fault_of = { λ _ _. None };
+
+    ghost limit_of = { λ limit. limit };
+
+    fn limit(&self) -> u32 {
+        self.limit
+    }
+
+    fn calls(&self) -> u32 {
+        self.log.len() as u32
+    }
+
+    fn fault(&self) -> Option<u32> {
+        None
+    }
+
+    fn last_ticket(&self) -> Option<u64> {
+        self.log.last().map(|entry| entry.ticket)
+    }
+
+    fn step(&mut self, pass: u8, ticket: u64, command: u32) -> Result<u32, StepFault<u32>> {
+        if self.log.len() == self.limit as usize {
+            return Err(StepFault::Full(command));
+        }
+        let reply = self.total.wrapping_add(command);
+        let entry = Entry {
+            pass,
+            ticket,
+            command,
+            reply,
+        };
+        if self.log.push(entry).is_err() {
+            return Err(StepFault::NoMemory(command));
+        }
+        self.total = reply;
+        Ok(reply)
+    }
+}
