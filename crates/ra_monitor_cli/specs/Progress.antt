@@ -1,5 +1,5 @@
 -- How far a text is taken in.
-use Rattle.std.specs.Prelude.{◌≡◌, ℕ, ◌≤◌, List, [], ◌∷◌, ◌++◌, length, map, flat_map}
+use Rattle.std.specs.Prelude.{◌+◌, ◌≡◌, ℕ, ◌≤◌, List, [], ◌∷◌, ◌++◌, length, map, flat_map}
 use Rattle.std.specs.List.{AllByRecursion}
 use Rattle.ra_monitor.specs.Monitor.{commands_of}
 use Rattle.ra_monitor_cli.specs.Bytes.{Grows}
@@ -22,6 +22,12 @@ abbrev pub replies_at : Stage → List ℕ
 replies_at FirstLine = []
 replies_at (NamesLine kind) = []
 replies_at (Commands recorded) = flat_map reply_line (map (λ entry. entry.reply) recorded.log)
+
+-- the number of the line that comes next
+abbrev pub next_line : Stage → ℕ
+next_line FirstLine = 1
+next_line (NamesLine kind) = 2
+next_line (Commands recorded) = length recorded.log + 3
 
 -- a stage takes a line, and these bytes are the reply to it
 pub record TakesLine (old new : Stage) (line more : List ℕ) : Type 0 where

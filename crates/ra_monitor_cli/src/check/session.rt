@@ -4,7 +4,7 @@ ghost use Rattle.ra_labels.specs.declared.kind.Kind.{Kind};
 ghost use Rattle.ra_monitor_cli.specs.Bytes.{Grows};
 ghost use Rattle.ra_monitor_cli.specs.Grammar.{first_line};
 ghost use Rattle.ra_monitor_cli.specs.Output.{IsAnswered};
-ghost use Rattle.ra_monitor_cli.specs.Progress.{replies_at, TakesLine, IsAfter, Extends, EndsLine, Takes};
+ghost use Rattle.ra_monitor_cli.specs.Progress.{replies_at, next_line, TakesLine, IsAfter, Extends, EndsLine, Takes};
 ghost use Rattle.ra_monitor_cli.specs.declared.check.session.Stage.TheVariants as stage;
 
 use crate::check::fault::CheckFault;
@@ -32,7 +32,9 @@ pub enum Stage {
 
 impl Stage {
     /// The number of the line that comes next.
-    pub fn line(&self) -> u32 {
+    pub fn line(&self) -> u32
+        ensures { result ≡ next_line self.now }
+    {
         match self {
             Stage::FirstLine => 1,
             Stage::NamesLine(_) => 2,
