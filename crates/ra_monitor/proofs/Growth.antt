@@ -5,6 +5,7 @@ use Rattle.std.specs.Prelude.{◌==◌, not, ◌&&◌, ◌||◌, option_map, vec
 use Rattle.std.specs.Option.{option_or, option_map_or}
 use Rattle.std.proofs.lemmas.List.{map-append, take-append-le, take_all}
 use Rattle.std.proofs.lemmas.Bool.{eqb-true, cases_lt, eq-eqb, ne_eqb, not-false}
+use Rattle.std.proofs.Math.Bool.{and-true, and-false}
 use Rattle.ra_labels.specs.declared.operation.Op.{Op}
 use Rattle.ra_labels.specs.declared.command.Command.TheVariants.{Operate, Deliver}
 use Rattle.ra_labels.specs.declared.refusal.Refusal.{Refusal}
@@ -117,14 +118,6 @@ stands_delivered old new setup records to label stands update labels fault adds 
   fault = fault ∙ stands.fault;
 }
 
-and_true : (b : Bool) → (b && true) ≡ b
-and_true true = refl
-and_true false = refl
-
-and_false : (b : Bool) → (b && false) ≡ false
-and_false true = refl
-and_false false = refl
-
 -- what replicas had after an operation
 had_accepted : (old new : Had) (records : Records) (replicas by : ℕ) (op : Op) (clock : Option ℕ) (is_so : Bool) → is_update op ≡ is_so
     → vec_len old.sets ≡ replicas
@@ -134,11 +127,11 @@ had_accepted : (old new : Had) (records : Records) (replicas by : ℕ) (op : Op)
 had_accepted old new records replicas by op clock true is count same adds r m d below =
     adds.adds r m d (omega (arith, count))
     ∙ ap (λ b. (by == r && m == label_count records) || b) (same r m d below)
-    ∙ ap (λ b. b || had records r m) (sym (ap (λ b. (by == r && m == label_count records) && b) is ∙ and_true (by == r && m == label_count records)))
+    ∙ ap (λ b. b || had records r m) (sym (ap (λ b. (by == r && m == label_count records) && b) is ∙ and-true (by == r && m == label_count records)))
 had_accepted old new records replicas by op clock false is count same stays r m d below =
     ap (λ (h : Had). has_in (get_or h.sets.items r d) m) stays
     ∙ same r m d below
-    ∙ ap (λ b. b || had records r m) (sym (ap (λ b. (by == r && m == label_count records) && b) is ∙ and_false (by == r && m == label_count records)))
+    ∙ ap (λ b. b || had records r m) (sym (ap (λ b. (by == r && m == label_count records) && b) is ∙ and-false (by == r && m == label_count records)))
 
 count_accepted : (old new : Had) (by label : ℕ) (is_so : Bool) → MatchBool is_so (AddsHad old new by label) (new ≡ old) → vec_len new.sets ≡ vec_len old.sets
 count_accepted old new by label true adds = adds.count

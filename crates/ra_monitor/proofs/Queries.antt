@@ -4,6 +4,7 @@ use Rattle.std.specs.Prelude.{not, ◌&&◌, filter, filter_map, flat_map, is_so
 use Rattle.std.specs.List.{list_all}
 use Rattle.std.proofs.lemmas.List.Folds.{list_all-append, list_all-map, list_all_more, list_all_at}
 use Rattle.std.proofs.lemmas.Bool.{and_from}
+use Rattle.std.proofs.Math.Bool.{and-true}
 use Rattle.ra_labels.specs.declared.operation.Query.{Query}
 use Rattle.ra_labels.specs.declared.kind.Kind.{Kind}
 use Rattle.ra_labels.specs.declared.kind.Kind.TheVariants.{Counter}
@@ -104,17 +105,13 @@ pub cause_is : (kind : Kind) (labels : List Accepted) (records : Records) → Ar
 cause_is Counter labels records are updates queries u q =
     cause_by_tests Counter records updates queries (execution_extends records) (updates_agree labels records are ∙ u) (queries_agree labels records are ∙ q)
 
-and_true : (b : Bool) → (b && true) ≡ b
-and_true true = refl
-and_true false = refl
-
 -- a label that asks one query is answered where that query is
 pub answers_its_query : (kind : Kind) (labels : List Accepted) (a : Accepted) (query : Query) (b : Bool)
     → query ∷ [] ≡ queries_in a.label.op → b ≡ is_answered_after kind (updates_within (has_in a.seen) (bare labels)) query
     → is_answered_label kind labels a ≡ b
 answers_its_query kind labels a query b asks says =
     ap (list_all (is_answered_after kind (updates_within (has_in a.seen) (bare labels)))) (sym asks)
-    ∙ and_true (is_answered_after kind (updates_within (has_in a.seen) (bare labels)) query)
+    ∙ and-true (is_answered_after kind (updates_within (has_in a.seen) (bare labels)) query)
     ∙ sym says
 
 pub asks_nothing : (kind : Kind) (labels : List Accepted) (a : Accepted) → [] ≡ queries_in a.label.op → is_answered_label kind labels a ≡ true

@@ -4,5 +4,8 @@ pub mod NameLists
 pub mod Commands
 pub mod Recording
 pub mod Sessions
+pub mod Stopping
 pub mod Runs
+pub mod Halts
 pub mod Texts
+pub mod Endings

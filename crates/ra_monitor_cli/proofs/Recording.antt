@@ -11,8 +11,7 @@ use Rattle.ra_labels.specs.Answer.{answer_of, answers_to, records_after, records
 use Rattle.ra_monitor.specs.Log.{last_of}
 use Rattle.ra_monitor.specs.Monitor.{Logged, MonitorEntry, commands_of, records_of}
 use Rattle.ra_monitor_cli.specs.declared.check.recorder.Recorder.TheInside.{Inside}
-use Rattle.ra_monitor_cli.specs.Recorded.{are_tickets_below}
-use Rattle.ra_monitor_cli.specs.Recorder.{IsKept}
+use Rattle.ra_monitor_cli.specs.Recorder.{IsKept, are_tickets_below}
 
 pub next_ticket : (count : ℕ) (log : List MonitorEntry) → are_tickets_below count log ≡ true → IfSome (last_of log) (λ last. last.ticket < count)
 next_ticket count [] below = tt
@@ -26,7 +25,7 @@ tickets_push count (first ∷ log) entry below is =
     let here : first.ticket < count + 1 = omega (arith, ltb-true first.ticket count parts.0) in
     and_from (ltb first.ticket (count + 1)) (are_tickets_below (count + 1) (log ++ entry ∷ [])) (lt-ltb first.ticket (count + 1) here) (tickets_push count log entry parts.1 is)
 
-answers_push : (kind : Kind) (n : ℕ) (records : Records) (commands : List Command) (command : Command)
+pub answers_push : (kind : Kind) (n : ℕ) (records : Records) (commands : List Command) (command : Command)
     → answers_to kind n records (commands ++ command ∷ []) ≡ answers_to kind n records commands ++ answer_of kind n (records_after_all kind n records commands) command ∷ []
 answers_push kind n records [] command = refl
 answers_push kind n records (first ∷ commands) command =

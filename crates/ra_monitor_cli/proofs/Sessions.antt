@@ -1,15 +1,14 @@
 -- What a session took, step by step.
-use Rattle.std.proofs.Common.{◌≡◌, ◌≢◌, ℕ, List, [], ◌∷◌, ◌++◌, map, All, Result, Ok, Err, refl, sym, ap, subst, ◌∙◌, arith}
+use Rattle.std.proofs.Common.{◌≡◌, ◌≢◌, ℕ, ◌<◌, List, [], ◌∷◌, ◌++◌, length, All, Result, Ok, Err, refl, sym, ap, subst, ◌∙◌, arith}
 use Rattle.std.specs.Prelude.{flat_map, OnOk}
 use Rattle.std.specs.List.{AllByRecursion}
-use Rattle.std.proofs.lemmas.List.{append_assoc, append-nil, map_push}
+use Rattle.std.proofs.lemmas.List.{append_assoc, append-nil, length_push}
 use Rattle.std.proofs.lemmas.List.Concat.{flat_map-append}
 use Rattle.std.proofs.lemmas.List.Elements.{All-append}
 use Rattle.ra_labels.specs.Fault.{fault_of}
 use Rattle.ra_labels.specs.Records.{label_count}
 use Rattle.ra_labels.specs.declared.kind.Kind.{Kind}
 use Rattle.ra_labels.specs.declared.command.Command.{Command}
-use Rattle.ra_monitor.specs.Monitor.{MonitorEntry, commands_of}
 use Rattle.ra_monitor.specs.declared.report.Report.{Report}
 use Rattle.ra_monitor_cli.specs.declared.check.session.Stage.{Stage}
 use Rattle.ra_monitor_cli.specs.declared.check.session.Stage.TheVariants.{Commands}
@@ -18,7 +17,8 @@ use Rattle.ra_monitor_cli.specs.Bytes.{Grows}
 use Rattle.ra_monitor_cli.specs.Fields.{IsCutAt}
 use Rattle.ra_monitor_cli.specs.Grammar.{IsLine, bytes_of, first_line, Spells, SpellEach}
 use Rattle.ra_monitor_cli.specs.Output.{reply_line, end_line, answers_in, records_in, IsReportOf, IsAnswered}
-use Rattle.ra_monitor_cli.specs.Recorded.{Recorded, LogsCommand}
+use Rattle.ra_monitor_cli.specs.Recorded.{Recorded, RecordsLine, next_answer}
+use Rattle.ra_monitor_cli.proofs.Recording.{answers_push}
 use Rattle.ra_monitor_cli.specs.Progress.{AreTaken, replies_at, TakesLine, IsAfter, Extends, EndsLine, Takes, IsFedUpTo}
 
 -- ---- a line at the stage of commands
@@ -30,36 +30,37 @@ SpellEach-push kind names [] (c ∷ commands) line command each here = absurd ea
 SpellEach-push kind names (l ∷ lines) [] line command each here = absurd each
 SpellEach-push kind names (l ∷ lines) (c ∷ commands) line command each here = (each.0, SpellEach-push kind names lines commands line command each.1 here)
 
--- a recorder with one more entry
-abbrev with_entry : Recorded → MonitorEntry → Recorded
-with_entry old entry = record old { log = old.log ++ entry ∷ [] }
+-- a recorder with one more command
+abbrev with_command : Recorded → Command → Recorded
+with_command old command = record old { commands = old.commands ++ command ∷ [] }
 
-taken_command : (old : Recorded) (entry : MonitorEntry) (line : List ℕ) → Spells old.kind old.names line entry.command → (lines : List (List ℕ))
-    → AreTaken (Commands old) lines → AreTaken (Commands (with_entry old entry)) (lines ++ line ∷ [])
-taken_command old entry line here lines taken =
-    let commands : commands_of (old.log ++ entry ∷ []) ≡ commands_of old.log ++ entry.command ∷ [] = map_push (λ (e : MonitorEntry). e.command) old.log entry in
-    let each = SpellEach-push old.kind old.names taken.1 (commands_of old.log) line entry.command taken.4 here in (
-      taken.0,
-      taken.1 ++ line ∷ [],
-      ap (λ (ls : List (List ℕ)). ls ++ line ∷ []) taken.2,
-      taken.3,
-      subst (SpellEach old.kind old.names (taken.1 ++ line ∷ [])) (sym commands) each,
-    )
+taken_command : (old : Recorded) (command : Command) (line : List ℕ) → Spells old.kind old.names line command → length old.commands < 1048576 → (lines : List (List ℕ))
+    → AreTaken (Commands old) lines → AreTaken (Commands (with_command old command)) (lines ++ line ∷ [])
+taken_command old command line here room lines taken = (
+  taken.0,
+  taken.1 ++ line ∷ [],
+  ap (λ (ls : List (List ℕ)). ls ++ line ∷ []) taken.2,
+  taken.3,
+  SpellEach-push old.kind old.names taken.1 old.commands line command taken.4 here,
+  omega (arith, room, length_push old.commands command),
+)
 
-replied_command : (old : Recorded) (entry : MonitorEntry) → replies_at (Commands (with_entry old entry)) ≡ replies_at (Commands old) ++ reply_line entry.reply
-replied_command old entry =
-    let replies : map (λ (e : MonitorEntry). e.reply) (old.log ++ entry ∷ []) ≡ map (λ (e : MonitorEntry). e.reply) old.log ++ entry.reply ∷ [] = map_push (λ (e : MonitorEntry). e.reply) old.log entry in
-    ap (flat_map reply_line) replies ∙ flat_map-append reply_line (map (λ (e : MonitorEntry). e.reply) old.log) (entry.reply ∷ [])
-    ∙ ap (λ (bs : List ℕ). flat_map reply_line (map (λ (e : MonitorEntry). e.reply) old.log) ++ bs) (append-nil (reply_line entry.reply))
+replied_command : (old : Recorded) (command : Command) → replies_at (Commands (with_command old command)) ≡ replies_at (Commands old) ++ reply_line (next_answer old command)
+replied_command old command =
+    let answers = answers_in old.kind old.names old.commands in
+    let reply = next_answer old command in
+    ap (flat_map reply_line) (answers_push old.kind (length old.names) [] old.commands command)
+    ∙ flat_map-append reply_line answers (reply ∷ [])
+    ∙ ap (λ (bs : List ℕ). flat_map reply_line answers ++ bs) (append-nil (reply_line reply))
 
-pub TakesLine-command : (old new : Recorded) (line more : List ℕ) → LogsCommand old new line more → TakesLine (Commands old) (Commands new) line more
-TakesLine-command old new line more logs =
-    let made : TakesLine (Commands old) (Commands (with_entry old logs.entry)) line (reply_line logs.entry.reply) = record {
-      taken = λ lines taken. taken_command old logs.entry line logs.spelled lines taken;
-      replied = replied_command old logs.entry;
+pub TakesLine-command : (old new : Recorded) (line more : List ℕ) → RecordsLine old new line more → TakesLine (Commands old) (Commands new) line more
+TakesLine-command old new line more records =
+    let made : TakesLine (Commands old) (Commands (with_command old records.command)) line (reply_line (next_answer old records.command)) = record {
+      taken = λ lines taken. taken_command old records.command line records.spelled records.room lines taken;
+      replied = replied_command old records.command;
     } in
-    subst (λ (r : Recorded). TakesLine (Commands old) (Commands r) line more) (sym logs.logged)
-    (subst (TakesLine (Commands old) (Commands (with_entry old logs.entry)) line) (sym logs.replied) made)
+    subst (λ (r : Recorded). TakesLine (Commands old) (Commands r) line more) (sym records.recorded)
+    (subst (TakesLine (Commands old) (Commands (with_command old records.command)) line) (sym records.answered) made)
 
 -- ---- pieces
 
@@ -149,23 +150,22 @@ fed_all first old new piece rest out_first out_old fed none extends = (
 -- ---- the end
 
 pub answered : (session : Session) (recorded : Recorded) (text end : List ℕ) (report : Report)
-    → session.stage ≡ Commands recorded → session.partial.items ≡ [] → IsReportOf recorded.kind recorded.names (commands_of recorded.log) report
-    → map (λ entry. entry.reply) recorded.log ≡ answers_in recorded.kind recorded.names (commands_of recorded.log)
+    → session.stage ≡ Commands recorded → session.partial.items ≡ [] → IsReportOf recorded.kind recorded.names recorded.commands report
     → end ≡ end_line report.labels report.fault → IsAfter session text → IsAnswered text (replies_at session.stage ++ end) report
-answered session recorded text end report stage nothing reported replies ended after =
+answered session recorded text end report stage nothing reported ended after =
     let taken : AreTaken (Commands recorded) after.lines = subst (λ (s : Stage). AreTaken s after.lines) stage after.taken in
-    let commands = commands_of recorded.log in
+    let records = records_in recorded.kind recorded.names recorded.commands in
     let lines : AllByRecursion IsLine (first_line recorded.kind ∷ taken.0 ∷ taken.1) = subst (AllByRecursion IsLine) taken.2 after.are_lines in
     let whole : text ≡ bytes_of (first_line recorded.kind ∷ taken.0 ∷ taken.1) =
     after.parts ∙ ap (λ (bs : List ℕ). bytes_of after.lines ++ bs) nothing ∙ append-nil (bytes_of after.lines) ∙ ap bytes_of taken.2 in
-    let last : end ≡ end_line (label_count (records_in recorded.kind recorded.names commands)) (fault_of recorded.kind (records_in recorded.kind recorded.names commands)) =
-    ended ∙ ap (λ (n : ℕ). end_line n report.fault) reported.labels ∙ ap (end_line (label_count (records_in recorded.kind recorded.names commands))) reported.fault in
-    let before : replies_at session.stage ≡ flat_map reply_line (answers_in recorded.kind recorded.names commands) = ap replies_at stage ∙ ap (flat_map reply_line) replies in
+    let last : end ≡ end_line (label_count records) (fault_of recorded.kind records) =
+    ended ∙ ap (λ (n : ℕ). end_line n report.fault) reported.labels ∙ ap (end_line (label_count records)) reported.fault in
+    let before : replies_at session.stage ≡ flat_map reply_line (answers_in recorded.kind recorded.names recorded.commands) = ap replies_at stage in
     record {
       kind = recorded.kind;
       names = recorded.names;
-      commands = commands;
-      says = record { second = taken.0; lines = taken.1; whole = whole; are_lines = lines; lists = taken.3; spell = taken.4 };
+      commands = recorded.commands;
+      says = record { second = taken.0; lines = taken.1; whole = whole; are_lines = lines; lists = taken.3; spell = taken.4; few = taken.5 };
       written = rw (before, last) refl;
       reported = reported;
     }
@@ -173,7 +173,7 @@ answered session recorded text end report stage nothing reported replies ended a
 -- ---- in the words of the contracts
 
 pub take_command : {T E : Type 0} (r : Result T E) (old new : Recorded) (line out_old out_new : List ℕ)
-    → OnOk r ((more : List ℕ) × Grows out_old out_new more × LogsCommand old new line more)
+    → OnOk r ((more : List ℕ) × Grows out_old out_new more × RecordsLine old new line more)
     → OnOk r ((more : List ℕ) × Grows out_old out_new more × TakesLine (Commands old) (Commands new) line more)
 take_command (Ok x) old new line out_old out_new h = (h.0, h.1, TakesLine-command old new line h.0 h.2)
 take_command (Err e) old new line out_old out_new h = tt

@@ -25,10 +25,10 @@ one_cut : (lines others : List (List ℕ)) → AllByRecursion IsLine lines → A
 one_cut lines others are_lines are_others same =
     (same_from_push lines others [] [] (sym (cut_lines lines are_lines) ∙ ap (slice_split (λ b. eqb b 10)) same ∙ cut_lines others are_others)).0
 
-one_kind : (kind other : Kind) → first_line kind ≡ first_line other → kind ≡ other
+pub one_kind : (kind other : Kind) → first_line kind ≡ first_line other → kind ≡ other
 one_kind Counter Counter same = refl
 
-one_list : (kind : Kind) (names lines : List (List ℕ)) (commands others : List Command) → SpellEach kind names lines commands → SpellEach kind names lines others → commands ≡ others
+pub one_list : (kind : Kind) (names lines : List (List ℕ)) (commands others : List Command) → SpellEach kind names lines commands → SpellEach kind names lines others → commands ≡ others
 one_list kind names [] [] [] p q = refl
 one_list kind names [] [] (d ∷ others) p q = absurd q
 one_list kind names [] (c ∷ commands) others p q = absurd p

@@ -129,7 +129,8 @@ SpellEach kind names _ _ = ⊥
 
 -- ---- the text
 
--- the text is a first line, a line of names and lines of commands, and ends behind the last one's line feed
+-- the text is a first line, a line of names and at most 1,048,576 lines of commands, and ends behind the last one's
+-- line feed
 pub record Says (text : List ℕ) (kind : Kind) (names : List (List ℕ)) (commands : List Command) : Type 0 where
   pub second : List ℕ
   pub lines : List (List ℕ)
@@ -137,3 +138,4 @@ pub record Says (text : List ℕ) (kind : Kind) (names : List (List ℕ)) (comma
   pub are_lines : AllByRecursion IsLine (first_line kind ∷ second ∷ lines)
   pub lists : ListsNames second names
   pub spell : SpellEach kind names lines commands
+  pub few : length commands ≤ 1048576

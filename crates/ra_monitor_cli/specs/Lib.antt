@@ -8,5 +8,6 @@ pub mod Faults
 pub mod Recorded
 pub mod Recorder
 pub mod Progress
+pub mod Stopped
 pub mod Run
 pub mod Written

@@ -1,13 +1,16 @@
 -- How far a text is taken in.
-use Rattle.std.specs.Prelude.{◌+◌, ◌≡◌, ℕ, ◌≤◌, List, [], ◌∷◌, ◌++◌, length, map, flat_map}
+use Rattle.std.specs.Prelude.{◌+◌, ◌≡◌, ℕ, ◌<◌, ◌≤◌, List, [], ◌∷◌, ◌++◌, length, flat_map, ⊤}
 use Rattle.std.specs.List.{AllByRecursion}
-use Rattle.ra_monitor.specs.Monitor.{commands_of}
+use Rattle.ra_labels.specs.declared.kind.Kind.{Kind}
+use Rattle.ra_labels.specs.declared.command.Command.{Command}
 use Rattle.ra_monitor_cli.specs.Bytes.{Grows}
+use Rattle.ra_monitor_cli.specs.declared.check.fault.CheckFault.{CheckFault}
+use Rattle.ra_monitor_cli.specs.declared.check.fault.CheckFault.TheVariants.{Syntax, Truncated, LineTooLong, NoMemory, Full}
 use Rattle.ra_monitor_cli.specs.declared.check.session.Stage.{Stage}
 use Rattle.ra_monitor_cli.specs.declared.check.session.Stage.TheVariants.{FirstLine, NamesLine, Commands}
 use Rattle.ra_monitor_cli.specs.declared.check.session.Session.{Session}
-use Rattle.ra_monitor_cli.specs.Grammar.{IsLine, bytes_of, first_line, ListsNames, SpellEach}
-use Rattle.ra_monitor_cli.specs.Output.{reply_line}
+use Rattle.ra_monitor_cli.specs.Grammar.{IsLine, bytes_of, first_line, ListsNames, Spells, SpellEach}
+use Rattle.ra_monitor_cli.specs.Output.{reply_line, answers_in}
 
 -- these lines were taken in, and lead to this stage
 abbrev pub AreTaken : Stage → List (List ℕ) → Type 0
@@ -15,24 +18,44 @@ AreTaken FirstLine lines = lines ≡ []
 AreTaken (NamesLine kind) lines = lines ≡ first_line kind ∷ []
 AreTaken (Commands recorded) lines = (second : List ℕ) × (others : List (List ℕ))
     × (lines ≡ first_line recorded.kind ∷ second ∷ others) × ListsNames second recorded.names
-    × SpellEach recorded.kind recorded.names others (commands_of recorded.log)
+    × SpellEach recorded.kind recorded.names others recorded.commands × (length recorded.commands ≤ 1048576)
 
 -- the reply lines so far
 abbrev pub replies_at : Stage → List ℕ
 replies_at FirstLine = []
 replies_at (NamesLine kind) = []
-replies_at (Commands recorded) = flat_map reply_line (map (λ entry. entry.reply) recorded.log)
+replies_at (Commands recorded) = flat_map reply_line (answers_in recorded.kind recorded.names recorded.commands)
 
 -- the number of the line that comes next
 abbrev pub next_line : Stage → ℕ
 next_line FirstLine = 1
 next_line (NamesLine kind) = 2
-next_line (Commands recorded) = length recorded.log + 3
+next_line (Commands recorded) = length recorded.commands + 3
 
 -- a stage takes a line, and these bytes are the reply to it
 pub record TakesLine (old new : Stage) (line more : List ℕ) : Type 0 where
   pub taken : (lines : List (List ℕ)) → AreTaken old lines → AreTaken new (lines ++ line ∷ [])
   pub replied : replies_at new ≡ replies_at old ++ more
+
+-- the line is none that can come here
+abbrev pub IsNoLine : Stage → List ℕ → Type 0
+IsNoLine FirstLine line = (kind : Kind) → line ≡ first_line kind → ⊥
+IsNoLine (NamesLine kind) line = (names : List (List ℕ)) → ListsNames line names → ⊥
+IsNoLine (Commands recorded) line = (command : Command) → Spells recorded.kind recorded.names line command → ⊥
+
+-- the line spells a command, and there is no room for one more
+abbrev pub IsOneTooMany : Stage → List ℕ → Type 0
+IsOneTooMany FirstLine line = ⊥
+IsOneTooMany (NamesLine kind) line = ⊥
+IsOneTooMany (Commands recorded) line =
+    (length recorded.commands ≡ 1048576) × ((command : Command) × Spells recorded.kind recorded.names line command)
+
+-- why a stage does not take a line
+abbrev pub StopsLine : Stage → List ℕ → CheckFault → Type 0
+StopsLine stage line (Syntax line_number) = (line_number ≡ next_line stage) × IsNoLine stage line
+StopsLine stage line (Full line_number) = (line_number ≡ next_line stage) × IsOneTooMany stage line
+StopsLine stage line NoMemory = ⊤
+StopsLine stage line _ = ⊥
 
 -- the stream so far: whole lines, and what has come of the next one
 pub record IsAfter (session : Session) (stream : List ℕ) : Type 0 where
@@ -50,6 +73,13 @@ pub record Extends (old new : Session) (part : List ℕ) : Type 0 where
   pub partial : new.partial.items ≡ old.partial.items ++ part
   pub short : length old.partial.items ≤ 1048576 → length new.partial.items ≤ 1048576
 
+-- why the next line cannot come this much further
+abbrev pub StopsExtending : Session → List ℕ → CheckFault → Type 0
+StopsExtending old part (LineTooLong line_number) =
+    (line_number ≡ next_line old.stage) × (1048576 < length old.partial.items + length part)
+StopsExtending old part NoMemory = ⊤
+StopsExtending old part _ = ⊥
+
 -- the next line is whole, and taken, and these bytes are the reply to it
 pub record EndsLine (old new : Session) (more : List ℕ) : Type 0 where
   pub line : TakesLine old.stage new.stage old.partial.items more
@@ -59,6 +89,19 @@ pub record EndsLine (old new : Session) (more : List ℕ) : Type 0 where
 pub record Takes (old new : Session) (piece more : List ℕ) : Type 0 where
   pub after : (stream : List ℕ) → IsAfter old stream → IsAfter new (stream ++ piece)
   pub replied : replies_at new.stage ≡ replies_at old.stage ++ more
+
+-- a text does not end before this line
+abbrev pub HasToCome : Stage → Type 0
+HasToCome FirstLine = ⊤
+HasToCome (NamesLine kind) = ⊤
+HasToCome (Commands recorded) = ⊥
+
+-- why a session cannot end here
+abbrev pub StopsEnding : Session → CheckFault → Type 0
+StopsEnding session (Truncated line_number) =
+    (line_number ≡ next_line session.stage) × (session.partial.items ≡ [] → HasToCome session.stage)
+StopsEnding session NoMemory = ⊤
+StopsEnding session _ = ⊥
 
 -- a piece of which a part is taken, and what is left of it
 pub record IsFedUpTo (old new : Session) (piece rest out_old out_new : List ℕ) : Type 0 where

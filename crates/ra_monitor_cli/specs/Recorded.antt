@@ -1,33 +1,52 @@
--- What contracts see of a recorder: the kind, the names and the log.
-use Rattle.std.specs.Prelude.{◌≡◌, ℕ, nat_lt, Bool, List, [], ◌∷◌, ◌++◌}
-use Rattle.std.specs.List.{list_all}
+-- What contracts see of a recorder: the kind, the names, and the commands so far.
+use Rattle.std.specs.Prelude.{◌≡◌, ℕ, ◌+◌, ◌<◌, List, [], ◌∷◌, ◌++◌, length, ⊤}
 use Rattle.ra_labels.specs.declared.kind.Kind.{Kind}
 use Rattle.ra_labels.specs.declared.command.Command.{Command}
 use Rattle.ra_labels.specs.declared.reply.Reply.{Reply}
-use Rattle.ra_monitor.specs.Monitor.{MonitorEntry}
+use Rattle.ra_labels.specs.Answer.{answer_of}
+use Rattle.ra_monitor_cli.specs.declared.check.fault.CheckFault.{CheckFault}
+use Rattle.ra_monitor_cli.specs.declared.check.fault.CheckFault.TheVariants.{Syntax, NoMemory, Full}
 use Rattle.ra_monitor_cli.specs.Grammar.{Spells}
-use Rattle.ra_monitor_cli.specs.Output.{reply_line}
+use Rattle.ra_monitor_cli.specs.Output.{reply_line, records_in}
 
 pub record Recorded : Type 0 where
   pub kind : Kind
   pub names : List (List ℕ)
-  -- the oldest entry first
-  pub log : List MonitorEntry
+  -- the oldest first
+  pub commands : List Command
 
--- each ticket is below the number of entries
-abbrev pub are_tickets_below : ℕ → List MonitorEntry → Bool
-are_tickets_below count log = list_all (λ entry. nat_lt entry.ticket count) log
+-- what the next command is answered
+abbrev pub next_answer : Recorded → Command → Reply
+next_answer recorded command =
+    answer_of recorded.kind (length recorded.names) (records_in recorded.kind recorded.names recorded.commands) command
 
--- the line's command is logged with its reply, whose line these bytes are
-pub record LogsCommand (old new : Recorded) (line more : List ℕ) : Type 0 where
-  pub entry : MonitorEntry
-  pub spelled : Spells old.kind old.names line entry.command
-  pub logged : new ≡ record old { log = old.log ++ entry ∷ [] }
-  pub replied : more ≡ reply_line entry.reply
+-- the command is recorded, and answered with this reply
+pub record RecordsCommand (old new : Recorded) (command : Command) (reply : Reply) : Type 0 where
+  pub room : length old.commands < 1048576
+  pub recorded : new ≡ record old { commands = old.commands ++ command ∷ [] }
+  pub answered : reply ≡ next_answer old command
 
--- the command is logged with this reply
-pub record Logs (old new : Recorded) (command : Command) (reply : Reply) : Type 0 where
-  pub entry : MonitorEntry
-  pub command_is : entry.command ≡ command
-  pub reply_is : entry.reply ≡ reply
-  pub logged : new ≡ record old { log = old.log ++ entry ∷ [] }
+-- the line's command is recorded, and these bytes are the line of the reply
+pub record RecordsLine (old new : Recorded) (line more : List ℕ) : Type 0 where
+  pub command : Command
+  pub spelled : Spells old.kind old.names line command
+  pub room : length old.commands < 1048576
+  pub recorded : new ≡ record old { commands = old.commands ++ command ∷ [] }
+  pub answered : more ≡ reply_line (next_answer old command)
+
+-- ---- faults
+
+-- why a command is not answered
+abbrev pub StopsAnswering : Recorded → CheckFault → Type 0
+StopsAnswering old (Full line_number) = (line_number ≡ length old.commands + 3) × (length old.commands ≡ 1048576)
+StopsAnswering old NoMemory = ⊤
+StopsAnswering old _ = ⊥
+
+-- why a line is not recorded: it spells no command, or its command is not answered
+abbrev pub StopsRecording : Recorded → List ℕ → CheckFault → Type 0
+StopsRecording old line (Syntax line_number) =
+    (line_number ≡ length old.commands + 3) × ((command : Command) → Spells old.kind old.names line command → ⊥)
+StopsRecording old line (Full line_number) =
+    (line_number ≡ length old.commands + 3) × (length old.commands ≡ 1048576) × ((command : Command) × Spells old.kind old.names line command)
+StopsRecording old line NoMemory = ⊤
+StopsRecording old line _ = ⊥

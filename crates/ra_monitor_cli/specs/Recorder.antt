@@ -1,12 +1,17 @@
 -- What the fields of a recorder stand for, and what is kept true of them.
-use Rattle.std.specs.Prelude.{◌≡◌, ◌≤◌, true, length, map}
-use Rattle.ra_monitor.specs.Monitor.{commands_of}
+use Rattle.std.specs.Prelude.{◌≡◌, ℕ, ◌≤◌, nat_lt, Bool, true, List, length, map}
+use Rattle.std.specs.List.{list_all}
+use Rattle.ra_monitor.specs.Monitor.{MonitorEntry, commands_of}
 use Rattle.ra_monitor_cli.specs.declared.check.recorder.Recorder.TheInside.{Inside}
-use Rattle.ra_monitor_cli.specs.Recorded.{Recorded, are_tickets_below}
+use Rattle.ra_monitor_cli.specs.Recorded.{Recorded}
 use Rattle.ra_monitor_cli.specs.Output.{answers_in}
 
 abbrev pub recorded : Inside → Recorded
-recorded r = record { kind = r.kind; names = r.names; log = r.monitor.log }
+recorded r = record { kind = r.kind; names = r.names; commands = commands_of r.monitor.log }
+
+-- each ticket is below the number of entries
+abbrev pub are_tickets_below : ℕ → List MonitorEntry → Bool
+are_tickets_below count log = list_all (λ entry. nat_lt entry.ticket count) log
 
 pub record IsKept (r : Inside) : Type 0 where
   pub kind : r.monitor.setup.kind ≡ r.kind

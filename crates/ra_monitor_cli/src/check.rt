@@ -1,7 +1,8 @@
 //! The check of a text, bytes in and bytes out.
-ghost use Rattle.std.specs.Prelude.{OnOk, IfOk, IfSome};
+ghost use Rattle.std.specs.Prelude.{OnOk, IfOk, IfErr, IfSome, IsErrOf};
 ghost use Rattle.std.specs.Io.KnownBytes.{IsAtEnd};
-ghost use Rattle.ra_monitor_cli.specs.Run.{WritesAnswer};
+ghost use Rattle.ra_monitor_cli.specs.declared.check.fault.CheckFault.TheVariants.{Endless};
+ghost use Rattle.ra_monitor_cli.specs.Run.{WritesAnswer, StopsCheck, HasGiven};
 
 pub mod command;
 pub mod fault;
@@ -32,6 +33,13 @@ pub const PIECE: usize = 4_096;
 ///
 /// The reply lines to the lines that are whole are written before the next read is made, and before the check
 /// ends. Costs as much as the steps of the monitor, and a write a piece.
+///
+/// # Errors
+///
+/// `Syntax`, `Truncated`, `LineTooLong` and `Full` come where the text itself stops, with the number of its line: the
+/// reply lines to the lines before were written, and so they were with `Read` and `Endless`, where nothing more is read.
+/// With `NoMemory`, where a growth is refused, the reply lines to some of the first lines were written, and with
+/// `Write`, where the writer fails, a front of the output. After an error reader and writer are not asked again.
 pub fn check<R: Read, W: Write>(
     alloc: Global,
     reader: &mut R,
@@ -42,6 +50,12 @@ pub fn check<R: Read, W: Write>(
     // What was written is what is stated of the bytes that were there to read, and nothing else.
     ensures written { IfOk result (λ outcome. IfSome (R.remaining reader.old) (λ text.
         WritesAnswer text (W.contents writer.old) (W.contents writer.new) outcome.report)) }
+    // Where it stops, the replies to the lines before were written, and nothing else; or the writer failed, and a
+    // front of what was to be written was.
+    ensures stopped { IfErr result (λ fault. IfSome (R.remaining reader.old) (λ text.
+        StopsCheck text (R.remaining reader.new) (W.contents writer.old) (W.contents writer.new) fault)) }
+    // Endless comes after 4,294,967,296 reads, each of which gave a byte.
+    ensures endless { IsErrOf result Endless → HasGiven (R.remaining reader.old) (R.remaining reader.new) 4294967296 }
 {
     let mut session = Session::new(alloc);
     let mut out = String::new(alloc);

@@ -1,10 +1,12 @@
 //! Laws above the definitions of the text, each the clause of a function that does nothing.
-ghost use Rattle.std.specs.Prelude.{◌≡◌, ℕ, List};
+ghost use Rattle.std.specs.Prelude.{◌≡◌, ℕ, List, Option};
 ghost use Rattle.ra_labels.specs.declared.kind.Kind.{Kind};
 ghost use Rattle.ra_labels.specs.declared.command.Command.{Command};
 ghost use Rattle.ra_monitor.specs.declared.report.Report.{Report};
 ghost use Rattle.ra_monitor_cli.specs.Grammar.{Spells, Says};
 ghost use Rattle.ra_monitor_cli.specs.Output.{IsAnswered};
+ghost use Rattle.ra_monitor_cli.specs.Stopped.{IsOfText, Stops};
+ghost use Rattle.ra_monitor_cli.specs.declared.check.fault.CheckFault.{CheckFault};
 
 /// In a history of one kind with the same names, a line spells at most one command.
 pub fn a_line_spells_one_command()
@@ -23,4 +25,17 @@ pub fn a_text_says_one_history()
 pub fn a_text_has_one_output()
     ensures { (text out other : List ℕ) (report other_report : Report) →
         IsAnswered text out report → IsAnswered text other other_report → out ≡ other }
+{}
+
+/// A text stops with at most one fault of its own, whatever the reader has left, and then one thing is written.
+pub fn a_text_stops_in_one_way()
+    ensures { (text out other : List ℕ) (left other_left : Option (List ℕ)) (fault other_fault : CheckFault) →
+        IsOfText fault → IsOfText other_fault → Stops text out left fault → Stops text other other_left other_fault →
+        (fault ≡ other_fault) × (out ≡ other) }
+{}
+
+/// A text that stops with a fault of its own has no regular end.
+pub fn a_text_that_stops_is_not_answered()
+    ensures { (text out other : List ℕ) (left : Option (List ℕ)) (fault : CheckFault) (report : Report) →
+        IsOfText fault → Stops text out left fault → IsAnswered text other report → ⊥ }
 {}

@@ -1,9 +1,9 @@
 //! The commands of a history, given to the monitor.
-ghost use Rattle.std.specs.Prelude.{◌≡◌, ◌+◌, ◌^◌, ℕ, List, [], map, length, IfOk, OnOk, string_bytes};
-ghost use Rattle.ra_monitor.specs.Monitor.{commands_of};
+ghost use Rattle.std.specs.Prelude.{◌≡◌, ◌+◌, ◌^◌, ℕ, List, [], length, IfOk, IfErr, OnOk, OnErr, IsOkUnless, string_bytes};
 ghost use Rattle.ra_monitor_cli.specs.Grammar.{AreNames};
-ghost use Rattle.ra_monitor_cli.specs.Output.{IsReportOf, answers_in};
-ghost use Rattle.ra_monitor_cli.specs.Recorded.{Logs, LogsCommand};
+ghost use Rattle.ra_monitor_cli.specs.Output.{IsReportOf};
+ghost use Rattle.ra_monitor_cli.specs.Recorded.{RecordsCommand, RecordsLine, StopsAnswering, StopsRecording};
+ghost use Rattle.ra_monitor_cli.specs.declared.check.fault.LineFault.TheVariants as line_fault;
 ghost use Rattle.ra_monitor_cli.specs.Bytes.{Grows};
 
 use crate::check::command::command;
@@ -44,9 +44,10 @@ impl Recorder {
         requires { AreNames names }
         ensures kind { IfOk result (λ recorder. recorder.kind ≡ kind) }
         ensures names { IfOk result (λ recorder. recorder.names ≡ names) }
-        ensures log { IfOk result (λ recorder. recorder.log ≡ []) }
-    {
+        ensures commands { IfOk result (λ recorder. recorder.commands ≡ []) }
         // There are 1 to 16 names, and the limit is the greatest: memory alone can be missing.
+        ensures memory { IsOkUnless result line_fault.NoMemory }
+    {
         match Monitor::new(alloc, kind, names.count(), MOST_ENTRIES) {
             Ok(monitor) => Ok(Recorder {
                 kind,
@@ -59,14 +60,16 @@ impl Recorder {
 
     /// The number of the line that comes next.
     pub fn line(&self) -> u32
-        ensures { result ≡ length self.now.log + 3 }
+        ensures { result ≡ length self.now.commands + 3 }
     {
         self.monitor.log().len() as u32 + LINES_BEFORE + 1
     }
 
     /// Reads a line, gives its command to the monitor, and puts the line of its reply behind the others.
     pub fn record(&mut self, alloc: Global, line: &[u8], out: &mut String) -> Result<(), CheckFault>
-        ensures { OnOk result ((more : List ℕ) × Grows (string_bytes out.old) (string_bytes out.new) more × LogsCommand self.old self.new line.now more) }
+        ensures taken { OnOk result ((more : List ℕ) × Grows (string_bytes out.old) (string_bytes out.new) more × RecordsLine self.old self.new line.now more) }
+        ensures fault { IfErr result (StopsRecording self.old line.now) }
+        ensures err { OnErr result (string_bytes out.new ≡ string_bytes out.old) }
     {
         let Some(command) = command(self.kind, &self.names, line) else {
             return Err(CheckFault::Syntax(self.line()));
@@ -78,7 +81,8 @@ impl Recorder {
     }
 
     fn answer(&mut self, command: Command) -> Result<Reply, CheckFault>
-        ensures { IfOk result (λ reply. Logs self.old self.new command reply) }
+        ensures answered { IfOk result (λ reply. RecordsCommand self.old self.new command reply) }
+        ensures full { IfErr result (StopsAnswering self.old) }
     {
         let number = self.line();
         let ticket = self.monitor.log().len() as u64;
@@ -91,8 +95,7 @@ impl Recorder {
 
     /// What the history amounts to.
     pub fn report(&self) -> Report
-        ensures report { IsReportOf self.now.kind self.now.names (commands_of self.now.log) result }
-        ensures replies { map (λ entry. entry.reply) self.now.log ≡ answers_in self.now.kind self.now.names (commands_of self.now.log) }
+        ensures { IsReportOf self.now.kind self.now.names self.now.commands result }
     {
         self.monitor.report()
     }

@@ -1,10 +1,12 @@
 //! A text that is taken in piece by piece.
-ghost use Rattle.std.specs.Prelude.{◌≡◌, ◌≢◌, ◌++◌, ◌≤◌, ℕ, List, [], All, length, IfOk, IfSome, OnOk, Some, string_bytes};
+ghost use Rattle.std.specs.Prelude.{◌≡◌, ◌≢◌, ◌++◌, ◌≤◌, ℕ, List, [], All, length, IfErr, IfOk, IfSome, OnErr, OnOk, Some, string_bytes};
 ghost use Rattle.ra_labels.specs.declared.kind.Kind.{Kind};
 ghost use Rattle.ra_monitor_cli.specs.Bytes.{Grows};
 ghost use Rattle.ra_monitor_cli.specs.Grammar.{first_line};
 ghost use Rattle.ra_monitor_cli.specs.Output.{IsAnswered};
-ghost use Rattle.ra_monitor_cli.specs.Progress.{replies_at, next_line, TakesLine, IsAfter, Extends, EndsLine, Takes};
+ghost use Rattle.ra_monitor_cli.specs.Progress.{replies_at, next_line, TakesLine, IsNoLine, StopsLine, IsAfter, Extends, StopsExtending, EndsLine, StopsEnding, Takes};
+ghost use Rattle.ra_monitor_cli.specs.Stopped.{StopsInside};
+ghost use Rattle.ra_monitor_cli.specs.declared.check.fault.CheckFault.TheVariants.{Syntax};
 ghost use Rattle.ra_monitor_cli.specs.declared.check.session.Stage.TheVariants as stage;
 
 use crate::check::fault::CheckFault;
@@ -44,7 +46,9 @@ impl Stage {
 
     // Takes a line, and puts the line of the reply, if it has one, behind the others.
     fn take_line(&mut self, alloc: Global, line: &[u8], out: &mut String) -> Result<(), CheckFault>
-        ensures { OnOk result ((more : List ℕ) × Grows (string_bytes out.old) (string_bytes out.new) more × TakesLine self.old self.new line.now more) }
+        ensures taken { OnOk result ((more : List ℕ) × Grows (string_bytes out.old) (string_bytes out.new) more × TakesLine self.old self.new line.now more) }
+        ensures fault { IfErr result (StopsLine self.old line.now) }
+        ensures err { OnErr result (string_bytes out.new ≡ string_bytes out.old) }
     {
         match self {
             Stage::FirstLine => {
@@ -73,7 +77,8 @@ fn kind_of(line: &[u8]) -> Option<Kind>
 }
 
 fn after_first(line: &[u8]) -> Result<Stage, CheckFault>
-    ensures { IfOk result (λ next. TakesLine stage.FirstLine next line.now []) }
+    ensures taken { IfOk result (λ next. TakesLine stage.FirstLine next line.now []) }
+    ensures fault { IfErr result (λ fault. (fault ≡ Syntax 1) × IsNoLine stage.FirstLine line.now) }
 {
     match kind_of(line) {
         Some(kind) => Ok(Stage::NamesLine(kind)),
@@ -82,7 +87,8 @@ fn after_first(line: &[u8]) -> Result<Stage, CheckFault>
 }
 
 fn after_names(alloc: Global, kind: Kind, line: &[u8]) -> Result<Stage, CheckFault>
-    ensures { IfOk result (λ next. TakesLine (stage.NamesLine kind) next line.now []) }
+    ensures taken { IfOk result (λ next. TakesLine (stage.NamesLine kind) next line.now []) }
+    ensures fault { IfErr result (StopsLine (stage.NamesLine kind) line.now) }
 {
     let names = match Names::read(alloc, line) {
         Ok(names) => names,
@@ -118,7 +124,8 @@ impl Session {
     /// Takes the next piece of the text, and puts the reply lines of the lines that are whole now behind the
     /// others. After a fault the session is of no further use; the reply lines of the lines before are there.
     pub fn feed(&mut self, piece: &[u8], out: &mut String) -> Result<(), CheckFault>
-        ensures { OnOk result ((more : List ℕ) × Grows (string_bytes out.old) (string_bytes out.new) more × Takes self.old self.new piece.now more) }
+        ensures taken { OnOk result ((more : List ℕ) × Grows (string_bytes out.old) (string_bytes out.new) more × Takes self.old self.new piece.now more) }
+        ensures fault { IfErr result (StopsInside self.old piece.now (string_bytes out.old) (string_bytes out.new)) }
     {
         let mut rest = piece;
         while let Some((front, behind)) = cut_at(b'\n', rest) {
@@ -131,8 +138,10 @@ impl Session {
 
     /// Ends the text, and puts the last line behind the others.
     pub fn finish(&self, out: &mut String) -> Result<Report, CheckFault>
-        ensures { IfOk result (λ report. (end : List ℕ) × Grows (string_bytes out.old) (string_bytes out.new) end
+        ensures ended { IfOk result (λ report. (end : List ℕ) × Grows (string_bytes out.old) (string_bytes out.new) end
             × ((text : List ℕ) → IsAfter self.now text → IsAnswered text (replies_at self.now.stage ++ end) report)) }
+        ensures fault { IfErr result (StopsEnding self.now) }
+        ensures err { OnErr result (string_bytes out.new ≡ string_bytes out.old) }
     {
         if !self.partial.is_empty() {
             return Err(CheckFault::Truncated(self.stage.line()));
@@ -152,7 +161,8 @@ impl Session {
 
     // A part of the next line, with no line feed in it.
     fn extend(&mut self, part: &[u8]) -> Result<(), CheckFault>
-        ensures { OnOk result (Extends self.old self.new part.now) }
+        ensures taken { OnOk result (Extends self.old self.new part.now) }
+        ensures fault { IfErr result (StopsExtending self.old part.now) }
     {
         let room = LONGEST_LINE.saturating_sub(self.partial.len());
         if part.len() > room {
@@ -164,7 +174,9 @@ impl Session {
 
     // The next line is whole.
     fn end_line(&mut self, out: &mut String) -> Result<(), CheckFault>
-        ensures { OnOk result ((more : List ℕ) × Grows (string_bytes out.old) (string_bytes out.new) more × EndsLine self.old self.new more) }
+        ensures taken { OnOk result ((more : List ℕ) × Grows (string_bytes out.old) (string_bytes out.new) more × EndsLine self.old self.new more) }
+        ensures fault { IfErr result (StopsLine self.old.stage self.old.partial.items) }
+        ensures err { OnErr result (string_bytes out.new ≡ string_bytes out.old) }
     {
         self.stage.take_line(self.alloc, &self.partial, out)?;
         self.partial.clear();

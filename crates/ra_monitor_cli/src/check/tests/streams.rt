@@ -61,7 +61,7 @@ fn every_prefix(rt: HostRuntime) -> Result<(), Fail> {
     Ok(())
 }
 
-// Gives the text a byte at a time, and fails at a read.
+// Gives the text a byte at a time, and fails at one read: one who asks again gets the rest.
 #[derive(Drop)]
 struct Drip<'a> {
     text: &'a [u8],
@@ -71,6 +71,7 @@ struct Drip<'a> {
 impl Read for Drip<'_> {
     fn read(&mut self, buf: &mut [u8]) -> io::Result<usize> {
         if self.good_reads == 0 || buf.len() > PIECE {
+            self.good_reads = usize::MAX;
             return Err(io::Error::from(ErrorKind::Interrupted));
         }
         self.good_reads -= 1;
@@ -115,7 +116,7 @@ fn reads_of_one_byte_that_fail(rt: HostRuntime) -> Result<(), Fail> {
     Ok(())
 }
 
-// Takes a byte at a time, and then fails, or takes none.
+// Takes a byte at a time, and at one write fails, or takes none: one who asks again gets the rest written.
 #[derive(Drop)]
 struct Trickle {
     taken: Vec<u8>,
@@ -126,6 +127,7 @@ struct Trickle {
 impl Write for Trickle {
     fn write(&mut self, buf: &[u8]) -> io::Result<usize> {
         if self.good_writes == 0 {
+            self.good_writes = usize::MAX;
             return if self.fails {
                 Err(io::Error::from(ErrorKind::Interrupted))
             } else {

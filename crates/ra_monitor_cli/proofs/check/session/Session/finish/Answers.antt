@@ -4,8 +4,8 @@ use Rattle.ra_monitor_cli.specs.Bytes.{Grows}
 use Rattle.ra_monitor_cli.proofs.Sessions.{answered}
 use Rattle.ra_monitor_cli.proofs.check.session.Session.finish.Goals as goal
 
-pub returns-in_ok-push_str-in-Commands : goal.returns-in_ok-push_str-in-Commands
-returns-in_ok-push_str-in-Commands c =
+pub returns-in_ok-push_str-in-Commands-clause-ended : goal.returns-in_ok-push_str-in-Commands-clause-ended
+returns-in_ok-push_str-in-Commands-clause-ended c =
     let line = c.in_ok-line-in-Commands.line in
     let grows : Grows (string_bytes c.args.out.now) (string_bytes c.push_str.new.self) (string_bytes line) = search rules in
     let zero : vec_len c.args.self.now.partial ≡ 0 = search rules in
@@ -14,5 +14,5 @@ returns-in_ok-push_str-in-Commands c =
       grows,
       λ text after.
           answered c.args.self.now c.in-Commands.recorder text (string_bytes line) c.report-report.result c.in-Commands.is nothing
-          c.report-report.ensures.report c.report-report.ensures.replies c.in_ok-line-in-Commands.ensures after,
+          c.report-report.ensures c.in_ok-line-in-Commands.ensures after,
     )
