@@ -83,13 +83,13 @@ written_then w0 w1 w2 before bytes rest written more = record {
 }
 
 pub halts_writing_end : (r0 r1 r2 w0 w1 w2 : Option (List ℕ)) (session : Session) (out1 out2 unwritten : List ℕ) (report : Report)
-    → IsRunning r0 r1 w0 w1 session out1 → Consumes r1 r2 [] → IsAtEnd r2
+    → 0 < length unwritten → IsRunning r0 r1 w0 w1 session out1 → Consumes r1 r2 [] → IsAtEnd r2
     → (end : List ℕ) × Grows out1 out2 end × ((text : List ℕ) → IsAfter session text → IsAnswered text (replies_at session.stage ++ end) report)
     → HasWritten w1 w2 out2 unwritten → IfSome r0 (λ text. StopsCheck text r2 w0 w2 Write)
-halts_writing_end None r1 r2 w0 w1 w2 session out1 out2 unwritten report running consumes ends finished written = tt
-halts_writing_end (Some all) None r2 w0 w1 w2 session out1 out2 unwritten report running consumes ends finished written = absurd running.read
-halts_writing_end (Some all) (Some rest) None w0 w1 w2 session out1 out2 unwritten report running consumes ends finished written = absurd consumes
-halts_writing_end (Some all) (Some rest) (Some left) w0 w1 w2 session out1 out2 unwritten report running consumes ends finished written =
+halts_writing_end None r1 r2 w0 w1 w2 session out1 out2 unwritten report short running consumes ends finished written = tt
+halts_writing_end (Some all) None r2 w0 w1 w2 session out1 out2 unwritten report short running consumes ends finished written = absurd running.read
+halts_writing_end (Some all) (Some rest) None w0 w1 w2 session out1 out2 unwritten report short running consumes ends finished written = absurd consumes
+halts_writing_end (Some all) (Some rest) (Some left) w0 w1 w2 session out1 out2 unwritten report short running consumes ends finished written =
     let gathered : out2 ≡ finished.0 = finished.1 ∙ ap (λ (bs : List ℕ). bs ++ finished.0) running.nothing in
     let whole : running.read.0 ≡ all =
     sym (running.read.1 ∙ ap (λ (bs : List ℕ). running.read.0 ++ bs) (consumes ∙ ends) ∙ append-nil running.read.0) in
@@ -99,6 +99,7 @@ halts_writing_end (Some all) (Some rest) (Some left) w0 w1 w2 session out1 out2 
       record {
         out = replies_at session.stage ++ finished.0;
         rest = unwritten;
+        short = short;
         written = written_then w0 w1 w2 (replies_at session.stage) finished.0 unwritten running.written here;
         answered = inr (report, finished.2 all (subst (IsAfter session) whole running.read.2));
       },
@@ -120,13 +121,13 @@ fed_anyway (Err fault) old new piece out1 out2 front later taken stopped after =
     (stopped.more, stopped.grows, stops.stage, stops.rest, stops.answered)
 
 pub halts_writing : {T : Type 0} (r : Result T CheckFault) (r0 r1 r2 w0 w1 w2 : Option (List ℕ)) (old new : Session) (out1 out2 piece unwritten : List ℕ)
-    → IsRunning r0 r1 w0 w1 old out1 → Consumes r1 r2 piece
+    → 0 < length unwritten → IsRunning r0 r1 w0 w1 old out1 → Consumes r1 r2 piece
     → OnOk r ((more : List ℕ) × Grows out1 out2 more × Takes old new piece more) → IfErr r (StopsInside old piece out1 out2)
     → HasWritten w1 w2 out2 unwritten → IfSome r0 (λ text. StopsCheck text r2 w0 w2 Write)
-halts_writing r None r1 r2 w0 w1 w2 old new out1 out2 piece unwritten running consumes taken stopped written = tt
-halts_writing r (Some all) None r2 w0 w1 w2 old new out1 out2 piece unwritten running consumes taken stopped written = absurd running.read
-halts_writing r (Some all) (Some rest) None w0 w1 w2 old new out1 out2 piece unwritten running consumes taken stopped written = absurd consumes
-halts_writing r (Some all) (Some rest) (Some left) w0 w1 w2 old new out1 out2 piece unwritten running consumes taken stopped written =
+halts_writing r None r1 r2 w0 w1 w2 old new out1 out2 piece unwritten short running consumes taken stopped written = tt
+halts_writing r (Some all) None r2 w0 w1 w2 old new out1 out2 piece unwritten short running consumes taken stopped written = absurd running.read
+halts_writing r (Some all) (Some rest) None w0 w1 w2 old new out1 out2 piece unwritten short running consumes taken stopped written = absurd consumes
+halts_writing r (Some all) (Some rest) (Some left) w0 w1 w2 old new out1 out2 piece unwritten short running consumes taken stopped written =
     let fed = fed_anyway r old new piece out1 out2 running.read.0 left taken stopped running.read.2 in
     let gathered : out2 ≡ fed.0 = fed.1 ∙ ap (λ (bs : List ℕ). bs ++ fed.0) running.nothing in
     let whole : all ≡ running.read.0 ++ (piece ++ left) = running.read.1 ∙ ap (λ (bs : List ℕ). running.read.0 ++ bs) consumes in
@@ -137,6 +138,7 @@ halts_writing r (Some all) (Some rest) (Some left) w0 w1 w2 old new out1 out2 pi
       record {
         out = replies_at old.stage ++ fed.0;
         rest = unwritten;
+        short = short;
         written = written_then w0 w1 w2 (replies_at old.stage) fed.0 unwritten running.written here;
         answered = inl (fed.2, fed.3, answered);
       },
@@ -172,3 +174,8 @@ given_more (Some all) None r2 reads count buffer given consumes some bound = abs
 given_more (Some all) (Some rest) None reads count buffer given consumes some bound = absurd consumes
 given_more (Some all) (Some rest) (Some left) reads count buffer given consumes some bound =
     omega (arith, given, ap length consumes, length-append (take count buffer) left, length-take-le count buffer bound, some)
+
+pub given_less : (r0 r1 : Option (List ℕ)) (less more : ℕ) → less ≤ more → HasGiven r0 r1 more → HasGiven r0 r1 less
+given_less None r1 less more below given = tt
+given_less (Some all) None less more below given = absurd given
+given_less (Some all) (Some rest) less more below given = omega (arith, below, given)

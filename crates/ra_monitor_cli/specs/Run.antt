@@ -1,5 +1,5 @@
 -- A whole run: what was read, and what was written.
-use Rattle.std.specs.Prelude.{◌≡◌, ◌⊎◌, ℕ, ◌+◌, ◌≤◌, List, [], ◌++◌, length, Option, Some, None, ⊤}
+use Rattle.std.specs.Prelude.{◌≡◌, ◌⊎◌, ℕ, ◌+◌, ◌<◌, ◌≤◌, List, [], ◌++◌, length, Option, Some, None, ⊤}
 use Rattle.std.specs.Io.KnownBytes.{Appends}
 use Rattle.ra_monitor.specs.declared.report.Report.{Report}
 use Rattle.ra_monitor_cli.specs.declared.check.fault.CheckFault.{CheckFault}
@@ -18,10 +18,12 @@ pub record WritesAnswer (text : List ℕ) (old new : Option (List ℕ)) (report 
   pub answered : IsAnswered text out report
   pub appends : Appends old new out
 
--- the writer's bytes, where they are known, grew by a front of what is written for the text or for its first lines
+-- the writer's bytes, where they are known, grew by a front of what is written for the text or for its first lines, and
+-- not by the rest of it
 pub record WritesFront (text : List ℕ) (old new : Option (List ℕ)) : Type 0 where
   pub out : List ℕ
   pub rest : List ℕ
+  pub short : 0 < length rest
   pub written : HasWritten old new out rest
   pub answered : ((stage : Stage) × (behind : List ℕ) × IsAnsweredUpTo text out behind stage) ⊎ ((report : Report) × IsAnswered text out report)
 

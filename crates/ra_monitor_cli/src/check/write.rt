@@ -1,5 +1,5 @@
 //! Bytes to a writer.
-ghost use Rattle.std.specs.Prelude.{◌≡◌, ℕ, List, IfErr, OnOk};
+ghost use Rattle.std.specs.Prelude.{◌≡◌, ◌<◌, ℕ, List, length, IfErr, OnOk};
 ghost use Rattle.std.specs.Io.KnownBytes.{Appends};
 ghost use Rattle.ra_monitor_cli.specs.Written.{HasWritten};
 ghost use Rattle.ra_monitor_cli.specs.declared.check.fault.CheckFault.TheVariants.{Write};
@@ -11,7 +11,7 @@ use std::io::Write;
 /// before it were written.
 pub fn write_out<W: Write>(writer: &mut W, bytes: &[u8]) -> Result<(), CheckFault>
     ensures written { OnOk result (Appends (W.contents writer.old) (W.contents writer.new) bytes.now) }
-    ensures fault { IfErr result (λ fault. (rest : List ℕ) × (fault ≡ Write)
+    ensures fault { IfErr result (λ fault. (rest : List ℕ) × (fault ≡ Write) × (0 < length rest)
         × HasWritten (W.contents writer.old) (W.contents writer.new) bytes.now rest) }
 {
     let mut rest = bytes;

@@ -3,7 +3,7 @@ use Rattle.std.proofs.lemmas.Result.{err_from_is_err_and}
 use Rattle.std.specs.Io.KnownBytes.{Appends, Consumes, IsAtEnd}
 use Rattle.ra_monitor_cli.proofs.Runs.{run_first, run_next, run_last}
 use Rattle.ra_monitor_cli.specs.Written.{HasWritten}
-use Rattle.ra_monitor_cli.proofs.Halts.{halts_reading, halts_endless, halts_ending, halts_writing_end, halts_writing, halts_feeding, passed_on, given_none, given_more}
+use Rattle.ra_monitor_cli.proofs.Halts.{halts_reading, halts_endless, halts_ending, halts_writing_end, halts_writing, halts_feeding, passed_on, given_none, given_more, given_less}
 use Rattle.ra_monitor_cli.proofs.check.check.Goals as goal
 
 pub loop-init : goal.loop-init
@@ -68,9 +68,9 @@ returns-in_err-write_out-clause-stopped g c =
     let consumes : Consumes r1 r2 (take 0 c.read.new.buf) = subst (λ (k : ℕ). Consumes r1 r2 (take k c.read.new.buf)) c.if-count-eq0.true c.in-Ok.ensures.bytes.0 in
     let ends : IsAtEnd r2 = c.in-Ok.ensures.bytes.1 c.if-count-eq0.true (omega arith) in
     let unwritten = c.in_err-write_out.ensures.fault in
-    let written : HasWritten w1 w2 (string_bytes c.finish.new.out) unwritten.0 = subst (λ (bs : List ℕ). HasWritten w1 w2 bs unwritten.0) c.as_bytes.ensures.value unwritten.2 in
+    let written : HasWritten w1 w2 (string_bytes c.finish.new.out) unwritten.0 = subst (λ (bs : List ℕ). HasWritten w1 w2 bs unwritten.0) c.as_bytes.ensures.value unwritten.3 in
     let halted = halts_writing_end (g.R.Read.remaining c.args.reader.now) r1 r2 (g.W.Write.contents c.args.writer.now) w1 w2 c.loop.session
-    (string_bytes c.loop.out) (string_bytes c.finish.new.out) unwritten.0 c.in_ok-report.report c.loop.invariant.0 consumes ends c.in_ok-report.ensures.ended written in
+    (string_bytes c.loop.out) (string_bytes c.finish.new.out) unwritten.0 c.in_ok-report.report unwritten.2 c.loop.invariant.0 consumes ends c.in_ok-report.ensures.ended written in
     let passed = err_from_is_err_and c.from_residual-in_err-write_out.result c.from_residual-in_err-write_out.ensures.1 in
     passed_on c.from_residual-in_err-write_out.result _ _ passed.0 passed.1 (passed.2 ∙ unwritten.1) halted
 
@@ -81,9 +81,9 @@ returns-in_err-write_out-2-clause-stopped g c =
     let w1 = g.W.Write.contents c.loop.writer in
     let w2 = g.W.Write.contents c.write_out-in-loop.new.writer in
     let unwritten = c.in_err-write_out-2.ensures.fault in
-    let written : HasWritten w1 w2 (string_bytes c.feed-fed.new.out) unwritten.0 = subst (λ (bs : List ℕ). HasWritten w1 w2 bs unwritten.0) c.as_bytes-in-loop.ensures.value unwritten.2 in
+    let written : HasWritten w1 w2 (string_bytes c.feed-fed.new.out) unwritten.0 = subst (λ (bs : List ℕ). HasWritten w1 w2 bs unwritten.0) c.as_bytes-in-loop.ensures.value unwritten.3 in
     let halted = halts_writing c.feed-fed.result (g.R.Read.remaining c.args.reader.now) r1 r2 (g.W.Write.contents c.args.writer.now) w1 w2 c.loop.session c.feed-fed.new.self
-    (string_bytes c.loop.out) (string_bytes c.feed-fed.new.out) (take c.in-Ok.count c.read.new.buf) unwritten.0 c.loop.invariant.0 c.in-Ok.ensures.bytes.0 c.feed-fed.ensures.taken c.feed-fed.ensures.fault written in
+    (string_bytes c.loop.out) (string_bytes c.feed-fed.new.out) (take c.in-Ok.count c.read.new.buf) unwritten.0 unwritten.2 c.loop.invariant.0 c.in-Ok.ensures.bytes.0 c.feed-fed.ensures.taken c.feed-fed.ensures.fault written in
     let passed = err_from_is_err_and c.from_residual-in_err-write_out-2.result c.from_residual-in_err-write_out-2.ensures.1 in
     passed_on c.from_residual-in_err-write_out-2.result _ _ passed.0 passed.1 (passed.2 ∙ unwritten.1) halted
 
@@ -98,3 +98,6 @@ returns-in_err-fed-clause-stopped g c =
     (string_bytes c.loop.out) (string_bytes c.feed-fed.new.out) (take c.in-Ok.count c.read.new.buf) c.in_err-fed.field-0.0 c.loop.invariant.0 c.in-Ok.ensures.bytes.0 c.in_err-fed.ensures.fault appends in
     let passed = err_from_is_err_and c.from_residual-in_err-fed.result c.from_residual-in_err-fed.ensures.1 in
     passed_on c.from_residual-in_err-fed.result _ _ passed.0 passed.1 passed.2 halted
+
+pub returns-clause-endless : goal.returns-clause-endless
+returns-clause-endless g c same = given_less (g.R.Read.remaining c.args.reader.now) (g.R.Read.remaining c.loop.reader) 4294967296 c.loop.counter c.loop-test.false c.loop.invariant.1
