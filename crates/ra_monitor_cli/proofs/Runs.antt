@@ -1,5 +1,5 @@
 -- Readers and writers over a whole run.
-use Rattle.std.proofs.Common.{◌≡◌, ℕ, List, [], ◌++◌, take, drop, Option, Some, None, IfSome, refl, sym, ap, subst, ◌∙◌}
+use Rattle.std.proofs.Common.{◌≡◌, ℕ, List, [], ◌++◌, take, drop, Option, Some, None, IfSome, refl, sym, ap, subst, ◌∙◌, ◌<◌, length}
 use Rattle.std.specs.Io.KnownBytes.{Appends, Consumes, IsAtEnd}
 use Rattle.std.proofs.lemmas.List.{append_assoc, append-nil, take-append-drop}
 use Rattle.ra_monitor.specs.declared.report.Report.{Report}
@@ -64,6 +64,11 @@ run_next r0 r1 r2 w0 w1 w2 old new out1 out2 out3 piece running consumes fed app
       written = subst (Appends w0 w2) (sym fed.2.replied) (Appends-then w0 w1 w2 (replies_at old.stage) fed.0 running.written (subst (Appends w1 w2) gathered appends));
       nothing = nothing;
     }
+
+-- a read of no byte, though there was room for one: nothing is left
+pub read_none_left : (r1 r2 : Option (List ℕ)) (count : ℕ) (buffer : List ℕ) → count ≡ 0 → 0 < length buffer
+    → Consumes r1 r2 (take count buffer) × (count ≡ 0 → 0 < length buffer → IsAtEnd r2) → Consumes r1 r2 [] × IsAtEnd r2
+read_none_left r1 r2 count buffer none room read = (subst (λ (k : ℕ). Consumes r1 r2 (take k buffer)) none read.0, read.1 none room)
 
 pub run_last : (r0 r1 r2 w0 w1 w2 : Option (List ℕ)) (session : Session) (out1 out2 : List ℕ) (report : Report)
     → IsRunning r0 r1 w0 w1 session out1 → Consumes r1 r2 [] → IsAtEnd r2

@@ -13,10 +13,17 @@ use Rattle.ra_labels.specs.declared.command.Command.TheVariants.{Operate, Delive
 
 -- ---- lines
 
--- A line has no line feed, which is the byte 10, and at most 1,048,576 bytes.
+-- the most bytes of a line, and the most commands of a text
+abbrev pub longest_line : ℕ
+longest_line = 1048576
+
+abbrev pub most_commands : ℕ
+most_commands = 1048576
+
+-- A line has no line feed, which is the byte 10, and no more bytes than the longest.
 pub record IsLine (line : List ℕ) : Type 0 where
   pub one : All (λ byte. byte ≢ 10) line
-  pub short : length line ≤ 1048576
+  pub short : length line ≤ longest_line
 
 -- lines as bytes: a line feed after each
 abbrev pub bytes_of : List (List ℕ) → List ℕ
@@ -129,8 +136,8 @@ SpellEach kind names _ _ = ⊥
 
 -- ---- the text
 
--- the text is a first line, a line of names and at most 1,048,576 lines of commands, and ends behind the last one's
--- line feed
+-- the text is a first line, a line of names and lines of commands, no more than the most, and ends behind the last
+-- one's line feed
 pub record Says (text : List ℕ) (kind : Kind) (names : List (List ℕ)) (commands : List Command) : Type 0 where
   pub second : List ℕ
   pub lines : List (List ℕ)
@@ -138,4 +145,4 @@ pub record Says (text : List ℕ) (kind : Kind) (names : List (List ℕ)) (comma
   pub are_lines : AllByRecursion IsLine (first_line kind ∷ second ∷ lines)
   pub lists : ListsNames second names
   pub spell : SpellEach kind names lines commands
-  pub few : length commands ≤ 1048576
+  pub few : length commands ≤ most_commands

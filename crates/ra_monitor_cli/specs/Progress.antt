@@ -2,15 +2,15 @@
 use Rattle.std.specs.Prelude.{◌+◌, ◌≡◌, ℕ, ◌<◌, ◌≤◌, List, [], ◌∷◌, ◌++◌, length, flat_map, ⊤}
 use Rattle.std.specs.List.{AllByRecursion}
 use Rattle.ra_labels.specs.declared.kind.Kind.{Kind}
-use Rattle.ra_labels.specs.declared.command.Command.{Command}
 use Rattle.ra_monitor_cli.specs.Bytes.{Grows}
 use Rattle.ra_monitor_cli.specs.declared.check.fault.CheckFault.{CheckFault}
 use Rattle.ra_monitor_cli.specs.declared.check.fault.CheckFault.TheVariants.{Syntax, Truncated, LineTooLong, NoMemory, Full}
 use Rattle.ra_monitor_cli.specs.declared.check.session.Stage.{Stage}
 use Rattle.ra_monitor_cli.specs.declared.check.session.Stage.TheVariants.{FirstLine, NamesLine, Commands}
 use Rattle.ra_monitor_cli.specs.declared.check.session.Session.{Session}
-use Rattle.ra_monitor_cli.specs.Grammar.{IsLine, bytes_of, first_line, ListsNames, Spells, SpellEach}
+use Rattle.ra_monitor_cli.specs.Grammar.{longest_line, most_commands, IsLine, bytes_of, first_line, ListsNames, SpellEach}
 use Rattle.ra_monitor_cli.specs.Output.{reply_line, answers_in}
+use Rattle.ra_monitor_cli.specs.Recorded.{SpellsNone, SpellsOneTooMany}
 
 -- these lines were taken in, and lead to this stage
 abbrev pub AreTaken : Stage → List (List ℕ) → Type 0
@@ -18,7 +18,7 @@ AreTaken FirstLine lines = lines ≡ []
 AreTaken (NamesLine kind) lines = lines ≡ first_line kind ∷ []
 AreTaken (Commands recorded) lines = (second : List ℕ) × (others : List (List ℕ))
     × (lines ≡ first_line recorded.kind ∷ second ∷ others) × ListsNames second recorded.names
-    × SpellEach recorded.kind recorded.names others recorded.commands × (length recorded.commands ≤ 1048576)
+    × SpellEach recorded.kind recorded.names others recorded.commands × (length recorded.commands ≤ most_commands)
 
 -- the reply lines so far
 abbrev pub replies_at : Stage → List ℕ
@@ -41,14 +41,13 @@ pub record TakesLine (old new : Stage) (line more : List ℕ) : Type 0 where
 abbrev pub IsNoLine : Stage → List ℕ → Type 0
 IsNoLine FirstLine line = (kind : Kind) → line ≡ first_line kind → ⊥
 IsNoLine (NamesLine kind) line = (names : List (List ℕ)) → ListsNames line names → ⊥
-IsNoLine (Commands recorded) line = (command : Command) → Spells recorded.kind recorded.names line command → ⊥
+IsNoLine (Commands recorded) line = SpellsNone recorded line
 
--- the line spells a command, and there is no room for one more
+-- the line is a command's, and there is no room for one more
 abbrev pub IsOneTooMany : Stage → List ℕ → Type 0
 IsOneTooMany FirstLine line = ⊥
 IsOneTooMany (NamesLine kind) line = ⊥
-IsOneTooMany (Commands recorded) line =
-    (length recorded.commands ≡ 1048576) × ((command : Command) × Spells recorded.kind recorded.names line command)
+IsOneTooMany (Commands recorded) line = SpellsOneTooMany recorded line
 
 -- why a stage does not take a line
 abbrev pub StopsLine : Stage → List ℕ → CheckFault → Type 0
@@ -71,12 +70,12 @@ pub record IsAfter (session : Session) (stream : List ℕ) : Type 0 where
 pub record Extends (old new : Session) (part : List ℕ) : Type 0 where
   pub stage : new.stage ≡ old.stage
   pub partial : new.partial.items ≡ old.partial.items ++ part
-  pub short : length old.partial.items ≤ 1048576 → length new.partial.items ≤ 1048576
+  pub short : length old.partial.items ≤ longest_line → length new.partial.items ≤ longest_line
 
 -- why the next line cannot come this much further
 abbrev pub StopsExtending : Session → List ℕ → CheckFault → Type 0
 StopsExtending old part (LineTooLong line_number) =
-    (line_number ≡ next_line old.stage) × (1048576 < length old.partial.items + length part)
+    (line_number ≡ next_line old.stage) × (longest_line < length old.partial.items + length part)
 StopsExtending old part NoMemory = ⊤
 StopsExtending old part _ = ⊥
 

@@ -6,7 +6,7 @@ use Rattle.ra_labels.specs.declared.reply.Reply.{Reply}
 use Rattle.ra_labels.specs.Answer.{answer_of}
 use Rattle.ra_monitor_cli.specs.declared.check.fault.CheckFault.{CheckFault}
 use Rattle.ra_monitor_cli.specs.declared.check.fault.CheckFault.TheVariants.{Syntax, NoMemory, Full}
-use Rattle.ra_monitor_cli.specs.Grammar.{Spells}
+use Rattle.ra_monitor_cli.specs.Grammar.{most_commands, Spells}
 use Rattle.ra_monitor_cli.specs.Output.{reply_line, records_in}
 
 pub record Recorded : Type 0 where
@@ -22,7 +22,7 @@ next_answer recorded command =
 
 -- the command is recorded, and answered with this reply
 pub record RecordsCommand (old new : Recorded) (command : Command) (reply : Reply) : Type 0 where
-  pub room : length old.commands < 1048576
+  pub room : length old.commands < most_commands
   pub recorded : new ≡ record old { commands = old.commands ++ command ∷ [] }
   pub answered : reply ≡ next_answer old command
 
@@ -30,23 +30,30 @@ pub record RecordsCommand (old new : Recorded) (command : Command) (reply : Repl
 pub record RecordsLine (old new : Recorded) (line more : List ℕ) : Type 0 where
   pub command : Command
   pub spelled : Spells old.kind old.names line command
-  pub room : length old.commands < 1048576
+  pub room : length old.commands < most_commands
   pub recorded : new ≡ record old { commands = old.commands ++ command ∷ [] }
   pub answered : more ≡ reply_line (next_answer old command)
 
 -- ---- faults
 
+-- the line spells no command
+abbrev pub SpellsNone : Recorded → List ℕ → Type 0
+SpellsNone recorded line = (command : Command) → Spells recorded.kind recorded.names line command → ⊥
+
+-- the line spells a command, and there is no room for one more
+abbrev pub SpellsOneTooMany : Recorded → List ℕ → Type 0
+SpellsOneTooMany recorded line =
+    (length recorded.commands ≡ most_commands) × ((command : Command) × Spells recorded.kind recorded.names line command)
+
 -- why a command is not answered
 abbrev pub StopsAnswering : Recorded → CheckFault → Type 0
-StopsAnswering old (Full line_number) = (line_number ≡ length old.commands + 3) × (length old.commands ≡ 1048576)
+StopsAnswering old (Full line_number) = (line_number ≡ length old.commands + 3) × (length old.commands ≡ most_commands)
 StopsAnswering old NoMemory = ⊤
 StopsAnswering old _ = ⊥
 
--- why a line is not recorded: it spells no command, or its command is not answered
+-- why a line is not recorded
 abbrev pub StopsRecording : Recorded → List ℕ → CheckFault → Type 0
-StopsRecording old line (Syntax line_number) =
-    (line_number ≡ length old.commands + 3) × ((command : Command) → Spells old.kind old.names line command → ⊥)
-StopsRecording old line (Full line_number) =
-    (line_number ≡ length old.commands + 3) × (length old.commands ≡ 1048576) × ((command : Command) × Spells old.kind old.names line command)
+StopsRecording old line (Syntax line_number) = (line_number ≡ length old.commands + 3) × SpellsNone old line
+StopsRecording old line (Full line_number) = (line_number ≡ length old.commands + 3) × SpellsOneTooMany old line
 StopsRecording old line NoMemory = ⊤
 StopsRecording old line _ = ⊥

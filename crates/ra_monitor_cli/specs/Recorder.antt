@@ -3,6 +3,7 @@ use Rattle.std.specs.Prelude.{◌≡◌, ℕ, ◌≤◌, nat_lt, Bool, true, Lis
 use Rattle.std.specs.List.{list_all}
 use Rattle.ra_monitor.specs.Monitor.{MonitorEntry, commands_of}
 use Rattle.ra_monitor_cli.specs.declared.check.recorder.Recorder.TheInside.{Inside}
+use Rattle.ra_monitor_cli.specs.Grammar.{most_commands}
 use Rattle.ra_monitor_cli.specs.Recorded.{Recorded}
 use Rattle.ra_monitor_cli.specs.Output.{answers_in}
 
@@ -16,7 +17,7 @@ are_tickets_below count log = list_all (λ entry. nat_lt entry.ticket count) log
 pub record IsKept (r : Inside) : Type 0 where
   pub kind : r.monitor.setup.kind ≡ r.kind
   pub replicas : r.monitor.setup.replicas ≡ length r.names
-  pub limit : r.monitor.setup.limit ≡ 1048576
-  pub fits : length r.monitor.log ≤ 1048576
+  pub limit : r.monitor.setup.limit ≡ most_commands
+  pub fits : length r.monitor.log ≤ most_commands
   pub tickets : are_tickets_below (length r.monitor.log) r.monitor.log ≡ true
   pub answered : map (λ entry. entry.reply) r.monitor.log ≡ answers_in r.kind r.names (commands_of r.monitor.log)

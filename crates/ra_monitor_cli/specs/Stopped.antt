@@ -6,7 +6,7 @@ use Rattle.ra_monitor_cli.specs.declared.check.fault.CheckFault.{CheckFault}
 use Rattle.ra_monitor_cli.specs.declared.check.fault.CheckFault.TheVariants.{Read, Write, Syntax, Truncated, LineTooLong, NoMemory, Endless, Full}
 use Rattle.ra_monitor_cli.specs.declared.check.session.Stage.{Stage}
 use Rattle.ra_monitor_cli.specs.declared.check.session.Session.{Session}
-use Rattle.ra_monitor_cli.specs.Grammar.{IsLine, bytes_of}
+use Rattle.ra_monitor_cli.specs.Grammar.{longest_line, IsLine, bytes_of}
 use Rattle.ra_monitor_cli.specs.Progress.{AreTaken, replies_at, next_line, StopsLine, HasToCome, IsAfter}
 
 -- the rest begins with a whole line, which is not taken
@@ -23,7 +23,7 @@ pub record BeginsTooLong (rest : List ℕ) : Type 0 where
   pub behind : List ℕ
   pub parts : rest ≡ front ++ behind
   pub one : All (λ byte. byte ≢ 10) front
-  pub long : 1048576 < length front
+  pub long : longest_line < length front
 
 -- the rest is a part of a line, or nothing where a line has to come
 pub record IsCutShort (stage : Stage) (rest : List ℕ) : Type 0 where

@@ -65,7 +65,8 @@ impl Recorder {
         self.monitor.log().len() as u32 + LINES_BEFORE + 1
     }
 
-    /// Reads a line, gives its command to the monitor, and puts the line of its reply behind the others.
+    /// Reads a line, gives its command to the monitor, and puts the line of its reply behind the others. After a
+    /// fault the recorder is of no further use; no line was added.
     pub fn record(&mut self, alloc: Global, line: &[u8], out: &mut String) -> Result<(), CheckFault>
         ensures taken { OnOk result ((more : List ℕ) × Grows (string_bytes out.old) (string_bytes out.new) more × RecordsLine self.old self.new line.now more) }
         ensures fault { IfErr result (StopsRecording self.old line.now) }

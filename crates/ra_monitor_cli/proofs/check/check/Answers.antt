@@ -1,7 +1,7 @@
 use Rattle.std.proofs.Common.{rules, ℕ, List, take, arith, subst, ◌∙◌, string_bytes}
 use Rattle.std.proofs.lemmas.Result.{err_from_is_err_and}
-use Rattle.std.specs.Io.KnownBytes.{Appends, Consumes, IsAtEnd}
-use Rattle.ra_monitor_cli.proofs.Runs.{run_first, run_next, run_last}
+use Rattle.std.specs.Io.KnownBytes.{Appends}
+use Rattle.ra_monitor_cli.proofs.Runs.{read_none_left, run_first, run_next, run_last}
 use Rattle.ra_monitor_cli.specs.Written.{HasWritten}
 use Rattle.ra_monitor_cli.proofs.Halts.{halts_reading, halts_endless, halts_ending, halts_writing_end, halts_writing, halts_feeding, passed_on, given_none, given_more, given_less}
 use Rattle.ra_monitor_cli.proofs.check.check.Goals as goal
@@ -19,11 +19,10 @@ returns-then-count-eq0-clause-written g c =
     let r2 = g.R.Read.remaining c.read.new.self in
     let w1 = g.W.Write.contents c.loop.writer in
     let w2 = g.W.Write.contents c.write_out.new.writer in
-    let consumes : Consumes r1 r2 (take 0 c.read.new.buf) = subst (λ (k : ℕ). Consumes r1 r2 (take k c.read.new.buf)) c.if-count-eq0.true c.in-Ok.ensures.bytes.0 in
-    let ends : IsAtEnd r2 = c.in-Ok.ensures.bytes.1 c.if-count-eq0.true (omega arith) in
+    let ended = read_none_left r1 r2 c.in-Ok.count c.read.new.buf c.if-count-eq0.true (omega arith) c.in-Ok.ensures.bytes in
     let appends : Appends w1 w2 (string_bytes c.finish.new.out) = subst (Appends w1 w2) c.as_bytes.ensures.value c.in_ok-write_out.ensures.written in
     run_last (g.R.Read.remaining c.args.reader.now) r1 r2 (g.W.Write.contents c.args.writer.now) w1 w2 c.loop.session
-    (string_bytes c.loop.out) (string_bytes c.finish.new.out) c.in_ok-report.report c.loop.invariant.0 consumes ends c.in_ok-report.ensures.ended appends
+    (string_bytes c.loop.out) (string_bytes c.finish.new.out) c.in_ok-report.report c.loop.invariant.0 ended.0 ended.1 c.in_ok-report.ensures.ended appends
 
 pub loop-preserved : goal.loop-preserved
 loop-preserved g c =
@@ -52,10 +51,9 @@ pub returns-in_err-report-clause-stopped : goal.returns-in_err-report-clause-sto
 returns-in_err-report-clause-stopped g c =
     let r1 = g.R.Read.remaining c.loop.reader in
     let r2 = g.R.Read.remaining c.read.new.self in
-    let consumes : Consumes r1 r2 (take 0 c.read.new.buf) = subst (λ (k : ℕ). Consumes r1 r2 (take k c.read.new.buf)) c.if-count-eq0.true c.in-Ok.ensures.bytes.0 in
-    let ends : IsAtEnd r2 = c.in-Ok.ensures.bytes.1 c.if-count-eq0.true (omega arith) in
+    let ended = read_none_left r1 r2 c.in-Ok.count c.read.new.buf c.if-count-eq0.true (omega arith) c.in-Ok.ensures.bytes in
     let halted = halts_ending (g.R.Read.remaining c.args.reader.now) r1 r2 (g.W.Write.contents c.args.writer.now) (g.W.Write.contents c.loop.writer) c.loop.session
-    (string_bytes c.loop.out) c.in_err-report.field-0.0 c.loop.invariant.0 consumes ends c.in_err-report.ensures.fault in
+    (string_bytes c.loop.out) c.in_err-report.field-0.0 c.loop.invariant.0 ended.0 ended.1 c.in_err-report.ensures.fault in
     let passed = err_from_is_err_and c.from_residual.result c.from_residual.ensures.1 in
     passed_on c.from_residual.result _ _ passed.0 passed.1 passed.2 halted
 
@@ -65,12 +63,11 @@ returns-in_err-write_out-clause-stopped g c =
     let r2 = g.R.Read.remaining c.read.new.self in
     let w1 = g.W.Write.contents c.loop.writer in
     let w2 = g.W.Write.contents c.write_out.new.writer in
-    let consumes : Consumes r1 r2 (take 0 c.read.new.buf) = subst (λ (k : ℕ). Consumes r1 r2 (take k c.read.new.buf)) c.if-count-eq0.true c.in-Ok.ensures.bytes.0 in
-    let ends : IsAtEnd r2 = c.in-Ok.ensures.bytes.1 c.if-count-eq0.true (omega arith) in
+    let ended = read_none_left r1 r2 c.in-Ok.count c.read.new.buf c.if-count-eq0.true (omega arith) c.in-Ok.ensures.bytes in
     let unwritten = c.in_err-write_out.ensures.fault in
     let written : HasWritten w1 w2 (string_bytes c.finish.new.out) unwritten.0 = subst (λ (bs : List ℕ). HasWritten w1 w2 bs unwritten.0) c.as_bytes.ensures.value unwritten.3 in
     let halted = halts_writing_end (g.R.Read.remaining c.args.reader.now) r1 r2 (g.W.Write.contents c.args.writer.now) w1 w2 c.loop.session
-    (string_bytes c.loop.out) (string_bytes c.finish.new.out) unwritten.0 c.in_ok-report.report unwritten.2 c.loop.invariant.0 consumes ends c.in_ok-report.ensures.ended written in
+    (string_bytes c.loop.out) (string_bytes c.finish.new.out) unwritten.0 c.in_ok-report.report unwritten.2 c.loop.invariant.0 ended.0 ended.1 c.in_ok-report.ensures.ended written in
     let passed = err_from_is_err_and c.from_residual-in_err-write_out.result c.from_residual-in_err-write_out.ensures.1 in
     passed_on c.from_residual-in_err-write_out.result _ _ passed.0 passed.1 (passed.2 ∙ unwritten.1) halted
 
