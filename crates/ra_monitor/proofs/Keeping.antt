@@ -6,22 +6,22 @@ use Rattle.ra_monitor.specs.declared.monitor.Monitor.TheInside.{Inside}
 use Rattle.ra_monitor.specs.Replies.{is_refused}
 use Rattle.ra_monitor.specs.Monitor.{MonitorEntry, protocol_of, records_of, refused_count, IsLegalLog, IsNextTicket}
 use Rattle.ra_monitor.specs.History.{StandsFor}
-use Rattle.ra_monitor.specs.Kept.{logged, IsKept}
+use Rattle.ra_monitor.specs.Kept.{monitor_of, MonitorKept}
 use Rattle.ra_monitor.proofs.Legal.{legal-push, records_of-push, refused_count-push}
 
 -- the log stays legal
-pub legal_after : (m : Inside) (entry : MonitorEntry) → IsKept m → IsNextTicket (logged m) entry.ticket
+pub legal_after : (m : Inside) (entry : MonitorEntry) → MonitorKept m → IsNextTicket (monitor_of m) entry.ticket
     → entry.reply ≡ answer_of m.setup.kind m.setup.replicas (records_of m.setup m.log.items) entry.command
     → IsLegalLog m.setup (m.log.items ++ entry ∷ [])
 legal_after m entry kept next answered = legal-push (protocol_of m.setup) [] m.log.items entry kept.legal (answered, next)
 
-pub kept_after : (m n : Inside) (entry : MonitorEntry) → IsKept m → IsNextTicket (logged m) entry.ticket → length m.log.items < m.setup.limit
+pub kept_after : (m n : Inside) (entry : MonitorEntry) → MonitorKept m → IsNextTicket (monitor_of m) entry.ticket → length m.log.items < m.setup.limit
     → entry.reply ≡ answer_of m.setup.kind m.setup.replicas (records_of m.setup m.log.items) entry.command
     → n.setup ≡ m.setup → n.log.items ≡ m.log.items ++ entry ∷ []
     → StandsFor n.history m.setup (records_after m.setup.kind m.setup.replicas (records_of m.setup m.log.items) entry.command)
     → vec_len n.history.labels ≤ vec_len m.history.labels + 1
     → n.refused ≡ m.refused + cond (is_refused entry.reply) 1 0
-    → IsKept n
+    → MonitorKept n
 kept_after m n entry kept next room answered setup log stands labels refused =
     let grown : length n.log.items ≡ length m.log.items + 1 = ap length log ∙ length-append m.log.items (entry ∷ []) in
     record {

@@ -1,14 +1,14 @@
 -- What the fields of a monitor stand for, and what is kept true of them.
 use Rattle.std.specs.Prelude.{◌≡◌, ◌≤◌, length, vec_len}
 use Rattle.ra_monitor.specs.declared.monitor.Monitor.TheInside.{Inside}
-use Rattle.ra_monitor.specs.Monitor.{Logged, records_of, refused_count, IsLegalLog}
+use Rattle.ra_monitor.specs.Monitor.{Monitor, records_of, refused_count, IsLegalLog}
 use Rattle.ra_monitor.specs.History.{StandsFor}
 use Rattle.ra_monitor.specs.Limits.{AreReplicas, IsLimit}
 
-abbrev pub logged : Inside → Logged
-logged m = record { setup = m.setup; log = m.log.items }
+abbrev pub monitor_of : Inside → Monitor
+monitor_of m = record { setup = m.setup; log = m.log.items }
 
-pub record IsKept (m : Inside) : Type 0 where
+pub record MonitorKept (m : Inside) : Type 0 where
   pub replicas : AreReplicas m.setup.replicas
   pub limit : IsLimit m.setup.limit
   pub fits : length m.log.items ≤ m.setup.limit

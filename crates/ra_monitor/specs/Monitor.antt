@@ -18,7 +18,7 @@ use Rattle.ra_monitor.specs.Log.{Protocol, IsLegal, IsAboveLast}
 abbrev pub MonitorEntry : Type 0
 MonitorEntry = Entry Command Reply
 
-pub record Logged : Type 0 where
+pub record Monitor : Type 0 where
   pub setup : Setup
   -- the oldest entry first
   pub log : List MonitorEntry
@@ -43,7 +43,7 @@ abbrev pub IsLegalLog : Setup → List MonitorEntry → Type 0
 IsLegalLog setup log = IsLegal (protocol_of setup) log
 
 -- the ticket is above the log's last
-abbrev pub IsNextTicket : Logged → ℕ → Type 0
+abbrev pub IsNextTicket : Monitor → ℕ → Type 0
 IsNextTicket monitor ticket = IsAboveLast (protocol_of monitor.setup) monitor.log ticket
 
 abbrev pub fault_in : Setup → List MonitorEntry → Option Fault

@@ -13,8 +13,9 @@ ghost use Rattle.ra_monitor.specs.declared.setup.Setup.{Setup};
 use crate::accepted::Accepted;
 use crate::fold::cause_of;
 use crate::had::Had;
+use crate::limits::MOST_ENTRIES;
 use crate::refusing::refusal_of;
-use crate::rewriting::update_of;
+use crate::rewriting::update_in;
 use crate::setup::Setup;
 use ra_labels::{Cause, Command, Fault, Label, NoMemory, Op, Reply, Stamp};
 use std::alloc::Global;
@@ -61,7 +62,7 @@ impl History {
     /// Costs a step for each query and label where the command is an operation, and a look-up otherwise.
     pub fn take(&mut self, setup: &Setup, command: &Command) -> Result<Reply, NoMemory>
         requires replicas { vec_len self.old.had.sets ≡ setup.now.replicas }
-        requires room { vec_len self.old.labels < 1048576 }
+        requires room { vec_len self.old.labels < MOST_ENTRIES }
         ensures taken { (records : Records) → StandsFor self.old setup.now records → IfOk result (λ reply.
             (reply ≡ answer_of setup.now.kind setup.now.replicas records command.now)
             × StandsFor self.new setup.now (records_after setup.now.kind setup.now.replicas records command.now)) }
@@ -82,7 +83,7 @@ impl History {
         }
     }
 
-    /// Takes a delivery that is not refused.
+    // Takes a delivery that is not refused.
     fn deliver(&mut self, replica: u8, label: u32) -> Result<Reply, NoMemory>
         requires { replica < vec_len self.old.had.sets }
         ensures reply { IfOk result (λ reply. reply ≡ Reply.Got label) }
@@ -96,7 +97,7 @@ impl History {
         Ok(Reply::Got(label))
     }
 
-    /// Takes an operation that is not refused.
+    // Takes an operation that is not refused.
     fn accept(
         &mut self,
         setup: &Setup,
@@ -105,7 +106,7 @@ impl History {
         clock: Option<u32>,
     ) -> Result<Reply, NoMemory>
         requires replica { replica < vec_len self.old.had.sets }
-        requires room { vec_len self.old.labels < 1048576 }
+        requires room { vec_len self.old.labels < MOST_ENTRIES }
         ensures taken { (records : Records) → StandsFor self.old setup.now records → fault_of setup.now.kind records ≡ None → IfOk result (λ reply.
             (reply ≡ answer_to_accepted setup.now.kind records (Command.Operate replica op.now clock))
             × StandsFor self.new setup.now (Command.Operate replica op.now clock ∷ records)) }
@@ -127,7 +128,7 @@ impl History {
         }
     }
 
-    /// The next label, with what its replica had.
+    // The next label, with what its replica had.
     fn label(
         &self,
         number: u32,
@@ -152,7 +153,7 @@ impl History {
         Ok(Accepted { label, seen })
     }
 
-    /// Keeps what the newest label amounts to, and answers it.
+    // Keeps what the newest label amounts to, and answers it.
     fn settle(&mut self, number: u32, replica: u8, op: &Op, cause: Option<Cause>) -> Reply
         requires replica { replica < vec_len self.old.had.sets }
         requires room { HasRoom self.old.had replica number }
@@ -161,7 +162,7 @@ impl History {
         ensures fault { self.new.fault ≡ option_map (fault_at number) cause }
         ensures had { MatchBool (is_update op.now) (AddsHad self.old.had self.new.had replica number) (self.new.had ≡ self.old.had) }
     {
-        if update_of(op).is_some() {
+        if update_in(op).is_some() {
             self.had.put(replica, number);
         }
         self.fault = cause.map(|cause| Fault {
@@ -175,7 +176,7 @@ impl History {
     }
 }
 
-/// The reply that tells of a fault.
+// The reply that tells of a fault.
 fn no_at(fault: Fault) -> Reply
     ensures { result ≡ no_at fault }
 {

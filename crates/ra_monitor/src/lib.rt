@@ -13,6 +13,7 @@ mod fold;
 mod had;
 mod history;
 pub mod laws;
+mod limits;
 mod monitor;
 mod part_ref;
 mod refusing;
@@ -25,7 +26,8 @@ mod setup;
 
 pub use entry::Entry;
 pub use faults::{NewFault, StepFault};
-pub use monitor::{MOST_ENTRIES, MOST_REPLICAS, Monitor};
+pub use limits::{MOST_ENTRIES, MOST_REPLICAS};
+pub use monitor::Monitor;
 pub use part_ref::{Half, PartRef};
 pub use report::Report;
 pub use setup::Setup;

@@ -12,19 +12,14 @@ ghost use Rattle.ra_monitor.specs.Replies.{is_yes, is_refused};
 use crate::entry::Entry;
 use crate::faults::{NewFault, StepFault};
 use crate::history::History;
+use crate::limits::{MOST_ENTRIES, MOST_REPLICAS};
 use crate::part_ref::PartRef;
 use crate::report::Report;
-use crate::sequence::parts_of;
+use crate::sequence::part_refs;
 use crate::setup::Setup;
 use ra_labels::{Command, Kind, NoMemory, Reply};
 use std::alloc::Global;
 use std::marker::Model;
-
-/// The greatest number of replicas.
-pub const MOST_REPLICAS: u8 = 16;
-
-/// The greatest limit of a log, in entries.
-pub const MOST_ENTRIES: u32 = 1_048_576;
 
 /// A monitor of one history, for one thread.
 #[derive(Debug, Drop)]
@@ -36,15 +31,15 @@ pub struct Monitor {
 }
 
 impl Model for Monitor {
-    ghost use Rattle.ra_monitor.specs.Monitor.{Logged};
+    ghost use Rattle.ra_monitor.specs.Monitor as model;
 
-    ghost Value = { Logged };
+    ghost Value = { model.Monitor };
 
-    ghost use Rattle.ra_monitor.specs.Kept.{logged, IsKept};
+    ghost use Rattle.ra_monitor.specs.Kept.{monitor_of, MonitorKept};
 
-    ghost view = { λ m. logged m };
+    ghost view = { λ m. monitor_of m };
 
-    ghost invariant = { λ m. IsKept m };
+    ghost invariant = { λ m. MonitorKept m };
 }
 
 impl Monitor {
@@ -161,7 +156,7 @@ impl Monitor {
         ensures linearizes { let records = records_before_fault self.now.setup.kind (records_of self.now.setup self.now.log) in
             OnOk result (IsRaLinearization self.now.setup.kind records (named_sequence self.now.setup.kind records)) }
     {
-        parts_of(*self.log.allocator(), self.history.before_fault())
+        part_refs(*self.log.allocator(), self.history.before_fault())
     }
 
     /// What the log amounts to. It takes no memory and always answers.
@@ -182,7 +177,7 @@ impl Monitor {
     }
 }
 
-/// How many refusals the reply is: one or none.
+// How many refusals the reply is: one or none.
 fn refusals(reply: Reply) -> u32
     ensures { result ≡ cond (is_refused reply) 1 0 }
 {
@@ -192,7 +187,7 @@ fn refusals(reply: Reply) -> u32
     }
 }
 
-/// Puts the entry at the log's end, where room was made for it.
+// Puts the entry at the log's end, where room was made for it.
 fn append(log: &mut Vec<Entry<Command, Reply>>, entry: Entry<Command, Reply>)
     requires { vec_len log.old < vec_capacity log.old }
     ensures { log.new.items ≡ log.old.items ++ entry ∷ [] }

@@ -4,7 +4,7 @@ ghost use Rattle.ra_labels.specs.Answer.{refusal_of, refusal_of_operation, refus
 ghost use Rattle.ra_monitor.specs.History.{StandsFor, IsAtReplica};
 
 use crate::history::History;
-use crate::rewriting::update_of;
+use crate::rewriting::update_in;
 use crate::setup::Setup;
 use ra_labels::{Command, Refusal, fits};
 
@@ -46,7 +46,7 @@ fn refusal_of_delivery(history: &History, setup: &Setup, replica: u8, label: u32
     if label as usize >= history.labels.len() {
         return Some(Refusal::UnknownLabel);
     }
-    if update_of(&history.labels[label as usize].label.op).is_none() {
+    if update_in(&history.labels[label as usize].label.op).is_none() {
         return Some(Refusal::NotAnUpdate);
     }
     if history.had.at(replica).has(label) {

@@ -5,7 +5,7 @@ ghost use Rattle.ra_monitor.specs.Fold.{updates_in, queries_in};
 use ra_labels::{Op, Query, Update};
 
 /// What the operation does to the state, if anything.
-pub fn update_of(op: &Op) -> Option<Update>
+pub fn update_in(op: &Op) -> Option<Update>
     ensures update { option_to_list result ≡ updates_in op.now }
     ensures there { is_some result ≡ is_update op.now }
 {
@@ -17,7 +17,7 @@ pub fn update_of(op: &Op) -> Option<Update>
 }
 
 /// What the operation asks of the state, if anything.
-pub fn query_of(op: &Op) -> Option<Query>
+pub fn query_in(op: &Op) -> Option<Query>
     ensures { option_to_list result ≡ queries_in op.now }
 {
     match op {

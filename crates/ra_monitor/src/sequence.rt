@@ -9,7 +9,7 @@ use ra_labels::NoMemory;
 use std::alloc::Global;
 
 /// The parts of these labels, in their order: of a counter each label is one.
-pub fn parts_of(alloc: Global, labels: &[Accepted]) -> Result<Vec<PartRef>, NoMemory>
+pub fn part_refs(alloc: Global, labels: &[Accepted]) -> Result<Vec<PartRef>, NoMemory>
     ensures { IfOk result (λ parts. parts.items ≡ map ref_of (flat_map parts_of (bare labels.now))) }
 {
     let mut parts = Vec::with_capacity(alloc, labels.len())?;

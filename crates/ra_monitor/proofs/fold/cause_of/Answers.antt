@@ -20,7 +20,7 @@ returns-then-not-branch c = λ records are.
 pub loop-accepted-preserved : goal.loop-accepted-preserved
 loop-accepted-preserved c =
     let more = answered_more c.args.kind c.args.labels.now c.loop-accepted.accepted-index c.accepted-item.result c.loop-accepted-test.true c.accepted-item.is c.loop-accepted.invariant in
-    elim c.match-query_of.branch [
+    elim c.match-query_in.branch [
       | in-Some+in_ok-is_answered+else-not-branch w ↦
           more (answers_its_query c.args.kind c.args.labels.now c.accepted-item.result w.in-Some.query _ w.in-Some.ensures w.in_ok-is_answered.ensures ∙ w.if-not-branch.false)
       | in_default w ↦ more (asks_nothing c.args.kind c.args.labels.now c.accepted-item.result w.in_default.ensures)

@@ -14,7 +14,7 @@ admitted (Some x) s t b h e u = ap Some (sym u)
 pub loop-accepted-preserved : goal.loop-accepted-preserved
 loop-accepted-preserved c =
     let said : includes c.args.scope c.accepted-item.result.label.number ≡ true = sym c.includes.ensures ∙ c.if-not-includes.false in
-    elim c.match-update_of.branch [
+    elim c.match-update_in.branch [
       | in-Some+in_ok-apply+else-not-branch w ↦
           let step = admitted _ c.loop-accepted.state w.apply.new.self _ w.if-not-branch.false w.in_ok-apply.ensures.admitted w.in_ok-apply.ensures.step in
           rw w.state-is (kept_by_update c.args.kind (includes c.args.scope) c.args.labels.now c.loop-accepted.accepted-index c.accepted-item.result _ _ w.in-Some.update c.loop-accepted-test.true c.accepted-item.is said w.in-Some.ensures.update step c.loop-accepted.invariant.0 c.loop-accepted.invariant.1)

@@ -1,5 +1,5 @@
 use Rattle.std.proofs.Common.{ℕ, ◌+◌, ◌<◌, ◌∷◌, ◌++◌, [], List, length, refl, sym, ap, ◌∙◌, subst, arith}
-use Rattle.ra_monitor.specs.Monitor.{MonitorEntry, Logged, records_of, IsRaLinearizable, IsNoAtFault, IsNextTicket}
+use Rattle.ra_monitor.specs.Monitor.{MonitorEntry, Monitor, records_of, IsRaLinearizable, IsNoAtFault, IsNextTicket}
 use Rattle.ra_monitor.proofs.Legal.{linearizable_after, no_after}
 use Rattle.ra_monitor.proofs.Keeping.{legal_after, kept_after}
 use Rattle.ra_monitor.proofs.monitor.Monitor.step.Goals as goal
@@ -9,7 +9,7 @@ invariant_of-self-in-Ok c =
     let m = c.self.inside in
     let entry : MonitorEntry = record { pass = c.args.pass; ticket = c.args.ticket; command = c.args.command; reply = c.in-Ok.reply } in
     let log = c.append.ensures ∙ ap (λ (l : List MonitorEntry). l ++ entry ∷ []) c.reserve.ensures.items in
-    let next = subst (λ (l : Logged). IsNextTicket l c.args.ticket) (sym c.self.view_is) c.requires in
+    let next = subst (λ (l : Monitor). IsNextTicket l c.args.ticket) (sym c.self.view_is) c.requires in
     let taken = c.in-Ok.ensures.taken (records_of m.setup m.log.items) c.self.invariant.history in
     let room : length m.log.items < m.setup.limit = omega (arith, c.self.invariant.fits, c.len.ensures, c.if-len-self.false, m.log.ok.0) in
     kept_after m _ entry c.self.invariant next room taken.0 refl log taken.1 c.in-Ok.ensures.one (ap (λ (k : ℕ). m.refused + k) c.refusals.ensures)
@@ -19,7 +19,7 @@ returns-in-Ok-clause-legal c =
     let m = c.self.inside in
     let entry : MonitorEntry = record { pass = c.args.pass; ticket = c.args.ticket; command = c.args.command; reply = c.in-Ok.reply } in
     let log = c.append.ensures ∙ ap (λ (l : List MonitorEntry). l ++ entry ∷ []) c.reserve.ensures.items in
-    let next = subst (λ (l : Logged). IsNextTicket l c.args.ticket) (sym c.self.view_is) c.requires in
+    let next = subst (λ (l : Monitor). IsNextTicket l c.args.ticket) (sym c.self.view_is) c.requires in
     let taken = c.in-Ok.ensures.taken (records_of m.setup m.log.items) c.self.invariant.history in
     rw log (legal_after m entry c.self.invariant next taken.0)
 
