@@ -2,57 +2,43 @@
 
 use ra_labels::{Command, Kind, Op, Reply};
 use ra_monitor::{Monitor, StepFault};
-use std::alloc::{AllocError, Global};
+use std::alloc::Global;
 use std::process::Abort;
 
-pub fn inc(replica: u8) -> Command {
-    operate(replica, Op::Inc)
+/// What a replica reports in a row, or what is asked. The first number is the replica's.
+#[derive(Clone, Copy, Debug)]
+pub enum Say {
+    Inc(u8),
+    Dec(u8),
+    Read(u8, i32),
+    /// An increment that comes with this clock.
+    IncAt(u8, u32),
+    Got(u8, u32),
+    Verdict,
 }
 
-pub fn dec(replica: u8) -> Command {
-    operate(replica, Op::Dec)
-}
-
-pub fn read(replica: u8, answer: i32) -> Command {
-    operate(replica, Op::Count(answer))
-}
-
-pub fn operate(replica: u8, op: Op) -> Command {
-    Command::Operate {
-        replica,
-        op,
-        stamp: None,
+/// The command of what is said.
+pub fn command_of(say: Say) -> Command {
+    match say {
+        Say::Inc(replica) => operation(replica, Op::Inc, None),
+        Say::Dec(replica) => operation(replica, Op::Dec, None),
+        Say::Read(replica, answer) => operation(replica, Op::Count(answer), None),
+        Say::IncAt(replica, clock) => operation(replica, Op::Inc, Some(clock)),
+        Say::Got(replica, label) => Command::Deliver { replica, label },
+        Say::Verdict => Command::Verdict,
     }
 }
 
-pub fn stamped(replica: u8, op: Op, clock: u32) -> Command {
-    Command::Operate {
-        replica,
-        op,
-        stamp: Some(clock),
-    }
+fn operation(replica: u8, op: Op, stamp: Option<u32>) -> Command {
+    Command::Operate { replica, op, stamp }
 }
 
-pub fn got(replica: u8, label: u32) -> Command {
-    Command::Deliver { replica, label }
-}
-
-/// A monitor of a counter at three replicas, whose log may have this many entries.
-pub fn of_three(rt: &impl Abort, alloc: Global, limit: u32) -> Monitor {
-    match Monitor::new(alloc, Kind::Counter, 3, limit) {
+/// A monitor of a counter at this many replicas, whose log may have this many entries.
+pub fn counter_of(rt: &impl Abort, alloc: Global, replicas: u8, limit: u32) -> Monitor {
+    match Monitor::new(alloc, Kind::Counter, replicas, limit) {
         Ok(monitor) => monitor,
         Err(_) => panic!(rt; "no monitor"),
     }
-}
-
-/// The outcome of one step of pass 0, with this ticket, which has to be above the last.
-pub fn step_at(
-    rt: &impl Abort,
-    monitor: &mut Monitor,
-    ticket: u64,
-    command: Command,
-) -> Result<Reply, StepFault<Command>> {
-    step_by(rt, monitor, 0, ticket, command)
 }
 
 /// The outcome of one step of this pass, with this ticket, which has to be above the last.
@@ -61,8 +47,9 @@ pub fn step_by(
     monitor: &mut Monitor,
     pass: u8,
     ticket: u64,
-    command: Command,
+    say: Say,
 ) -> Result<Reply, StepFault<Command>> {
+    let command = command_of(say);
     match monitor.last_ticket() {
         Some(last) => {
             assert!(rt; last < ticket);
@@ -72,21 +59,12 @@ pub fn step_by(
     }
 }
 
-/// The replies to commands that are given one after another, with tickets from the log's length on.
-pub fn replies_to(
-    rt: &impl Abort,
-    alloc: Global,
-    monitor: &mut Monitor,
-    commands: Vec<Command>,
-) -> Result<Vec<Reply>, AllocError> {
-    let mut replies = Vec::new(alloc);
-    for command in commands {
-        let ticket = monitor.log().len() as u64;
-        match step_at(rt, monitor, ticket, command) {
-            Ok(reply) => replies.push(reply)?,
-            Err(StepFault::Full(_)) => panic!(rt; "full"),
-            Err(StepFault::NoMemory(_)) => panic!(rt; "no memory"),
-        }
+/// The reply to one command of pass 0, with the number of commands before it as its ticket.
+pub fn reply_to(rt: &impl Abort, monitor: &mut Monitor, say: Say) -> Reply {
+    let ticket = monitor.log().len() as u64;
+    match step_by(rt, monitor, 0, ticket, say) {
+        Ok(reply) => reply,
+        Err(StepFault::Full(_)) => panic!(rt; "full"),
+        Err(StepFault::NoMemory(_)) => panic!(rt; "no memory"),
     }
-    Ok(replies)
 }

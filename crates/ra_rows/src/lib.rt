@@ -5,8 +5,8 @@
 #[cfg(test)]
 mod commands;
 #[cfg(test)]
-mod counter_rows;
-#[cfg(test)]
 mod first_calls;
+#[cfg(test)]
+mod histories;
 #[cfg(test)]
 mod limits;

@@ -1,20 +1,22 @@
-//! Limits of a monitor.
+//! Limits of a monitor, and histories of thousands.
 
-use crate::commands::{inc, of_three, read, replies_to, step_at, step_by};
-use ra_labels::{Cause, Command, Kind, Reply};
+use crate::commands::{Say, command_of, counter_of, reply_to, step_by};
+use crate::histories::stands_in_turn;
+use ra_labels::{Kind, Reply};
 use ra_monitor::{Monitor, NewFault, StepFault};
 use std::process::Abort;
 use std::test::Fail;
 
 #[test]
 fn a_full_log_hands_the_command_back(rt: HostRuntime) -> Result<(), Fail> {
-    let mut monitor = of_three(&rt, rt.alloc(), 2);
-    let first = step_at(&rt, &mut monitor, 5, Command::Verdict);
-    assert_eq!(rt; first, Ok(Reply::Yes(0)));
-    let second = step_at(&rt, &mut monitor, 9, Command::Verdict);
-    assert_eq!(rt; second, Ok(Reply::Yes(0)));
-    let third = step_at(&rt, &mut monitor, 10, inc(2));
-    assert_eq!(rt; third, Err(StepFault::Full(inc(2))));
+    let mut monitor = counter_of(&rt, rt.alloc(), 3, 2);
+    assert_eq!(rt; monitor.last_ticket(), None);
+    for ticket in [5, 9] {
+        let reply = step_by(&rt, &mut monitor, 0, ticket, Say::Verdict);
+        assert_eq!(rt; reply, Ok(Reply::Yes(0)));
+    }
+    let third = step_by(&rt, &mut monitor, 0, 10, Say::Inc(2));
+    assert_eq!(rt; third, Err(StepFault::Full(command_of(Say::Inc(2)))));
     assert_eq!(rt; monitor.report().calls, 2);
     assert_eq!(rt; monitor.last_ticket(), Some(9));
     Ok(())
@@ -22,72 +24,60 @@ fn a_full_log_hands_the_command_back(rt: HostRuntime) -> Result<(), Fail> {
 
 #[test]
 fn replicas_are_one_to_sixteen_and_tested_first(rt: HostRuntime) -> Result<(), Fail> {
-    let alloc = rt.alloc();
     for (replicas, limit, fault) in [
-        (0, 0, NewFault::BadReplicas),
-        (17, 1, NewFault::BadReplicas),
-        (16, 0, NewFault::BadLimit),
-        (16, 1_048_577, NewFault::BadLimit),
+        (0, 0, Some(NewFault::BadReplicas)),
+        (17, 1, Some(NewFault::BadReplicas)),
+        (16, 0, Some(NewFault::BadLimit)),
+        (16, 1_048_577, Some(NewFault::BadLimit)),
+        (1, 1, None),
+        (16, 1_048_576, None),
     ] {
-        let made = Monitor::new(alloc, Kind::Counter, replicas, limit);
-        assert_eq!(rt; made.err(), Some(fault), "at {replicas} and {limit}");
-    }
-    for (replicas, limit) in [(1, 1), (16, 1_048_576)] {
-        let made = Monitor::new(alloc, Kind::Counter, replicas, limit);
-        assert!(rt; made.is_ok(), "at {replicas} and {limit}");
+        let made = Monitor::new(rt.alloc(), Kind::Counter, replicas, limit);
+        assert_eq!(rt; made.err(), fault, "at {replicas} and {limit}");
     }
     Ok(())
 }
 
 #[test]
 fn the_greatest_pass_ticket_and_replica_are_taken(rt: HostRuntime) -> Result<(), Fail> {
-    let mut monitor = match Monitor::new(rt.alloc(), Kind::Counter, 16, 3) {
-        Ok(monitor) => monitor,
-        Err(_) => panic!(rt; "no monitor"),
-    };
-    let first = step_by(&rt, &mut monitor, 255, 0, inc(15));
-    assert_eq!(rt; first, Ok(Reply::Ok(0)));
-    let second = step_by(&rt, &mut monitor, 63, 1, read(15, 1));
-    assert_eq!(rt; second, Ok(Reply::Ok(1)));
-    let third = step_by(
-        &rt,
-        &mut monitor,
-        1,
-        18_446_744_073_709_551_615,
-        Command::Verdict,
-    );
-    assert_eq!(rt; third, Ok(Reply::Yes(2)));
-    Ok(())
-}
-
-#[test]
-fn a_long_history_is_taken(rt: HostRuntime) -> Result<(), Fail> {
-    let alloc = rt.alloc();
-    let mut monitor = of_three(&rt, alloc, 1_048_576);
-    let mut commands = Vec::new(alloc);
-    for number in 0..300u16 {
-        commands.push(inc((number % 3) as u8))?;
+    let mut monitor = counter_of(&rt, rt.alloc(), 16, 3);
+    for (pass, ticket, say, want) in [
+        (255, 0, Say::Inc(15), Reply::Ok(0)),
+        (63, 1, Say::Read(15, 1), Reply::Ok(1)),
+        (1, 18_446_744_073_709_551_615, Say::Verdict, Reply::Yes(2)),
+    ] {
+        let reply = step_by(&rt, &mut monitor, pass, ticket, say);
+        assert_eq!(rt; reply, Ok(want), "at {pass} and {ticket}");
     }
-    commands.push(read(0, 100))?;
-    let replies = replies_to(&rt, alloc, &mut monitor, commands)?;
-    assert_eq!(rt; replies.as_slice().last().copied(), Some(Reply::Ok(300)));
     Ok(())
 }
 
 #[test]
-fn a_sequence_can_be_empty(rt: HostRuntime) -> Result<(), Fail> {
-    let mut monitor = of_three(&rt, rt.alloc(), 2);
-    let nothing = monitor.sequence();
-    assert!(rt; nothing.is_ok_and(|parts| parts.is_empty()));
-    let no = step_at(&rt, &mut monitor, 0, read(0, 1));
+fn thousands_of_labels_are_taken(rt: HostRuntime) -> Result<(), Fail> {
+    let mut monitor = counter_of(&rt, rt.alloc(), 3, 1_048_576);
+    for number in 0..5_000u32 {
+        let reply = reply_to(&rt, &mut monitor, Say::Inc((number % 2) as u8));
+        assert_eq!(rt; reply, Reply::Ok(number));
+        if number == 299 {
+            stands_in_turn(&rt, &monitor, 300);
+        }
+    }
     assert_eq!(rt;
-        no,
-        Ok(Reply::No {
-            label: 0,
-            cause: Cause::Query
-        })
+        reply_to(&rt, &mut monitor, Say::Got(2, 4_999)),
+        Reply::Got(4_999)
     );
-    let before = monitor.sequence();
-    assert!(rt; before.is_ok_and(|parts| parts.is_empty()));
+    assert_eq!(rt;
+        reply_to(&rt, &mut monitor, Say::Read(2, 1)),
+        Reply::Ok(5_000)
+    );
+    assert_eq!(rt;
+        reply_to(&rt, &mut monitor, Say::Read(0, 2_500)),
+        Reply::Ok(5_001)
+    );
+    assert_eq!(rt;
+        reply_to(&rt, &mut monitor, Say::Verdict),
+        Reply::Yes(5_002)
+    );
+    stands_in_turn(&rt, &monitor, 5_002);
     Ok(())
 }
