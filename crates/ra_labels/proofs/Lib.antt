@@ -8,3 +8,4 @@ pub mod Answering
 pub mod Places
 pub mod Unique
 pub mod Counting
+pub mod TheLaws

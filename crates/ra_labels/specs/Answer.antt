@@ -11,7 +11,7 @@ use Rattle.ra_labels.specs.declared.refusal.Refusal.TheVariants.{UnknownReplica,
 use Rattle.ra_labels.specs.declared.reply.Reply.{Reply}
 use Rattle.ra_labels.specs.declared.reply.Reply.TheVariants as reply
 use Rattle.ra_labels.specs.declared.reply.Fault.{Fault}
-use Rattle.ra_labels.specs.Records.{Records, label_count}
+use Rattle.ra_labels.specs.Records.{Records, label_count, replica_count}
 use Rattle.ra_labels.specs.Visibility.{had, is_update_at}
 use Rattle.ra_labels.specs.Fault.{fault_of}
 
@@ -38,12 +38,12 @@ misfit_of kind command = None
 -- the refusals of an operation, in their order
 abbrev pub refusal_of_operation : Kind → ℕ → Records → Command → ℕ → Option Refusal
 refusal_of_operation kind replicas records command by =
-    first_of (when (not (nat_lt by replicas)) UnknownReplica ∷ misfit_of kind command ∷ [])
+    first_of (when (not (nat_lt by (replica_count replicas records))) UnknownReplica ∷ misfit_of kind command ∷ [])
 
 -- the refusals of a delivery, in their order
 abbrev pub refusal_of_delivery : ℕ → Records → ℕ → ℕ → Option Refusal
 refusal_of_delivery replicas records to label = first_of (
-    when (not (nat_lt to replicas)) UnknownReplica
+    when (not (nat_lt to (replica_count replicas records))) UnknownReplica
     ∷ when (not (nat_lt label (label_count records))) UnknownLabel
     ∷ when (not (is_update_at records label)) NotAnUpdate
     ∷ when (had records to label) AlreadySeen

@@ -34,7 +34,7 @@ fault_of kind (Operate replica op clock ∷ before) =
     option_or (fault_of kind before) (option_map (fault_at (label_count before)) (cause_of kind records))
 fault_of kind (_ ∷ before) = fault_of kind before
 
--- the longest front of the records that has no fault
+-- the longest prefix of the history that has no fault: the records less the newest, up to one with none
 abbrev pub records_before_fault : Kind → Records → Records
 records_before_fault kind [] = []
 records_before_fault kind (command ∷ before) =

@@ -59,10 +59,14 @@ is_query_admitted kind records sequence part =
 abbrev pub queries_admitted : Kind → Records → List Part → Bool
 queries_admitted kind records sequence = list_all (is_query_admitted kind records sequence) sequence
 
--- the sequence is an RA-linearization of the rewritten history: it has each part once and nothing else, and
--- meets the three conditions
-pub record IsRaLinearization (kind : Kind) (records : Records) (sequence : List Part) : Type 0 where
+-- the sequence is an RA-linearization of the rewritten history, where this must precede: it has each part once
+-- and nothing else, and meets the three conditions
+pub record IsRaLinearizationBy (precedes : Part → Part → Bool) (kind : Kind) (records : Records) (sequence : List Part) : Type 0 where
   pub each_part_once : IsPermutation (parts_in records) sequence
-  pub visibility : IsTrue (extends_visibility records sequence)
+  pub visibility : IsTrue (extends precedes sequence)
   pub updates : IsTrue (updates_admitted kind sequence)
   pub queries : IsTrue (queries_admitted kind records sequence)
+
+-- the sequence is an RA-linearization of the rewritten history
+abbrev pub IsRaLinearization : Kind → Records → List Part → Type 0
+IsRaLinearization kind records sequence = IsRaLinearizationBy (must_precede records) kind records sequence

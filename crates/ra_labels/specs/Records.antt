@@ -15,6 +15,10 @@ label_count [] = 0
 label_count (Operate replica op clock ∷ before) = label_count before + 1
 label_count (_ ∷ before) = label_count before
 
+-- how many replicas there are, of which this many were there first: no command adds one yet
+abbrev pub replica_count : ℕ → Records → ℕ
+replica_count first records = first
+
 -- the label that an operation becomes after these records
 abbrev pub next_label : Records → ℕ → Op → Option ℕ → Label
 next_label before by op clock = record {

@@ -2,6 +2,7 @@
 pub mod answer;
 pub mod fault;
 pub mod linearization;
+pub mod records;
 pub mod sequence;
 pub mod specification;
 pub mod visibility;

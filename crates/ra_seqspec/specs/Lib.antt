@@ -1,2 +1,3 @@
 pub mod Range
+pub mod Memory
 pub mod Form

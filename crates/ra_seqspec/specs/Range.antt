@@ -1,7 +1,8 @@
 -- How far a counter's number may go.
-use Rattle.std.specs.Prelude.{ℤ, pos, neg_ℤ, ◌≤ℤ◌}
+use Rattle.std.specs.Prelude.{pos, neg_ℤ, ◌≤ℤ◌}
 use Rattle.ra_labels.specs.Specification.{State, Number}
+use Rattle.ra_seqspec.specs.declared.TheConstants.{FARTHEST_COUNT}
 
--- a counter's number is from -1,048,576 to 1,048,576: a log has at most 1,048,576 entries
+-- a counter's number is from -FARTHEST_COUNT to FARTHEST_COUNT
 abbrev pub IsInRange : State → Type 0
-IsInRange (Number n) = (neg_ℤ (pos 1048576) ≤ℤ n) × (n ≤ℤ pos 1048576)
+IsInRange (Number n) = (neg_ℤ (pos FARTHEST_COUNT) ≤ℤ n) × (n ≤ℤ pos FARTHEST_COUNT)

@@ -7,3 +7,6 @@
 mod state;
 
 pub use state::State;
+
+/// How far from 0 a counter's number may go, up and down: an update that leads further is not to be made.
+pub const FARTHEST_COUNT: u32 = 1_048_576;

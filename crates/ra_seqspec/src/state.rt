@@ -1,6 +1,7 @@
-ghost use Rattle.std.specs.Prelude.{◌≡◌, IfOk, IfSome, OnErr, is_some, unwrap_or};
+ghost use Rattle.std.specs.Prelude.{◌≡◌, IfOk, IsOk, IfSome, OnErr, false, is_some, unwrap_or};
 ghost use Rattle.ra_labels.specs.Specification.{start_of, step_of, answers};
 ghost use Rattle.ra_seqspec.specs.Range.{IsInRange};
+ghost use Rattle.ra_seqspec.specs.Memory.{takes_memory};
 
 use ra_labels::{Kind, NoMemory, Query, Update};
 use std::alloc::Global;
@@ -32,7 +33,8 @@ impl Model for State {
 impl State {
     /// The state of the kind before any update. Where a kind's state is a collection, it lives in `alloc`.
     pub fn new(_alloc: Global, kind: Kind) -> Result<State, NoMemory>
-        ensures { IfOk result (λ state. state ≡ start_of kind) }
+        ensures start { IfOk result (λ state. state ≡ start_of kind) }
+        ensures memory { takes_memory (start_of kind) ≡ false → IsOk result }
     {
         match kind {
             Kind::Counter => Ok(State {
@@ -43,7 +45,8 @@ impl State {
 
     /// An equal state of its own. Costs as much as the state is large.
     pub fn copy(&self) -> Result<State, NoMemory>
-        ensures { IfOk result (λ copy. copy ≡ self.now) }
+        ensures equal { IfOk result (λ copy. copy ≡ self.now) }
+        ensures memory { takes_memory self.now ≡ false → IsOk result }
     {
         match self.form {
             Form::Counter(number) => Ok(State {
@@ -58,6 +61,7 @@ impl State {
         ensures admitted { IfOk result (λ is_admitted. is_admitted ≡ is_some (step_of self.old update.now)) }
         ensures step { IfOk result (λ is_admitted. self.new ≡ unwrap_or (step_of self.old update.now) self.old) }
         ensures err { OnErr result (self.new ≡ self.old) }
+        ensures memory { takes_memory self.old ≡ false → IsOk result }
     {
         match &mut self.form {
             Form::Counter(number) => {

@@ -1,5 +1,5 @@
-use Rattle.ra_labels.proofs.Holding.{holds_from_no_cause, no_cause_from_holds}
+use Rattle.ra_labels.proofs.TheLaws.{no_cause_where_records_hold}
 use Rattle.ra_labels.proofs.laws.fault.no_cause_where_records_hold.Goals as goal
 
 pub returns : goal.returns
-returns c = λ kind records. (holds_from_no_cause kind records, no_cause_from_holds kind records)
+returns c = no_cause_where_records_hold

@@ -1,5 +1,5 @@
-use Rattle.ra_labels.proofs.Standing.{linearization-stands}
+use Rattle.ra_labels.proofs.TheLaws.{linearization_puts_before}
 use Rattle.ra_labels.proofs.laws.linearization.linearization_puts_before.Goals as goal
 
 pub returns : goal.returns
-returns c = linearization-stands
+returns c = linearization_puts_before

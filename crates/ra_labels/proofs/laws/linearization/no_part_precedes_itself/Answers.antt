@@ -1,5 +1,5 @@
-use Rattle.ra_labels.proofs.Standing.{must_precede-irreflexive}
+use Rattle.ra_labels.proofs.TheLaws.{no_part_precedes_itself}
 use Rattle.ra_labels.proofs.laws.linearization.no_part_precedes_itself.Goals as goal
 
 pub returns : goal.returns
-returns c = must_precede-irreflexive
+returns c = no_part_precedes_itself

@@ -1,5 +1,5 @@
-use Rattle.ra_labels.proofs.Unique.{named_labels-only}
+use Rattle.ra_labels.proofs.TheLaws.{the_order_is_pinned}
 use Rattle.ra_labels.proofs.laws.sequence.the_order_is_pinned.Goals as goal
 
 pub returns : goal.returns
-returns c = named_labels-only
+returns c = the_order_is_pinned
