@@ -11,7 +11,7 @@ use Rattle.ra_labels.specs.Records.{Records, label_count, labels_of, next_label}
 use Rattle.ra_labels.specs.Rewriting.{parts_of}
 use Rattle.ra_labels.specs.NamedOrder.{named_sequence}
 use Rattle.ra_labels.specs.Fault.{fault_of, records_before_fault}
-use Rattle.ra_labels.proofs.Holding.{all_before_fault, count_before}
+use Rattle.ra_labels.proofs.TheLaws.{records_before_fault_have_none-all, records_before_fault_have_none-count}
 use Rattle.ra_monitor.specs.declared.accepted.Accepted.{Accepted}
 use Rattle.ra_monitor.specs.History.{bare}
 use Rattle.ra_monitor.proofs.Execution.{named-in_turn}
@@ -63,7 +63,7 @@ is_front kind (Verdict ∷ before) =
 -- with no fault all labels are before it
 pub all_labels_before : (kind : Kind) (records : Records) (labels : List Accepted) → bare labels ≡ reverse (labels_of records) → fault_of kind records ≡ None
     → bare labels ≡ reverse (labels_of (records_before_fault kind records))
-all_labels_before kind records labels in_order none = in_order ∙ ap (λ r. reverse (labels_of r)) (sym (all_before_fault kind records none))
+all_labels_before kind records labels in_order none = in_order ∙ ap (λ r. reverse (labels_of r)) (sym (records_before_fault_have_none-all kind records none))
 
 map-take : {A B : Type 0} (f : A → B) (n : ℕ) (xs : List A) → map f (take n xs) ≡ take n (map f xs)
 map-take f zero xs = refl
@@ -76,12 +76,12 @@ pub labels_before : (kind : Kind) (records : Records) (labels : List Accepted) (
 labels_before kind records labels fault end in_order at is =
     map-take (λ (a : Accepted). a.label) end labels
     ∙ ap (take end) in_order
-    ∙ ap (λ k. take k (reverse (labels_of records))) (is ∙ sym (count_before kind records fault at))
+    ∙ ap (λ k. take k (reverse (labels_of records))) (is ∙ sym (records_before_fault_have_none-count kind records fault at))
     ∙ is_front kind records
 
 -- the fault's label is there
 pub fault_below : (kind : Kind) (records : Records) (fault : Fault) → fault_of kind records ≡ Some fault → fault.label ≤ label_count records
-fault_below kind records fault at = omega (arith, count_before kind records fault at, fewer_before kind records)
+fault_below kind records fault at = omega (arith, records_before_fault_have_none-count kind records fault at, fewer_before kind records)
 
 -- the named sequence of the labels in turn
 pub named_of : (kind : Kind) (records : Records) → named_sequence kind records ≡ flat_map parts_of (reverse (labels_of records))

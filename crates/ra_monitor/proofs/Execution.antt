@@ -19,15 +19,15 @@ use Rattle.ra_labels.specs.declared.operation.Query.TheVariants.{Count}
 use Rattle.ra_labels.specs.Rewriting.{Part, Half, Whole, QueryHalf, UpdateHalf, Act, Does, Asks, acts_of, part_of, parts_of, update_of}
 use Rattle.ra_labels.specs.Linearization.{are_halves, must_precede, extends, extends_visibility}
 use Rattle.ra_labels.specs.NamedOrder.{named_sequence}
-use Rattle.ra_labels.proofs.Seen.{sees_earlier}
-use Rattle.ra_labels.proofs.Order.{named_labels-by_number}
+use Rattle.ra_labels.proofs.TheLaws.{sees_earlier_updates-earlier}
+use Rattle.ra_labels.proofs.TheLaws.{named_in_order_of_execution-counter}
 
 -- the parts as their labels were accepted
 abbrev pub in_turn : Records → List Part
 in_turn records = flat_map parts_of (reverse (labels_of records))
 
 pub named-in_turn : (records : Records) → named_sequence Counter records ≡ in_turn records
-named-in_turn records = ap (flat_map parts_of) (named_labels-by_number Counter records (λ label. refl))
+named-in_turn records = named_in_order_of_execution-counter records
 
 whole_is_no_half : (h : Half) → are_halves h Whole ≡ false
 whole_is_no_half Whole = refl
@@ -38,7 +38,7 @@ whole_is_no_half UpdateHalf = refl
 pub no_need : (records : Records) (p q : Part) → p.half ≡ Whole → p.label.number ≤ q.label.number → must_precede records q p ≡ false
 no_need records p q whole le =
     let unseen : sees records p.label.number q.label.number ≡ false =
-    false_from_ne_true (sees records p.label.number q.label.number) (λ seen. let earlier = sees_earlier records p.label.number q.label.number seen in absurd (omega (arith, earlier.0, le))) in
+    false_from_ne_true (sees records p.label.number q.label.number) (λ seen. let earlier = sees_earlier_updates-earlier records p.label.number q.label.number seen in absurd (omega (arith, earlier, le))) in
     let halves : are_halves q.half p.half ≡ false = ap (are_halves q.half) whole ∙ whole_is_no_half q.half in
     or_from _ _
     (or_from _ _

@@ -11,8 +11,8 @@ use Rattle.ra_labels.specs.NamedOrder.{named_sequence}
 use Rattle.ra_labels.specs.Fault.{fault_of, fault_at}
 use Rattle.ra_labels.specs.Answer.{answer_of, records_after, records_after_all}
 use Rattle.ra_labels.specs.Laws.{ReplySays}
-use Rattle.ra_labels.proofs.Holding.{holds_from_no_fault}
-use Rattle.ra_labels.proofs.Answering.{reply_says, no_at_fault, records_after_all-append}
+use Rattle.ra_labels.proofs.TheLaws.{no_fault_holds}
+use Rattle.ra_labels.proofs.TheLaws.{what_a_reply_says, no_exactly_at_a_fault, answers_in_turn-records}
 use Rattle.ra_monitor.specs.declared.setup.Setup.{Setup}
 use Rattle.ra_monitor.specs.Log.{Protocol, MayFollow, IsLegalAfter}
 use Rattle.ra_monitor.specs.Replies.{is_yes, is_refused}
@@ -33,7 +33,7 @@ pub records_of-push : (setup : Setup) (log : List MonitorEntry) (entry : Monitor
     → records_of setup (log ++ entry ∷ []) ≡ records_after setup.kind setup.replicas (records_of setup log) entry.command
 records_of-push setup log entry =
     ap (λ commands. records_after_all setup.kind setup.replicas [] commands) (map-append (λ (e : MonitorEntry). e.command) log (entry ∷ []))
-    ∙ records_after_all-append setup.kind setup.replicas [] (commands_of log) (entry.command ∷ [])
+    ∙ answers_in_turn-records setup.kind setup.replicas [] (commands_of log) (entry.command ∷ [])
 
 pub refused_count-push : (log : List MonitorEntry) (entry : MonitorEntry) → refused_count (log ++ entry ∷ []) ≡ refused_count log + cond (is_refused entry.reply) 1 0
 refused_count-push log entry = sum_by_push (λ (e : MonitorEntry). cond (is_refused e.reply) 1 0) log entry
@@ -53,10 +53,10 @@ pub linearizable_after : (setup : Setup) (log : List MonitorEntry) (entry : Moni
     → is_yes entry.reply ≡ true → IsRaLinearizable setup (log ++ entry ∷ [])
 linearizable_after setup log entry answered said =
     let records = records_of setup log in
-    let says = subst (ReplySays setup.kind setup.replicas records entry.command) (sym answered) (reply_says setup.kind setup.replicas records entry.command) in
+    let says = subst (ReplySays setup.kind setup.replicas records entry.command) (sym answered) (what_a_reply_says setup.kind setup.replicas records entry.command) in
     let none : fault_of setup.kind (records_of setup (log ++ entry ∷ [])) ≡ None =
     ap (fault_of setup.kind) (records_of-push setup log entry) ∙ no_fault_after setup.kind setup.replicas records entry.command entry.reply says said in
-    (named_sequence setup.kind (records_of setup (log ++ entry ∷ [])), holds_from_no_fault setup.kind (records_of setup (log ++ entry ∷ [])) none)
+    (named_sequence setup.kind (records_of setup (log ++ entry ∷ [])), no_fault_holds setup.kind (records_of setup (log ++ entry ∷ [])) none)
 
 -- a no comes exactly where the fault is
 pub no_after : (setup : Setup) (log : List MonitorEntry) (entry : MonitorEntry)
@@ -64,6 +64,6 @@ pub no_after : (setup : Setup) (log : List MonitorEntry) (entry : MonitorEntry)
     → IsNoAtFault setup (log ++ entry ∷ []) entry.reply
 no_after setup log entry answered label why =
     let records = records_of setup log in
-    let both = no_at_fault setup.kind setup.replicas records entry.command (fault_at label why) in
+    let both = no_exactly_at_a_fault setup.kind setup.replicas records entry.command (fault_at label why) in
     let pushed = ap (fault_of setup.kind) (records_of-push setup log entry) in
     (λ is. pushed ∙ both.1 (sym answered ∙ is), λ at. answered ∙ both.0 (sym pushed ∙ at))

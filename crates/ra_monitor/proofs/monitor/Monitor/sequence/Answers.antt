@@ -4,7 +4,7 @@ use Rattle.ra_labels.specs.Records.{Records}
 use Rattle.ra_labels.specs.Rewriting.{parts_of}
 use Rattle.ra_labels.specs.NamedOrder.{named_sequence}
 use Rattle.ra_labels.specs.Fault.{records_before_fault}
-use Rattle.ra_labels.proofs.Holding.{holds_from_no_fault, no_fault_before}
+use Rattle.ra_labels.proofs.TheLaws.{no_fault_holds, records_before_fault_have_none-none}
 use Rattle.ra_monitor.specs.declared.part_ref.PartRef.{PartRef}
 use Rattle.ra_monitor.specs.Sequence.{ref_of}
 use Rattle.ra_monitor.specs.Monitor.{Monitor, records_of}
@@ -32,4 +32,4 @@ either_way (Err e) p = tt
 pub returns-clause-linearizes : goal.returns-clause-linearizes
 returns-clause-linearizes c =
     let m = c.args.self.now in
-    either_way c.part_refs.result (holds_from_no_fault m.setup.kind (sound m) (no_fault_before m.setup.kind (records_of m.setup m.log)))
+    either_way c.part_refs.result (no_fault_holds m.setup.kind (sound m) (records_before_fault_have_none-none m.setup.kind (records_of m.setup m.log)))

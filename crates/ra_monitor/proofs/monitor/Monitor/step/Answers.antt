@@ -1,4 +1,4 @@
-use Rattle.std.proofs.Common.{ℕ, ◌+◌, ◌<◌, ◌∷◌, ◌++◌, [], List, length, refl, sym, ap, ◌∙◌, subst, arith}
+use Rattle.std.proofs.Common.{ℕ, ◌+◌, ◌<◌, ◌∷◌, ◌++◌, [], List, length, refl, sym, ap, ◌∙◌, subst, arith, rules}
 use Rattle.ra_monitor.specs.Monitor.{MonitorEntry, Monitor, records_of, IsRaLinearizable, IsNoAtFault, IsNextTicket}
 use Rattle.ra_monitor.proofs.Legal.{linearizable_after, no_after}
 use Rattle.ra_monitor.proofs.Keeping.{legal_after, kept_after}
@@ -14,27 +14,21 @@ invariant_of-self-in-Ok c =
     let room : length m.log.items < m.setup.limit = omega (arith, c.self.invariant.fits, c.len.ensures, c.if-len-self.false, m.log.ok.0) in
     kept_after m _ entry c.self.invariant next room taken.0 refl log taken.1 c.in-Ok.ensures.one (ap (λ (k : ℕ). m.refused + k) c.refusals.ensures)
 
-pub returns-in-Ok-clause-legal : goal.returns-in-Ok-clause-legal
-returns-in-Ok-clause-legal c =
+pub returns-in-Ok : goal.returns-in-Ok
+returns-in-Ok c =
     let m = c.self.inside in
     let entry : MonitorEntry = record { pass = c.args.pass; ticket = c.args.ticket; command = c.args.command; reply = c.in-Ok.reply } in
     let log = c.append.ensures ∙ ap (λ (l : List MonitorEntry). l ++ entry ∷ []) c.reserve.ensures.items in
     let next = subst (λ (l : Monitor). IsNextTicket l c.args.ticket) (sym c.self.view_is) c.requires in
     let taken = c.in-Ok.ensures.taken (records_of m.setup m.log.items) c.self.invariant.history in
-    rw log (legal_after m entry c.self.invariant next taken.0)
-
-pub returns-in-Ok-clause-yes : goal.returns-in-Ok-clause-yes
-returns-in-Ok-clause-yes c =
-    let m = c.self.inside in
-    let entry : MonitorEntry = record { pass = c.args.pass; ticket = c.args.ticket; command = c.args.command; reply = c.in-Ok.reply } in
-    let log = c.append.ensures ∙ ap (λ (l : List MonitorEntry). l ++ entry ∷ []) c.reserve.ensures.items in
-    let taken = c.in-Ok.ensures.taken (records_of m.setup m.log.items) c.self.invariant.history in
-    λ said. subst (IsRaLinearizable m.setup) (sym log) (linearizable_after m.setup m.log.items entry taken.0 said)
-
-pub returns-in-Ok-clause-no : goal.returns-in-Ok-clause-no
-returns-in-Ok-clause-no c =
-    let m = c.self.inside in
-    let entry : MonitorEntry = record { pass = c.args.pass; ticket = c.args.ticket; command = c.args.command; reply = c.in-Ok.reply } in
-    let log = c.append.ensures ∙ ap (λ (l : List MonitorEntry). l ++ entry ∷ []) c.reserve.ensures.items in
-    let taken = c.in-Ok.ensures.taken (records_of m.setup m.log.items) c.self.invariant.history in
-    subst (λ (l : List MonitorEntry). IsNoAtFault m.setup l c.in-Ok.reply) (sym log) (no_after m.setup m.log.items entry taken.0)
+    record {
+      reply = search rules;
+      logged = search rules;
+      setup = search rules;
+      legal = rw log (legal_after m entry c.self.invariant next taken.0);
+      yes = λ said. subst (IsRaLinearizable m.setup) (sym log) (linearizable_after m.setup m.log.items entry taken.0 said);
+      no = subst (λ (l : List MonitorEntry). IsNoAtFault m.setup l c.in-Ok.reply) (sym log) (no_after m.setup m.log.items entry taken.0);
+      full = search rules;
+      unchanged = search rules;
+      handed_back = search rules;
+    }
