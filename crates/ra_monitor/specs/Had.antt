@@ -12,7 +12,8 @@ pub record NothingHad (had : Had) (replicas : ℕ) : Type 0 where
 -- each replica had the same
 pub record SameHad (old new : Had) : Type 0 where
   pub count : vec_len new.sets ≡ vec_len old.sets
-  pub same : (r m : ℕ) (d : Seen) → r < vec_len old.sets → has_in (get_or new.sets.items r d) m ≡ has_in (get_or old.sets.items r d) m
+  pub same : (r m : ℕ) (d : Seen) → r < vec_len old.sets
+      → has_in (get_or new.sets.items r d) m ≡ has_in (get_or old.sets.items r d) m
 
 -- the replica had the label besides
 pub record AddsHad (old new : Had) (replica label : ℕ) : Type 0 where

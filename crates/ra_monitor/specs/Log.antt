@@ -25,7 +25,8 @@ MayFollow protocol before entry =
     × IsAboveLast protocol before (protocol.ticket_of entry)
 
 -- each of the entries may follow those before it, of which the first ones are given
-abbrev pub IsLegalAfter : {Entry Command Reply : Type 0} → Protocol Entry Command Reply → List Entry → List Entry → Type 0
+abbrev pub IsLegalAfter : {Entry Command Reply : Type 0}
+    → Protocol Entry Command Reply → List Entry → List Entry → Type 0
 IsLegalAfter protocol before [] = Unit {0}
 IsLegalAfter protocol before (entry ∷ rest) =
     MayFollow protocol before entry × IsLegalAfter protocol (before ++ entry ∷ []) rest

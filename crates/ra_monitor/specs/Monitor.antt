@@ -8,7 +8,7 @@ use Rattle.ra_labels.specs.declared.reply.Fault.{Fault}
 use Rattle.ra_labels.specs.Records.{Records}
 use Rattle.ra_labels.specs.Rewriting.{Part}
 use Rattle.ra_labels.specs.Linearization.{IsRaLinearization}
-use Rattle.ra_labels.specs.Fault.{fault_of, fault_at}
+use Rattle.ra_labels.specs.Fault.{fault_of, fault_at, records_before_fault}
 use Rattle.ra_labels.specs.Answer.{answer_of, records_after_all}
 use Rattle.ra_monitor.specs.declared.entry.Entry.{Entry}
 use Rattle.ra_monitor.specs.declared.setup.Setup.{Setup}
@@ -45,6 +45,10 @@ IsLegalLog setup log = IsLegal (protocol_of setup) log
 -- the ticket is above the log's last
 abbrev pub IsNextTicket : Monitor → ℕ → Type 0
 IsNextTicket monitor ticket = IsAboveLast (protocol_of monitor.setup) monitor.log ticket
+
+-- the records of a log before its fault, or all of them where it has none
+abbrev pub records_before_fault_in : Setup → List MonitorEntry → Records
+records_before_fault_in setup log = records_before_fault setup.kind (records_of setup log)
 
 abbrev pub fault_in : Setup → List MonitorEntry → Option Fault
 fault_in setup log = fault_of setup.kind (records_of setup log)

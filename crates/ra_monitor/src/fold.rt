@@ -24,7 +24,8 @@ fn state_after(
     scope: Scope<'_>,
 ) -> Result<Option<State>, NoMemory>
     requires { length labels.now ≤ MOST_ENTRIES }
-    ensures { IfOk result (λ state. state ≡ state_after kind (updates_within (includes scope.entry) (bare labels.now))) }
+    ensures { IfOk result (λ state.
+        state ≡ state_after kind (updates_within (includes scope.entry) (bare labels.now))) }
 {
     let mut state = State::new(alloc, kind)?;
     for accepted in labels {
@@ -49,7 +50,8 @@ fn is_answered(
     query: &Query,
 ) -> Result<bool, NoMemory>
     requires { length labels.now ≤ MOST_ENTRIES }
-    ensures { IfOk result (λ is_so. is_so ≡ is_answered_after kind (updates_within (has_in seen.now) (bare labels.now)) query.now) }
+    ensures { IfOk result (λ is_so.
+        is_so ≡ is_answered_after kind (updates_within (has_in seen.now) (bare labels.now)) query.now) }
 {
     match state_after(alloc, kind, labels, Scope::Only(seen))? {
         Some(state) => Ok(state.admits(query)),
@@ -61,7 +63,8 @@ fn is_answered(
 /// state: costs a step for each query and label.
 pub fn cause_of(alloc: Global, kind: Kind, labels: &[Accepted]) -> Result<Option<Cause>, NoMemory>
     requires { length labels.now ≤ MOST_ENTRIES }
-    ensures { (records : Records) → AreLabelsOf labels.now records → IfOk result (λ cause. cause ≡ cause_of kind records) }
+    ensures { (records : Records) → AreLabelsOf labels.now records
+        → IfOk result (λ cause. cause ≡ cause_of kind records) }
 {
     if state_after(alloc, kind, labels, Scope::All)?.is_none() {
         return Ok(Some(Cause::Update));

@@ -66,7 +66,8 @@ impl History {
         ensures taken { (records : Records) → StandsFor self.old setup.now records → IfOk result (λ reply.
             (reply ≡ answer_of setup.now.kind setup.now.replicas records command.now)
             × StandsFor self.new setup.now (records_after setup.now.kind setup.now.replicas records command.now)) }
-        ensures err { (records : Records) → StandsFor self.old setup.now records → OnErr result (StandsFor self.new setup.now records) }
+        ensures err { (records : Records) → StandsFor self.old setup.now records
+            → OnErr result (StandsFor self.new setup.now records) }
         ensures one { vec_len self.new.labels ≤ vec_len self.old.labels + 1 }
         ensures kept { OnErr result (vec_len self.new.labels ≡ vec_len self.old.labels) }
     {
@@ -87,9 +88,11 @@ impl History {
     fn deliver(&mut self, replica: u8, label: u32) -> Result<Reply, NoMemory>
         requires { replica < vec_len self.old.had.sets }
         ensures reply { IfOk result (λ reply. reply ≡ Reply.Got label) }
-        ensures taken { (setup : Setup) (records : Records) → StandsFor self.old setup records → is_update_at records label ≡ true
+        ensures taken { (setup : Setup) (records : Records) → StandsFor self.old setup records
+            → is_update_at records label ≡ true
             → OnOk result (StandsFor self.new setup (Command.Deliver replica label ∷ records)) }
-        ensures err { (setup : Setup) (records : Records) → StandsFor self.old setup records → OnErr result (StandsFor self.new setup records) }
+        ensures err { (setup : Setup) (records : Records) → StandsFor self.old setup records
+            → OnErr result (StandsFor self.new setup records) }
         ensures labels { self.new.labels ≡ self.old.labels }
     {
         self.had.make_room(replica, label)?;
@@ -107,10 +110,12 @@ impl History {
     ) -> Result<Reply, NoMemory>
         requires replica { replica < vec_len self.old.had.sets }
         requires room { vec_len self.old.labels < MOST_ENTRIES }
-        ensures taken { (records : Records) → StandsFor self.old setup.now records → fault_of setup.now.kind records ≡ None → IfOk result (λ reply.
+        ensures taken { (records : Records) → StandsFor self.old setup.now records
+            → fault_of setup.now.kind records ≡ None → IfOk result (λ reply.
             (reply ≡ answer_to_accepted setup.now.kind records (Command.Operate replica op.now clock))
             × StandsFor self.new setup.now (Command.Operate replica op.now clock ∷ records)) }
-        ensures err { (records : Records) → StandsFor self.old setup.now records → OnErr result (StandsFor self.new setup.now records) }
+        ensures err { (records : Records) → StandsFor self.old setup.now records
+            → OnErr result (StandsFor self.new setup.now records) }
         ensures one { OnOk result (vec_len self.new.labels ≡ vec_len self.old.labels + 1) }
         ensures kept { OnErr result (vec_len self.new.labels ≡ vec_len self.old.labels) }
     {
@@ -139,7 +144,8 @@ impl History {
         requires { replica < vec_len self.now.had.sets }
         ensures label { IfOk result (λ accepted. accepted.label
             ≡ record { number = number; replica = replica; op = op.now; stamp = stamp_of replica clock }) }
-        ensures seen { IfOk result (λ accepted. (m : ℕ) (d : Seen) → has_in accepted.seen m ≡ has_in (get_or self.now.had.sets.items replica d) m) }
+        ensures seen { IfOk result (λ accepted. (m : ℕ) (d : Seen)
+            → has_in accepted.seen m ≡ has_in (get_or self.now.had.sets.items replica d) m) }
     {
         let seen = self.had.at(replica).copy()?;
         let op = op.clone()?;
@@ -160,7 +166,9 @@ impl History {
         ensures reply { result ≡ option_map_or (λ why. no_at (fault_at number why)) cause (Reply.Ok number) }
         ensures labels { self.new.labels ≡ self.old.labels }
         ensures fault { self.new.fault ≡ option_map (fault_at number) cause }
-        ensures had { MatchBool (is_update op.now) (AddsHad self.old.had self.new.had replica number) (self.new.had ≡ self.old.had) }
+        ensures had { MatchBool (is_update op.now)
+            (AddsHad self.old.had self.new.had replica number)
+            (self.new.had ≡ self.old.had) }
     {
         if update_in(op).is_some() {
             self.had.put(replica, number);

@@ -20,7 +20,8 @@ pub fn tickets_rise()
 /// Each yes in a legal log is evidence: some sequence is an RA-linearization of the records up to there.
 pub fn each_yes_is_evidence()
     ensures { (setup : Setup) (before after : List MonitorEntry) (entry : MonitorEntry)
-        → IsLegalLog setup (before ++ entry ∷ after) → IsTrue (is_yes entry.reply) → IsRaLinearizable setup (before ++ entry ∷ []) }
+        → IsLegalLog setup (before ++ entry ∷ after) → IsTrue (is_yes entry.reply)
+        → IsRaLinearizable setup (before ++ entry ∷ []) }
 {}
 
 /// A reply in a legal log is a no exactly where the records up to there have a fault, with its label and cause.

@@ -2,7 +2,6 @@ ghost use Rattle.std.specs.Prelude.{◌≡◌, ℕ, ◌<◌, ◌≤◌, ◌++◌
 ghost use Rattle.ra_labels.specs.Records.{label_count};
 ghost use Rattle.ra_labels.specs.Linearization.{IsRaLinearization};
 ghost use Rattle.ra_labels.specs.NamedOrder.{named_sequence};
-ghost use Rattle.ra_labels.specs.Fault.{records_before_fault};
 ghost use Rattle.ra_labels.specs.Answer.{answer_of};
 ghost use Rattle.ra_monitor.specs.Log.{last_of};
 ghost use Rattle.ra_monitor.specs.Limits.{AreReplicas, IsLimit, handed_back};
@@ -43,7 +42,7 @@ impl Model for Monitor {
 }
 
 impl Monitor {
-    ghost use Rattle.ra_monitor.specs.Monitor.{records_of, fault_in, refused_count, IsNextTicket, IsLegalLog, IsRaLinearizable, IsNoAtFault};
+    ghost use Rattle.ra_monitor.specs.Monitor.{records_of, records_before_fault_in, fault_in, refused_count, IsNextTicket, IsLegalLog, IsRaLinearizable, IsNoAtFault};
 
     /// A monitor of a history of this kind, at this many replicas, whose log may have `limit` entries.
     pub fn new(alloc: Global, kind: Kind, replicas: u8, limit: u32) -> Result<Monitor, NewFault>
@@ -92,7 +91,8 @@ impl Monitor {
 
         // The reply is the one-thread monitor's, and is logged.
         ensures reply { IfOk result (λ reply.
-            reply ≡ answer_of self.old.setup.kind self.old.setup.replicas (records_of self.old.setup self.old.log) command) }
+            reply ≡ answer_of self.old.setup.kind self.old.setup.replicas
+            (records_of self.old.setup self.old.log) command) }
         ensures logged { IfOk result (λ reply. self.new.log
             ≡ self.old.log ++ record { pass = pass; ticket = ticket; command = command; reply = reply } ∷ []) }
         ensures setup { self.new.setup ≡ self.old.setup }
@@ -151,10 +151,10 @@ impl Monitor {
     /// All parts in the named order: of the labels before a fault, or of all where there is none.
     /// Costs as much as there are labels.
     pub fn sequence(&self) -> Result<Vec<PartRef>, NoMemory>
-        ensures named { let records = records_before_fault self.now.setup.kind (records_of self.now.setup self.now.log) in
-            IfOk result (λ parts. parts.items ≡ map ref_of (named_sequence self.now.setup.kind records)) }
-        ensures linearizes { let records = records_before_fault self.now.setup.kind (records_of self.now.setup self.now.log) in
-            OnOk result (IsRaLinearization self.now.setup.kind records (named_sequence self.now.setup.kind records)) }
+        ensures named { IfOk result (λ parts. parts.items
+            ≡ map ref_of (named_sequence self.now.setup.kind (records_before_fault_in self.now.setup self.now.log))) }
+        ensures linearizes { let records = records_before_fault_in self.now.setup self.now.log in OnOk result
+            (IsRaLinearization self.now.setup.kind records (named_sequence self.now.setup.kind records)) }
     {
         part_refs(*self.log.allocator(), self.history.before_fault())
     }

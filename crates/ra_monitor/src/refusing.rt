@@ -25,7 +25,8 @@ pub fn refusal_of(history: &History, setup: &Setup, command: &Command) -> Option
 }
 
 fn refusal_of_operation(setup: &Setup, command: &Command, replica: u8) -> Option<Refusal>
-    ensures first { (records : Records) → result ≡ refusal_of_operation setup.now.kind setup.now.replicas records command.now replica }
+    ensures first { (records : Records)
+        → result ≡ refusal_of_operation setup.now.kind setup.now.replicas records command.now replica }
     ensures known { result ≡ None → replica < setup.now.replicas }
 {
     if replica >= setup.replicas {

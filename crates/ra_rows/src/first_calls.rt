@@ -1,6 +1,7 @@
 //! Each public call of the libraries once, with ample memory.
 
-use ra_labels::{Kind, Query, Update};
+use ra_labels::{Command, Kind, Op, Query, Reply, Update};
+use ra_monitor::Monitor;
 use ra_seqspec::State;
 use std::process::Abort;
 use std::test::Fail;
@@ -21,5 +22,33 @@ fn a_counter_counts(rt: HostRuntime) -> Result<(), Fail> {
         Err(_) => panic!(rt; "no memory"),
     };
     assert!(rt; copy.admits(&Query::Count(-1)));
+    Ok(())
+}
+
+#[test]
+fn a_monitor_is_told_three_things(rt: HostRuntime) -> Result<(), Fail> {
+    let Ok(mut monitor) = Monitor::new(rt.alloc(), Kind::Counter, 2, 1_000) else {
+        panic!(rt; "no monitor");
+    };
+    let made = Command::Operate {
+        replica: 0,
+        op: Op::Inc,
+        stamp: None,
+    };
+    let came = Command::Deliver {
+        replica: 1,
+        label: 0,
+    };
+    let read = Command::Operate {
+        replica: 1,
+        op: Op::Count(1),
+        stamp: None,
+    };
+    let made = monitor.step(0, 0, made);
+    assert_eq!(rt; made, Ok(Reply::Ok(0)));
+    let came = monitor.step(0, 1, came);
+    assert_eq!(rt; came, Ok(Reply::Got(0)));
+    let read = monitor.step(0, 2, read);
+    assert_eq!(rt; read, Ok(Reply::Ok(1)));
     Ok(())
 }
