@@ -43,14 +43,14 @@ module _ (kind : Kind) (replicas : ℕ) (records : Records) (command : Command) 
 
 -- the answer to an accepted operation
 operation_says : (kind : Kind) (replicas : ℕ) (records : Records) (by : ℕ) (op : Op) (clock : Option ℕ) (fault : Option Fault) → fault_of kind (Operate by op clock ∷ records) ≡ fault → records_after kind replicas records (Operate by op clock) ≡ Operate by op clock ∷ records → ReplySays kind replicas records (Operate by op clock) (option_map_or no_at fault (reply.Ok (label_count records)))
-operation_says kind replicas records by op clock None is after = (refl, after, is)
+operation_says kind replicas records by op clock None is after = (refl, after, is, (by, op, clock, refl))
 operation_says kind replicas records by op clock (Some fault) is after = ap (fault_of kind) after ∙ is
 
 -- the answer to an accepted command
 accepted_says : (kind : Kind) (replicas : ℕ) (records : Records) (command : Command) → fault_of kind records ≡ None → records_after kind replicas records command ≡ with_accepted records command → ReplySays kind replicas records command (answer_to_accepted kind records command)
 accepted_says kind replicas records (Operate by op clock) none after = operation_says kind replicas records by op clock _ refl after
-accepted_says kind replicas records (Deliver to label) none after = (after, none)
-accepted_says kind replicas records Verdict none after = (refl, after, none)
+accepted_says kind replicas records (Deliver to label) none after = (after, none, (to, refl))
+accepted_says kind replicas records Verdict none after = (refl, after, none, refl)
 
 -- what each reply says
 says : (kind : Kind) (replicas : ℕ) (records : Records) (command : Command) (fault : Option Fault) (refused : Option Refusal) → fault_of kind records ≡ fault → refusal_of kind replicas records command ≡ refused → ReplySays kind replicas records command (answer_of kind replicas records command)

@@ -9,6 +9,10 @@ use Rattle.ra_labels.specs.declared.operation.Update.{Update}
 use Rattle.ra_labels.specs.declared.operation.Update.TheVariants.{Inc, Dec}
 use Rattle.ra_labels.specs.Specification.{Number, start_of, step_of, state_after}
 
+-- before any update the state is the first one
+pub state_after-nil : (kind : Kind) → state_after kind [] ≡ Some (start_of kind)
+state_after-nil kind = refl
+
 -- one more update is one more step
 pub state_after-push : (kind : Kind) (updates : List Update) (update : Update) → state_after kind (updates ++ update ∷ []) ≡ option_and_then (λ state. step_of state update) (state_after kind updates)
 state_after-push kind updates update = fold-append (λ state update. option_and_then (λ s. step_of s update) state) (Some (start_of kind)) updates (update ∷ [])

@@ -8,4 +8,5 @@ pub mod Answering
 pub mod Places
 pub mod Unique
 pub mod Counting
+pub mod Exactly
 pub mod TheLaws

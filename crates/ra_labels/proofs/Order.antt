@@ -1,10 +1,11 @@
 -- The named order of the labels.
-use Rattle.std.proofs.Common.{◌≡◌, ℕ, ◌+◌, ◌<◌, false, [], ◌∷◌, refl, sym, ap, ◌∙◌, arith, Ordering, reverse}
+use Rattle.std.proofs.Common.{◌≡◌, ℕ, ◌+◌, ◌<◌, false, [], ◌∷◌, refl, sym, ap, ◌∙◌, inl, inr, arith, Ordering, reverse}
 use mathlib.Core.List.{reverse-cons}
-use Rattle.std.specs.Prelude.{IsPermutation, IsSorted, All}
-use Rattle.std.specs.Ordering.{nat_cmp, is_lt, ordering_then}
+use Rattle.std.specs.Prelude.{◌↔◌, ◌⊎◌, IsPermutation, IsSorted, All}
+use Rattle.std.specs.Ordering.{MatchOrdering, nat_cmp, is_lt, ordering_then}
+use Rattle.std.specs.declared.cmp.Ordering.TheVariants.{Less, Equal, Greater}
 use Rattle.std.specs.Cmp.{IsTotalOrder}
-use Rattle.std.proofs.lemmas.Cmp.{on_total, then_total, nat_cmp_total}
+use Rattle.std.proofs.lemmas.Cmp.{ranked, on_total, then_total, nat_cmp_total}
 use Rattle.std.proofs.lemmas.Bool.{le-ltb, ne_eqb}
 use Rattle.std.proofs.lemmas.List.Elements.{All-nil, All-cons, All-weaker}
 use Rattle.std.proofs.lemmas.List.Sorted.{All-permutation, IsPermutation-reverse}
@@ -14,6 +15,7 @@ use Rattle.ra_labels.specs.declared.label.Label.{Label}
 use Rattle.ra_labels.specs.declared.command.Command.TheVariants.{Operate}
 use Rattle.ra_labels.specs.Records.{Records, label_count, labels_of, next_label}
 use Rattle.ra_labels.specs.NamedOrder.{lowest_rank, rank_of, stamp_cmp, label_cmp, sort_by, insert_by, named_labels}
+use Rattle.ra_labels.specs.Laws.{IsStampBelow}
 use Rattle.ra_labels.proofs.Sorting.{IsSorted-sort_by, IsPermutation-sort_by, insert_by-last}
 
 stamp_cmp-total : IsTotalOrder stamp_cmp
@@ -59,3 +61,31 @@ sort_by_number cmp (_ ∷ before) above = sort_by_number cmp before above
 pub named_labels-by_number : (kind : Kind) (records : Records) → ((label : Label) → rank_of kind records label ≡ lowest_rank) → named_labels kind records ≡ reverse (labels_of records)
 named_labels-by_number kind records lowest =
     sort_by_number (label_cmp kind records) records (λ l m below. same_rank_above (rank_of kind records l) (rank_of kind records m) m.number l.number (lowest l) (lowest m) below)
+
+-- of two comparisons the first decides, and the second where that is a tie
+ranked_less : (m n j k : ℕ) (o p : Ordering) → MatchOrdering o (m < n) (m ≡ n) (n < m) → MatchOrdering p (j < k) (j ≡ k) (k < j) → (ordering_then o p ≡ Less) ↔ ((m < n) ⊎ ((m ≡ n) × (j < k)))
+ranked_less m n j k Less p first second = (λ is. inl first, λ below. refl)
+ranked_less m n j k Equal Less first second = (λ is. inr (first, second), λ below. refl)
+ranked_less m n j k Equal Equal first second = (λ is. absurd (cc is), λ below. absurd (omega arith))
+ranked_less m n j k Equal Greater first second = (λ is. absurd (cc is), λ below. absurd (omega arith))
+ranked_less m n j k Greater p first second = (λ is. absurd (cc is), λ below. absurd (omega arith))
+
+ranked_same : (m n j k : ℕ) (o p : Ordering) → MatchOrdering o (m < n) (m ≡ n) (n < m) → MatchOrdering p (j < k) (j ≡ k) (k < j) → (ordering_then o p ≡ Equal) ↔ ((m ≡ n) × (j ≡ k))
+ranked_same m n j k Less p first second = (λ is. absurd (cc is), λ same. absurd (omega arith))
+ranked_same m n j k Equal Less first second = (λ is. absurd (cc is), λ same. absurd (omega arith))
+ranked_same m n j k Equal Equal first second = (λ is. (first, second), λ same. refl)
+ranked_same m n j k Equal Greater first second = (λ is. absurd (cc is), λ same. absurd (omega arith))
+ranked_same m n j k Greater p first second = (λ is. absurd (cc is), λ same. absurd (omega arith))
+
+-- stamps are ordered by clock, and at one clock by replica
+pub stamp_below : (s t : Stamp) → (stamp_cmp s t ≡ Less) ↔ IsStampBelow s t
+stamp_below s t =
+    ranked_less s.clock t.clock s.replica t.replica (nat_cmp s.clock t.clock) (nat_cmp s.replica t.replica)
+    (ranked s.clock t.clock _ refl) (ranked s.replica t.replica _ refl)
+
+pub stamp_same : (s t : Stamp) → (stamp_cmp s t ≡ Equal) ↔ (s ≡ t)
+stamp_same s t =
+    let both = ranked_same s.clock t.clock s.replica t.replica (nat_cmp s.clock t.clock) (nat_cmp s.replica t.replica) (ranked s.clock t.clock _ refl) (ranked s.replica t.replica _ refl) in (
+      (λ tie. let fields = both.0 tie in λ i. record { clock = fields.0 i; replica = fields.1 i }),
+      (λ same. both.1 (ap (λ (r : Stamp). r.clock) same, ap (λ (r : Stamp). r.replica) same)),
+    )

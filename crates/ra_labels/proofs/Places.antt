@@ -1,8 +1,9 @@
 -- Where an element stands in a list.
-use Rattle.std.proofs.Common.{◌≡◌, zero, suc, Bool, true, List, [], ◌∷◌, ◌++◌, sym, ap, ◌∙◌, inl, inr, arith}
+use Rattle.std.proofs.Common.{◌≡◌, zero, suc, Bool, true, List, [], ◌∷◌, ◌++◌, ap, inl, inr, arith}
 use Rattle.std.specs.Prelude.{◌⊎◌, Contains}
 use Rattle.std.specs.List.{list_all}
-use Rattle.std.proofs.lemmas.Bool.{and_parts}
+use Rattle.std.proofs.lemmas.List.Elements.{All-contains}
+use Rattle.std.proofs.lemmas.List.Sums.{AllPass-from_list_all}
 
 -- an element of a list is its head, or stands behind it
 pub Contains-cons_cases : {A : Type 0} (x : A) (xs : List A) (y : A) → Contains (x ∷ xs) y → (x ≡ y) ⊎ Contains xs y
@@ -17,12 +18,6 @@ split_at (x ∷ xs) y found = elim (Contains-cons_cases x xs y found) [
   | inr further ↦ let rest = split_at xs y further in (x ∷ rest.0, rest.1, ap (λ zs. x ∷ zs) rest.2)
 ]
 
--- a test that each element passes
+-- an element passes a test that all pass
 pub list_all-contains : {A : Type 0} (p : A → Bool) (xs : List A) (y : A) → list_all p xs ≡ true → Contains xs y → p y ≡ true
-list_all-contains p [] y pass (k, within, is) = absurd (omega arith)
-list_all-contains p (x ∷ xs) y pass found =
-    let parts = and_parts (p x) (list_all p xs) pass in
-    elim (Contains-cons_cases x xs y found) [
-      | inl here ↦ sym (ap p here) ∙ parts.0
-      | inr further ↦ list_all-contains p xs y parts.1 further
-    ]
+list_all-contains p xs y pass found = All-contains (λ x. p x ≡ true) xs y (AllPass-from_list_all p xs pass) found

@@ -3,7 +3,8 @@ use Rattle.std.proofs.Common.{◌≡◌, ℕ, suc, Bool, true, false, List, [], 
 use Rattle.std.specs.Prelude.{◌==◌, ◌||◌, nat_lt, not, is_some, Contains}
 use Rattle.std.specs.List.{list_all, list_any}
 use Rattle.std.proofs.lemmas.Bool.{true≢false, not-true, not_from_false, and_parts, and_from, and_right, le-ltb, false_from_ne_true, or_from}
-use Rattle.std.proofs.lemmas.List.Elements.{Contains-append_right}
+use Rattle.std.proofs.lemmas.List.Elements.{Contains-append_right, All-weaker, All-contains_itself}
+use Rattle.std.proofs.lemmas.List.Sums.{list_all-from_AllPass}
 use Rattle.std.proofs.lemmas.List.Sorted.{Contains-permutation}
 use Rattle.ra_labels.specs.declared.kind.Kind.{Kind}
 use Rattle.ra_labels.specs.declared.operation.Op.{Op}
@@ -11,7 +12,7 @@ use Rattle.ra_labels.specs.declared.operation.Op.TheVariants as op
 use Rattle.ra_labels.specs.Records.{Records}
 use Rattle.ra_labels.specs.Visibility.{is_update, sees}
 use Rattle.ra_labels.specs.Rewriting.{Half, Whole, QueryHalf, UpdateHalf, Part, acts_of, update_of}
-use Rattle.ra_labels.specs.Linearization.{parts_in, extends, must_precede, are_halves, is_visible_to, is_earlier_there, is_query_half_of, IsRaLinearization}
+use Rattle.ra_labels.specs.Linearization.{parts_in, extends, must_precede, are_halves, is_visible_to, is_earlier_there, is_query_half_of, IsRaLinearizationBy, IsRaLinearization}
 use Rattle.ra_labels.specs.Laws.{StandsBefore, AllStandBefore, NoneTwice}
 use Rattle.ra_labels.proofs.Places.{Contains-cons_cases, split_at, list_all-contains}
 use Rattle.ra_labels.proofs.Seen.{sees_earlier}
@@ -55,10 +56,8 @@ head_again x xs p (y ∷ before, between, after, is) =
     subst (λ ys. Contains ys x) behind (Contains-append_right (before ++ p ∷ between) (x ∷ after) x (0, omega arith, refl))
 
 -- a test is passed by all where each element passes it
-list_all-from_contains : {A : Type 0} (p : A → Bool) (xs : List A) → ((y : A) → Contains xs y → p y ≡ true) → list_all p xs ≡ true
-list_all-from_contains p [] pass = refl
-list_all-from_contains p (x ∷ xs) pass =
-    and_from (p x) (list_all p xs) (pass x (0, omega arith, refl)) (list_all-from_contains p xs (λ y found. pass y (suc found.0, omega (arith, found.1), found.2)))
+pub list_all-from_contains : {A : Type 0} (p : A → Bool) (xs : List A) → ((y : A) → Contains xs y → p y ≡ true) → list_all p xs ≡ true
+list_all-from_contains p xs pass = list_all-from_AllPass p xs (All-weaker (Contains xs) (λ y. p y ≡ true) pass xs (All-contains_itself xs))
 
 -- and the other way round, where no element stands twice
 pub stands-extends : {A : Type 0} (precedes : A → A → Bool) (xs : List A) → NoneTwice xs → AllStandBefore precedes xs → extends precedes xs ≡ true
@@ -92,14 +91,36 @@ must_precede-irreflexive records p =
     (and_right (p.label.replica == p.label.replica) (nat_lt p.label.number p.label.number) (le-ltb p.label.number p.label.number (omega arith))))
     (and_right (p.label.number == p.label.number) (are_halves p.half p.half) (no_halves p.half))
 
--- in an RA-linearization each part stands where it must
-pub linearization-stands : (kind : Kind) (records : Records) (sequence : List Part) → IsRaLinearization kind records sequence → (p q : Part) → Contains (parts_in records) p → Contains (parts_in records) q → must_precede records p q ≡ true → StandsBefore p q sequence
-linearization-stands kind records sequence linearizes p q there_p there_q must =
+-- in an RA-linearization by an order each part stands where it must
+pub linearization_by-stands : (precedes : Part → Part → Bool) → ((p : Part) → precedes p p ≡ false) → (kind : Kind) (records : Records) (sequence : List Part) → IsRaLinearizationBy precedes kind records sequence → (p q : Part) → Contains (parts_in records) p → Contains (parts_in records) q → precedes p q ≡ true → StandsBefore p q sequence
+linearization_by-stands precedes irreflexive kind records sequence linearizes p q there_p there_q must =
     extends-stands
-    (must_precede records) (must_precede-irreflexive records) sequence linearizes.visibility p q
+    precedes irreflexive sequence linearizes.visibility p q
     (Contains-permutation (parts_in records) sequence p linearizes.each_part_once there_p)
     (Contains-permutation (parts_in records) sequence q linearizes.each_part_once there_q)
     must
+
+pub linearization-stands : (kind : Kind) (records : Records) (sequence : List Part) → IsRaLinearization kind records sequence → (p q : Part) → Contains (parts_in records) p → Contains (parts_in records) q → must_precede records p q ≡ true → StandsBefore p q sequence
+linearization-stands kind records = linearization_by-stands (must_precede records) (must_precede-irreflexive records) kind records
+
+-- a sequence that extends an order extends each weaker one
+extends-weaker : {A : Type 0} (precedes weaker : A → A → Bool) → ((p q : A) → weaker p q ≡ true → precedes p q ≡ true) → (xs : List A) → extends precedes xs ≡ true → extends weaker xs ≡ true
+extends-weaker precedes weaker implies [] extended = refl
+extends-weaker precedes weaker implies (x ∷ xs) extended =
+    let parts = and_parts (list_all (λ r. not (precedes r x)) xs) (extends precedes xs) extended in
+    and_from (list_all (λ r. not (weaker r x)) xs) (extends weaker xs)
+    (list_all-from_contains (λ r. not (weaker r x)) xs (λ r found.
+    not_from_false (weaker r x) (false_from_ne_true (weaker r x) (λ must.
+    true≢false (sym (implies r x must) ∙ not-true (precedes r x) (list_all-contains (λ s. not (precedes s x)) xs r parts.0 found))))))
+    (extends-weaker precedes weaker implies xs parts.1)
+
+pub linearization_by-weaker : (precedes weaker : Part → Part → Bool) → ((p q : Part) → weaker p q ≡ true → precedes p q ≡ true) → (kind : Kind) (records : Records) (sequence : List Part) → IsRaLinearizationBy precedes kind records sequence → IsRaLinearizationBy weaker kind records sequence
+linearization_by-weaker precedes weaker implies kind records sequence linearizes = record {
+  each_part_once = linearizes.each_part_once;
+  visibility = extends-weaker precedes weaker implies sequence linearizes.visibility;
+  updates = linearizes.updates;
+  queries = linearizes.queries;
+}
 
 -- an operation is an update where one of its parts is
 pub is_update-acts : (operation : Op) → is_update operation ≡ list_any (λ act. is_some (update_of act.1)) (acts_of operation)

@@ -52,7 +52,8 @@ refusal_of_delivery replicas records to label = first_of (
 
 -- the first refusal whose sentence is true of the command after these records
 abbrev pub refusal_of : Kind → ℕ → Records → Command → Option Refusal
-refusal_of kind replicas records (Operate by op clock) = refusal_of_operation kind replicas records (Operate by op clock) by
+refusal_of kind replicas records (Operate by op clock) =
+    refusal_of_operation kind replicas records (Operate by op clock) by
 refusal_of kind replicas records (Deliver to label) = refusal_of_delivery replicas records to label
 refusal_of kind replicas records Verdict = None
 
@@ -89,7 +90,8 @@ records_after kind replicas records command =
 abbrev pub answers_to : Kind → ℕ → Records → List Command → List Reply
 answers_to kind replicas records [] = []
 answers_to kind replicas records (command ∷ commands) =
-    answer_of kind replicas records command ∷ answers_to kind replicas (records_after kind replicas records command) commands
+    answer_of kind replicas records command
+    ∷ answers_to kind replicas (records_after kind replicas records command) commands
 
 -- the records that commands leave, given one after another from these records on
 abbrev pub records_after_all : Kind → ℕ → Records → List Command → Records

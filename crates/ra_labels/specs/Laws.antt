@@ -1,13 +1,68 @@
 -- Words of the laws above the definitions.
-use Rattle.std.specs.Prelude.{◌≡◌, ℕ, zero, suc, ◌<◌, Bool, true, List, [], ◌∷◌, ◌++◌, Contains, Some, None}
+use Rattle.std.specs.Prelude.{◌≡◌, ℕ, zero, suc, ◌<◌, ◌⊎◌, Bool, true, List, [], ◌∷◌, ◌++◌, Contains, Option, Some, None}
 use Rattle.ra_labels.specs.declared.kind.Kind.{Kind}
+use Rattle.ra_labels.specs.declared.operation.Op.{Op}
+use Rattle.ra_labels.specs.declared.operation.Update.{Update}
+use Rattle.ra_labels.specs.declared.operation.Query.{Query}
+use Rattle.ra_labels.specs.declared.label.Stamp.{Stamp}
 use Rattle.ra_labels.specs.declared.command.Command.{Command}
+use Rattle.ra_labels.specs.declared.command.Command.TheVariants.{Operate, Deliver, Verdict}
 use Rattle.ra_labels.specs.declared.reply.Fault.{Fault}
 use Rattle.ra_labels.specs.declared.reply.Reply.{Reply}
 use Rattle.ra_labels.specs.declared.reply.Reply.TheVariants as reply
+use Rattle.ra_labels.specs.Specification.{State, answers, state_after}
 use Rattle.ra_labels.specs.Records.{Records, label_count, records_to}
+use Rattle.ra_labels.specs.Visibility.{is_update, is_update_at, had, sees}
+use Rattle.ra_labels.specs.Rewriting.{Part, Does, Asks, QueryHalf, UpdateHalf}
+use Rattle.ra_labels.specs.Linearization.{visible_updates}
 use Rattle.ra_labels.specs.Fault.{Holds, cause_of, fault_of, fault_at}
 use Rattle.ra_labels.specs.Answer.{refusal_of, records_after}
+
+-- the updates lead to a state, and the query is answered yes there
+abbrev pub IsAnsweredAfter : Kind → List Update → Query → Type 0
+IsAnsweredAfter kind updates query =
+    (state : State) × (state_after kind updates ≡ Some state) × (answers state query ≡ true)
+
+-- the replica issued label n, which is an update
+abbrev pub WasIssuedAt : Records → ℕ → ℕ → Type 0
+WasIssuedAt records replica n =
+    (later before : Records) × (op : Op) × (clock : Option ℕ)
+    × (records ≡ later ++ Operate replica op clock ∷ before) × (n ≡ label_count before) × (is_update op ≡ true)
+
+-- label n, an update that was there, was delivered to the replica
+abbrev pub WasDeliveredTo : Records → ℕ → ℕ → Type 0
+WasDeliveredTo records replica n =
+    (later before : Records) × (records ≡ later ++ Deliver replica n ∷ before) × (is_update_at before n ≡ true)
+
+-- label n was issued at a replica that had label m before
+abbrev pub WasIssuedHaving : Records → ℕ → ℕ → Type 0
+WasIssuedHaving records n m =
+    (later before : Records) × (by : ℕ) × (op : Op) × (clock : Option ℕ)
+    × (records ≡ later ++ Operate by op clock ∷ before) × (n ≡ label_count before) × (had before by m ≡ true)
+
+-- p is an update, and q's label sees p's
+abbrev pub IsUpdateSeenBy : Records → Part → Part → Type 0
+IsUpdateSeenBy records p q =
+    ((update : Update) × (p.act ≡ Does update)) × (sees records q.label.number p.label.number ≡ true)
+
+-- p's label is an earlier one of the replica of q's
+abbrev pub IsEarlierAtReplica : Part → Part → Type 0
+IsEarlierAtReplica p q = (p.label.replica ≡ q.label.replica) × (p.label.number < q.label.number)
+
+-- p and q are the query half and the update half of one label
+abbrev pub AreHalvesOfOneLabel : Part → Part → Type 0
+AreHalvesOfOneLabel p q =
+    (p.label.number ≡ q.label.number) × (p.half ≡ QueryHalf) × (q.half ≡ UpdateHalf)
+
+-- each query of the sequence is answered yes after the updates that its label sees, in the sequence's order
+abbrev pub EachQueryIsAnswered : Kind → Records → List Part → Type 0
+EachQueryIsAnswered kind records sequence =
+    (part : Part) (query : Query) → Contains sequence part → part.act ≡ Asks query
+    → IsAnsweredAfter kind (visible_updates records sequence part.label.number) query
+
+-- by clock, and at one clock by replica
+abbrev pub IsStampBelow : Stamp → Stamp → Type 0
+IsStampBelow s t = (s.clock < t.clock) ⊎ ((s.clock ≡ t.clock) × (s.replica < t.replica))
 
 -- n - 1, .., 1, 0
 abbrev pub numbers_below : ℕ → List ℕ
@@ -24,15 +79,23 @@ pub record IsLeastFault (kind : Kind) (records : Records) (fault : Fault) : Type
 abbrev pub StandsBefore : {A : Type 0} → A → A → List A → Type 0
 StandsBefore {A} p q list = (before between after : List A) × (list ≡ before ++ p ∷ between ++ q ∷ after)
 
--- what a reply says of the records that the command meets, and of those that it leaves
+abbrev pub IsOperation : Command → Type 0
+IsOperation command = (by : ℕ) × (op : Op) × (clock : Option ℕ) × (command ≡ Operate by op clock)
+
+abbrev pub IsDeliveryOf : ℕ → Command → Type 0
+IsDeliveryOf n command = (to : ℕ) × (command ≡ Deliver to n)
+
+-- what a reply says of the records that the command meets, of those that it leaves, and of the command
 abbrev pub ReplySays : Kind → ℕ → Records → Command → Reply → Type 0
 ReplySays kind replicas records command (reply.Ok n) =
     (n ≡ label_count records) × (records_after kind replicas records command ≡ command ∷ records)
-    × (fault_of kind (command ∷ records) ≡ None)
+    × (fault_of kind (command ∷ records) ≡ None) × IsOperation command
 ReplySays kind replicas records command (reply.Got n) =
-    (records_after kind replicas records command ≡ command ∷ records) × (fault_of kind (command ∷ records) ≡ None)
+    (records_after kind replicas records command ≡ command ∷ records)
+    × (fault_of kind (command ∷ records) ≡ None) × IsDeliveryOf n command
 ReplySays kind replicas records command (reply.Yes n) =
-    (n ≡ label_count records) × (records_after kind replicas records command ≡ records) × (fault_of kind records ≡ None)
+    (n ≡ label_count records) × (records_after kind replicas records command ≡ records)
+    × (fault_of kind records ≡ None) × (command ≡ Verdict)
 ReplySays kind replicas records command (reply.No n why) =
     fault_of kind (records_after kind replicas records command) ≡ Some (fault_at n why)
 ReplySays kind replicas records command (reply.Refused why) =

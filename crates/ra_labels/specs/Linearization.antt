@@ -61,7 +61,8 @@ queries_admitted kind records sequence = list_all (is_query_admitted kind record
 
 -- the sequence is an RA-linearization of the rewritten history, where this must precede: it has each part once
 -- and nothing else, and meets the three conditions
-pub record IsRaLinearizationBy (precedes : Part → Part → Bool) (kind : Kind) (records : Records) (sequence : List Part) : Type 0 where
+pub record IsRaLinearizationBy (precedes : Part → Part → Bool) (kind : Kind) (records : Records)
+    (sequence : List Part) : Type 0 where
   pub each_part_once : IsPermutation (parts_in records) sequence
   pub visibility : IsTrue (extends precedes sequence)
   pub updates : IsTrue (updates_admitted kind sequence)

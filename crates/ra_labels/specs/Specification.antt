@@ -29,7 +29,8 @@ answers (Number n) (Count v) = int_eq v n
 
 -- the state after the updates, in this order; none from the first on that is not admitted
 abbrev pub state_after : Kind → List Update → Option State
-state_after kind updates = fold (λ state update. option_and_then (λ s. step_of s update) state) (Some (start_of kind)) updates
+state_after kind updates =
+    fold (λ state update. option_and_then (λ s. step_of s update) state) (Some (start_of kind)) updates
 
 -- is each of the updates admitted after those before it?
 abbrev pub is_admitted : Kind → List Update → Bool

@@ -1,5 +1,5 @@
 -- Worked histories of a counter, by what they show.
-use Rattle.std.specs.Prelude.{pos, negsuc, List, [], ◌∷◌, Some, None}
+use Rattle.std.specs.Prelude.{ℕ, pos, negsuc, List, [], ◌∷◌, Some, None}
 use Rattle.ra_labels.specs.declared.kind.Kind.TheVariants.{Counter}
 use Rattle.ra_labels.specs.declared.operation.Op.TheVariants.{Inc, Dec, Count}
 use Rattle.ra_labels.specs.declared.operation.Update.TheVariants as update
@@ -8,7 +8,7 @@ use Rattle.ra_labels.specs.declared.command.Command.{Command}
 use Rattle.ra_labels.specs.declared.command.Command.TheVariants.{Operate, Deliver, Verdict}
 use Rattle.ra_labels.specs.declared.reply.Reply.{Reply}
 use Rattle.ra_labels.specs.Records.{Records}
-use Rattle.ra_labels.specs.Rewriting.{Whole, Does, Asks, Part}
+use Rattle.ra_labels.specs.Rewriting.{Half, Whole, QueryHalf, UpdateHalf, Act, Does, Asks, Part}
 use Rattle.ra_labels.specs.Answer.{answers_to, records_after_all}
 
 -- `a inc`; `b got 0`; `b read 1`
@@ -17,7 +17,11 @@ delivered_and_read = Operate 0 Inc None ∷ Deliver 1 0 ∷ Operate 1 (Count (po
 
 -- the increment of `delivered_and_read`, as a part
 abbrev pub the_increment : Part
-the_increment = record { label = record { number = 0; replica = 0; op = Inc; stamp = None }; half = Whole; act = Does update.Inc }
+the_increment = record {
+  label = record { number = 0; replica = 0; op = Inc; stamp = None };
+  half = Whole;
+  act = Does update.Inc;
+}
 
 -- and its read
 abbrev pub the_read : Part
@@ -26,6 +30,42 @@ the_read = record {
   half = Whole;
   act = Asks (query.Count (pos 1));
 }
+
+-- `a inc`; `b got 0`; `b inc`; `c got 1`; `c read 1`: c has b's increment before a's, which b had
+abbrev pub delivered_out_of_causal_order : List Command
+delivered_out_of_causal_order =
+    Operate 0 Inc None ∷ Deliver 1 0 ∷ Operate 1 Inc None ∷ Deliver 2 1 ∷ Operate 2 (Count (pos 1)) None ∷ []
+
+-- `a inc`; `b got 0`; `c read 0`; `b read 1`
+abbrev pub delivered_to_one : List Command
+delivered_to_one =
+    Operate 0 Inc None ∷ Deliver 1 0 ∷ Operate 2 (Count (pos 0)) None ∷ Operate 1 (Count (pos 1)) None ∷ []
+
+-- `a read 0`; `a read 0`
+abbrev pub two_reads : List Command
+two_reads = Operate 0 (Count (pos 0)) None ∷ Operate 0 (Count (pos 0)) None ∷ []
+
+-- the read with this number, of `two_reads`
+abbrev pub read_numbered : ℕ → Part
+read_numbered n = record {
+  label = record { number = n; replica = 0; op = Count (pos 0); stamp = None };
+  half = Whole;
+  act = Asks (query.Count (pos 0));
+}
+
+-- two halves of label 0, as no operation of a counter has them: it asks for 0 and adds one
+abbrev pub half_of_label_0 : Half → Act → Part
+half_of_label_0 which does = record {
+  label = record { number = 0; replica = 0; op = Inc; stamp = None };
+  half = which;
+  act = does;
+}
+
+abbrev pub the_query_half : Part
+the_query_half = half_of_label_0 QueryHalf (Asks (query.Count (pos 0)))
+
+abbrev pub the_update_half : Part
+the_update_half = half_of_label_0 UpdateHalf (Does update.Inc)
 
 -- `a inc`; `b read 1`; `a inc`; `verdict`
 abbrev pub nothing_was_delivered : List Command
@@ -42,7 +82,8 @@ nothing_to_count = Operate 0 (Count (pos 1)) None ∷ []
 -- `a inc`; `b dec`; `b read -1`; `a got 1`; `a read 0`: each read counts what its replica had
 abbrev pub each_counts_what_it_had : List Command
 each_counts_what_it_had =
-    Operate 0 Inc None ∷ Operate 1 Dec None ∷ Operate 1 (Count (negsuc 0)) None ∷ Deliver 0 1 ∷ Operate 0 (Count (pos 0)) None ∷ []
+    Operate 0 Inc None ∷ Operate 1 Dec None ∷ Operate 1 (Count (negsuc 0)) None ∷ Deliver 0 1
+    ∷ Operate 0 (Count (pos 0)) None ∷ []
 
 -- `a inc @3`; `z inc`, where there are two replicas
 abbrev pub stamped_and_unknown : List Command
@@ -51,7 +92,8 @@ stamped_and_unknown = Operate 0 Inc (Some 3) ∷ Operate 2 Inc None ∷ []
 -- each refusal that a counter can meet, of two replicas, the earlier one where two apply
 abbrev pub each_refusal : List Command
 each_refusal =
-    Operate 2 Inc (Some 3) ∷ Operate 0 Inc (Some 0) ∷ Deliver 2 0 ∷ Deliver 1 0 ∷ Operate 0 Inc None ∷ Operate 1 (Count (pos 0)) None
+    Operate 2 Inc (Some 3) ∷ Operate 0 Inc (Some 0) ∷ Deliver 2 0 ∷ Deliver 1 0
+    ∷ Operate 0 Inc None ∷ Operate 1 (Count (pos 0)) None
     ∷ Deliver 1 1 ∷ Deliver 0 0 ∷ Deliver 1 0 ∷ Deliver 1 0 ∷ Deliver 1 2 ∷ Verdict ∷ []
 
 -- the answers of a counter of three replicas, from the beginning

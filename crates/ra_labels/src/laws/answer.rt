@@ -49,7 +49,8 @@ pub fn no_ever_after_a_fault()
 pub fn answers_in_turn()
     ensures replies { (kind : Kind) (replicas : ℕ) (records : Records) (first later : List Command)
         → answers_to kind replicas records (first ++ later)
-        ≡ answers_to kind replicas records first ++ answers_to kind replicas (records_after_all kind replicas records first) later }
+        ≡ answers_to kind replicas records first
+        ++ answers_to kind replicas (records_after_all kind replicas records first) later }
     ensures records { (kind : Kind) (replicas : ℕ) (records : Records) (first later : List Command)
         → records_after_all kind replicas records (first ++ later)
         ≡ records_after_all kind replicas (records_after_all kind replicas records first) later }
@@ -58,9 +59,10 @@ pub fn answers_in_turn()
 /// What a command's own form deserves is the first refusal of an operation of a known replica. Deliveries and
 /// verdicts have no form of their own that could deserve one, and a verdict is never refused.
 pub fn misfits_are_refused()
-    ensures operation { (kind : Kind) (replicas : ℕ) (records : Records) (by : ℕ) (op : Op) (clock : Option ℕ) (why : Refusal)
-        → by < replicas → misfit_of kind (Operate by op clock) ≡ Some why
+    ensures operation { (kind : Kind) (replicas : ℕ) (records : Records) (by : ℕ) (op : Op) (clock : Option ℕ)
+        (why : Refusal) → by < replicas → misfit_of kind (Operate by op clock) ≡ Some why
         → refusal_of kind replicas records (Operate by op clock) ≡ Some why }
     ensures delivery { (kind : Kind) (to label : ℕ) → misfit_of kind (Deliver to label) ≡ None }
-    ensures verdict { (kind : Kind) (replicas : ℕ) (records : Records) → refusal_of kind replicas records Verdict ≡ None }
+    ensures verdict { (kind : Kind) (replicas : ℕ) (records : Records)
+        → refusal_of kind replicas records Verdict ≡ None }
 {}

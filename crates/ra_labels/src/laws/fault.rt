@@ -38,7 +38,8 @@ pub fn a_fault_stays()
 /// many labels as its label says.
 pub fn records_before_fault_have_none()
     ensures none { (kind : Kind) (records : Records) → fault_of kind (records_before_fault kind records) ≡ None }
-    ensures all { (kind : Kind) (records : Records) → fault_of kind records ≡ None → records_before_fault kind records ≡ records }
+    ensures all { (kind : Kind) (records : Records) → fault_of kind records ≡ None
+        → records_before_fault kind records ≡ records }
     ensures count { (kind : Kind) (records : Records) (fault : Fault) → fault_of kind records ≡ Some fault
         → label_count (records_before_fault kind records) ≡ fault.label }
 {}

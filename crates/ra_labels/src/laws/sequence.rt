@@ -1,17 +1,21 @@
 //! The labels, the named order and the named sequence.
-ghost use Rattle.std.specs.Prelude.{◌≡◌, ℕ, ◌<◌, ◌≤◌, List, map, reverse, Contains, flat_map, IsPermutation, IsSorted, Some, None};
+ghost use Rattle.std.specs.Prelude.{◌≡◌, ◌↔◌, ℕ, ◌<◌, ◌≤◌, List, map, reverse, Contains, flat_map, IsPermutation, IsSorted, Some, None};
 ghost use Rattle.ra_labels.specs.declared.kind.Kind.{Kind};
 ghost use Rattle.ra_labels.specs.declared.kind.Kind.TheVariants as kind;
+ghost use Rattle.std.specs.declared.cmp.Ordering.TheVariants.{Less, Equal};
+ghost use Rattle.ra_labels.specs.declared.label.Stamp.{Stamp};
 ghost use Rattle.ra_labels.specs.declared.label.Label.{Label};
+ghost use Rattle.ra_labels.specs.contracts.label.StampOrd.TheImpl as derived;
 ghost use Rattle.ra_labels.specs.Records.{Records, label_count, label_at, labels_of};
 ghost use Rattle.ra_labels.specs.Rewriting.{parts_of};
 ghost use Rattle.ra_labels.specs.Linearization.{parts_in};
-ghost use Rattle.ra_labels.specs.NamedOrder.{label_cmp, named_labels, named_sequence, rank_of, lowest_rank};
-ghost use Rattle.ra_labels.specs.Laws.{numbers_below};
+ghost use Rattle.ra_labels.specs.NamedOrder.{stamp_cmp, label_cmp, named_labels, named_sequence, rank_of, lowest_rank};
+ghost use Rattle.ra_labels.specs.Laws.{numbers_below, IsStampBelow};
 
 /// Labels are numbered in turn: the newest by their number less one, the oldest by 0.
 pub fn labels_are_numbered_in_turn()
-    ensures { (records : Records) → map (λ label. label.number) (labels_of records) ≡ numbers_below (label_count records) }
+    ensures { (records : Records)
+        → map (λ label. label.number) (labels_of records) ≡ numbers_below (label_count records) }
 {}
 
 /// There is a label at each number below their count, and none elsewhere; and each label is found at its number.
@@ -21,6 +25,13 @@ pub fn each_number_has_its_label()
     ensures none { (records : Records) (n : ℕ) → label_count records ≤ n → label_at records n ≡ None }
     ensures found { (records : Records) (label : Label) → Contains (labels_of records) label
         → label_at records label.number ≡ Some label }
+{}
+
+/// Stamps are ordered by clock, and at one clock by replica.
+pub fn stamps_by_clock_and_then_by_replica()
+    ensures less { (s t : Stamp) → (stamp_cmp s t ≡ Less) ↔ IsStampBelow s t }
+    ensures equal { (s t : Stamp) → (stamp_cmp s t ≡ Equal) ↔ (s ≡ t) }
+    ensures derived { (s t : Stamp) → derived.ghosts.cmp s t ≡ stamp_cmp s t }
 {}
 
 /// The named sequence lists each part once, and nothing else.

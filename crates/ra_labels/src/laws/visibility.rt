@@ -1,11 +1,24 @@
 //! What a label sees, and what a replica had.
-ghost use Rattle.std.specs.Prelude.{◌≡◌, ℕ, ◌<◌, ◌++◌, true};
+ghost use Rattle.std.specs.Prelude.{◌≡◌, ◌↔◌, ◌⊎◌, ℕ, ◌<◌, ◌++◌, true};
 ghost use Rattle.ra_labels.specs.Records.{Records, label_count};
 ghost use Rattle.ra_labels.specs.Visibility.{had, is_update_at, sees, IsCausal};
+ghost use Rattle.ra_labels.specs.Laws.{WasIssuedAt, WasDeliveredTo, WasIssuedHaving};
+
+/// What a replica had is what it issued, where that is an update, and what was delivered to it.
+pub fn had_what_was_issued_or_delivered()
+    ensures { (records : Records) (replica n : ℕ) → (had records replica n ≡ true)
+        ↔ (WasIssuedAt records replica n ⊎ WasDeliveredTo records replica n) }
+{}
+
+/// What a label sees is what its replica had before it.
+pub fn sees_what_its_replica_had()
+    ensures { (records : Records) (n m : ℕ) → (sees records n m ≡ true) ↔ WasIssuedHaving records n m }
+{}
 
 /// A label that is there sees the same in all later records.
 pub fn sees_the_same_later()
-    ensures { (later records : Records) (n m : ℕ) → n < label_count records → sees (later ++ records) n m ≡ sees records n m }
+    ensures { (later records : Records) (n m : ℕ) → n < label_count records
+        → sees (later ++ records) n m ≡ sees records n m }
 {}
 
 /// A label is an update in all later records exactly where it is one.
@@ -22,13 +35,15 @@ pub fn sees_earlier_updates()
 
 /// What a replica had are updates that are there.
 pub fn had_updates()
-    ensures updates { (records : Records) (replica n : ℕ) → had records replica n ≡ true → is_update_at records n ≡ true }
+    ensures updates { (records : Records) (replica n : ℕ) → had records replica n ≡ true
+        → is_update_at records n ≡ true }
     ensures there { (records : Records) (n : ℕ) → is_update_at records n ≡ true → n < label_count records }
 {}
 
 /// What a replica had it keeps.
 pub fn had_is_kept()
-    ensures { (later records : Records) (replica n : ℕ) → had records replica n ≡ true → had (later ++ records) replica n ≡ true }
+    ensures { (later records : Records) (replica n : ℕ) → had records replica n ≡ true
+        → had (later ++ records) replica n ≡ true }
 {}
 
 /// In causal records a replica that had a label had all that the label sees, and a label sees all that the labels
