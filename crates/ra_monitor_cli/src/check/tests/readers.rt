@@ -1,6 +1,7 @@
 use super::{TEXT, WRITTEN};
+use crate::check::check;
 use crate::check::fault::CheckFault::{self, Full, LineTooLong, Syntax, Truncated};
-use crate::check::{PIECE, check};
+use crate::limits::PIECE;
 use std::cell::Cell;
 use std::io;
 use std::io::{ErrorKind, Read, Write};
