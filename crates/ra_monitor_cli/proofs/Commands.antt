@@ -11,8 +11,8 @@ use Rattle.ra_labels.specs.declared.operation.Op.{Op}
 use Rattle.ra_labels.specs.declared.operation.Op.TheVariants.{Inc, Dec, Count}
 use Rattle.ra_labels.specs.declared.command.Command.{Command}
 use Rattle.ra_labels.specs.declared.command.Command.TheVariants.{Operate, Deliver, Verdict}
-use Rattle.ra_monitor_cli.specs.Grammar.{is_name, place_of, fields_of, has_words, operation_fields, clock_fields, HasSmallNumbers, StandsFor, AreFieldsOf, Spells}
-use Rattle.ra_monitor_cli.specs.Reading.{number_read, signed_read, clock_read, operation_read, delivery_read, count_read, report_read, command_read}
+use Rattle.ra_monitor_cli.specs.Grammar.{is_name, place_of, fields_of, has_words, operation_fields, clock_fields, HasSmallNumbers, NamesReplica, AreFieldsOf, Spells}
+use Rattle.ra_monitor_cli.specs.Reading.{number_read, signed_read, clock_read, operation_read, delivery_read, count_read, replica_command_read, command_read}
 use Rattle.ra_monitor_cli.proofs.Numbers.{number_read-Some, number_read-decimal, signed_read-Some, signed_read-decimal}
 
 same_bytes : (word text : List ℕ) → bytes_eq word text ≡ true → word ≡ text
@@ -42,7 +42,7 @@ clock_found (mark ∷ digits) at e =
 
 -- an operation with this front of its fields
 operation_found : (kind : Kind) (names : List (List ℕ)) (name : List ℕ) (replica : ℕ) (op : Op) (fields : List (List ℕ)) (c : Command)
-    → StandsFor names name replica → has_words kind op ≡ true → HasSmallNumbers op
+    → NamesReplica names name replica → has_words kind op ≡ true → HasSmallNumbers op
     → operation_read replica op fields ≡ Some c → AreFieldsOf kind names (name ∷ (operation_fields op ++ fields)) c
 operation_found kind names name replica op [] c who own small e =
     let is : Operate replica op None ≡ c = cc in
@@ -58,7 +58,7 @@ operation_found kind names name replica op (field ∷ []) c who own small e =
 operation_found kind names name replica op (field ∷ another ∷ more) c who own small e = absurd cc
 
 delivery_found : (kind : Kind) (names : List (List ℕ)) (name : List ℕ) (replica : ℕ) (fields : List (List ℕ)) (c : Command)
-    → StandsFor names name replica → delivery_read replica fields ≡ Some c → AreFieldsOf kind names (name ∷ codes "got" ∷ fields) c
+    → NamesReplica names name replica → delivery_read replica fields ≡ Some c → AreFieldsOf kind names (name ∷ codes "got" ∷ fields) c
 delivery_found kind names name replica [] c who e = absurd cc
 delivery_found kind names name replica (field ∷ []) c who e =
     let m = mapped (λ label. Deliver replica label) (number_read field) c e in
@@ -68,7 +68,7 @@ delivery_found kind names name replica (field ∷ []) c who e =
 delivery_found kind names name replica (field ∷ another ∷ more) c who e = absurd cc
 
 count_found : (names : List (List ℕ)) (name : List ℕ) (replica : ℕ) (fields : List (List ℕ)) (c : Command)
-    → StandsFor names name replica → count_read replica fields ≡ Some c → AreFieldsOf Counter names (name ∷ codes "read" ∷ fields) c
+    → NamesReplica names name replica → count_read replica fields ≡ Some c → AreFieldsOf Counter names (name ∷ codes "read" ∷ fields) c
 count_found names name replica [] c who e = absurd cc
 count_found names name replica (field ∷ fields) c who e =
     option_and_then_some (λ value. operation_read replica (Count value) fields) (signed_read field) c e
@@ -77,9 +77,9 @@ count_found names name replica (field ∷ fields) c who e =
     let found = operation_found Counter names name replica (Count value) fields c who refl says.1 next in
     subst (λ (f : List ℕ). AreFieldsOf Counter names (name ∷ codes "read" ∷ f ∷ fields) c) (sym says.0) found)
 
-report_found : (kind : Kind) (names : List (List ℕ)) (name : List ℕ) (replica : ℕ) (word : List ℕ) (fields : List (List ℕ)) (c : Command)
-    → StandsFor names name replica → report_read kind replica word fields ≡ Some c → AreFieldsOf kind names (name ∷ word ∷ fields) c
-report_found Counter names name replica word fields c who e =
+replica_command_found : (kind : Kind) (names : List (List ℕ)) (name : List ℕ) (replica : ℕ) (word : List ℕ) (fields : List (List ℕ)) (c : Command)
+    → NamesReplica names name replica → replica_command_read kind replica word fields ≡ Some c → AreFieldsOf kind names (name ∷ word ∷ fields) c
+replica_command_found Counter names name replica word fields c who e =
     let at = λ (text : List ℕ) (is : bytes_eq word text ≡ true) (found : AreFieldsOf Counter names (name ∷ text ∷ fields) c).
     subst (λ (w : List ℕ). AreFieldsOf Counter names (name ∷ w ∷ fields) c) (sym (same_bytes word text is)) found in
     elim (chosen (bytes_eq word (codes "got")) _ _ _ e) [
@@ -107,34 +107,34 @@ command_found kind names (word ∷ []) c e =
     ]
 command_found kind names (name ∷ word ∷ fields) c e =
     elim (chosen (is_name name) _ _ _ e) [
-      | inl read ↦ report_found kind names name (place_of names name) word fields c (record { form = read.0; place = refl }) read.1
+      | inl read ↦ replica_command_found kind names name (place_of names name) word fields c (record { form = read.0; place = refl }) read.1
       | inr none ↦ absurd (let never = none.1 in cc)
     ]
 
 -- ---- what is spelled is read
 
-report_only : (kind : Kind) (names : List (List ℕ)) (name word : List ℕ) (fields : List (List ℕ)) (replica : ℕ) → StandsFor names name replica
-    → command_read kind names (name ∷ word ∷ fields) ≡ report_read kind replica word fields
-report_only kind names name word fields replica who = rw who.form (ap (λ (r : ℕ). report_read kind r word fields) (sym who.place))
+replica_command_only : (kind : Kind) (names : List (List ℕ)) (name word : List ℕ) (fields : List (List ℕ)) (replica : ℕ) → NamesReplica names name replica
+    → command_read kind names (name ∷ word ∷ fields) ≡ replica_command_read kind replica word fields
+replica_command_only kind names name word fields replica who = rw who.form (ap (λ (r : ℕ). replica_command_read kind r word fields) (sym who.place))
 
 clock_only : (replica : ℕ) (op : Op) (clock : Option ℕ) → IfSome clock (λ at. at < 2 ^ 32) → operation_read replica op (clock_fields clock) ≡ Some (Operate replica op clock)
 clock_only replica op None small = refl
 clock_only replica op (Some at) small = rw (number_read-decimal at small) refl
 
-operation_only : (kind : Kind) (replica : ℕ) (op : Op) (clock : Option ℕ) (names : List (List ℕ)) (name : List ℕ) → StandsFor names name replica → has_words kind op ≡ true → HasSmallNumbers op
+operation_only : (kind : Kind) (replica : ℕ) (op : Op) (clock : Option ℕ) (names : List (List ℕ)) (name : List ℕ) → NamesReplica names name replica → has_words kind op ≡ true → HasSmallNumbers op
     → IfSome clock (λ at. at < 2 ^ 32) → command_read kind names (name ∷ (operation_fields op ++ clock_fields clock)) ≡ Some (Operate replica op clock)
 operation_only Counter replica Inc clock names name who own small small_clock =
-    report_only Counter names name (codes "inc") (clock_fields clock) replica who ∙ clock_only replica Inc clock small_clock
+    replica_command_only Counter names name (codes "inc") (clock_fields clock) replica who ∙ clock_only replica Inc clock small_clock
 operation_only Counter replica Dec clock names name who own small small_clock =
-    report_only Counter names name (codes "dec") (clock_fields clock) replica who ∙ clock_only replica Dec clock small_clock
+    replica_command_only Counter names name (codes "dec") (clock_fields clock) replica who ∙ clock_only replica Dec clock small_clock
 operation_only Counter replica (Count value) clock names name who own small small_clock =
-    report_only Counter names name (codes "read") (signed_decimal value ∷ clock_fields clock) replica who
+    replica_command_only Counter names name (codes "read") (signed_decimal value ∷ clock_fields clock) replica who
     ∙ rw (signed_read-decimal value small) (clock_only replica (Count value) clock small_clock)
 
-delivery_only : (kind : Kind) (replica label : ℕ) (names : List (List ℕ)) (name : List ℕ) → StandsFor names name replica → label < 2 ^ 32
+delivery_only : (kind : Kind) (replica label : ℕ) (names : List (List ℕ)) (name : List ℕ) → NamesReplica names name replica → label < 2 ^ 32
     → command_read kind names (name ∷ codes "got" ∷ decimal label ∷ []) ≡ Some (Deliver replica label)
 delivery_only Counter replica label names name who small =
-    report_only Counter names name (codes "got") (decimal label ∷ []) replica who ∙ rw (number_read-decimal label small) refl
+    replica_command_only Counter names name (codes "got") (decimal label ∷ []) replica who ∙ rw (number_read-decimal label small) refl
 
 pub command_only : (kind : Kind) (names fields : List (List ℕ)) (c : Command) → AreFieldsOf kind names fields c → command_read kind names fields ≡ Some c
 command_only kind names fields Verdict spelled = ap (command_read kind names) spelled

@@ -14,7 +14,7 @@ use Rattle.ra_monitor_cli.specs.declared.check.session.Stage.{Stage}
 use Rattle.ra_monitor_cli.specs.declared.check.session.Stage.TheVariants.{FirstLine, NamesLine, Commands}
 use Rattle.ra_monitor_cli.specs.Grammar.{IsLine, bytes_of, fields_of, first_line, ListsNames, Spells, SpellEach}
 use Rattle.ra_monitor_cli.specs.Output.{IsAnswered}
-use Rattle.ra_monitor_cli.specs.Recorded.{Recorded}
+use Rattle.ra_monitor_cli.specs.Recorder.{Recorder}
 use Rattle.ra_monitor_cli.specs.Progress.{AreTaken, replies_at, IsNoLine, IsOneTooMany}
 use Rattle.ra_monitor_cli.specs.Stopped.{BeginsWithStop, BeginsTooLong, StopsBefore, Stops, IsOfText}
 use Rattle.ra_monitor_cli.proofs.Texts.{one_kind, one_list}
@@ -75,14 +75,14 @@ no_feed (l ∷ line) (x ∷ front) more behind same none lt =
 
 line_or_long : (line rest more : List ℕ) → IsLine line → rest ≡ line ++ 10 ∷ more → BeginsTooLong rest → ⊥
 line_or_long line rest more is parts long =
-    no_feed line long.front more long.behind (sym parts ∙ long.parts) long.one (omega (arith, is.short, long.long))
+    no_feed line long.prefix more long.behind (sym parts ∙ long.parts) long.one (omega (arith, is.short, long.long))
 
 line_or_part : (line rest more : List ℕ) → rest ≡ line ++ 10 ∷ more → IsLine rest → ⊥
 line_or_part line rest more parts part =
     no_feed line rest more [] (sym parts ∙ sym (append-nil rest)) part.one (omega (arith, ap length parts, length-append line (10 ∷ more)))
 
 long_or_part : (rest : List ℕ) → BeginsTooLong rest → IsLine rest → ⊥
-long_or_part rest long part = omega (arith, long.long, part.short, ap length long.parts, length-append long.front long.behind)
+long_or_part rest long part = omega (arith, long.long, part.short, ap length long.parts, length-append long.prefix long.behind)
 
 -- ---- stages
 
@@ -136,9 +136,9 @@ next_taken (Commands r) (Commands s) (l ∷ m ∷ lines) more next taken longer 
     let goes_on = spell_next r.kind r.names lines more next r.commands s.commands here there in
     (omega (arith, goes_on.0, longer.5), goes_on.1)
 
-same_recorded : (r s : Recorded) → r.kind ≡ s.kind → r.names ≡ s.names → r.commands ≡ s.commands → r ≡ s
+same_recorded : (r s : Recorder) → r.kind ≡ s.kind → r.names ≡ s.names → r.commands ≡ s.commands → r ≡ s
 same_recorded r s kinds names commands =
-    let of : Kind → List (List ℕ) → List Command → Recorded = λ kind ns cs. record { kind = kind; names = ns; commands = cs } in
+    let of : Kind → List (List ℕ) → List Command → Recorder = λ kind ns cs. record { kind = kind; names = ns; commands = cs } in
     ap (λ kind. of kind r.names r.commands) kinds ∙ ap (λ ns. of s.kind ns r.commands) names ∙ ap (λ cs. of s.kind s.names cs) commands
 
 -- the same lines lead to one stage
@@ -199,10 +199,10 @@ stops_at_no_line stage rest next behind left NoMemory own why is parts may = abs
 stops_at_no_line stage rest next behind left Endless own why is parts may = absurd own
 
 -- nor behind a command, where nothing comes
-stops_at_no_end : (r : Recorded) (left : Option (List ℕ)) (fault : CheckFault) → IsOfText fault → StopsBefore (Commands r) [] left fault → ⊥
+stops_at_no_end : (r : Recorder) (left : Option (List ℕ)) (fault : CheckFault) → IsOfText fault → StopsBefore (Commands r) [] left fault → ⊥
 stops_at_no_end r left (Syntax n) own why = omega (arith, ap length why.parts, length-append why.line (10 ∷ why.behind))
 stops_at_no_end r left (Full n) own why = omega (arith, ap length why.parts, length-append why.line (10 ∷ why.behind))
-stops_at_no_end r left (LineTooLong n) own why = omega (arith, ap length why.1.parts, length-append why.1.front why.1.behind, why.1.long)
+stops_at_no_end r left (LineTooLong n) own why = omega (arith, ap length why.1.parts, length-append why.1.prefix why.1.behind, why.1.long)
 stops_at_no_end r left (Truncated n) own why = why.1.wanted refl
 stops_at_no_end r left Read own why = absurd own
 stops_at_no_end r left Write own why = absurd own
@@ -281,7 +281,7 @@ one_stop text out other left other_left fault other_fault own own_other p q =
 
 pub no_end : (text out other : List ℕ) (left : Option (List ℕ)) (fault : CheckFault) (report : Report) → IsOfText fault → Stops text out left fault → IsAnswered text other report → ⊥
 no_end text out other left fault report own p q =
-    let r : Recorded = record { kind = q.kind; names = q.names; commands = q.commands } in
+    let r : Recorder = record { kind = q.kind; names = q.names; commands = q.commands } in
     let lines = first_line q.kind ∷ q.says.second ∷ q.says.lines in
     let taken : AreTaken (Commands r) lines = (q.says.second, q.says.lines, refl, q.says.lists, q.says.spell, q.says.few) in
     let same : bytes_of p.answered.lines ++ p.rest ≡ bytes_of lines ++ [] = sym p.answered.parts ∙ q.says.whole ∙ sym (append-nil (bytes_of lines)) in

@@ -77,9 +77,9 @@ halts_ending (Some all) (Some rest) (Some left) w0 w1 session out fault running 
 -- what was written before, and then a front of these bytes
 written_then : (w0 w1 w2 : Option (List ℕ)) (before bytes rest : List ℕ) → Appends w0 w1 before → HasWritten w1 w2 bytes rest → HasWritten w0 w2 (before ++ bytes) rest
 written_then w0 w1 w2 before bytes rest written more = record {
-  front = before ++ more.front;
-  parts = ap (λ (bs : List ℕ). before ++ bs) more.parts ∙ sym (append_assoc before more.front rest);
-  appends = Appends-then w0 w1 w2 before more.front written more.appends;
+  prefix = before ++ more.prefix;
+  parts = ap (λ (bs : List ℕ). before ++ bs) more.parts ∙ sym (append_assoc before more.prefix rest);
+  appends = Appends-then w0 w1 w2 before more.prefix written more.appends;
 }
 
 pub halts_writing_end : (r0 r1 r2 w0 w1 w2 : Option (List ℕ)) (session : Session) (out1 out2 unwritten : List ℕ) (report : Report)

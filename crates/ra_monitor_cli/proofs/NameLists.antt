@@ -8,7 +8,7 @@ use Rattle.std.proofs.lemmas.List.{append_assoc, append-nil, length_push, length
 use Rattle.std.proofs.lemmas.Map.Keys.{IsDistinct-head, IsDistinct-tail, IsDistinct-push}
 use Rattle.ra_monitor_cli.specs.Grammar.{is_name, place_of, fields_of, AreNames, ListsNames}
 use Rattle.ra_monitor_cli.specs.declared.check.fault.LineFault.{LineFault}
-use Rattle.ra_monitor_cli.specs.Names.{MayJoin, AreNamesSoFar, IsFrontOf}
+use Rattle.ra_monitor_cli.specs.Names.{MayJoin, AreNamesSoFar, ListsSoFar}
 
 -- a name that has no place is not there
 not_there : (names : List (List ℕ)) (name : List ℕ) → place_of names name ≡ length names → list_any (bytes_eq name) names ≡ false
@@ -67,11 +67,11 @@ nothing : IsDistinct bytes_eq []
 unfolding IsDistinct
 nothing = tt
 
-pub front_first : (line : List ℕ) (word : List ℕ) (fields : List (List ℕ)) → fields_of line ≡ word ∷ fields → word ≡ codes "replicas" → IsFrontOf line [] fields
-front_first line word fields cut is = record { parts = cut ∙ ap (λ (x : List ℕ). x ∷ fields) is; so_far = record { few = omega arith; each = refl; distinct = nothing } }
+pub so_far_first : (line : List ℕ) (word : List ℕ) (fields : List (List ℕ)) → fields_of line ≡ word ∷ fields → word ≡ codes "replicas" → ListsSoFar line [] fields
+so_far_first line word fields cut is = record { parts = cut ∙ ap (λ (x : List ℕ). x ∷ fields) is; so_far = record { few = omega arith; each = refl; distinct = nothing } }
 
-pub front_next : (line : List ℕ) (names : List (List ℕ)) (name : List ℕ) (fields : List (List ℕ)) → IsFrontOf line names (name ∷ fields) → MayJoin names name → IsFrontOf line (names ++ name ∷ []) fields
-front_next line names name fields front may = record {
+pub so_far_next : (line : List ℕ) (names : List (List ℕ)) (name : List ℕ) (fields : List (List ℕ)) → ListsSoFar line names (name ∷ fields) → MayJoin names name → ListsSoFar line (names ++ name ∷ []) fields
+so_far_next line names name fields front may = record {
   parts = front.parts ∙ ap (λ (xs : List (List ℕ)). codes "replicas" ∷ xs) (sym (append_assoc names (name ∷ []) fields));
   so_far = AreNamesSoFar-push names name front.so_far may;
 }
@@ -80,19 +80,19 @@ front_next line names name fields front may = record {
 listed : (line : List ℕ) (names fields others : List (List ℕ)) → fields_of line ≡ codes "replicas" ∷ (names ++ fields) → fields_of line ≡ codes "replicas" ∷ others → others ≡ names ++ fields
 listed line names fields others p q = let both = sym q ∙ p in cc
 
-pub front_refused : (line : List ℕ) (names : List (List ℕ)) (name : List ℕ) (fields others : List (List ℕ)) → IsFrontOf line names (name ∷ fields) → (MayJoin names name → ⊥) → ListsNames line others → ⊥
-front_refused line names name fields others front refused lists =
+pub so_far_refused : (line : List ℕ) (names : List (List ℕ)) (name : List ℕ) (fields others : List (List ℕ)) → ListsSoFar line names (name ∷ fields) → (MayJoin names name → ⊥) → ListsNames line others → ⊥
+so_far_refused line names name fields others front refused lists =
     let same = listed line names (name ∷ fields) others front.parts lists.1 in
     refused (MayJoin-from_names names fields name (subst AreNames same lists.0))
 
-pub front_all : (line : List ℕ) (names : List (List ℕ)) → IsFrontOf line names [] → 0 < length names → ListsNames line names
-front_all line names front some = (
+pub so_far_all : (line : List ℕ) (names : List (List ℕ)) → ListsSoFar line names [] → 0 < length names → ListsNames line names
+so_far_all line names front some = (
   record { some = some; few = front.so_far.few; each = front.so_far.each; distinct = front.so_far.distinct },
   front.parts ∙ ap (λ (xs : List (List ℕ)). codes "replicas" ∷ xs) (append-nil names),
 )
 
-pub front_none : (line : List ℕ) (names others : List (List ℕ)) → IsFrontOf line names [] → length names ≡ 0 → ListsNames line others → ⊥
-front_none line names others front none lists =
+pub so_far_none : (line : List ℕ) (names others : List (List ℕ)) → ListsSoFar line names [] → length names ≡ 0 → ListsNames line others → ⊥
+so_far_none line names others front none lists =
     let same = listed line names [] others front.parts lists.1 ∙ append-nil names in
     omega (arith, lists.0.some, ap length same)
 

@@ -23,15 +23,15 @@ Appends-then (Some held) (Some more) None xs ys p q = absurd q
 Appends-then (Some held) (Some more) (Some all) xs ys p q = q ∙ ap (λ (zs : List ℕ). zs ++ ys) p ∙ append_assoc held xs ys
 
 pub written_none : (known : Option (List ℕ)) (bytes : List ℕ) → HasWritten known known bytes bytes
-written_none known bytes = record { front = []; parts = refl; appends = Appends-nil known }
+written_none known bytes = record { prefix = []; parts = refl; appends = Appends-nil known }
 
 pub written_more : (old mid new : Option (List ℕ)) (bytes rest behind : List ℕ) (n : ℕ) → HasWritten old mid bytes rest → Appends mid new (take n rest) → behind ≡ drop n rest → HasWritten old new bytes behind
 written_more old mid new bytes rest behind n written appends is = record {
-  front = written.front ++ take n rest;
+  prefix = written.prefix ++ take n rest;
   parts =
-      written.parts ∙ ap (λ (bs : List ℕ). written.front ++ bs) (sym (take-append-drop n rest) ∙ ap (λ (bs : List ℕ). take n rest ++ bs) (sym is))
-      ∙ sym (append_assoc written.front (take n rest) behind);
-  appends = Appends-then old mid new written.front (take n rest) written.appends appends;
+      written.parts ∙ ap (λ (bs : List ℕ). written.prefix ++ bs) (sym (take-append-drop n rest) ∙ ap (λ (bs : List ℕ). take n rest ++ bs) (sym is))
+      ∙ sym (append_assoc written.prefix (take n rest) behind);
+  appends = Appends-then old mid new written.prefix (take n rest) written.appends appends;
 }
 
 -- ---- a run

@@ -17,9 +17,9 @@ use Rattle.ra_monitor_cli.specs.Bytes.{Grows}
 use Rattle.ra_monitor_cli.specs.Fields.{IsCutAt}
 use Rattle.ra_monitor_cli.specs.Grammar.{IsLine, bytes_of, first_line, Spells, SpellEach}
 use Rattle.ra_monitor_cli.specs.Output.{reply_line, end_line, answers_in, records_in, IsReportOf, IsAnswered}
-use Rattle.ra_monitor_cli.specs.Recorded.{Recorded, RecordsLine, next_answer}
+use Rattle.ra_monitor_cli.specs.Recorder.{Recorder, RecordsLine, next_answer}
 use Rattle.ra_monitor_cli.proofs.Recording.{answers_push}
-use Rattle.ra_monitor_cli.specs.Progress.{AreTaken, replies_at, TakesLine, IsAfter, Extends, EndsLine, Takes, IsFedUpTo}
+use Rattle.ra_monitor_cli.specs.Progress.{AreTaken, replies_at, TakesLine, IsAfter, Extends, ClosesLine, Takes, IsFedUpTo}
 
 -- ---- a line at the stage of commands
 
@@ -31,10 +31,10 @@ SpellEach-push kind names (l ∷ lines) [] line command each here = absurd each
 SpellEach-push kind names (l ∷ lines) (c ∷ commands) line command each here = (each.0, SpellEach-push kind names lines commands line command each.1 here)
 
 -- a recorder with one more command
-abbrev with_command : Recorded → Command → Recorded
+abbrev with_command : Recorder → Command → Recorder
 with_command old command = record old { commands = old.commands ++ command ∷ [] }
 
-taken_command : (old : Recorded) (command : Command) (line : List ℕ) → Spells old.kind old.names line command → length old.commands < 1048576 → (lines : List (List ℕ))
+taken_command : (old : Recorder) (command : Command) (line : List ℕ) → Spells old.kind old.names line command → length old.commands < 1048576 → (lines : List (List ℕ))
     → AreTaken (Commands old) lines → AreTaken (Commands (with_command old command)) (lines ++ line ∷ [])
 taken_command old command line here room lines taken = (
   taken.0,
@@ -45,7 +45,7 @@ taken_command old command line here room lines taken = (
   omega (arith, room, length_push old.commands command),
 )
 
-replied_command : (old : Recorded) (command : Command) → replies_at (Commands (with_command old command)) ≡ replies_at (Commands old) ++ reply_line (next_answer old command)
+replied_command : (old : Recorder) (command : Command) → replies_at (Commands (with_command old command)) ≡ replies_at (Commands old) ++ reply_line (next_answer old command)
 replied_command old command =
     let answers = answers_in old.kind old.names old.commands in
     let reply = next_answer old command in
@@ -53,13 +53,13 @@ replied_command old command =
     ∙ flat_map-append reply_line answers (reply ∷ [])
     ∙ ap (λ (bs : List ℕ). flat_map reply_line answers ++ bs) (append-nil (reply_line reply))
 
-pub TakesLine-command : (old new : Recorded) (line more : List ℕ) → RecordsLine old new line more → TakesLine (Commands old) (Commands new) line more
+pub TakesLine-command : (old new : Recorder) (line more : List ℕ) → RecordsLine old new line more → TakesLine (Commands old) (Commands new) line more
 TakesLine-command old new line more records =
     let made : TakesLine (Commands old) (Commands (with_command old records.command)) line (reply_line (next_answer old records.command)) = record {
       taken = λ lines taken. taken_command old records.command line records.spelled records.room lines taken;
       replied = replied_command old records.command;
     } in
-    subst (λ (r : Recorded). TakesLine (Commands old) (Commands r) line more) (sym records.recorded)
+    subst (λ (r : Recorder). TakesLine (Commands old) (Commands r) line more) (sym records.recorded)
     (subst (TakesLine (Commands old) (Commands (with_command old records.command)) line) (sym records.answered) made)
 
 -- ---- pieces
@@ -87,8 +87,8 @@ IsAfter-extend old new stream part after extends none = record {
   };
 }
 
-pub IsAfter-end : (old new : Session) (stream more : List ℕ) → IsAfter old stream → EndsLine old new more → IsAfter new (stream ++ 10 ∷ [])
-IsAfter-end old new stream more after ends = record {
+pub IsAfter-close : (old new : Session) (stream more : List ℕ) → IsAfter old stream → ClosesLine old new more → IsAfter new (stream ++ 10 ∷ [])
+IsAfter-close old new stream more after ends = record {
   lines = after.lines ++ old.partial.items ∷ [];
   taken = ends.line.taken after.lines after.taken;
   are_lines = lines_push IsLine after.lines old.partial.items after.are_lines after.rest;
@@ -102,7 +102,7 @@ IsAfter-end old new stream more after ends = record {
 -- nothing is taken yet
 pub fed_none : (session : Session) (piece out : List ℕ) → IsFedUpTo session session piece piece out out
 fed_none session piece out = record {
-  front = [];
+  prefix = [];
   more = [];
   parts = refl;
   grows = sym (append-nil out);
@@ -115,18 +115,18 @@ fed_none session piece out = record {
 -- one more line is taken
 pub fed_line : (first old mid new : Session) (piece rest front behind out_first out_old out_new more : List ℕ)
     → IsFedUpTo first old piece rest out_first out_old → IsCutAt 10 rest front behind → Extends old mid front
-    → Grows out_old out_new more → EndsLine mid new more → IsFedUpTo first new piece behind out_first out_new
+    → Grows out_old out_new more → ClosesLine mid new more → IsFedUpTo first new piece behind out_first out_new
 fed_line first old mid new piece rest front behind out_first out_old out_new more fed cut extends grows ends = record {
-  front = fed.front ++ (front ++ 10 ∷ []);
+  prefix = fed.prefix ++ (front ++ 10 ∷ []);
   more = fed.more ++ more;
   parts =
-      fed.parts ∙ ap (λ (bs : List ℕ). fed.front ++ bs) (cut.parts ∙ sym (append_assoc front (10 ∷ []) behind))
-      ∙ sym (append_assoc fed.front (front ++ 10 ∷ []) behind);
+      fed.parts ∙ ap (λ (bs : List ℕ). fed.prefix ++ bs) (cut.parts ∙ sym (append_assoc front (10 ∷ []) behind))
+      ∙ sym (append_assoc fed.prefix (front ++ 10 ∷ []) behind);
   grows = grows ∙ ap (λ (bs : List ℕ). bs ++ more) fed.grows ∙ append_assoc out_first fed.more more;
   takes = record {
     after = λ stream after.
-        let here = IsAfter-end mid new ((stream ++ fed.front) ++ front) more (IsAfter-extend old mid (stream ++ fed.front) front (fed.takes.after stream after) extends cut.first) ends in
-        subst (IsAfter new) (append_assoc (stream ++ fed.front) front (10 ∷ []) ∙ append_assoc stream fed.front (front ++ 10 ∷ [])) here;
+        let here = IsAfter-close mid new ((stream ++ fed.prefix) ++ front) more (IsAfter-extend old mid (stream ++ fed.prefix) front (fed.takes.after stream after) extends cut.first) ends in
+        subst (IsAfter new) (append_assoc (stream ++ fed.prefix) front (10 ∷ []) ∙ append_assoc stream fed.prefix (front ++ 10 ∷ [])) here;
     replied =
         ends.line.replied ∙ ap (λ (s : Stage). replies_at s ++ more) extends.stage ∙ ap (λ (bs : List ℕ). bs ++ more) fed.takes.replied
         ∙ append_assoc (replies_at first.stage) fed.more more;
@@ -141,30 +141,30 @@ fed_all first old new piece rest out_first out_old fed none extends = (
   fed.grows,
   record {
     after = λ stream after.
-        let here = IsAfter-extend old new (stream ++ fed.front) rest (fed.takes.after stream after) extends none in
-        subst (IsAfter new) (append_assoc stream fed.front rest ∙ ap (λ (bs : List ℕ). stream ++ bs) (sym fed.parts)) here;
+        let here = IsAfter-extend old new (stream ++ fed.prefix) rest (fed.takes.after stream after) extends none in
+        subst (IsAfter new) (append_assoc stream fed.prefix rest ∙ ap (λ (bs : List ℕ). stream ++ bs) (sym fed.parts)) here;
     replied = ap replies_at extends.stage ∙ fed.takes.replied;
   },
 )
 
 -- ---- the end
 
-pub answered : (session : Session) (recorded : Recorded) (text end : List ℕ) (report : Report)
-    → session.stage ≡ Commands recorded → session.partial.items ≡ [] → IsReportOf recorded.kind recorded.names recorded.commands report
+pub answered : (session : Session) (recorder : Recorder) (text end : List ℕ) (report : Report)
+    → session.stage ≡ Commands recorder → session.partial.items ≡ [] → IsReportOf recorder.kind recorder.names recorder.commands report
     → end ≡ end_line report.labels report.fault → IsAfter session text → IsAnswered text (replies_at session.stage ++ end) report
-answered session recorded text end report stage nothing reported ended after =
-    let taken : AreTaken (Commands recorded) after.lines = subst (λ (s : Stage). AreTaken s after.lines) stage after.taken in
-    let records = records_in recorded.kind recorded.names recorded.commands in
-    let lines : AllByRecursion IsLine (first_line recorded.kind ∷ taken.0 ∷ taken.1) = subst (AllByRecursion IsLine) taken.2 after.are_lines in
-    let whole : text ≡ bytes_of (first_line recorded.kind ∷ taken.0 ∷ taken.1) =
+answered session recorder text end report stage nothing reported ended after =
+    let taken : AreTaken (Commands recorder) after.lines = subst (λ (s : Stage). AreTaken s after.lines) stage after.taken in
+    let records = records_in recorder.kind recorder.names recorder.commands in
+    let lines : AllByRecursion IsLine (first_line recorder.kind ∷ taken.0 ∷ taken.1) = subst (AllByRecursion IsLine) taken.2 after.are_lines in
+    let whole : text ≡ bytes_of (first_line recorder.kind ∷ taken.0 ∷ taken.1) =
     after.parts ∙ ap (λ (bs : List ℕ). bytes_of after.lines ++ bs) nothing ∙ append-nil (bytes_of after.lines) ∙ ap bytes_of taken.2 in
-    let last : end ≡ end_line (label_count records) (fault_of recorded.kind records) =
+    let last : end ≡ end_line (label_count records) (fault_of recorder.kind records) =
     ended ∙ ap (λ (n : ℕ). end_line n report.fault) reported.labels ∙ ap (end_line (label_count records)) reported.fault in
-    let before : replies_at session.stage ≡ flat_map reply_line (answers_in recorded.kind recorded.names recorded.commands) = ap replies_at stage in
+    let before : replies_at session.stage ≡ flat_map reply_line (answers_in recorder.kind recorder.names recorder.commands) = ap replies_at stage in
     record {
-      kind = recorded.kind;
-      names = recorded.names;
-      commands = recorded.commands;
+      kind = recorder.kind;
+      names = recorder.names;
+      commands = recorder.commands;
       says = record { second = taken.0; lines = taken.1; whole = whole; are_lines = lines; lists = taken.3; spell = taken.4; few = taken.5 };
       written = rw (before, last) refl;
       reported = reported;
@@ -172,7 +172,7 @@ answered session recorded text end report stage nothing reported ended after =
 
 -- ---- in the words of the contracts
 
-pub take_command : {T E : Type 0} (r : Result T E) (old new : Recorded) (line out_old out_new : List ℕ)
+pub take_command : {T E : Type 0} (r : Result T E) (old new : Recorder) (line out_old out_new : List ℕ)
     → OnOk r ((more : List ℕ) × Grows out_old out_new more × RecordsLine old new line more)
     → OnOk r ((more : List ℕ) × Grows out_old out_new more × TakesLine (Commands old) (Commands new) line more)
 take_command (Ok x) old new line out_old out_new h = (h.0, h.1, TakesLine-command old new line h.0 h.2)

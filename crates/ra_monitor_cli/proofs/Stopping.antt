@@ -30,7 +30,7 @@ why_extending : (session : Session) (part behind stream : List ℕ) (left : Opti
 why_extending session part behind stream left (LineTooLong n) after none stops = (
   stops.0,
   record {
-    front = session.partial.items ++ part;
+    prefix = session.partial.items ++ part;
     behind = behind;
     parts = sym (append_assoc session.partial.items part behind);
     one = All-append (λ b. b ≢ 10) session.partial.items part after.rest.one none;
@@ -90,14 +90,14 @@ stop_after first old piece rest out_first out_old out_new fault fed same own why
   grows = same ∙ fed.grows;
   stops = λ stream behind left after.
       let here = fed.takes.after stream after in
-      let text : stream ++ (piece ++ behind) ≡ (stream ++ fed.front) ++ (rest ++ behind) =
-      ap (λ (bs : List ℕ). stream ++ (bs ++ behind)) fed.parts ∙ ap (λ (bs : List ℕ). stream ++ bs) (append_assoc fed.front rest behind)
-      ∙ sym (append_assoc stream fed.front (rest ++ behind)) in
-      let made : Stops ((stream ++ fed.front) ++ (rest ++ behind)) (replies_at old.stage) left fault = record {
+      let text : stream ++ (piece ++ behind) ≡ (stream ++ fed.prefix) ++ (rest ++ behind) =
+      ap (λ (bs : List ℕ). stream ++ (bs ++ behind)) fed.parts ∙ ap (λ (bs : List ℕ). stream ++ bs) (append_assoc fed.prefix rest behind)
+      ∙ sym (append_assoc stream fed.prefix (rest ++ behind)) in
+      let made : Stops ((stream ++ fed.prefix) ++ (rest ++ behind)) (replies_at old.stage) left fault = record {
         stage = old.stage;
         rest = old.partial.items ++ (rest ++ behind);
-        answered = answered_so_far old (stream ++ fed.front) (rest ++ behind) here;
-        why = why (stream ++ fed.front) behind left here;
+        answered = answered_so_far old (stream ++ fed.prefix) (rest ++ behind) here;
+        why = why (stream ++ fed.prefix) behind left here;
       } in
       rw (text, sym fed.takes.replied) made;
 }

@@ -1,9 +1,10 @@
 -- The text of a history, RAH 1: which bytes are its lines, and which command a line spells.
-use Rattle.std.specs.Prelude.{◌≡◌, ℕ, ◌+◌, ◌^◌, ◌<◌, ◌≤◌, ◌==◌, nat_le, Bool, true, false, not, ◌&&◌, ◌||◌, List, [], ◌∷◌, ◌++◌, length, Option, Some, None, IfSome, All, ◌≢◌, codes, decimal, bytes_eq, FitsSigned, if◌then◌else◌}
+use Rattle.std.specs.Prelude.{◌≡◌, ℕ, ◌+◌, ◌^◌, ◌<◌, ◌≤◌, ◌==◌, nat_lt, Bool, true, false, not, ◌&&◌, ◌||◌, List, [], ◌∷◌, ◌++◌, length, Option, Some, None, IfSome, All, ◌≢◌, codes, decimal, bytes_eq, FitsSigned, if◌then◌else◌}
 use Rattle.std.specs.Char.{is_ascii_lowercase, is_ascii_digit}
 use Rattle.std.specs.Fmt.{signed_decimal}
 use Rattle.std.specs.Int.{w32}
 use Rattle.std.specs.List.{list_all, slice_split, flat_map, IsDistinct, AllByRecursion}
+use Rattle.ra_monitor_cli.specs.declared.limits.TheConstants.{LONGEST_LINE, LONGEST_NAME, MOST_COMMANDS, MOST_NAMES}
 use Rattle.ra_labels.specs.declared.kind.Kind.{Kind}
 use Rattle.ra_labels.specs.declared.kind.Kind.TheVariants.{Counter}
 use Rattle.ra_labels.specs.declared.operation.Op.{Op}
@@ -13,17 +14,10 @@ use Rattle.ra_labels.specs.declared.command.Command.TheVariants.{Operate, Delive
 
 -- ---- lines
 
--- the most bytes of a line, and the most commands of a text
-abbrev pub longest_line : ℕ
-longest_line = 1048576
-
-abbrev pub most_commands : ℕ
-most_commands = 1048576
-
 -- A line has no line feed, which is the byte 10, and no more bytes than the longest.
 pub record IsLine (line : List ℕ) : Type 0 where
   pub one : All (λ byte. byte ≢ 10) line
-  pub short : length line ≤ longest_line
+  pub short : length line ≤ LONGEST_LINE
 
 -- lines as bytes: a line feed after each
 abbrev pub bytes_of : List (List ℕ) → List ℕ
@@ -35,11 +29,15 @@ fields_of line = slice_split (λ byte. byte == 32) line
 
 -- ---- names
 
--- a letter from a to z, and up to 15 letters or digits
+-- a letter or digit of a name
+abbrev pub may_follow : ℕ → Bool
+may_follow byte = is_ascii_lowercase byte || is_ascii_digit byte
+
+-- a letter from a to z, and then letters or digits, within the longest name
 abbrev pub has_form_of_name : List ℕ → Bool
 has_form_of_name [] = false
 has_form_of_name (first ∷ more) =
-    is_ascii_lowercase first && nat_le (length more) 15 && list_all (λ byte. is_ascii_lowercase byte || is_ascii_digit byte) more
+    is_ascii_lowercase first && nat_lt (length more) LONGEST_NAME && list_all may_follow more
 
 -- words of the format, which name no replica
 abbrev pub is_reserved : List ℕ → Bool
@@ -48,10 +46,10 @@ is_reserved word = bytes_eq word (codes "verdict") || bytes_eq word (codes "join
 abbrev pub is_name : List ℕ → Bool
 is_name word = has_form_of_name word && not (is_reserved word)
 
--- the names of a history: from 1 to 16, each of them a name, and no two the same
+-- the names of a history: from one to the most, each of them a name, and no two the same
 pub record AreNames (names : List (List ℕ)) : Type 0 where
   pub some : 0 < length names
-  pub few : length names ≤ 16
+  pub few : length names ≤ MOST_NAMES
   pub each : list_all is_name names ≡ true
   pub distinct : IsDistinct bytes_eq names
 
@@ -98,21 +96,21 @@ HasSmallNumbers Dec = Unit {0}
 HasSmallNumbers (Count value) = FitsSigned w32 value
 
 -- the name stands for the replica
-pub record StandsFor (names : List (List ℕ)) (name : List ℕ) (replica : ℕ) : Type 0 where
+pub record NamesReplica (names : List (List ℕ)) (name : List ℕ) (replica : ℕ) : Type 0 where
   pub form : is_name name ≡ true
   pub place : replica ≡ place_of names name
 
 -- a line with these fields delivers the label to the replica
 pub record SpellsDelivery (names : List (List ℕ)) (fields : List (List ℕ)) (replica label : ℕ) : Type 0 where
   pub name : List ℕ
-  pub who : StandsFor names name replica
+  pub who : NamesReplica names name replica
   pub small : label < 2 ^ 32
   pub words : fields ≡ name ∷ codes "got" ∷ decimal label ∷ []
 
 -- a line with these fields is the operation at the replica, with this clock
 pub record SpellsOperation (kind : Kind) (names : List (List ℕ)) (fields : List (List ℕ)) (replica : ℕ) (op : Op) (clock : Option ℕ) : Type 0 where
   pub name : List ℕ
-  pub who : StandsFor names name replica
+  pub who : NamesReplica names name replica
   pub own : has_words kind op ≡ true
   pub small : HasSmallNumbers op
   pub small_clock : IfSome clock (λ at. at < 2 ^ 32)
@@ -145,4 +143,4 @@ pub record Says (text : List ℕ) (kind : Kind) (names : List (List ℕ)) (comma
   pub are_lines : AllByRecursion IsLine (first_line kind ∷ second ∷ lines)
   pub lists : ListsNames second names
   pub spell : SpellEach kind names lines commands
-  pub few : length commands ≤ most_commands
+  pub few : length commands ≤ MOST_COMMANDS

@@ -5,8 +5,8 @@ pub mod Names
 pub mod Reading
 pub mod Bytes
 pub mod Faults
-pub mod Recorded
 pub mod Recorder
+pub mod RecorderKept
 pub mod Progress
 pub mod Stopped
 pub mod Run

@@ -8,29 +8,30 @@ use Rattle.ra_monitor_cli.specs.declared.check.fault.CheckFault.TheVariants.{Syn
 use Rattle.ra_monitor_cli.specs.declared.check.session.Stage.{Stage}
 use Rattle.ra_monitor_cli.specs.declared.check.session.Stage.TheVariants.{FirstLine, NamesLine, Commands}
 use Rattle.ra_monitor_cli.specs.declared.check.session.Session.{Session}
-use Rattle.ra_monitor_cli.specs.Grammar.{longest_line, most_commands, IsLine, bytes_of, first_line, ListsNames, SpellEach}
+use Rattle.ra_monitor_cli.specs.declared.limits.TheConstants.{LONGEST_LINE, MOST_COMMANDS}
+use Rattle.ra_monitor_cli.specs.Grammar.{IsLine, bytes_of, first_line, ListsNames, SpellEach}
 use Rattle.ra_monitor_cli.specs.Output.{reply_line, answers_in}
-use Rattle.ra_monitor_cli.specs.Recorded.{SpellsNone, SpellsOneTooMany}
+use Rattle.ra_monitor_cli.specs.Recorder.{SpellsNone, SpellsOneTooMany}
 
 -- these lines were taken in, and lead to this stage
 abbrev pub AreTaken : Stage → List (List ℕ) → Type 0
 AreTaken FirstLine lines = lines ≡ []
 AreTaken (NamesLine kind) lines = lines ≡ first_line kind ∷ []
-AreTaken (Commands recorded) lines = (second : List ℕ) × (others : List (List ℕ))
-    × (lines ≡ first_line recorded.kind ∷ second ∷ others) × ListsNames second recorded.names
-    × SpellEach recorded.kind recorded.names others recorded.commands × (length recorded.commands ≤ most_commands)
+AreTaken (Commands recorder) lines = (second : List ℕ) × (others : List (List ℕ))
+    × (lines ≡ first_line recorder.kind ∷ second ∷ others) × ListsNames second recorder.names
+    × SpellEach recorder.kind recorder.names others recorder.commands × (length recorder.commands ≤ MOST_COMMANDS)
 
 -- the reply lines so far
 abbrev pub replies_at : Stage → List ℕ
 replies_at FirstLine = []
 replies_at (NamesLine kind) = []
-replies_at (Commands recorded) = flat_map reply_line (answers_in recorded.kind recorded.names recorded.commands)
+replies_at (Commands recorder) = flat_map reply_line (answers_in recorder.kind recorder.names recorder.commands)
 
 -- the number of the line that comes next
 abbrev pub next_line : Stage → ℕ
 next_line FirstLine = 1
 next_line (NamesLine kind) = 2
-next_line (Commands recorded) = length recorded.commands + 3
+next_line (Commands recorder) = length recorder.commands + 3
 
 -- a stage takes a line, and these bytes are the reply to it
 pub record TakesLine (old new : Stage) (line more : List ℕ) : Type 0 where
@@ -41,13 +42,13 @@ pub record TakesLine (old new : Stage) (line more : List ℕ) : Type 0 where
 abbrev pub IsNoLine : Stage → List ℕ → Type 0
 IsNoLine FirstLine line = (kind : Kind) → line ≡ first_line kind → ⊥
 IsNoLine (NamesLine kind) line = (names : List (List ℕ)) → ListsNames line names → ⊥
-IsNoLine (Commands recorded) line = SpellsNone recorded line
+IsNoLine (Commands recorder) line = SpellsNone recorder line
 
 -- the line is a command's, and there is no room for one more
 abbrev pub IsOneTooMany : Stage → List ℕ → Type 0
 IsOneTooMany FirstLine line = ⊥
 IsOneTooMany (NamesLine kind) line = ⊥
-IsOneTooMany (Commands recorded) line = SpellsOneTooMany recorded line
+IsOneTooMany (Commands recorder) line = SpellsOneTooMany recorder line
 
 -- why a stage does not take a line
 abbrev pub StopsLine : Stage → List ℕ → CheckFault → Type 0
@@ -70,17 +71,17 @@ pub record IsAfter (session : Session) (stream : List ℕ) : Type 0 where
 pub record Extends (old new : Session) (part : List ℕ) : Type 0 where
   pub stage : new.stage ≡ old.stage
   pub partial : new.partial.items ≡ old.partial.items ++ part
-  pub short : length old.partial.items ≤ longest_line → length new.partial.items ≤ longest_line
+  pub short : length old.partial.items ≤ LONGEST_LINE → length new.partial.items ≤ LONGEST_LINE
 
 -- why the next line cannot come this much further
 abbrev pub StopsExtending : Session → List ℕ → CheckFault → Type 0
 StopsExtending old part (LineTooLong line_number) =
-    (line_number ≡ next_line old.stage) × (longest_line < length old.partial.items + length part)
+    (line_number ≡ next_line old.stage) × (LONGEST_LINE < length old.partial.items + length part)
 StopsExtending old part NoMemory = ⊤
 StopsExtending old part _ = ⊥
 
 -- the next line is whole, and taken, and these bytes are the reply to it
-pub record EndsLine (old new : Session) (more : List ℕ) : Type 0 where
+pub record ClosesLine (old new : Session) (more : List ℕ) : Type 0 where
   pub line : TakesLine old.stage new.stage old.partial.items more
   pub partial : new.partial.items ≡ []
 
@@ -93,7 +94,7 @@ pub record Takes (old new : Session) (piece more : List ℕ) : Type 0 where
 abbrev pub HasToCome : Stage → Type 0
 HasToCome FirstLine = ⊤
 HasToCome (NamesLine kind) = ⊤
-HasToCome (Commands recorded) = ⊥
+HasToCome (Commands recorder) = ⊥
 
 -- why a session cannot end here
 abbrev pub StopsEnding : Session → CheckFault → Type 0
@@ -104,8 +105,8 @@ StopsEnding session _ = ⊥
 
 -- a piece of which a part is taken, and what is left of it
 pub record IsFedUpTo (old new : Session) (piece rest out_old out_new : List ℕ) : Type 0 where
-  pub front : List ℕ
+  pub prefix : List ℕ
   pub more : List ℕ
-  pub parts : piece ≡ front ++ rest
+  pub parts : piece ≡ prefix ++ rest
   pub grows : Grows out_old out_new more
-  pub takes : Takes old new front more
+  pub takes : Takes old new prefix more

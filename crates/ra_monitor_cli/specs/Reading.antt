@@ -58,9 +58,9 @@ abbrev pub count_read : ℕ → List (List ℕ) → Option Command
 count_read replica [] = None
 count_read replica (field ∷ fields) = option_and_then (λ value. operation_read replica (Count value) fields) (signed_read field)
 
--- what a replica reports, by the word behind its name
-abbrev pub report_read : Kind → ℕ → List ℕ → List (List ℕ) → Option Command
-report_read Counter replica word fields =
+-- the command of a replica, by the word behind its name
+abbrev pub replica_command_read : Kind → ℕ → List ℕ → List (List ℕ) → Option Command
+replica_command_read Counter replica word fields =
     if bytes_eq word (codes "got") then delivery_read replica fields
     else if bytes_eq word (codes "inc") then operation_read replica Inc fields
     else if bytes_eq word (codes "dec") then operation_read replica Dec fields
@@ -72,4 +72,4 @@ abbrev pub command_read : Kind → List (List ℕ) → List (List ℕ) → Optio
 command_read kind names [] = None
 command_read kind names (word ∷ []) = if bytes_eq word (codes "verdict") then Some Verdict else None
 command_read kind names (name ∷ word ∷ fields) =
-    if is_name name then report_read kind (place_of names name) word fields else None
+    if is_name name then replica_command_read kind (place_of names name) word fields else None

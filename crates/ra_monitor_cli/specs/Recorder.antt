@@ -1,23 +1,60 @@
--- What the fields of a recorder stand for, and what is kept true of them.
-use Rattle.std.specs.Prelude.{◌≡◌, ℕ, ◌≤◌, nat_lt, Bool, true, List, length, map}
-use Rattle.std.specs.List.{list_all}
-use Rattle.ra_monitor.specs.Monitor.{MonitorEntry, commands_of}
-use Rattle.ra_monitor_cli.specs.declared.check.recorder.Recorder.TheInside.{Inside}
-use Rattle.ra_monitor_cli.specs.Grammar.{most_commands}
-use Rattle.ra_monitor_cli.specs.Recorded.{Recorded}
-use Rattle.ra_monitor_cli.specs.Output.{answers_in}
+-- What contracts see of a recorder: the kind, the names, and the commands so far.
+use Rattle.std.specs.Prelude.{◌≡◌, ℕ, ◌+◌, ◌<◌, List, [], ◌∷◌, ◌++◌, length, ⊤}
+use Rattle.ra_labels.specs.declared.kind.Kind.{Kind}
+use Rattle.ra_labels.specs.declared.command.Command.{Command}
+use Rattle.ra_labels.specs.declared.reply.Reply.{Reply}
+use Rattle.ra_labels.specs.Answer.{answer_of}
+use Rattle.ra_monitor_cli.specs.declared.check.fault.CheckFault.{CheckFault}
+use Rattle.ra_monitor_cli.specs.declared.check.fault.CheckFault.TheVariants.{Syntax, NoMemory, Full}
+use Rattle.ra_monitor_cli.specs.declared.limits.TheConstants.{MOST_COMMANDS}
+use Rattle.ra_monitor_cli.specs.Grammar.{Spells}
+use Rattle.ra_monitor_cli.specs.Output.{reply_line, records_in}
 
-abbrev pub recorded : Inside → Recorded
-recorded r = record { kind = r.kind; names = r.names; commands = commands_of r.monitor.log }
+pub record Recorder : Type 0 where
+  pub kind : Kind
+  pub names : List (List ℕ)
+  -- the oldest first
+  pub commands : List Command
 
--- each ticket is below the number of entries
-abbrev pub are_tickets_below : ℕ → List MonitorEntry → Bool
-are_tickets_below count log = list_all (λ entry. nat_lt entry.ticket count) log
+-- what the next command is answered
+abbrev pub next_answer : Recorder → Command → Reply
+next_answer recorder command =
+    answer_of recorder.kind (length recorder.names) (records_in recorder.kind recorder.names recorder.commands) command
 
-pub record IsKept (r : Inside) : Type 0 where
-  pub kind : r.monitor.setup.kind ≡ r.kind
-  pub replicas : r.monitor.setup.replicas ≡ length r.names
-  pub limit : r.monitor.setup.limit ≡ most_commands
-  pub fits : length r.monitor.log ≤ most_commands
-  pub tickets : are_tickets_below (length r.monitor.log) r.monitor.log ≡ true
-  pub answered : map (λ entry. entry.reply) r.monitor.log ≡ answers_in r.kind r.names (commands_of r.monitor.log)
+-- the command is recorded, and answered with this reply
+pub record RecordsCommand (old new : Recorder) (command : Command) (reply : Reply) : Type 0 where
+  pub room : length old.commands < MOST_COMMANDS
+  pub recorded : new ≡ record old { commands = old.commands ++ command ∷ [] }
+  pub answered : reply ≡ next_answer old command
+
+-- the line's command is recorded, and these bytes are the line of the reply
+pub record RecordsLine (old new : Recorder) (line more : List ℕ) : Type 0 where
+  pub command : Command
+  pub spelled : Spells old.kind old.names line command
+  pub room : length old.commands < MOST_COMMANDS
+  pub recorded : new ≡ record old { commands = old.commands ++ command ∷ [] }
+  pub answered : more ≡ reply_line (next_answer old command)
+
+-- ---- faults
+
+-- the line spells no command
+abbrev pub SpellsNone : Recorder → List ℕ → Type 0
+SpellsNone recorder line = (command : Command) → Spells recorder.kind recorder.names line command → ⊥
+
+-- the line spells a command, and there is no room for one more
+abbrev pub SpellsOneTooMany : Recorder → List ℕ → Type 0
+SpellsOneTooMany recorder line =
+    (length recorder.commands ≡ MOST_COMMANDS) × ((command : Command) × Spells recorder.kind recorder.names line command)
+
+-- why a command is not answered
+abbrev pub StopsAnswering : Recorder → CheckFault → Type 0
+StopsAnswering old (Full line_number) = (line_number ≡ length old.commands + 3) × (length old.commands ≡ MOST_COMMANDS)
+StopsAnswering old NoMemory = ⊤
+StopsAnswering old _ = ⊥
+
+-- why a line is not recorded
+abbrev pub StopsRecording : Recorder → List ℕ → CheckFault → Type 0
+StopsRecording old line (Syntax line_number) = (line_number ≡ length old.commands + 3) × SpellsNone old line
+StopsRecording old line (Full line_number) = (line_number ≡ length old.commands + 3) × SpellsOneTooMany old line
+StopsRecording old line NoMemory = ⊤
+StopsRecording old line _ = ⊥

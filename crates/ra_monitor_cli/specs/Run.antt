@@ -18,9 +18,9 @@ pub record WritesAnswer (text : List ℕ) (old new : Option (List ℕ)) (report 
   pub answered : IsAnswered text out report
   pub appends : Appends old new out
 
--- the writer's bytes, where they are known, grew by a front of what is written for the text or for its first lines, and
+-- the writer's bytes, where they are known, grew by a prefix of what is written for the text or for its first lines, and
 -- not by the rest of it
-pub record WritesFront (text : List ℕ) (old new : Option (List ℕ)) : Type 0 where
+pub record WritesPrefix (text : List ℕ) (old new : Option (List ℕ)) : Type 0 where
   pub out : List ℕ
   pub rest : List ℕ
   pub short : 0 < length rest
@@ -28,10 +28,10 @@ pub record WritesFront (text : List ℕ) (old new : Option (List ℕ)) : Type 0 
   pub answered : ((stage : Stage) × (behind : List ℕ) × IsAnsweredUpTo text out behind stage) ⊎ ((report : Report) × IsAnswered text out report)
 
 -- a check stops with this fault, when the reader has these bytes left: the writer's bytes grew by the replies to the
--- lines before the stop, or by a front of what was to be written, where the writer failed
+-- lines before the stop, or by a prefix of what was to be written, where the writer failed
 abbrev pub StopsCheck : List ℕ → Option (List ℕ) → Option (List ℕ) → Option (List ℕ) → CheckFault → Type 0
 StopsCheck text left old new fault =
-    ((out : List ℕ) × Stops text out left fault × Appends old new out) ⊎ ((fault ≡ Write) × WritesFront text old new)
+    ((out : List ℕ) × Stops text out left fault × Appends old new out) ⊎ ((fault ≡ Write) × WritesPrefix text old new)
 
 -- a reader whose bytes are known gave at least this many
 abbrev pub HasGiven : Option (List ℕ) → Option (List ℕ) → ℕ → Type 0
@@ -43,7 +43,7 @@ HasGiven (Some all) (Some rest) count = count + length rest ≤ length all
 abbrev pub HasRead : Option (List ℕ) → Option (List ℕ) → Session → Type 0
 HasRead None new session = ⊤
 HasRead (Some all) None session = ⊥
-HasRead (Some all) (Some rest) session = (front : List ℕ) × (all ≡ front ++ rest) × IsAfter session front
+HasRead (Some all) (Some rest) session = (prefix : List ℕ) × (all ≡ prefix ++ rest) × IsAfter session prefix
 
 -- a check before a read: the reply lines so far are written
 pub record IsRunning (reader_old reader_new writer_old writer_new : Option (List ℕ)) (session : Session) (out : List ℕ) : Type 0 where

@@ -6,7 +6,8 @@ use Rattle.ra_monitor_cli.specs.declared.check.fault.CheckFault.{CheckFault}
 use Rattle.ra_monitor_cli.specs.declared.check.fault.CheckFault.TheVariants.{Read, Write, Syntax, Truncated, LineTooLong, NoMemory, Endless, Full}
 use Rattle.ra_monitor_cli.specs.declared.check.session.Stage.{Stage}
 use Rattle.ra_monitor_cli.specs.declared.check.session.Session.{Session}
-use Rattle.ra_monitor_cli.specs.Grammar.{longest_line, IsLine, bytes_of}
+use Rattle.ra_monitor_cli.specs.declared.limits.TheConstants.{LONGEST_LINE}
+use Rattle.ra_monitor_cli.specs.Grammar.{IsLine, bytes_of}
 use Rattle.ra_monitor_cli.specs.Progress.{AreTaken, replies_at, next_line, StopsLine, HasToCome, IsAfter}
 
 -- the rest begins with a whole line, which is not taken
@@ -19,11 +20,11 @@ pub record BeginsWithStop (stage : Stage) (rest : List ℕ) (fault : CheckFault)
 
 -- the rest begins with more bytes than a line may have
 pub record BeginsTooLong (rest : List ℕ) : Type 0 where
-  pub front : List ℕ
+  pub prefix : List ℕ
   pub behind : List ℕ
-  pub parts : rest ≡ front ++ behind
-  pub one : All (λ byte. byte ≢ 10) front
-  pub long : longest_line < length front
+  pub parts : rest ≡ prefix ++ behind
+  pub one : All (λ byte. byte ≢ 10) prefix
+  pub long : LONGEST_LINE < length prefix
 
 -- the rest is a part of a line, or nothing where a line has to come
 pub record IsCutShort (stage : Stage) (rest : List ℕ) : Type 0 where

@@ -2,8 +2,8 @@
 use Rattle.std.specs.Prelude.{◌≡◌, ℕ, List, ◌++◌, Option}
 use Rattle.std.specs.Io.KnownBytes.{Appends}
 
--- the front of the bytes is written, and this rest is left
+-- the prefix of the bytes is written, and this rest is left
 pub record HasWritten (old new : Option (List ℕ)) (bytes rest : List ℕ) : Type 0 where
-  pub front : List ℕ
-  pub parts : bytes ≡ front ++ rest
-  pub appends : Appends old new front
+  pub prefix : List ℕ
+  pub parts : bytes ≡ prefix ++ rest
+  pub appends : Appends old new prefix

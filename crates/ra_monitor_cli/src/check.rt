@@ -2,6 +2,7 @@
 ghost use Rattle.std.specs.Prelude.{OnOk, IfOk, IfErr, IfSome, IsErrOf};
 ghost use Rattle.std.specs.Io.KnownBytes.{IsAtEnd};
 ghost use Rattle.ra_monitor_cli.specs.declared.check.fault.CheckFault.TheVariants.{Endless};
+ghost use Rattle.ra_monitor_cli.specs.declared.limits.TheConstants.{MOST_READS};
 ghost use Rattle.ra_monitor_cli.specs.Run.{WritesAnswer, StopsCheck, HasGiven};
 
 pub mod command;
@@ -20,14 +21,9 @@ use crate::check::fault::CheckFault;
 use crate::check::outcome::Outcome;
 use crate::check::session::Session;
 use crate::check::write::write_out;
+use crate::limits::{MOST_READS, PIECE};
 use std::alloc::Global;
 use std::io::{Read, Write};
-
-/// The most reads of one check, that which finds the end among them.
-pub const MOST_READS: u64 = 4_294_967_296;
-
-/// The most bytes that one read asks for.
-pub const PIECE: usize = 4_096;
 
 /// Checks the text that the reader gives, and writes the line of each reply and the last line.
 ///
@@ -55,7 +51,7 @@ pub fn check<R: Read, W: Write>(
     ensures stopped { IfErr result (λ fault. IfSome (R.remaining reader.old) (λ text.
         StopsCheck text (R.remaining reader.new) (W.contents writer.old) (W.contents writer.new) fault)) }
     // Endless comes after 4,294,967,296 reads, each of which gave a byte.
-    ensures endless { IsErrOf result Endless → HasGiven (R.remaining reader.old) (R.remaining reader.new) 4294967296 }
+    ensures endless { IsErrOf result Endless → HasGiven (R.remaining reader.old) (R.remaining reader.new) MOST_READS }
 {
     let mut session = Session::new(alloc);
     let mut out = String::new(alloc);

@@ -2,6 +2,7 @@
 #![tactic(auto)]
 
 mod check;
+mod limits;
 
 use crate::check::outcome::status;
 use std::env::Env;

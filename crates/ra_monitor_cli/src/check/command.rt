@@ -2,7 +2,7 @@
 ghost use Rattle.std.specs.Prelude.{◌≡◌, IfSome, Some};
 ghost use Rattle.ra_labels.specs.declared.command.Command.{Command};
 ghost use Rattle.ra_monitor_cli.specs.Grammar.{Spells};
-ghost use Rattle.ra_monitor_cli.specs.Reading.{command_read, report_read, delivery_read, operation_read, count_read, clock_read};
+ghost use Rattle.ra_monitor_cli.specs.Reading.{command_read, replica_command_read, delivery_read, operation_read, count_read, clock_read};
 
 use crate::check::fields::Fields;
 use crate::check::name::{Names, is_name};
@@ -30,15 +30,15 @@ fn command_in(kind: Kind, names: &Names, mut fields: Fields<'_>) -> Option<Comma
         };
     };
     if is_name(first) {
-        report(kind, names.place(first), word, fields)
+        replica_command(kind, names.place(first), word, fields)
     } else {
         None
     }
 }
 
-// What a replica reports, by the word behind its name.
-fn report(kind: Kind, replica: u8, word: &[u8], fields: Fields<'_>) -> Option<Command>
-    ensures { result ≡ report_read kind replica word.now fields.entry }
+// The command of a replica, by the word behind its name.
+fn replica_command(kind: Kind, replica: u8, word: &[u8], fields: Fields<'_>) -> Option<Command>
+    ensures { result ≡ replica_command_read kind replica word.now fields.entry }
 {
     match kind {
         Kind::Counter => {

@@ -1,7 +1,6 @@
 //! Names of replicas.
 ghost use Rattle.std.specs.Prelude.{◌≡◌, ◌≤◌, ℕ, ◌++◌, ◌∷◌, ◌||◌, [], List, IfOk, OnOk, OnErr, IsErrOf, length, map};
 ghost use Rattle.std.specs.List.{list_all};
-ghost use Rattle.std.specs.Char.{is_ascii_lowercase, is_ascii_digit};
 ghost use Rattle.ra_monitor_cli.specs.Grammar as grammar;
 ghost use Rattle.ra_monitor_cli.specs.Grammar.{has_form_of_name, is_reserved, place_of, ListsNames};
 ghost use Rattle.ra_monitor_cli.specs.Names.{MayJoin, bytes_of_each};
@@ -9,14 +8,9 @@ ghost use Rattle.ra_monitor_cli.specs.declared.check.fault.LineFault.TheVariants
 
 use crate::check::fault::LineFault;
 use crate::check::fields::Fields;
+use crate::limits::{LONGEST_NAME, MOST_NAMES};
 use std::alloc::Global;
 use std::marker::Model;
-
-/// The most replicas that a history may have.
-pub const MOST_NAMES: usize = 16;
-
-/// The most bytes of a name.
-pub const LONGEST_NAME: usize = 16;
 
 /// Has the word the form of a name, and is it none of the format's own words?
 pub fn is_name(word: &[u8]) -> bool
@@ -37,7 +31,7 @@ fn has_form(word: &[u8]) -> bool
 }
 
 fn may_follow(bytes: &[u8]) -> bool
-    ensures { result ≡ list_all (λ byte. is_ascii_lowercase byte || is_ascii_digit byte) bytes.now }
+    ensures { result ≡ list_all grammar.may_follow bytes.now }
 {
     bytes
         .iter()
@@ -59,7 +53,9 @@ impl Model for Names {
 
     ghost view = { λ n. bytes_of_each n.names.items };
 
-    ghost invariant = { λ n. length n.names.items ≤ 16 };
+    ghost use Rattle.ra_monitor_cli.specs.declared.limits.TheConstants.{MOST_NAMES};
+
+    ghost invariant = { λ n. length n.names.items ≤ MOST_NAMES };
 }
 
 impl Names {

@@ -2,7 +2,7 @@
 ghost use Rattle.std.specs.Prelude.{◌≡◌, ◌+◌, ◌^◌, ℕ, List, [], length, IfOk, IfErr, OnOk, OnErr, IsOkUnless, string_bytes};
 ghost use Rattle.ra_monitor_cli.specs.Grammar.{AreNames};
 ghost use Rattle.ra_monitor_cli.specs.Output.{IsReportOf};
-ghost use Rattle.ra_monitor_cli.specs.Recorded.{RecordsCommand, RecordsLine, StopsAnswering, StopsRecording};
+ghost use Rattle.ra_monitor_cli.specs.Recorder.{RecordsCommand, RecordsLine, StopsAnswering, StopsRecording};
 ghost use Rattle.ra_monitor_cli.specs.declared.check.fault.LineFault.TheVariants as line_fault;
 ghost use Rattle.ra_monitor_cli.specs.Bytes.{Grows};
 
@@ -10,8 +10,9 @@ use crate::check::command::command;
 use crate::check::fault::{CheckFault, LineFault};
 use crate::check::name::Names;
 use crate::check::reply::reply_line;
+use crate::limits::MOST_COMMANDS;
 use ra_labels::{Command, Kind, Reply};
-use ra_monitor::{MOST_ENTRIES, Monitor, Report, StepFault};
+use ra_monitor::{Monitor, Report, StepFault};
 use std::alloc::Global;
 use std::marker::Model;
 
@@ -27,15 +28,15 @@ pub struct Recorder {
 }
 
 impl Model for Recorder {
-    ghost use Rattle.ra_monitor_cli.specs.Recorded.{Recorded};
+    ghost use Rattle.ra_monitor_cli.specs.Recorder.{Recorder};
 
-    ghost Value = { Recorded };
+    ghost Value = { Recorder };
 
-    ghost use Rattle.ra_monitor_cli.specs.Recorder.{recorded, IsKept};
+    ghost use Rattle.ra_monitor_cli.specs.RecorderKept.{recorder_of, RecorderKept};
 
-    ghost view = { λ r. recorded r };
+    ghost view = { λ r. recorder_of r };
 
-    ghost invariant = { λ r. IsKept r };
+    ghost invariant = { λ r. RecorderKept r };
 }
 
 impl Recorder {
@@ -48,7 +49,7 @@ impl Recorder {
         // There are 1 to 16 names, and the limit is the greatest: memory alone can be missing.
         ensures memory { IsOkUnless result line_fault.NoMemory }
     {
-        match Monitor::new(alloc, kind, names.count(), MOST_ENTRIES) {
+        match Monitor::new(alloc, kind, names.count(), MOST_COMMANDS) {
             Ok(monitor) => Ok(Recorder {
                 kind,
                 names,

@@ -4,7 +4,7 @@ ghost use Rattle.ra_labels.specs.declared.kind.Kind.{Kind};
 ghost use Rattle.ra_monitor_cli.specs.Bytes.{Grows};
 ghost use Rattle.ra_monitor_cli.specs.Grammar.{first_line};
 ghost use Rattle.ra_monitor_cli.specs.Output.{IsAnswered};
-ghost use Rattle.ra_monitor_cli.specs.Progress.{replies_at, next_line, TakesLine, IsNoLine, StopsLine, IsAfter, Extends, StopsExtending, EndsLine, StopsEnding, Takes};
+ghost use Rattle.ra_monitor_cli.specs.Progress.{replies_at, next_line, TakesLine, IsNoLine, StopsLine, IsAfter, Extends, StopsExtending, ClosesLine, StopsEnding, Takes};
 ghost use Rattle.ra_monitor_cli.specs.Stopped.{StopsInside};
 ghost use Rattle.ra_monitor_cli.specs.declared.check.fault.CheckFault.TheVariants.{Syntax};
 ghost use Rattle.ra_monitor_cli.specs.declared.check.session.Stage.TheVariants as stage;
@@ -14,12 +14,10 @@ use crate::check::fields::cut_at;
 use crate::check::name::Names;
 use crate::check::recorder::Recorder;
 use crate::check::reply::end_line;
+use crate::limits::LONGEST_LINE;
 use ra_labels::Kind;
 use ra_monitor::Report;
 use std::alloc::Global;
-
-/// The most bytes of a line, its line feed left out.
-pub const LONGEST_LINE: usize = 1_048_576;
 
 /// Which line of the text comes next.
 #[derive(Debug, Drop)]
@@ -130,7 +128,7 @@ impl Session {
         let mut rest = piece;
         while let Some((front, behind)) = cut_at(b'\n', rest) {
             self.extend(front)?;
-            self.end_line(out)?;
+            self.close_line(out)?;
             rest = behind;
         }
         self.extend(rest)
@@ -173,8 +171,8 @@ impl Session {
     }
 
     // The next line is whole.
-    fn end_line(&mut self, out: &mut String) -> Result<(), CheckFault>
-        ensures taken { OnOk result ((more : List ℕ) × Grows (string_bytes out.old) (string_bytes out.new) more × EndsLine self.old self.new more) }
+    fn close_line(&mut self, out: &mut String) -> Result<(), CheckFault>
+        ensures taken { OnOk result ((more : List ℕ) × Grows (string_bytes out.old) (string_bytes out.new) more × ClosesLine self.old self.new more) }
         ensures fault { IfErr result (StopsLine self.old.stage self.old.partial.items) }
         ensures err { OnErr result (string_bytes out.new ≡ string_bytes out.old) }
     {

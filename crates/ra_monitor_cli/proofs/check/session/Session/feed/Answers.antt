@@ -9,9 +9,9 @@ loop-front-init c = fed_none c.args.self.now c.args.piece.now (string_bytes c.ar
 
 pub loop-front-preserved : goal.loop-front-preserved
 loop-front-preserved c =
-    let ended = c.in_ok-end_line.ensures.taken in
-    fed_line c.args.self.now c.loop-front.self c.extend.new.self c.end_line.new.self c.args.piece.now c.loop-front.rest.now c.in-Some.front.now c.in-Some.behind.now
-    (string_bytes c.args.out.now) (string_bytes c.loop-front.out) (string_bytes c.end_line.new.out) ended.0 c.loop-front.invariant c.in-Some.ensures c.in_ok-extend.ensures.taken ended.1 ended.2
+    let ended = c.in_ok-close_line.ensures.taken in
+    fed_line c.args.self.now c.loop-front.self c.extend.new.self c.close_line.new.self c.args.piece.now c.loop-front.rest.now c.in-Some.front.now c.in-Some.behind.now
+    (string_bytes c.args.out.now) (string_bytes c.loop-front.out) (string_bytes c.close_line.new.out) ended.0 c.loop-front.invariant c.in-Some.ensures c.in_ok-extend.ensures.taken ended.1 ended.2
 
 pub returns-clause-taken : goal.returns-clause-taken
 returns-clause-taken c =
@@ -32,9 +32,9 @@ returns-clause-fault c =
     feed_stops c.extend-2.result c.args.self.now c.loop-front.self c.args.piece.now c.loop-front.rest.now (string_bytes c.args.out.now) (string_bytes c.loop-front.out)
     c.loop-front.invariant none c.extend-2.ensures.fault
 
-pub returns-in_err-end_line-clause-fault : goal.returns-in_err-end_line-clause-fault
-returns-in_err-end_line-clause-fault c =
+pub returns-in_err-close_line-clause-fault : goal.returns-in_err-close_line-clause-fault
+returns-in_err-close_line-clause-fault c =
     let stopped = stop_line c.args.self.now c.loop-front.self c.extend.new.self c.args.piece.now c.loop-front.rest.now c.in-Some.front.now c.in-Some.behind.now
-    (string_bytes c.args.out.now) (string_bytes c.loop-front.out) (string_bytes c.end_line.new.out) c.in_err-end_line.field-0.0
-    c.loop-front.invariant c.in-Some.ensures c.in_ok-extend.ensures.taken c.in_err-end_line.ensures.fault c.in_err-end_line.ensures.err in
+    (string_bytes c.args.out.now) (string_bytes c.loop-front.out) (string_bytes c.close_line.new.out) c.in_err-close_line.field-0.0
+    c.loop-front.invariant c.in-Some.ensures c.in_ok-extend.ensures.taken c.in_err-close_line.ensures.fault c.in_err-close_line.ensures.err in
     search rules
