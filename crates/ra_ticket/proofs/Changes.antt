@@ -13,7 +13,7 @@ use Rattle.ra_ticket.specs.declared.board.Stage.{Stage}
 use Rattle.ra_ticket.specs.declared.board.Stage.TheVariants.{Idle, Waiting, Holding}
 use Rattle.ra_ticket.specs.Log.{AllBelow}
 use Rattle.ra_ticket.specs.Views.{numbers_of, next_of, serving_of, ticket_at, ticket_of, held_at, held_of}
-use Rattle.ra_ticket.specs.Rule.{At, SitsAt, NobodyHolds, Kept}
+use Rattle.ra_ticket.specs.Rule.{At, SitsAt, NobodyHolds, TurnsKept}
 use Rattle.ra_ticket.proofs.Seats.{at_after, at_back, at_forth, apart_after}
 
 module _ {M C R : Type 0} (log : M → List (Entry C R)) where
@@ -24,7 +24,7 @@ module _ {M C R : Type 0} (log : M → List (Entry C R)) where
   Homes = List (maybe.Option (Option M))
 
   abbrev pub Rule : Table → Type 0
-  Rule = Kept log
+  Rule = TurnsKept log
 
   -- who holds has a ticket
   held_ticket : (v : View) (t : ℕ) → held_of v ≡ Some t → ticket_of v ≡ Some t

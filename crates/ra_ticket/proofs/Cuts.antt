@@ -6,14 +6,16 @@ use native.Mathlib.Decide.{ℕ_discrete}
 use lib.ListN.{get_elem?}
 use Rattle.atomic_table.specs.Table.{State, opening, Splits}
 use Rattle.atomic_table.proofs.Lists.{at_set, at_longer, set_else}
+use Rattle.std.specs.List.{range_with_len}
 use Rattle.ra_ticket.specs.declared.entry.Entry.{Entry}
 use Rattle.ra_ticket.specs.declared.board.View.{View}
 use Rattle.ra_ticket.specs.declared.board.View.TheVariants.{Spent, Knows}
 use Rattle.ra_ticket.specs.declared.board.Known.{Known}
 use Rattle.ra_ticket.specs.declared.board.Stage.TheVariants.{Idle}
 use Rattle.ra_ticket.specs.Log.{AllBelow}
-use Rattle.ra_ticket.specs.Views.{stage_of, numbers_of, next_of, serving_of, ticket_at, ticket_of, held_at, held_of, numbers_from, starting, first_only, others_only, first_pass, other_passes}
-use Rattle.ra_ticket.specs.Rule.{At, SitsAt, Kept}
+use Rattle.ra_ticket.specs.Views.{stage_of, numbers_of, next_of, serving_of, ticket_at, ticket_of, held_at, held_of, starting, first_only, others_only, first_pass, other_passes}
+use Rattle.ra_ticket.specs.Rule.{At, SitsAt, TurnsKept}
+use Rattle.ra_ticket.proofs.Seats.{inside}
 
 -- an element of a list with one more at its end
 at_end : {A : Type 0} (l : List A) (a b : A) (j : ℕ) → get_elem? (l ++ a ∷ []) j ≡ some b → ((j < length l) × (get_elem? l j ≡ some b)) ⊎ ((j ≡ length l) × (a ≡ b))
@@ -22,16 +24,11 @@ at_end [] a b (suc j) e = absurd (some-ne-none b (sym e))
 at_end (x ∷ xs) a b zero e = inl (omega arith, e)
 at_end (x ∷ xs) a b (suc j) e = ⊎_elim (λ (t : (j < length xs) × (get_elem? xs j ≡ some b)). let l = t.0 in inl (omega arith, t.1)) (λ (t : (j ≡ length xs) × (a ≡ b)). inr (ap suc t.0, t.1)) (at_end xs a b j e)
 
-inside : {A : Type 0} (l : List A) (j : ℕ) (b : A) → get_elem? l j ≡ some b → j < length l
-inside [] j b e = absurd (some-ne-none b (sym e))
-inside (x ∷ xs) zero b e = omega arith
-inside (x ∷ xs) (suc j) b e = let l = inside xs j b e in omega arith
-
 -- the j-th of some numbers from k on
-number_at : (k n j x : ℕ) → get_elem? (numbers_from k n) j ≡ some x → x ≡ k + j
+number_at : (k n j x : ℕ) → get_elem? (range_with_len k n) j ≡ some x → x ≡ k + j
 number_at k zero j x e = absurd (some-ne-none x (sym e))
 number_at k (suc n) zero x e = let s = some-injective k x e in omega arith
-number_at k (suc n) (suc j) x e = let s = number_at (suc k) n j x e in omega arith
+number_at k (suc n) (suc j) x e = let s = number_at (k + 1) n j x e in omega arith
 
 at_others_only : (l : List ℕ) (j x : ℕ) → get_elem? (others_only l) j ≡ some x → get_elem? l (suc j) ≡ some x
 at_others_only [] j x e = absurd (some-ne-none x (sym e))
@@ -49,7 +46,7 @@ only v u (suc seat) e = absurd (some-ne-none u (sym e))
 
 module _ {M C R : Type 0} (log : M → List (Entry C R)) where
   abbrev Rule : State (Option M) View → Type 0
-  Rule = Kept log
+  Rule = TurnsKept log
 
   pub starts : (passes first : ℕ) (journal : M) → first < 2 ^ 64 → log journal ≡ [] → Rule (opening (first ∷ first ∷ []) (Some journal ∷ []) (starting passes first))
   starts passes first journal fits empty = let v : View = starting passes first in record {
@@ -115,7 +112,7 @@ module _ {M C R : Type 0} (log : M → List (Entry C R)) where
         (id, 0, (Knows k, here, f.1), inr (inr (x.0, refl, refl, f.0)))) y)
         (cut_at seat a.0 a.1)
 
-    -- who sat in one place sits in one place
+    -- who sat in one seat sits in one seat
     told_apart : (a b i j a' b' i' j' : ℕ) → id < length s.views → (a' ≡ b') × (i' ≡ j') → Was a i a' i' → Was b j b' j' → (a ≡ b) × (i ≡ j)
     told_apart a b i j a' b' i' j' within same p q = (omega arith, omega arith)
 
@@ -147,7 +144,7 @@ module _ {M C R : Type 0} (log : M → List (Entry C R)) where
 -- what an idle seat with numbers from k on is cut into
 pub record AreCut (v : View) (k n : ℕ) : Type 0 where
   pub idle : stage_of (other_passes v) ≡ Some Idle
-  pub numbers : numbers_of (other_passes v) ≡ numbers_from (suc k) n
+  pub numbers : numbers_of (other_passes v) ≡ range_with_len (k + 1) n
   pub next : next_of (other_passes v) ≡ next_of v
   pub serving : serving_of (other_passes v) ≡ serving_of v
   pub first_idle : stage_of (first_pass v) ≡ Some Idle
@@ -155,7 +152,7 @@ pub record AreCut (v : View) (k n : ℕ) : Type 0 where
   pub first_next : next_of (first_pass v) ≡ next_of v
   pub first_serving : serving_of (first_pass v) ≡ serving_of v
 
-pub are_cut : (v : View) (k n : ℕ) → stage_of v ≡ Some Idle → numbers_of v ≡ numbers_from k (suc n) → AreCut v k n
+pub are_cut : (v : View) (k n : ℕ) → stage_of v ≡ Some Idle → numbers_of v ≡ range_with_len k (suc n) → AreCut v k n
 are_cut Spent k n idle numbers = absurd (cc)
 are_cut (Knows w) k n idle numbers = record {
   idle = idle;

@@ -1,17 +1,18 @@
 -- The views of the seats, after one of them has changed.
-use Rattle.std.proofs.Common.{◌≡◌, ◌≢◌, ◌⊎◌, ℕ, zero, suc, List, [], ◌∷◌, set, Option, Some, refl, sym, ap, ◌∙◌, subst, ⊎_elim, inl, inr}
+use Rattle.std.proofs.Common.{◌≡◌, ◌≢◌, ◌⊎◌, ℕ, zero, suc, ◌<◌, List, length, [], ◌∷◌, set, Option, Some, refl, sym, ap, ◌∙◌, subst, ⊎_elim, inl, inr, arith}
 use mathlib.Core.Logic.{dite}
 use mathlib.Core.Option.{some, some-ne-none, some-injective}
 use native.Mathlib.Decide.{ℕ_discrete}
 use lib.ListN.{get_elem?}
-use Rattle.atomic_table.proofs.Lists.{at_set, set_else}
+use Rattle.atomic_table.proofs.Lists.{at_set, set_else, set_here}
 use Rattle.ra_ticket.specs.declared.board.View.{View}
 use Rattle.ra_ticket.specs.Rule.{At}
 
-pub set_at : {A : Type 0} (l : List A) (i : ℕ) (a b : A) → get_elem? l i ≡ some a → get_elem? (set l i b) i ≡ some b
-set_at [] i a b e = absurd (some-ne-none a (sym e))
-set_at (x ∷ xs) zero a b e = refl
-set_at (x ∷ xs) (suc i) a b e = set_at xs i a b e
+-- an element that is there stands within the list
+pub inside : {A : Type 0} (l : List A) (j : ℕ) (b : A) → get_elem? l j ≡ some b → j < length l
+inside [] j b e = absurd (some-ne-none b (sym e))
+inside (x ∷ xs) zero b e = omega arith
+inside (x ∷ xs) (suc j) b e = let l = inside xs j b e in omega arith
 
 module _ {X : Type 0} (of : View → Option X) (views : List View) (id : ℕ) (v w : View) (here : get_elem? views id ≡ some v) where
   -- what stands at a seat after the change stood there before, or is new at the seat id
@@ -24,7 +25,7 @@ module _ {X : Type 0} (of : View → Option X) (views : List View) (id : ℕ) (v
   at_others seat x other a = (a.0, set_else views id seat w other ∙ a.1, a.2)
 
   pub at_new : (x : X) → of w ≡ Some x → At of (set views id w) id x
-  at_new x e = (w, set_at views id v w here, e)
+  at_new x e = (w, set_here views id w (inside views id v here), e)
 
   -- where the reading stays, what stands at a seat is what stood there
   module _ (same : of w ≡ of v) where

@@ -2,7 +2,7 @@
 use Rattle.std.proofs.Common.{◌≡◌, ℕ, zero, suc, ◌+◌, ◌<◌, List, [], ◌∷◌, ◌++◌, Some, Result, Ok, Err, IfOk, OnErr, option_map, slice_get, length, ◌-◌, sym, subst, arith}
 use Rattle.ra_ticket.specs.declared.entry.Entry.{Entry}
 use Rattle.ra_ticket.specs.Log.{entry, AllBelow, IsAboveLast}
-use Rattle.ra_ticket.proofs.Pushes.{all_push}
+use Rattle.std.proofs.lemmas.List.Elements.{All-push}
 
 module _ {C R : Type 0} where
   at_below : (log : List (Entry C R)) (t k : ℕ) → AllBelow t log → (x : ℕ) → option_map (λ (e : Entry C R). e.ticket) (slice_get log k) ≡ Some x → x < t
@@ -21,5 +21,5 @@ module _ {C R : Type 0} where
   pub stepped_below : {F : Type 0} (t : ℕ) (log log' : List (Entry C R)) (pass : ℕ) (command : C) (outcome : Result R F) → AllBelow t log
       → IfOk outcome (λ r. log' ≡ log ++ entry pass t command r ∷ []) → OnErr outcome (log' ≡ log) → AllBelow (t + 1) log'
   stepped_below t log log' pass command (Ok r) below logged unchanged = subst (AllBelow (t + 1)) (sym logged)
-      (all_push (λ (e : Entry C R). e.ticket < t + 1) log (entry pass t command r) (below_more log t below) (omega arith))
+      (All-push (λ (e : Entry C R). e.ticket < t + 1) log (entry pass t command r) (below_more log t below) (omega arith))
   stepped_below t log log' pass command (Err f) below logged unchanged = subst (AllBelow (t + 1)) (sym unchanged) (below_more log t below)

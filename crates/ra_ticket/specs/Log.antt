@@ -26,10 +26,12 @@ abbrev pub unstepped : {C : Type 0} → StepFault C → C
 unstepped (Full command) = command
 unstepped (NoMemory command) = command
 
--- After some log under some setup the journal answers the command with this reply. The ticket of the call is above that log's last.
-pub record IsAnswer {C R S : Type 0} (reply_of : S → List (Entry C R) → C → R) (command : C) (reply : R) : Type 0 where
-  pub setup : S
-  pub log : List (Entry C R)
-  pub ticket : ℕ
-  pub above : IsAboveLast log ticket
-  pub is : reply ≡ reply_of setup log command
+-- After some log under some setup the journal answers the command with this reply. The ticket of the call is above
+-- that log's last.
+pub record IsAnswer {C R S : Type 0} (reply_of : S → List (Entry C R) → C → R) (command : C) (reply : R) : Type 0
+  where
+    pub setup : S
+    pub log : List (Entry C R)
+    pub ticket : ℕ
+    pub above : IsAboveLast log ticket
+    pub is : reply ≡ reply_of setup log command

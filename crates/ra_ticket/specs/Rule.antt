@@ -14,14 +14,15 @@ At of views seat x = (v : View) × (get_elem? views seat ≡ some v) × (of v �
 
 -- the pass of this number is the k-th at a seat
 abbrev pub SitsAt : List View → ℕ → ℕ → ℕ → Type 0
-SitsAt views seat k number = (v : View) × (get_elem? views seat ≡ some v) × (get_elem? (numbers_of v) k ≡ some number)
+SitsAt views seat k number =
+    (v : View) × (get_elem? views seat ≡ some v) × (get_elem? (numbers_of v) k ≡ some number)
 
 -- no seat holds the slot
 abbrev pub NobodyHolds : List View → Type 0
 NobodyHolds views = (seat ticket : ℕ) → ¬ (At held_of views seat ticket)
 
 module _ {M C R : Type 0} (log : M → List (Entry C R)) where
-  pub record Kept (s : State (Option M) View) : Type 0 where
+  pub record TurnsKept (s : State (Option M) View) : Type 0 where
     -- the words begin with `next` and `serving`
     pub next : ℕ
     pub serving : ℕ
@@ -30,7 +31,8 @@ module _ {M C R : Type 0} (log : M → List (Entry C R)) where
     -- bounds: `serving` is at most `next`, which fits its word, and no seat knows of more than the words have reached
     pub order : serving ≤ next
     pub fits : next < 2 ^ 64
-    pub reached : (seat : ℕ) (v : View) → get_elem? s.views seat ≡ some v → (next_of v ≤ next) × (serving_of v ≤ serving)
+    pub reached : (seat : ℕ) (v : View) → get_elem? s.views seat ≡ some v
+        → (next_of v ≤ next) × (serving_of v ≤ serving)
     -- tickets: those that are out lie from `serving` up to below `next`, and no two seats have the same
     pub drawn : (seat ticket : ℕ) → At ticket_of s.views seat ticket → (serving ≤ ticket) × (ticket < next)
     pub tickets_apart : (a b ticket : ℕ) → At ticket_of s.views a ticket → At ticket_of s.views b ticket → a ≡ b
@@ -41,4 +43,5 @@ module _ {M C R : Type 0} (log : M → List (Entry C R)) where
     -- all tickets in the log of the journal at home are below `serving`
     pub served : (journal : M) → s.homes ≡ some (Some journal) ∷ [] → AllBelow serving (log journal)
     -- seats: each pass sits in one place
-    pub passes_apart : (a b j k number : ℕ) → SitsAt s.views a j number → SitsAt s.views b k number → (a ≡ b) × (j ≡ k)
+    pub passes_apart : (a b j k number : ℕ) → SitsAt s.views a j number → SitsAt s.views b k number
+        → (a ≡ b) × (j ≡ k)

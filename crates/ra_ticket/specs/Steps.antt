@@ -21,22 +21,26 @@ Sat M = Me (Option M) View
 module _ {M : Type 0} where
   -- an idle seat learns `next`
   abbrev pub learned : Step (Option M) → Sat M → ℕ → Sat M → Type 0
-  learned step m found m' = stage_of m.0 ≡ Some Idle → Stays m.0 m'.0 × (m'.1 ≡ m.1) × (stage_of m'.0 ≡ Some Idle) × (next_of m'.0 ≡ found)
+  learned step m found m' = stage_of m.0 ≡ Some Idle
+      → Stays m.0 m'.0 × (m'.1 ≡ m.1) × (stage_of m'.0 ≡ Some Idle) × (next_of m'.0 ≡ found)
 
   -- an idle seat draws the ticket, where `next` was it
   abbrev pub drew : Step (Option M) → Sat M → ℕ → Sat M → Type 0
   drew step m found m' = stage_of m.0 ≡ Some Idle → Stays m.0 m'.0 × (m'.1 ≡ m.1)
-      × (found ≡ step.first → stage_of m'.0 ≡ Some (Waiting step.first)) × (found ≢ step.first → (stage_of m'.0 ≡ Some Idle) × (next_of m'.0 ≡ found))
+      × (found ≡ step.first → stage_of m'.0 ≡ Some (Waiting step.first))
+      × (found ≢ step.first → (stage_of m'.0 ≡ Some Idle) × (next_of m'.0 ≡ found))
 
   -- a waiting seat takes the journal, where its ticket is served: the tickets in the journal's log are below its own
   abbrev pub looked : {C R : Type 0} → (M → List (Entry C R)) → Step (Option M) → Sat M → ℕ → Sat M → Type 0
   looked log step m found m' = (t : ℕ) → stage_of m.0 ≡ Some (Waiting t) → Stays m.0 m'.0
-      × (found ≡ t → (stage_of m'.0 ≡ Some (Holding t)) × ((journal : M) × (m'.1 ≡ (0, Some journal) ∷ m.1) × AllBelow t (log journal)))
+      × (found ≡ t → (stage_of m'.0 ≡ Some (Holding t))
+      × ((journal : M) × (m'.1 ≡ (0, Some journal) ∷ m.1) × AllBelow t (log journal)))
       × (found ≢ t → (stage_of m'.0 ≡ Some (Waiting t)) × (m'.1 ≡ m.1))
 
   -- a holding seat gives the journal back, and the next ticket is served
   abbrev pub released : Step (Option M) → Sat M → ℕ → Sat M → Type 0
-  released step m found m' = (t : ℕ) → stage_of m.0 ≡ Some (Holding t) → Stays m.0 m'.0 × (m'.1 ≡ rest m.1) × (stage_of m'.0 ≡ Some Idle) × (serving_of m'.0 ≡ t + 1)
+  released step m found m' = (t : ℕ) → stage_of m.0 ≡ Some (Holding t)
+      → Stays m.0 m'.0 × (m'.1 ≡ rest m.1) × (stage_of m'.0 ≡ Some Idle) × (serving_of m'.0 ≡ t + 1)
 
 -- it is the same seat, and knows no less
 abbrev pub IsSameSeat : {S : Type 0} → Seat S View → Seat S View → Type 0

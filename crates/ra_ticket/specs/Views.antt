@@ -1,5 +1,6 @@
 -- What a seat at the lock's table knows.
-use Rattle.std.specs.Prelude.{ℕ, zero, suc, List, [], ◌∷◌, Option, Some, None}
+use Rattle.std.specs.Prelude.{ℕ, List, [], ◌∷◌, Option, Some, None}
+use Rattle.std.specs.List.{range_with_len}
 use Rattle.ra_ticket.specs.declared.board.Stage.{Stage}
 use Rattle.ra_ticket.specs.declared.board.Stage.TheVariants.{Idle, Waiting, Holding}
 use Rattle.ra_ticket.specs.declared.board.View.{View}
@@ -45,14 +46,10 @@ abbrev pub held_of : View → Option ℕ
 held_of Spent = None
 held_of (Knows k) = held_at k.stage
 
--- n numbers from k on
-abbrev pub numbers_from : ℕ → ℕ → List ℕ
-numbers_from k zero = []
-numbers_from k (suc n) = k ∷ numbers_from (suc k) n
-
 -- the view of the first seat: all passes, idle, and both words at `first`
 abbrev pub starting : ℕ → ℕ → View
-starting passes first = Knows record { numbers = numbers_from 0 passes; next = first; serving = first; stage = Idle }
+starting passes first =
+    Knows record { numbers = range_with_len 0 passes; next = first; serving = first; stage = Idle }
 
 -- the first of some numbers alone, and the others
 abbrev pub first_only : List ℕ → List ℕ

@@ -4,13 +4,15 @@ use std::{hint, thread};
 /// The longest spin is two to this power.
 const LAST_SPIN: u32 = 6;
 
-/// A wait that grows: each is twice as long as the one before, up to 64 spins, and from then on the processor is left to others.
+/// A wait that grows: each is twice as long as the one before, up to 64 spins, and from then on the processor is left
+/// to others.
 #[derive(Drop)]
 pub(crate) struct Backoff {
     waits: u32,
 }
 
 impl Backoff {
+    /// The first wait is one spin.
     pub(crate) fn new() -> Backoff {
         Backoff { waits: 0 }
     }

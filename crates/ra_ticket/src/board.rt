@@ -18,16 +18,23 @@ pub const JOURNAL: usize = 0;
 
 /// What a seat is about. The number is its ticket.
 pub enum Stage {
+    /// No ticket of its own is out.
     Idle,
+    /// It has drawn the ticket, and has not entered.
     Waiting(u64),
+    /// Its ticket is served, and the slot of the journal is out with it.
     Holding(u64),
 }
 
-/// What a seat knows: the numbers of its passes, and a number that each word has reached.
+/// What a seat knows.
 pub struct Known {
+    /// The numbers of the passes that sit there.
     pub numbers: LinkedList<u8>,
+    /// A number that the word `next` has reached.
     pub next: u64,
+    /// A number that the word `serving` has reached.
     pub serving: u64,
+    /// What it is about.
     pub stage: Stage,
 }
 
@@ -35,13 +42,16 @@ pub struct Known {
 pub enum View {
     /// Another seat has taken in what it knew.
     Spent,
+    /// It knows this.
     Knows(Known),
 }
 
 /// What the table is told when it is made.
 #[derive(Drop)]
 pub struct About {
+    /// The number of passes.
     pub passes: u8,
+    /// The ticket at which both words begin.
     pub first: u64,
 }
 
@@ -52,9 +62,9 @@ pub struct Turns<M> {
 
 impl<M: Journal> TableRule<Option<M>, View, About> for Turns<M> {
     ghost use Rattle.ra_ticket.specs.Views.{starting};
-    ghost use Rattle.ra_ticket.specs.Rule.{Kept};
+    ghost use Rattle.ra_ticket.specs.Rule.{TurnsKept};
 
-    ghost holds = { λ _. Kept M.log };
+    ghost holds = { λ _. TurnsKept M.log };
 
     ghost first = { λ about. starting about.passes about.first };
 }
@@ -66,4 +76,4 @@ pub type Board<M> = Shared<Option<M>, View, About, Turns<M>>;
 pub type LockTable<M> = Table<Option<M>, View, About, Turns<M>, Global>;
 
 /// A seat at the table. It has no bytes.
-pub type Place<M> = Seat<Option<M>, View>;
+pub type LockSeat<M> = Seat<Option<M>, View>;

@@ -6,51 +6,52 @@ ghost use Rattle.ra_ticket.specs.Views.{stage_of};
 ghost use Rattle.ra_ticket.specs.declared.board.Stage.TheVariants.{Waiting, Holding};
 
 use crate::backoff::Backoff;
-use crate::board::{Board, JOURNAL, Place, SERVING};
+use crate::board::{Board, JOURNAL, LockSeat, SERVING};
 use crate::journal::Journal;
 use crate::plays::Look;
 use std::sync::Wait;
 
 // A load of `serving`: whether the ticket is served. Then the seat has the slot with the journal.
-fn look<M: Journal>(board: &Board<M>, place: &mut Place<M>, ticket: u64) -> bool
-    requires table { IsSeated place.old.table_id board.now.table_id }
-    requires waits { (stage_of place.old.me.0 ≡ Some (Waiting ticket)) × (place.old.me.1 ≡ []) }
-    ensures seat { IsSameSeat place.old place.new }
+fn look<M: Journal>(board: &Board<M>, seat: &mut LockSeat<M>, ticket: u64) -> bool
+    requires table { IsSeated seat.old.table_id board.now.table_id }
+    requires waits { (stage_of seat.old.me.0 ≡ Some (Waiting ticket)) × (seat.old.me.1 ≡ []) }
+    ensures seat { IsSameSeat seat.old seat.new }
     ensures served { MatchBool result
-        ((stage_of place.new.me.0 ≡ Some (Holding ticket)) × Carries M.log place.new ticket)
-        ((stage_of place.new.me.0 ≡ Some (Waiting ticket)) × (place.new.me.1 ≡ [])) }
+        ((stage_of seat.new.me.0 ≡ Some (Holding ticket)) × Carries M.log seat.new ticket)
+        ((stage_of seat.new.me.0 ≡ Some (Waiting ticket)) × (seat.new.me.1 ≡ [])) }
 {
-    board.load::<Look<M>>(place, SERVING) == ticket
+    board.load::<Look<M>>(seat, SERVING) == ticket
 }
 
 // Takes the journal out of the slot that the seat has.
-fn take_out<M: Journal>(board: &Board<M>, place: &mut Place<M>) -> M
-    requires table { IsSeated place.old.table_id board.now.table_id }
-    requires full { (journal : M) × (place.old.me.1 ≡ (0, Some journal) ∷ []) }
-    ensures journal { place.old.me.1 ≡ (0, Some result) ∷ [] }
-    ensures seat { (place.new.table_id ≡ place.old.table_id) × (place.new.id ≡ place.old.id) }
-    ensures slot { place.new.me ≡ (place.old.me.0, (0, None) ∷ []) }
+fn take_out<M: Journal>(board: &Board<M>, seat: &mut LockSeat<M>) -> M
+    requires table { IsSeated seat.old.table_id board.now.table_id }
+    requires full { (journal : M) × (seat.old.me.1 ≡ (0, Some journal) ∷ []) }
+    ensures journal { seat.old.me.1 ≡ (0, Some result) ∷ [] }
+    ensures seat { (seat.new.table_id ≡ seat.old.table_id) × (seat.new.id ≡ seat.old.id) }
+    ensures slot { seat.new.me ≡ (seat.old.me.0, (0, None) ∷ []) }
 {
-    board.exchange(place, JOURNAL, None).unwrap()
+    board.exchange(seat, JOURNAL, None).unwrap()
 }
 
-/// Waits until the ticket is served, and takes the journal. It looks at `serving` after each wait, and each wait is longer, until it yields the processor.
+/// Waits until the ticket is served, and takes the journal. It looks at `serving` after each wait, and each wait is
+/// longer, until it yields the processor.
 pub(crate) fn enter<M: Journal, R: Wait>(
     rt: &R,
     board: &Board<M>,
-    place: &mut Place<M>,
+    seat: &mut LockSeat<M>,
     ticket: u64,
 ) -> M
-    requires table { IsSeated place.old.table_id board.now.table_id }
-    requires waits { (stage_of place.old.me.0 ≡ Some (Waiting ticket)) × (place.old.me.1 ≡ []) }
-    ensures seat { IsSameSeat place.old place.new }
-    ensures holds { (stage_of place.new.me.0 ≡ Some (Holding ticket)) × (place.new.me.1 ≡ (0, None) ∷ []) }
+    requires table { IsSeated seat.old.table_id board.now.table_id }
+    requires waits { (stage_of seat.old.me.0 ≡ Some (Waiting ticket)) × (seat.old.me.1 ≡ []) }
+    ensures seat { IsSameSeat seat.old seat.new }
+    ensures holds { (stage_of seat.new.me.0 ≡ Some (Holding ticket)) × (seat.new.me.1 ≡ (0, None) ∷ []) }
     ensures log { AllBelow ticket (M.log result) }
 {
     let mut backoff = Backoff::new();
     for _ in rt.forever() {
-        if look(board, place, ticket) {
-            return take_out(board, place);
+        if look(board, seat, ticket) {
+            return take_out(board, seat);
         }
         backoff.wait();
     }

@@ -5,7 +5,7 @@ use std::alloc::AllocError;
 /// Why a lock was not opened.
 #[derive(Debug, PartialEq, Eq, Drop)]
 pub enum OpenFault<M> {
-    /// The number of passes is not 1 to 64. The journal comes back.
+    /// The number of passes is not 1 to `MOST_PASSES`. The journal comes back.
     BadPasses(M),
     /// A growth was refused. The journal, whose log was empty, is given up.
     NoMemory,
@@ -25,14 +25,21 @@ impl<M> From<AllocError> for OpenFault<M> {
 /// Why a call was not served. The command comes back, and nothing was logged.
 #[derive(Debug, PartialEq, Eq, Drop)]
 pub enum CallFault<C> {
-    /// All tickets are drawn: `next` is 18,446,744,073,709,551,615.
+    /// All tickets are drawn: `next` is one above `GREATEST_TICKET`.
     Worn(C),
     /// The log has as many entries as its limit.
     Full(C),
     /// A growth was refused.
     NoMemory(C),
-    /// The lock is in use, which a call of `submit` never answers: `serving` was `at`, and `next` was `found`, which is above it.
-    Busy { at: u64, found: u64, command: C },
+    /// The lock is in use, which a call of `submit` never answers.
+    Busy {
+        /// What `serving` was.
+        at: u64,
+        /// What `next` was, which is above it.
+        found: u64,
+        /// The command that comes back.
+        command: C,
+    },
 }
 
 impl<C> From<StepFault<C>> for CallFault<C> {

@@ -2,6 +2,9 @@
 ghost use Rattle.std.specs.Prelude.{◌≡◌, ℕ, ◌<◌, ◌≤◌, ◌↔◌, ◌++◌, ◌∷◌, [], List, length, Option, IfSome, IfOk, IfErr, OnErr};
 ghost use Rattle.ra_ticket.specs.Log.{entry, last_ticket_of, IsAboveLast, unstepped};
 
+/// The most entries that a log may have.
+pub const MOST_ENTRIES: u32 = 1_048_576;
+
 /// Why a step was not made. The command comes back.
 #[derive(Debug, PartialEq, Eq, Drop)]
 pub enum StepFault<C> {
@@ -11,12 +14,15 @@ pub enum StepFault<C> {
     NoMemory(C),
 }
 
-/// An object that answers commands one after another and logs each answer. A step is a function of the setup, of the log so far and of the command.
+/// An object that answers commands one after another and logs each answer. A step is a function of the setup, of the log
+/// so far and of the command. Each call but `step` costs a constant.
 pub trait Journal: Drop + Send {
     ghost use Rattle.ra_ticket.specs.declared.entry.Entry.{Entry};
 
+    /// What it is asked.
     type Command;
 
+    /// What it answers.
     type Reply: Copy;
 
     /// Plain data that no step changes.
@@ -33,19 +39,20 @@ pub trait Journal: Drop + Send {
 
     ghost limit_of: { Self.Setup → ℕ };
 
-    /// How many entries the log may have, 1 to 1,048,576.
+    /// How many entries the log may have, 1 to `MOST_ENTRIES`.
     fn limit(&self) -> u32
         ensures limit { result ≡ limit_of (setup self.now) }
-        ensures range { (0 < result) × (result ≤ 1048576) };
+        ensures range { (0 < result) × (result ≤ MOST_ENTRIES) };
 
     /// How many entries the log has.
     fn calls(&self) -> u32
         ensures { result ≡ length (log self.now) };
 
-    /// The entry at which the object failed, if it has.
+    /// The number by which the object names its fault, if it has one. It is below `calls`: of a monitor, say, it is the
+    /// label of the fault.
     fn fault(&self) -> Option<u32>
         ensures fault { result ≡ fault_of (setup self.now) (log self.now) }
-        ensures entry { IfSome result (λ f. f < length (log self.now)) };
+        ensures below { IfSome result (λ f. f < length (log self.now)) };
 
     /// The ticket of the last entry.
     fn last_ticket(&self) -> Option<u64>
@@ -62,6 +69,7 @@ pub trait Journal: Drop + Send {
         ensures reply { IfOk result (λ r. r ≡ reply_of (setup self.old) (log self.old) command) }
         ensures logged { IfOk result (λ r. log self.new ≡ log self.old ++ entry pass ticket command r ∷ []) }
         ensures full { (result ≡ Err (StepFault.Full command)) ↔ (length (log self.old) ≡ limit_of (setup self.old)) }
+        ensures range { (0 < limit_of (setup self.old)) × (limit_of (setup self.old) ≤ MOST_ENTRIES) }
         ensures handed_back { IfErr result (λ f. unstepped f ≡ command) }
         ensures unchanged { OnErr result (log self.new ≡ log self.old) }
         ensures same_setup { setup self.new ≡ setup self.old };

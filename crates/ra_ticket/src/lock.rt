@@ -2,7 +2,7 @@
 ghost use Rattle.std.specs.Prelude.{◌≡◌};
 
 use crate::board::LockTable;
-use crate::draw::draw_ticket;
+use crate::draw::{GREATEST_TICKET, draw_ticket};
 use crate::enter::enter;
 use crate::fault::CallFault;
 use crate::journal::Journal;
@@ -18,7 +18,7 @@ pub struct TicketLock<M: Journal> {
 }
 
 impl<M: Journal> TicketLock<M> {
-    ghost use Rattle.std.specs.Prelude.{◌≡◌, IfOk, IfErr};
+    ghost use Rattle.std.specs.Prelude.{◌≡◌, ◌+◌, IfOk, IfErr};
     ghost use Rattle.ra_ticket.specs.Log.{IsAnswer};
     ghost use Rattle.ra_ticket.specs.Faults.{unserved, IsWorn, IsFull, IsBusy, IsAtLimit};
     ghost use Rattle.ra_ticket.specs.Passes.{IsPassOf, IsSamePass, next_reached};
@@ -26,7 +26,10 @@ impl<M: Journal> TicketLock<M> {
     /// Draws a ticket, waits until it is served and lets the journal answer the command.
     /// `Worn` comes before a ticket is drawn; after `Full` and `NoMemory` the ticket is served and leaves no entry.
     ///
-    /// It costs the journal's step and a few atomic steps, one more for each pass that draws at the same time, and the wait for all calls that drew before. A waiting call looks at one word, with pauses of 1, 2, 4 .. 64 spins, and then leaves the processor to others between two looks. The journal's own bytes, not what it owns, are copied twice.
+    /// It costs the journal's step and a few atomic steps, one more for each pass that draws at the same time, and the
+    /// wait for all calls that drew before. A waiting call looks at one word, with pauses of 1, 2, 4 .. 64 spins, and
+    /// then leaves the processor to others between two looks. The journal's own bytes, not what it owns, are copied
+    /// twice.
     pub fn submit<R: Wait>(
         &self,
         rt: &R,
@@ -37,7 +40,7 @@ impl<M: Journal> TicketLock<M> {
         ensures pass { IsSamePass pass.old pass.new }
         ensures reply { IfOk result (λ r. IsAnswer M.reply_of command r) }
         ensures handed_back { IfErr result (λ f. unserved f ≡ command) }
-        ensures worn_at_the_end { IfErr result (λ f. IsWorn f → next_reached pass.new ≡ u64.MAX) }
+        ensures worn_at_the_end { IfErr result (λ f. IsWorn f → next_reached pass.new ≡ GREATEST_TICKET + 1) }
         ensures full_at_the_limit { IfErr result (λ f. IsFull f → IsAtLimit M.Command M.Reply M.limit_of) }
         ensures never_busy { IfErr result (λ f. ¬ (IsBusy f)) }
     {

@@ -1,11 +1,12 @@
 //! How a lock is opened and its passes are dealt out.
 ghost use Rattle.std.specs.Prelude.{◌≡◌, ◌+◌, ◌-◌, ◌<◌, ◌≤◌, ◌⊎◌, [], map, All, IfOk, IsOkUnless, Some};
+ghost use Rattle.std.specs.List.{range_with_len};
 ghost use Rattle.ra_ticket.specs.Steps.{IsSeated, IsSameSeat};
-ghost use Rattle.ra_ticket.specs.Views.{stage_of, numbers_of, next_of, serving_of, first_pass, other_passes, numbers_from, starting};
+ghost use Rattle.ra_ticket.specs.Views.{stage_of, numbers_of, next_of, serving_of, first_pass, other_passes, starting};
 ghost use Rattle.ra_ticket.specs.Passes.{number_of, next_reached, serving_reached, IsPassOf};
 ghost use Rattle.ra_ticket.specs.declared.board.Stage.TheVariants.{Idle};
 
-use crate::board::{About, Board, LockTable, Place};
+use crate::board::{About, Board, LockSeat, LockTable};
 use crate::fault::OpenFault;
 use crate::journal::Journal;
 use crate::lock::TicketLock;
@@ -14,11 +15,11 @@ use crate::plays::CutFirst;
 use atomic_table::Table;
 use std::alloc::{AllocError, Global};
 
-// The most passes that a lock may have.
-const MOST_PASSES: u8 = 64;
+/// The most passes that a lock may have.
+pub const MOST_PASSES: u8 = 64;
 
 // Splits a seat: the first pass gets a seat of its own.
-fn split_first<M: Journal>(board: &Board<M>, rest: &mut Place<M>) -> Place<M>
+fn split_first<M: Journal>(board: &Board<M>, rest: &mut LockSeat<M>) -> LockSeat<M>
     requires table { IsSeated rest.old.table_id board.now.table_id }
     requires idle { stage_of rest.old.me.0 ≡ Some Idle }
     ensures rest { (rest.new.table_id ≡ rest.old.table_id) × (rest.new.me ≡ (other_passes rest.old.me.0, rest.old.me.1)) }
@@ -33,9 +34,10 @@ fn set_table<M: Journal>(
     state: M,
     passes: u8,
     first: u64,
-) -> Result<(LockTable<M>, Place<M>), AllocError>
+) -> Result<(LockTable<M>, LockSeat<M>), AllocError>
     requires { M.log state ≡ [] }
-    ensures table { IfOk result (λ t. (t.0.shared.table_id.words ≡ 2) × (t.0.shared.table_id.slots ≡ 1) × (t.1.table_id ≡ t.0.shared.table_id)) }
+    ensures table { IfOk result (λ t. (t.0.shared.table_id.words ≡ 2) × (t.0.shared.table_id.slots ≡ 1)) }
+    ensures at_table { IfOk result (λ t. t.1.table_id ≡ t.0.shared.table_id) }
     ensures seat { IfOk result (λ t. t.1.me ≡ (starting passes first, [])) }
 {
     let mut slots = Vec::new(alloc);
@@ -50,14 +52,15 @@ fn set_table<M: Journal>(
 fn deal<M: Journal>(
     alloc: Global,
     board: &Board<M>,
-    mut rest: Place<M>,
+    mut rest: LockSeat<M>,
     passes: u8,
 ) -> Result<Vec<Pass<M>>, AllocError>
     requires table { IsSeated rest.table_id board.now.table_id }
-    requires idle { (stage_of rest.me.0 ≡ Some Idle) × (numbers_of rest.me.0 ≡ numbers_from 0 passes) }
-    ensures numbers { IfOk result (λ v. map number_of v.items ≡ numbers_from 0 passes) }
+    requires idle { (stage_of rest.me.0 ≡ Some Idle) × (numbers_of rest.me.0 ≡ range_with_len 0 passes) }
+    ensures numbers { IfOk result (λ v. map number_of v.items ≡ range_with_len 0 passes) }
     ensures own { IfOk result (λ v. All (λ p. p.seat.table_id ≡ board.now.table_id) v.items) }
-    ensures reached { IfOk result (λ v. All (λ p. (next_reached p ≡ next_of rest.me.0) × (serving_reached p ≡ serving_of rest.me.0)) v.items) }
+    ensures next { IfOk result (λ v. All (λ p. next_reached p ≡ next_of rest.me.0) v.items) }
+    ensures serving { IfOk result (λ v. All (λ p. serving_reached p ≡ serving_of rest.me.0) v.items) }
 {
     let mut dealt = Vec::with_capacity(alloc, usize::from(passes))?;
     for number in 0..passes {
@@ -68,8 +71,8 @@ fn deal<M: Journal>(
 }
 
 impl<M: Journal> TicketLock<M> {
-    /// Makes a lock over a journal with an empty log, and 1 to 64 passes of it, numbered from 0 in the list's order. The first ticket is `first`.
-    /// Its cost is linear in the number of passes.
+    /// Makes a lock over a journal with an empty log, and 1 to `MOST_PASSES` passes of it, numbered from 0 in the
+    /// list's order. The first ticket is `first`. Its cost is linear in the number of passes.
     pub fn open(
         alloc: Global,
         state: M,
@@ -77,11 +80,12 @@ impl<M: Journal> TicketLock<M> {
         first: u64,
     ) -> Result<(TicketLock<M>, Vec<Pass<M>>), OpenFault<M>>
         requires { M.log state ≡ [] }
-        ensures numbers { IfOk result (λ l. map number_of l.1.items ≡ numbers_from 0 passes) }
+        ensures numbers { IfOk result (λ l. map number_of l.1.items ≡ range_with_len 0 passes) }
         ensures own { IfOk result (λ l. All (IsPassOf l.0) l.1.items) }
-        ensures reached { IfOk result (λ l. All (λ p. (next_reached p ≡ first) × (serving_reached p ≡ first)) l.1.items) }
-        ensures bad_passes { (passes ≡ 0) ⊎ (64 < passes) → result ≡ Err (OpenFault.BadPasses state) }
-        ensures else_no_memory { 0 < passes → passes ≤ 64 → IsOkUnless result OpenFault.NoMemory }
+        ensures next { IfOk result (λ l. All (λ p. next_reached p ≡ first) l.1.items) }
+        ensures serving { IfOk result (λ l. All (λ p. serving_reached p ≡ first) l.1.items) }
+        ensures bad_passes { (passes ≡ 0) ⊎ (MOST_PASSES < passes) → result ≡ Err (OpenFault.BadPasses state) }
+        ensures else_no_memory { 0 < passes → passes ≤ MOST_PASSES → IsOkUnless result OpenFault.NoMemory }
     {
         if passes == 0 || passes > MOST_PASSES {
             return Err(OpenFault::BadPasses(state));

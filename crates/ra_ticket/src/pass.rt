@@ -3,14 +3,15 @@ ghost use Rattle.std.specs.Prelude.{◌≡◌, [], ◌∷◌, Some};
 ghost use Rattle.ra_ticket.specs.Views.{stage_of, numbers_of};
 ghost use Rattle.ra_ticket.specs.declared.board.Stage.TheVariants.{Idle};
 
-use crate::board::Place;
+use crate::board::LockSeat;
 use crate::journal::Journal;
 
-/// The right to make calls on one lock, one after another. It may go to another thread, and one that is dropped between calls harms nobody.
+/// The right to make calls on one lock, one after another. It may go to another thread, and one that is dropped between
+/// calls harms nobody.
 #[derive(Drop)]
 pub struct Pass<M: Journal> {
     pub(crate) number: u8,
-    pub(crate) seat: Place<M>,
+    pub(crate) seat: LockSeat<M>,
     ghost numbered: { numbers_of seat.me.0 ≡ number ∷ [] },
     ghost idle: { stage_of seat.me.0 ≡ Some Idle },
     ghost empty: { seat.me.1 ≡ [] },

@@ -4,26 +4,26 @@ ghost use Rattle.ra_ticket.specs.Steps.{IsSeated, IsSameSeat, HoldsServed};
 ghost use Rattle.ra_ticket.specs.Views.{stage_of};
 ghost use Rattle.ra_ticket.specs.declared.board.Stage.TheVariants.{Idle};
 
-use crate::board::{Board, JOURNAL, Place, SERVING};
+use crate::board::{Board, JOURNAL, LockSeat, SERVING};
 use crate::journal::Journal;
 use crate::plays::Release;
 
 /// Puts the journal back into the slot that the seat has.
-pub(crate) fn put_back<M: Journal>(board: &Board<M>, place: &mut Place<M>, journal: M)
-    requires table { IsSeated place.old.table_id board.now.table_id }
-    requires empty { place.old.me.1 ≡ (0, None) ∷ [] }
-    ensures seat { (place.new.table_id ≡ place.old.table_id) × (place.new.id ≡ place.old.id) }
-    ensures slot { place.new.me ≡ (place.old.me.0, (0, Some journal) ∷ []) }
+pub(crate) fn put_back<M: Journal>(board: &Board<M>, seat: &mut LockSeat<M>, journal: M)
+    requires table { IsSeated seat.old.table_id board.now.table_id }
+    requires empty { seat.old.me.1 ≡ (0, None) ∷ [] }
+    ensures seat { (seat.new.table_id ≡ seat.old.table_id) × (seat.new.id ≡ seat.old.id) }
+    ensures slot { seat.new.me ≡ (seat.old.me.0, (0, Some journal) ∷ []) }
 {
-    let _ = board.exchange(place, JOURNAL, Some(journal));
+    let _ = board.exchange(seat, JOURNAL, Some(journal));
 }
 
 /// An addition to `serving`: the slot goes home, and the next ticket is served.
-pub(crate) fn release<M: Journal>(board: &Board<M>, place: &mut Place<M>)
-    requires table { IsSeated place.old.table_id board.now.table_id }
-    requires holds { HoldsServed M.log place.old }
-    ensures seat { IsSameSeat place.old place.new }
-    ensures idle { (stage_of place.new.me.0 ≡ Some Idle) × (place.new.me.1 ≡ []) }
+pub(crate) fn release<M: Journal>(board: &Board<M>, seat: &mut LockSeat<M>)
+    requires table { IsSeated seat.old.table_id board.now.table_id }
+    requires holds { HoldsServed M.log seat.old }
+    ensures seat { IsSameSeat seat.old seat.new }
+    ensures idle { (stage_of seat.new.me.0 ≡ Some Idle) × (seat.new.me.1 ≡ []) }
 {
-    board.fetch_add::<Release>(place, SERVING, 1);
+    board.fetch_add::<Release>(seat, SERVING, 1);
 }

@@ -1,16 +1,20 @@
 //! The lock over the toy journal `Tally`.
+ghost use Rattle.std.specs.Prelude.{◌≡◌, ◌<◌, ◌≤◌, [], IfOk};
 ghost use Rattle.ra_ticket.specs.Passes.{IsPassOf, IsSamePass};
 
 mod tally;
 mod threads;
 
-use crate::{CallFault, Journal, OpenFault, Pass, StepFault, TicketLock};
-use std::sync::Wait;
+use crate::{
+    CallFault, GREATEST_TICKET, Journal, MOST_ENTRIES, MOST_PASSES, OpenFault, Pass, StepFault,
+    TicketLock,
+};
+use std::alloc::{AllocError, Global};
+use std::sync::atomic::{AtomicU64, Ordering};
+use std::sync::{Arc, Wait};
 use std::test::Fail;
 use tally::Tally;
-use threads::{counted, sorted_replies};
-
-const LAST_TICKET: u64 = 18_446_744_073_709_551_614;
+use threads::{counted, replies, replies_of_threads};
 
 fn is_shared<T: Send + Sync>(_value: &T) {}
 
@@ -41,41 +45,49 @@ fn told<M: Journal>(journal: &M) -> (u32, u32, Option<u32>, Option<u64>) {
     )
 }
 
+// A tally whose drops nobody counts.
+fn tally_of(alloc: Global, limit: u32) -> Result<Tally, AllocError>
+    requires { (0 < limit) × (limit ≤ MOST_ENTRIES) }
+    ensures { IfOk result (λ t. t.log.items ≡ []) }
+{
+    let drops = Arc::new(alloc, AtomicU64::new(0))?;
+    Ok(Tally::new(alloc, limit, drops))
+}
+
 #[test]
-fn a_tally_replies_its_total_and_logs_each_step(rt: HostRuntime) {
-    let mut tally = Tally::new(rt.alloc(), 2);
+fn a_tally_replies_its_total_and_logs_each_step(rt: HostRuntime) -> Result<(), Fail> {
+    let mut tally = tally_of(rt.alloc(), 2)?;
     assert_eq!(rt; told(&tally), (2, 0, None, None));
     assert_eq!(rt; tally.step(3, 0, u32::MAX), Ok(u32::MAX));
     assert_eq!(rt; told(&tally), (2, 1, None, Some(0)));
     assert_eq!(rt; tally.step(1, 9, 5), Ok(4));
     assert_eq!(rt; tally.step(1, 10, 6), Err(StepFault::Full(6)));
     assert_eq!(rt; told(&tally), (2, 2, None, Some(9)));
-}
-
-#[test]
-fn two_threads_take_turns(rt: HostRuntime) -> Result<(), Fail> {
-    let (lock, passes) = TicketLock::open(rt.alloc(), Tally::new(rt.alloc(), 1000), 2, 0)?;
-    let replies = sorted_replies(&rt, rt.alloc(), &lock, passes)?;
-    assert_eq!(rt; replies.as_slice(), counted(rt.alloc(), 200)?.as_slice());
     Ok(())
 }
 
 #[test]
-fn four_threads_take_turns(rt: HostRuntime) -> Result<(), Fail> {
-    let (lock, passes) = TicketLock::open(rt.alloc(), Tally::new(rt.alloc(), 1000), 4, 7)?;
-    let replies = sorted_replies(&rt, rt.alloc(), &lock, passes)?;
-    assert_eq!(rt; replies.as_slice(), counted(rt.alloc(), 400)?.as_slice());
+fn threads_that_start_together_take_turns(rt: HostRuntime) -> Result<(), Fail> {
+    for count in [2, 4, 8] {
+        let tally = tally_of(rt.alloc(), MOST_ENTRIES)?;
+        let (lock, passes) = TicketLock::open(rt.alloc(), tally, count, 7)?;
+        let mut all = Vec::new(rt.alloc());
+        for replies in replies_of_threads(&rt, rt.alloc(), &lock, passes, 10_000)? {
+            let replies = replies?;
+            assert!(rt; replies.as_slice().is_sorted(), "{count} threads");
+            all.extend_from_slice(replies.as_slice())?;
+        }
+        all.sort()?;
+        let last = u32::from(count) * 10_000;
+        assert_eq!(rt; all.as_slice(), counted(rt.alloc(), last)?.as_slice());
+    }
     Ok(())
 }
 
 #[test]
-fn the_last_ticket_is_served_and_then_the_lock_is_worn(rt: HostRuntime) -> Result<(), Fail> {
-    let (lock, mut passes) = TicketLock::open(
-        rt.alloc(),
-        Tally::new(rt.alloc(), 1000),
-        1,
-        LAST_TICKET,
-    )?;
+fn the_greatest_ticket_is_served_and_then_the_lock_is_worn(rt: HostRuntime) -> Result<(), Fail> {
+    let tally = tally_of(rt.alloc(), 1000)?;
+    let (lock, mut passes) = TicketLock::open(rt.alloc(), tally, 1, GREATEST_TICKET)?;
     let pass = passes.first_mut().ok_or("a pass")?;
     assert_eq!(rt; call(&rt, &lock, pass, 5), Ok(5));
     assert_eq!(rt; call(&rt, &lock, pass, 6), Err(CallFault::Worn(6)));
@@ -84,27 +96,32 @@ fn the_last_ticket_is_served_and_then_the_lock_is_worn(rt: HostRuntime) -> Resul
 }
 
 #[test]
-fn bad_numbers_of_passes_give_the_journal_back(rt: HostRuntime) {
-    for passes in [0, 65, 255] {
-        let state = Tally::new(rt.alloc(), 9);
-        match TicketLock::open(rt.alloc(), state, passes, 0) {
-            Err(OpenFault::BadPasses(back)) => assert_eq!(rt; back.limit(), 9, "{passes}"),
+fn bad_numbers_of_passes_give_the_journal_back(rt: HostRuntime) -> Result<(), Fail> {
+    for passes in [0, MOST_PASSES + 1, u8::MAX] {
+        match TicketLock::open(rt.alloc(), tally_of(rt.alloc(), 9)?, passes, 0) {
+            Err(OpenFault::BadPasses(back)) => { assert_eq!(rt; back.limit(), 9, "{passes}") }
             _ => panic!(rt; "{passes} passes"),
         }
     }
+    Ok(())
 }
 
+// One pass makes two thousand entries, and the most passes there may be make more together.
 #[test]
-fn one_and_sixty_four_passes_are_served_in_order(rt: HostRuntime) -> Result<(), Fail> {
-    for count in [1, 64] {
-        let (lock, passes) = TicketLock::open(rt.alloc(), Tally::new(rt.alloc(), 64), count, 3)?;
+fn passes_are_served_in_order(rt: HostRuntime) -> Result<(), Fail> {
+    for (count, calls) in [(1, 2_000), (MOST_PASSES, 40)] {
+        let tally = tally_of(rt.alloc(), 4_000)?;
+        let (lock, passes) = TicketLock::open(rt.alloc(), tally, count, 3)?;
         assert_eq!(rt; passes.len(), usize::from(count));
-        let mut served = 0;
-        for mut pass in passes {
-            assert_eq!(rt; u32::from(pass.number()), served);
-            served += 1;
-            assert_eq!(rt; call(&rt, &lock, &mut pass, 1), Ok(served));
+        let mut served = Vec::new(rt.alloc());
+        for pass in passes {
+            let before = u32::from(pass.number()) * calls;
+            assert_eq!(rt; served.len(), before as usize);
+            let replies = replies(&rt, rt.alloc(), &lock, pass, calls)?;
+            served.extend_from_slice(replies.as_slice())?;
         }
+        let last = u32::from(count) * calls;
+        assert_eq!(rt; served.as_slice(), counted(rt.alloc(), last)?.as_slice());
     }
     Ok(())
 }
@@ -113,7 +130,7 @@ fn one_and_sixty_four_passes_are_served_in_order(rt: HostRuntime) -> Result<(), 
 fn a_full_log_hands_the_command_back_and_the_next_pass_is_served(
     rt: HostRuntime,
 ) -> Result<(), Fail> {
-    let (lock, passes) = TicketLock::open(rt.alloc(), Tally::new(rt.alloc(), 2), 3, 0)?;
+    let (lock, passes) = TicketLock::open(rt.alloc(), tally_of(rt.alloc(), 2)?, 3, 0)?;
     for mut pass in passes {
         let replies = [
             call(&rt, &lock, &mut pass, 5),
@@ -130,7 +147,7 @@ fn a_full_log_hands_the_command_back_and_the_next_pass_is_served(
 
 #[test]
 fn a_dropped_pass_harms_nobody(rt: HostRuntime) -> Result<(), Fail> {
-    let (lock, mut passes) = TicketLock::open(rt.alloc(), Tally::new(rt.alloc(), 9), 2, 0)?;
+    let (lock, mut passes) = TicketLock::open(rt.alloc(), tally_of(rt.alloc(), 9)?, 2, 0)?;
     let mut other = passes.pop().ok_or("a pass")?;
     assert_eq!(rt;
         call(&rt, &lock, passes.first_mut().ok_or("a pass")?, 1),
@@ -138,5 +155,40 @@ fn a_dropped_pass_harms_nobody(rt: HostRuntime) -> Result<(), Fail> {
     );
     drop(passes);
     assert_eq!(rt; call(&rt, &lock, &mut other, 2), Ok(3));
+    Ok(())
+}
+
+// A lock that is not opened, one that is never used, and one that is used until it is full or worn. A pass outlives it.
+#[test]
+fn the_journal_is_dropped_once(rt: HostRuntime) -> Result<(), Fail> {
+    for (count, first, calls) in [
+        (0, 0, 0),
+        (MOST_PASSES + 1, 0, 0),
+        (2, 0, 0),
+        (3, 0, 2),
+        (3, GREATEST_TICKET, 2),
+    ] {
+        let drops = Arc::new(rt.alloc(), AtomicU64::new(0))?;
+        let tally = Tally::new(rt.alloc(), 2, Arc::try_clone(&drops)?);
+        let opened = TicketLock::open(rt.alloc(), tally, count, first);
+        assert_eq!(rt; drops.load(Ordering::SeqCst), 0);
+        match opened {
+            Ok((lock, mut passes)) => {
+                let outlives = passes.pop();
+                for pass in passes {
+                    drop(replies(&rt, rt.alloc(), &lock, pass, calls)?);
+                }
+                assert_eq!(rt; drops.load(Ordering::SeqCst), 0);
+                drop(lock);
+                drop(outlives);
+            }
+            Err(fault) => drop(fault),
+        }
+        assert_eq!(rt;
+            drops.load(Ordering::SeqCst),
+            1,
+            "{count} passes, {calls} calls"
+        );
+    }
     Ok(())
 }

@@ -1,31 +1,48 @@
-//! A journal that adds each number to a wrapping total and replies the total.
+//! A journal that adds each number to a wrapping total and replies the total, and counts how often it is dropped.
 ghost use Rattle.std.specs.Prelude.{◌≡◌, ◌<◌, ◌≤◌, ◌+◌, ◌%◌, ◌^◌, [], length, sum_by, None};
+ghost use Rattle.ra_ticket.specs.declared.journal.TheConstants.{MOST_ENTRIES};
 
-use crate::{Entry, Journal, StepFault};
+use crate::{Entry, Journal, MOST_ENTRIES, StepFault};
 use std::alloc::Global;
+use std::sync::Arc;
+use std::sync::atomic::{AtomicU64, Ordering};
 
 /// Its setup is its limit.
-#[derive(Debug, Drop)]
+#[derive(Debug)]
 pub struct Tally {
     limit: u32,
     total: u32,
     log: Vec<Entry<u32, u32>>,
-    ghost in_range: { (0 < limit) × (limit ≤ 1048576) },
+    drops: Arc<AtomicU64, Global>,
+    ghost in_range: { (0 < limit) × (limit ≤ MOST_ENTRIES) },
     ghost within: { length log.items ≤ limit },
     ghost totals: { total ≡ sum_by (λ e. e.command) log.items % 2 ^ 32 },
 }
 
 impl Tally {
-    /// An empty tally for 1 to 1,048,576 entries.
-    pub fn new(alloc: Global, limit: u32) -> Tally
-        requires { (0 < limit) × (limit ≤ 1048576) }
+    /// An empty tally for 1 to `MOST_ENTRIES` entries, which adds one to `drops` when it is dropped.
+    pub fn new(alloc: Global, limit: u32, drops: Arc<AtomicU64, Global>) -> Tally
+        requires { (0 < limit) × (limit ≤ MOST_ENTRIES) }
         ensures { (result.limit ≡ limit) × (result.log.items ≡ []) }
     {
         Tally {
             limit,
             total: 0,
             log: Vec::new(alloc),
+            drops,
         }
+    }
+}
+
+impl Drop for Tally {
+    fn drop(self) {
+        let Self {
+            limit: _,
+            total: _,
+            log: _,
+            drops,
+        } = self;
+        drops.fetch_add(1, Ordering::SeqCst);
     }
 }
 

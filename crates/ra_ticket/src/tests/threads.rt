@@ -6,22 +6,36 @@ use super::tally::Tally;
 use crate::{Pass, TicketLock};
 use std::alloc::{AllocError, Global};
 use std::sync::Wait;
+use std::sync::atomic::{AtomicUsize, Ordering};
 use std::thread;
 use std::thread::Threads;
 
-const CALLS: usize = 100;
+// How often a thread looks whether all have started.
+const MOST_LOOKS: u32 = 1_000_000;
 
-// The replies to a hundred calls that each add one, as far as they were answered.
-fn hundred<R: Wait>(
+// Waits until `count` threads stand here, or for so long that some cannot run beside this one.
+fn start_together(started: &AtomicUsize, count: usize) {
+    started.fetch_add(1, Ordering::SeqCst);
+    for _ in 0..MOST_LOOKS {
+        if started.load(Ordering::SeqCst) >= count {
+            return;
+        }
+        thread::yield_now();
+    }
+}
+
+/// The replies to calls that each add one, as far as they were answered.
+pub fn replies<R: Wait>(
     rt: &R,
     alloc: Global,
     lock: &TicketLock<Tally>,
     mut pass: Pass<Tally>,
+    calls: u32,
 ) -> Result<Vec<u32>, AllocError>
     requires { IsPassOf lock.now pass }
 {
-    let mut replies = Vec::with_capacity(alloc, CALLS)?;
-    for _ in 0..CALLS {
+    let mut replies = Vec::new(alloc);
+    for _ in 0..calls {
         if let Ok(reply) = lock.submit(rt, &mut pass, 1) {
             replies.push(reply)?;
         }
@@ -29,28 +43,29 @@ fn hundred<R: Wait>(
     Ok(replies)
 }
 
-/// Each pass makes a hundred calls that add one, in a thread of its own. All replies, sorted.
-pub fn sorted_replies<R: Threads + Wait + Sync>(
+/// Each pass makes `calls` calls that add one, in a thread of its own, and the threads start together. The replies of
+/// each thread, in the order of its calls.
+pub fn replies_of_threads<R: Threads + Wait + Sync>(
     rt: &R,
     alloc: Global,
     lock: &TicketLock<Tally>,
     passes: Vec<Pass<Tally>>,
-) -> Result<Vec<u32>, AllocError>
+    calls: u32,
+) -> Result<Vec<Result<Vec<u32>, AllocError>>, AllocError>
     requires { All (IsPassOf lock.now) passes.items }
 {
-    let runs = thread::map_vec(
+    let started = AtomicUsize::new(0);
+    let count = passes.len();
+    thread::map_vec(
         rt,
         passes,
         &|pass: Pass<Tally>| -> Result<Vec<u32>, AllocError>
             requires { IsPassOf lock.now pass }
-        { hundred(rt, alloc, lock, pass) },
-    )?;
-    let mut all = Vec::new(alloc);
-    for run in runs {
-        all.extend_from_slice(run?.as_slice())?;
-    }
-    all.sort()?;
-    Ok(all)
+        {
+            start_together(&started, count);
+            replies(rt, alloc, lock, pass, calls)
+        },
+    )
 }
 
 /// The numbers from 1 to `last`.

@@ -6,9 +6,9 @@ use Rattle.ra_ticket.proofs.draw.draw_ticket.Given as goal
 
 abbrev pub invariant-loop : goal.invariant-loop
 invariant-loop g l = record {
-  seat : IsSameSeat l.fn.place l.place;
-  slot : l.place.me.1 ≡ l.fn.place.me.1;
-  idle : stage_of l.place.me.0 ≡ Some Idle;
-  learned : next_of l.place.me.0 ≡ l.ticket;
+  seat : IsSameSeat l.fn.seat l.seat;
+  slot : l.seat.me.1 ≡ l.fn.seat.me.1;
+  idle : stage_of l.seat.me.0 ≡ Some Idle;
+  learned : next_of l.seat.me.0 ≡ l.ticket;
   fits : l.ticket < 2 ^ 64;
 }

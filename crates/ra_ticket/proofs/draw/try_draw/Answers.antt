@@ -1,4 +1,4 @@
-use Rattle.std.proofs.Common.{rules, ◌+◌, refl}
+use Rattle.std.proofs.Common.{rules, ◌+◌, refl, arith}
 use mathlib.Core.Option.{none}
 use Rattle.atomic_table.specs.Table.{step}
 use Rattle.ra_ticket.proofs.Moves.{draws}
@@ -8,5 +8,5 @@ pub compare_exchange-requires : goal.compare_exchange-requires
 compare_exchange-requires g c = (
   search rules,
   search rules,
-  draws g.M.Journal.log _ _ _ _ c.args.ticket (step c.args.board.now.table_id.slots 0 c.args.ticket (c.args.ticket + 1) none) refl c.requires.room c.requires.idle,
+  draws g.M.Journal.log _ _ _ _ c.args.ticket (step c.args.board.now.table_id.slots 0 c.args.ticket (c.args.ticket + 1) none) refl (omega arith) c.requires.idle,
 )

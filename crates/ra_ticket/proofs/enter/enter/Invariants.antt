@@ -6,7 +6,7 @@ use Rattle.ra_ticket.proofs.enter.enter.Given as goal
 
 abbrev pub invariant-loop : goal.invariant-loop
 invariant-loop g l = record {
-  seat : IsSameSeat l.fn.place l.place;
-  waits : stage_of l.place.me.0 ≡ Some (Waiting l.ticket);
-  empty : l.place.me.1 ≡ [];
+  seat : IsSameSeat l.fn.seat l.seat;
+  waits : stage_of l.seat.me.0 ≡ Some (Waiting l.ticket);
+  empty : l.seat.me.1 ≡ [];
 }

@@ -1,14 +1,16 @@
 use Rattle.std.proofs.Common.{arith, ◌≡◌, suc, ◌+◌, ◌-◌, ap, ◌∙◌, refl}
-use Rattle.ra_ticket.specs.Views.{stage_of, numbers_of, next_of, serving_of, numbers_from}
+use Rattle.std.specs.List.{range_with_len}
+use Rattle.std.proofs.lemmas.List.Elements.{All-push}
+use Rattle.ra_ticket.specs.Views.{stage_of, numbers_of, next_of, serving_of}
 use Rattle.ra_ticket.specs.Passes.{number_of, next_reached, serving_reached}
 use Rattle.ra_ticket.proofs.Cuts.{AreCut, are_cut}
-use Rattle.ra_ticket.proofs.Pushes.{all_push, numbered_push}
+use Rattle.ra_ticket.proofs.Pushes.{numbered_push}
 use Rattle.ra_ticket.proofs.open.deal.Goals as goal
 
 pub invariant_of-push : goal.invariant_of-push
 invariant_of-push g c = let n = c.loop-number.number in let left = c.args.passes - (n + 1) in let more : c.args.passes - n ≡ suc left = omega arith in
     let first = c.split_first-seat.ensures.first.1 in
-    let cut : AreCut c.loop-number.rest.me.0 n left = are_cut _ n left c.loop-number.invariant.idle (c.loop-number.invariant.others ∙ ap (numbers_from n) more) in record {
+    let cut : AreCut c.loop-number.rest.me.0 n left = are_cut _ n left c.loop-number.invariant.idle (c.loop-number.invariant.others ∙ ap (range_with_len n) more) in record {
       numbered = ap (λ m. numbers_of m.0) first ∙ cut.first_number;
       idle = ap (λ m. stage_of m.0) first ∙ cut.first_idle;
       empty = ap (λ m. m.1) first;
@@ -17,15 +19,17 @@ invariant_of-push g c = let n = c.loop-number.number in let left = c.args.passes
 pub loop-number-preserved : goal.loop-number-preserved
 loop-number-preserved g c = let n = c.loop-number.number in let left = c.args.passes - (n + 1) in let more : c.args.passes - n ≡ suc left = omega arith in
     let first = c.split_first-seat.ensures.first in let rest = c.split_first-seat.ensures.rest in let was = c.loop-number.invariant in
-    let cut : AreCut c.loop-number.rest.me.0 n left = are_cut _ n left was.idle (was.others ∙ ap (numbers_from n) more) in
-    let up : suc n ≡ n + 1 = omega arith in let pushed = c.in_ok-push.ensures.items in record {
+    let cut : AreCut c.loop-number.rest.me.0 n left = are_cut _ n left was.idle (was.others ∙ ap (range_with_len n) more) in
+    let pushed = c.in_ok-push.ensures.items in record {
       table = rest.0 ∙ was.table;
       idle = ap (λ m. stage_of m.0) rest.1 ∙ cut.idle;
-      others = ap (λ m. numbers_of m.0) rest.1 ∙ (cut.numbers ∙ ap (λ k. numbers_from k left) up);
+      others = ap (λ m. numbers_of m.0) rest.1 ∙ cut.numbers;
       next = ap (λ m. next_of m.0) rest.1 ∙ (cut.next ∙ was.next);
       serving = ap (λ m. serving_of m.0) rest.1 ∙ (cut.serving ∙ was.serving);
       numbers = rw pushed (numbered_push number_of c.loop-number.dealt.items _ n was.numbers refl);
-      own = rw pushed (all_push (λ p. p.seat.table_id ≡ c.args.rest.table_id) c.loop-number.dealt.items _ was.own (first.0 ∙ was.table));
-      reached = rw pushed (all_push (λ p. (next_reached p ≡ next_of c.args.rest.me.0) × (serving_reached p ≡ serving_of c.args.rest.me.0)) c.loop-number.dealt.items _ was.reached
-          (ap (λ m. next_of m.0) first.1 ∙ (cut.first_next ∙ was.next), ap (λ m. serving_of m.0) first.1 ∙ (cut.first_serving ∙ was.serving)));
+      own = rw pushed (All-push (λ p. p.seat.table_id ≡ c.args.rest.table_id) c.loop-number.dealt.items _ was.own (first.0 ∙ was.table));
+      dealt_next = rw pushed (All-push (λ p. next_reached p ≡ next_of c.args.rest.me.0) c.loop-number.dealt.items _ was.dealt_next
+          (ap (λ m. next_of m.0) first.1 ∙ (cut.first_next ∙ was.next)));
+      dealt_serving = rw pushed (All-push (λ p. serving_reached p ≡ serving_of c.args.rest.me.0) c.loop-number.dealt.items _ was.dealt_serving
+          (ap (λ m. serving_of m.0) first.1 ∙ (cut.first_serving ∙ was.serving)));
     }

@@ -1,11 +1,11 @@
 use Rattle.std.proofs.Common.{rules, ◌≡◌, [], ◌∷◌, Option, Some, List, sym, subst}
 use Rattle.atomic_table.specs.Table.{opening}
 use Rattle.ra_ticket.specs.Views.{starting}
-use Rattle.ra_ticket.specs.Rule.{Kept}
+use Rattle.ra_ticket.specs.Rule.{TurnsKept}
 use Rattle.ra_ticket.proofs.Cuts.{starts}
 use Rattle.ra_ticket.proofs.open.set_table.Goals as goal
 
 pub new-requires : goal.new-requires
 new-requires g c = let first = c.args.first in let filled : c.push.new.self.items ≡ Some c.args.state ∷ [] = search rules in
-    subst (λ (xs : List (Option g.row.M.Denot)). Kept g.M.Journal.log (opening (first ∷ first ∷ []) xs (starting c.args.passes first))) (sym filled)
+    subst (λ (xs : List (Option g.row.M.Denot)). TurnsKept g.M.Journal.log (opening (first ∷ first ∷ []) xs (starting c.args.passes first))) (sym filled)
     (starts g.M.Journal.log c.args.passes first c.args.state (search rules) c.requires)
