@@ -1,6 +1,6 @@
 -- When records hold, and where they first do not.
-use Rattle.std.proofs.Common.{◌≡◌, ℕ, ◌<◌, Bool, true, false, cond, eqb, [], ◌∷◌, ◌++◌, Option, Some, None, refl, sym, ap, ◌∙◌, subst, inl, inr, ⊎_elim, arith}
-use Rattle.std.specs.Prelude.{◌⊎◌, IsPermutation, not, if◌then◌else◌, option_map, is_none}
+use Rattle.std.proofs.Common.{◌≡◌, ℕ, ◌<◌, Bool, true, false, cond, eqb, List, [], ◌∷◌, ◌++◌, Option, Some, None, refl, sym, ap, ◌∙◌, subst, inl, inr, ⊎_elim, arith}
+use Rattle.std.specs.Prelude.{◌↔◌, ◌⊎◌, IsPermutation, not, if◌then◌else◌, option_map, is_none}
 use Rattle.std.specs.Option.{option_or}
 use Rattle.std.proofs.lemmas.Option.{none-some, same_Some}
 use Rattle.std.proofs.lemmas.Bool.{cases_eq, cases_order, eq-eqb, ne_eqb, cond-true, cond-false, cond_both, false≢true}
@@ -8,10 +8,11 @@ use Rattle.ra_labels.specs.declared.kind.Kind.{Kind}
 use Rattle.ra_labels.specs.declared.kind.Kind.TheVariants.{Counter}
 use Rattle.ra_labels.specs.declared.operation.Op.{Op}
 use Rattle.ra_labels.specs.declared.command.Command.TheVariants.{Operate, Deliver, Verdict}
+use Rattle.ra_labels.specs.declared.reply.Cause.{Cause}
 use Rattle.ra_labels.specs.declared.reply.Cause.TheVariants.{Order, Update, Query}
 use Rattle.ra_labels.specs.declared.reply.Fault.{Fault}
 use Rattle.ra_labels.specs.Records.{Records, label_count, labels_of, records_to}
-use Rattle.ra_labels.specs.Rewriting.{parts_of}
+use Rattle.ra_labels.specs.Rewriting.{Part, parts_of}
 use Rattle.ra_labels.specs.Linearization.{parts_in, extends_visibility, updates_admitted, queries_admitted}
 use Rattle.ra_labels.specs.NamedOrder.{label_cmp, named_sequence}
 use Rattle.ra_labels.specs.Fault.{Holds, cause_of, fault_of, fault_at, records_before_fault}
@@ -22,14 +23,17 @@ use Rattle.ra_labels.proofs.Sorting.{flat_map-sort_by}
 pub IsPermutation-named_sequence : (kind : Kind) (records : Records) → IsPermutation (parts_in records) (named_sequence kind records)
 IsPermutation-named_sequence kind records = flat_map-sort_by (label_cmp kind records) parts_of (labels_of records)
 
+abbrev first_failing : Bool → Bool → Bool → Option Cause
+first_failing order update query = if not order then Some Order else if not update then Some Update else if not query then Some Query else None
+
 -- the cause is none where all three tests pass
-all_pass : (order update query : Bool) → (if not order then Some Order else if not update then Some Update else if not query then Some Query else None) ≡ None → (order ≡ true) × (update ≡ true) × (query ≡ true)
+all_pass : (order update query : Bool) → first_failing order update query ≡ None → (order ≡ true) × (update ≡ true) × (query ≡ true)
 all_pass true true true none = (refl, refl, refl)
 all_pass false update query none = absurd (none-some Order (sym none))
 all_pass true false query none = absurd (none-some Update (sym none))
 all_pass true true false none = absurd (none-some Query (sym none))
 
-no_failure : (order update query : Bool) → order ≡ true → update ≡ true → query ≡ true → (if not order then Some Order else if not update then Some Update else if not query then Some Query else None) ≡ None
+no_failure : (order update query : Bool) → order ≡ true → update ≡ true → query ≡ true → first_failing order update query ≡ None
 no_failure order update query o u q = rw (o, u, q)
 
 pub holds_from_no_cause : (kind : Kind) (records : Records) → cause_of kind records ≡ None → Holds kind records
@@ -47,6 +51,38 @@ pub no_cause_from_holds : (kind : Kind) (records : Records) → Holds kind recor
 no_cause_from_holds kind records holds =
     let sequence = named_sequence kind records in
     no_failure (extends_visibility records sequence) (updates_admitted kind sequence) (queries_admitted kind records sequence) holds.visibility holds.updates holds.queries
+
+-- the cause is the first of the three tests that fails
+order_first : (order update query : Bool) → (first_failing order update query ≡ Some Order) ↔ (order ≡ false)
+order_first false update query = (λ is. refl, λ fails. refl)
+order_first true false query = (λ is. absurd (cc is), λ fails. absurd (cc fails))
+order_first true true false = (λ is. absurd (cc is), λ fails. absurd (cc fails))
+order_first true true true = (λ is. absurd (cc is), λ fails. absurd (cc fails))
+
+update_next : (order update query : Bool) → (first_failing order update query ≡ Some Update) ↔ ((order ≡ true) × (update ≡ false))
+update_next false update query = (λ is. absurd (cc is), λ fails. absurd (cc (fails.0)))
+update_next true false query = (λ is. (refl, refl), λ fails. refl)
+update_next true true false = (λ is. absurd (cc is), λ fails. absurd (cc (fails.1)))
+update_next true true true = (λ is. absurd (cc is), λ fails. absurd (cc (fails.1)))
+
+query_last : (order update query : Bool) → (first_failing order update query ≡ Some Query) ↔ ((order ≡ true) × (update ≡ true) × (query ≡ false))
+query_last false update query = (λ is. absurd (cc is), λ fails. absurd (cc (fails.0)))
+query_last true false query = (λ is. absurd (cc is), λ fails. absurd (cc (fails.1)))
+query_last true true false = (λ is. (refl, refl, refl), λ fails. refl)
+query_last true true true = (λ is. absurd (cc is), λ fails. absurd (cc (fails.2)))
+
+module _ (kind : Kind) (records : Records) where
+  abbrev sequence : List Part
+  sequence = named_sequence kind records
+
+  pub cause-order : (cause_of kind records ≡ Some Order) ↔ (extends_visibility records sequence ≡ false)
+  cause-order = order_first (extends_visibility records sequence) (updates_admitted kind sequence) (queries_admitted kind records sequence)
+
+  pub cause-update : (cause_of kind records ≡ Some Update) ↔ ((extends_visibility records sequence ≡ true) × (updates_admitted kind sequence ≡ false))
+  cause-update = update_next (extends_visibility records sequence) (updates_admitted kind sequence) (queries_admitted kind records sequence)
+
+  pub cause-query : (cause_of kind records ≡ Some Query) ↔ ((extends_visibility records sequence ≡ true) × (updates_admitted kind sequence ≡ true) × (queries_admitted kind records sequence ≡ false))
+  cause-query = query_last (extends_visibility records sequence) (updates_admitted kind sequence) (queries_admitted kind records sequence)
 
 -- no records at all hold
 cause_of-nil : (kind : Kind) → cause_of kind [] ≡ None
@@ -203,3 +239,20 @@ count_before kind (Deliver to label ∷ before) fault at =
     passed_over (fault_of kind before) fault (Deliver to label ∷ before) (records_before_fault kind before) at ∙ count_before kind before fault at
 count_before kind (Verdict ∷ before) fault at =
     passed_over (fault_of kind before) fault (Verdict ∷ before) (records_before_fault kind before) at ∙ count_before kind before fault at
+
+-- they are the records at some time, and at no later time was there no fault
+pub before_fault-prefix : (kind : Kind) (records : Records) → (later : Records) × (records ≡ later ++ records_before_fault kind records)
+before_fault-prefix kind [] = ([], refl)
+before_fault-prefix kind (command ∷ before) =
+    cond_both (is_none (fault_of kind (command ∷ before))) (command ∷ before) (records_before_fault kind before)
+    (λ kept. (later : Records) × (command ∷ before ≡ later ++ kept))
+    (λ none. ([], refl))
+    (λ some. let rest = before_fault-prefix kind before in (command ∷ rest.0, ap (λ rs. command ∷ rs) rest.1))
+
+pub before_fault-longest : (kind : Kind) (later before : Records) → fault_of kind before ≡ None → (more : Records) × (records_before_fault kind (later ++ before) ≡ more ++ before)
+before_fault-longest kind [] before none = ([], all_before_fault kind before none)
+before_fault-longest kind (command ∷ later) before none =
+    cond_both (is_none (fault_of kind (command ∷ later ++ before))) (command ∷ later ++ before) (records_before_fault kind (later ++ before))
+    (λ kept. (more : Records) × (kept ≡ more ++ before))
+    (λ fine. (command ∷ later, refl))
+    (λ some. before_fault-longest kind later before none)

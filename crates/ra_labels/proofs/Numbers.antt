@@ -1,10 +1,11 @@
 -- How labels are numbered.
-use Rattle.std.proofs.Common.{◌≡◌, ℕ, ◌<◌, ◌≤◌, eqb, [], ◌∷◌, ◌++◌, Some, None, refl, ap, ◌∙◌, inl, inr, arith, add-one}
+use Rattle.std.proofs.Common.{◌≡◌, ℕ, ◌<◌, ◌≤◌, eqb, [], ◌∷◌, ◌++◌, Option, Some, None, refl, ap, ◌∙◌, inl, inr, arith, add-one}
 use Rattle.std.specs.Prelude.{map}
 use Rattle.std.proofs.lemmas.Bool.{cases_eq, eq-eqb, ne_eqb, cond-true, cond-false}
+use Rattle.ra_labels.specs.declared.operation.Op.{Op}
 use Rattle.ra_labels.specs.declared.label.Label.{Label}
 use Rattle.ra_labels.specs.declared.command.Command.TheVariants.{Operate}
-use Rattle.ra_labels.specs.Records.{Records, label_count, labels_of, label_at, next_label}
+use Rattle.ra_labels.specs.Records.{Records, label_count, labels_of, label_at, next_label, records_to}
 use Rattle.ra_labels.specs.Laws.{numbers_below}
 
 -- the labels are numbered from the number of labels down to 0
@@ -47,3 +48,30 @@ label_at-append (Operate by op clock ∷ later) records n below =
     let other : label_count (later ++ records) ≡ n → ⊥ = λ is. absurd (omega arith) in
     cond-false (eqb (label_count (later ++ records)) n) _ _ (ne_eqb _ _ other) ∙ label_at-append later records n below
 label_at-append (_ ∷ later) records n below = label_at-append later records n below
+
+-- an operation is found as its label
+pub label_at-operation : (later before : Records) (by : ℕ) (op : Op) (clock : Option ℕ) → label_at (later ++ Operate by op clock ∷ before) (label_count before) ≡ Some (next_label before by op clock)
+label_at-operation later before by op clock =
+    label_at-append later (Operate by op clock ∷ before) (label_count before) (omega arith)
+    ∙ cond-true (eqb (label_count before) (label_count before)) _ _ (eq-eqb _ _ refl)
+
+-- the records up to a label end with its operation
+records_to-append : (later records : Records) (n : ℕ) → n < label_count records → records_to (later ++ records) n ≡ records_to records n
+records_to-append [] records n below = refl
+records_to-append (Operate by op clock ∷ later) records n below =
+    let grows = label_count-append later records in
+    let other : n ≡ label_count (later ++ records) → ⊥ = λ is. absurd (omega arith) in
+    cond-false (eqb n (label_count (later ++ records))) _ _ (ne_eqb _ _ other) ∙ records_to-append later records n below
+records_to-append (_ ∷ later) records n below = records_to-append later records n below
+
+pub records_to-operation : (later before : Records) (by : ℕ) (op : Op) (clock : Option ℕ) → records_to (later ++ Operate by op clock ∷ before) (label_count before) ≡ Operate by op clock ∷ before
+records_to-operation later before by op clock =
+    records_to-append later (Operate by op clock ∷ before) (label_count before) (omega arith)
+    ∙ cond-true (eqb (label_count before) (label_count before)) _ _ (eq-eqb _ _ refl)
+
+pub records_to-none : (records : Records) (n : ℕ) → label_count records ≤ n → records_to records n ≡ []
+records_to-none [] n above = refl
+records_to-none (Operate by op clock ∷ before) n above =
+    let other : n ≡ label_count before → ⊥ = λ is. absurd (omega arith) in
+    cond-false (eqb n (label_count before)) _ _ (ne_eqb _ _ other) ∙ records_to-none before n (omega arith)
+records_to-none (_ ∷ before) n above = records_to-none before n above

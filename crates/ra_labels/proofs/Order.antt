@@ -89,3 +89,30 @@ stamp_same s t =
       (λ tie. let fields = both.0 tie in λ i. record { clock = fields.0 i; replica = fields.1 i }),
       (λ same. both.1 (ap (λ (r : Stamp). r.clock) same, ap (λ (r : Stamp). r.replica) same)),
     )
+
+then_less : (o p : Ordering) → (ordering_then o p ≡ Less) ↔ ((o ≡ Less) ⊎ ((o ≡ Equal) × (p ≡ Less)))
+then_less Less p = (λ is. inl refl, λ known. refl)
+then_less Equal p = (λ is. inr (refl, is), λ known. elim known [ inl less ↦ absurd (cc less) | inr both ↦ both.1 ])
+then_less Greater p = (λ is. absurd (cc is), λ known. elim known [ inl less ↦ absurd (cc less) | inr both ↦ absurd (cc (both.0)) ])
+
+number_less : (m n : ℕ) (o : Ordering) → MatchOrdering o (m < n) (m ≡ n) (n < m) → (o ≡ Less) ↔ (m < n)
+number_less m n Less known = (λ is. known, λ below. refl)
+number_less m n Equal known = (λ is. absurd (cc is), λ below. absurd (omega arith))
+number_less m n Greater known = (λ is. absurd (cc is), λ below. absurd (omega arith))
+
+-- labels are ordered by rank, and at one rank by number
+pub label_below : (kind : Kind) (records : Records) (l m : Label) → (label_cmp kind records l m ≡ Less) ↔ (IsStampBelow (rank_of kind records l) (rank_of kind records m) ⊎ ((rank_of kind records l ≡ rank_of kind records m) × (l.number < m.number)))
+label_below kind records l m =
+    let s = rank_of kind records l in
+    let t = rank_of kind records m in
+    let either = then_less (stamp_cmp s t) (nat_cmp l.number m.number) in
+    let numbers = number_less l.number m.number (nat_cmp l.number m.number) (ranked l.number m.number _ refl) in (
+      (λ is. elim (either.0 is) [
+        | inl below ↦ inl ((stamp_below s t).0 below)
+        | inr tie ↦ inr ((stamp_same s t).0 tie.0, numbers.0 tie.1)
+      ]),
+      (λ known. elim known [
+        | inl below ↦ either.1 (inl ((stamp_below s t).1 below))
+        | inr tie ↦ either.1 (inr ((stamp_same s t).1 tie.0, numbers.1 tie.1))
+      ]),
+    )

@@ -1,11 +1,12 @@
 -- What a replica had and what a label sees, in later records and in earlier ones.
 use Rattle.std.proofs.Common.{◌≡◌, ℕ, ◌<◌, true, false, eqb, [], ◌∷◌, ◌++◌, refl, sym, ap, ◌∙◌, subst, inl, inr, arith}
-use Rattle.std.specs.Prelude.{◌==◌, ◌&&◌}
+use Rattle.std.specs.Prelude.{◌↔◌, ◌==◌, ◌&&◌}
 use Rattle.std.specs.Option.{option_map_or}
 use Rattle.std.proofs.lemmas.Bool.{false≢true, cases_lt, ne_eqb, eq-eqb, eqb-true, cond-true, cond-false, cond_both, or_cases, or_right, and_parts}
 use Rattle.ra_labels.specs.declared.command.Command.TheVariants.{Operate, Deliver, Verdict}
 use Rattle.ra_labels.specs.Records.{Records, label_count}
 use Rattle.ra_labels.specs.Visibility.{is_update, is_update_at, had, sees, IsCausal}
+use Rattle.ra_labels.specs.Laws.{IsCausalDelivery}
 use Rattle.ra_labels.proofs.Numbers.{label_count-append, label_at-append, no_label_there}
 
 -- a label that is there sees the same in later records
@@ -114,3 +115,31 @@ sees_through (Operate by op clock ∷ before) causal n m k first then =
     first
 sees_through (Deliver to label ∷ before) causal n m k first then = sees_through before causal.2 n m k first then
 sees_through (Verdict ∷ before) causal n m k first then = sees_through before causal n m k first then
+
+-- causal records were causal before
+IsCausal-append : (later records : Records) → IsCausal (later ++ records) → IsCausal records
+IsCausal-append [] records causal = causal
+IsCausal-append (Deliver to label ∷ later) records causal = IsCausal-append later records causal.2
+IsCausal-append (_ ∷ later) records causal = IsCausal-append later records causal
+
+abbrev EachDeliveryIsCausal : Records → Type 0
+EachDeliveryIsCausal records =
+    (later before : Records) (replica n : ℕ) → records ≡ later ++ Deliver replica n ∷ before → IsCausalDelivery before replica n
+
+causal-from_deliveries : (records : Records) → EachDeliveryIsCausal records → IsCausal records
+causal-from_deliveries [] each = tt
+causal-from_deliveries (Deliver to label ∷ before) each =
+    let this = each [] before to label refl in
+    let older = causal-from_deliveries before (λ later earlier replica n is. each (Deliver to label ∷ later) earlier replica n (ap (λ rs. Deliver to label ∷ rs) is)) in
+    (this.0, this.1, older)
+causal-from_deliveries (command ∷ before) each =
+    causal-from_deliveries before (λ later earlier replica n is. each (command ∷ later) earlier replica n (ap (λ rs. command ∷ rs) is))
+
+-- records are causal where each delivery is
+pub causal-exactly : (records : Records) → IsCausal records ↔ EachDeliveryIsCausal records
+causal-exactly records = (
+  (λ causal later before replica n is.
+      let here = IsCausal-append later (Deliver replica n ∷ before) (subst IsCausal is causal) in
+      (here.0, here.1)),
+  causal-from_deliveries records,
+)

@@ -4,11 +4,12 @@ use Rattle.std.proofs.Common.{◌≡◌, ℕ, ◌<◌, true, Some, None, ap, ref
 use Rattle.std.specs.Prelude.{◌↔◌, flat_map, reverse}
 use Rattle.ra_labels.specs.declared.kind.Kind.{Kind}
 use Rattle.ra_labels.specs.declared.kind.Kind.TheVariants.{Counter}
+use Rattle.ra_labels.specs.declared.operation.Op.{Op}
 use Rattle.ra_labels.specs.declared.label.Stamp.{Stamp}
 use Rattle.ra_labels.specs.contracts.label.StampOrd.TheImpl as derived
 use Rattle.ra_labels.specs.declared.command.Command.TheVariants.{Deliver, Verdict}
 use Rattle.ra_labels.specs.declared.reply.Fault.{Fault}
-use Rattle.ra_labels.specs.Records.{Records, label_count, replica_count, records_to, labels_of}
+use Rattle.ra_labels.specs.Records.{Records, label_count, next_label, replica_count, records_to, labels_of}
 use Rattle.ra_labels.specs.Visibility.{is_update_at, sees}
 use Rattle.ra_labels.specs.Rewriting.{parts_of}
 use Rattle.ra_labels.specs.NamedOrder.{stamp_cmp, named_sequence}
@@ -20,23 +21,35 @@ use Rattle.ra_labels.proofs.Holding.{holds_from_no_cause, no_cause_from_holds, e
 use Rattle.ra_labels.proofs.Order.{named_labels-by_number}
 -- laws::specification
 pub use Rattle.ra_labels.proofs.Counting.{state_after-nil as no_update_leaves_the_start, state_after-push as one_more_update_is_one_more_step, counter_within as a_counter_goes_no_further_than_its_updates}
+pub use Rattle.ra_labels.proofs.Exactly.{answers-count as a_count_is_answered_where_it_is_the_number}
+-- laws::records
+pub use Rattle.ra_labels.proofs.Numbers.{label_at-operation as an_operation_is_found_as_its_label-found, records_to-operation as records_to_a_label_end_with_it-there, records_to-none as records_to_a_label_end_with_it-none}
 -- laws::visibility
-pub use Rattle.ra_labels.proofs.Exactly.{answers-count as a_count_is_answered_where_it_is_the_number, had-exactly as had_what_was_issued_or_delivered, sees-exactly as sees_what_its_replica_had, visible-exactly as must_precede_in_three_cases-visible, earlier-exactly as must_precede_in_three_cases-earlier, halves-exactly as must_precede_in_three_cases-halves, must_precede-exactly as must_precede_in_three_cases-cases, updates-exactly as updates_admitted_where_they_lead_to_a_state, queries-exactly as queries_admitted_where_each_is_answered}
-pub use Rattle.ra_labels.proofs.Seen.{sees-append as sees_the_same_later, is_update_at-append as is_the_same_later, had_update as had_updates-updates, is_update_at-below as had_updates-there, had-append as had_is_kept, had_closed as causal_records_leave_nothing_out-had, sees_through as causal_records_leave_nothing_out-sees}
+pub use Rattle.ra_labels.proofs.Exactly.{had-exactly as had_what_was_issued_or_delivered, sees-exactly as sees_what_its_replica_had}
+pub use Rattle.ra_labels.proofs.Seen.{sees-append as sees_the_same_later, is_update_at-append as is_the_same_later, had_update as had_updates-updates, is_update_at-below as had_updates-there, had-append as had_is_kept, causal-exactly as causal_where_each_delivery_is, had_closed as causal_records_leave_nothing_out-had, sees_through as causal_records_leave_nothing_out-sees}
 -- laws::sequence
 pub use Rattle.ra_labels.proofs.Numbers.{numbers_of_labels as labels_are_numbered_in_turn, label_there as each_number_has_its_label-there, no_label_there as each_number_has_its_label-none}
 pub use Rattle.ra_labels.proofs.Unique.{label_found as each_number_has_its_label-found, named_labels-only as the_order_is_pinned}
 pub use Rattle.ra_labels.proofs.Holding.{IsPermutation-named_sequence as each_part_once}
-pub use Rattle.ra_labels.proofs.Order.{IsPermutation-named_labels as named_labels_are_sorted-same, IsSorted-named_labels as named_labels_are_sorted-sorted, named_labels-by_number as named_in_order_of_execution-labels, stamp_below as stamps_by_clock_and_then_by_replica-less, stamp_same as stamps_by_clock_and_then_by_replica-equal}
+pub use Rattle.ra_labels.proofs.Order.{stamp_below as stamps_by_clock_and_then_by_replica-less, stamp_same as stamps_by_clock_and_then_by_replica-equal, label_below as labels_by_rank_and_then_by_number, IsPermutation-named_labels as named_labels_are_sorted-same, IsSorted-named_labels as named_labels_are_sorted-sorted, named_labels-by_number as named_in_order_of_execution-labels}
 -- laws::linearization
+pub use Rattle.ra_labels.proofs.Exactly.{visible-exactly as must_precede_in_three_cases-visible, earlier-exactly as must_precede_in_three_cases-earlier, halves-exactly as must_precede_in_three_cases-halves, must_precede-exactly as must_precede_in_three_cases-cases, updates-exactly as updates_admitted_where_they_lead_to_a_state, queries-exactly as queries_admitted_where_each_is_answered}
 pub use Rattle.ra_labels.proofs.Standing.{must_precede-irreflexive as no_part_precedes_itself, extends-stands as extending_puts_before-stands, stands-extends as extending_puts_before-extends, linearization_by-stands as linearization_by_an_order_puts_before, linearization_by-weaker as linearization_by_a_weaker_order, linearization-stands as linearization_puts_before, is_update-acts as update_where_a_part_is_one}
 -- laws::fault
-pub use Rattle.ra_labels.proofs.Holding.{holds_from_no_fault as no_fault_holds, fault_stays as a_fault_stays, no_fault_before as records_before_fault_have_none-none, all_before_fault as records_before_fault_have_none-all, count_before as records_before_fault_have_none-count}
+pub use Rattle.ra_labels.proofs.Holding.{cause-order as the_cause_is_the_first_that_fails-order, cause-update as the_cause_is_the_first_that_fails-update, cause-query as the_cause_is_the_first_that_fails-query, holds_from_no_fault as no_fault_holds, fault_stays as a_fault_stays, no_fault_before as records_before_fault_have_none-none, all_before_fault as records_before_fault_have_none-all, count_before as records_before_fault_have_none-count, before_fault-prefix as records_before_fault_are_the_longest-prefix, before_fault-longest as records_before_fault_are_the_longest-longest}
 -- laws::answer
 pub use Rattle.ra_labels.proofs.Answering.{reply_says as what_a_reply_says, ok_is_evidence as ok_and_yes_are_evidence-ok, yes_is_evidence as ok_and_yes_are_evidence-yes, no_at_fault as no_exactly_at_a_fault, answer_of-fault as no_ever_after_a_fault-reply, records_after-fault as no_ever_after_a_fault-records, answers_to-append as answers_in_turn-replies, records_after_all-append as answers_in_turn-records, misfit_refuses as misfits_are_refused-operation}
 
 pub no_command_adds_a_replica : (first : ℕ) (records : Records) → replica_count first records ≡ first
 no_command_adds_a_replica first records = refl
+
+pub an_operation_is_found_as_its_label-stamped : (before : Records) (by : ℕ) (op : Op) (clock : ℕ) → next_label before by op (Some clock)
+    ≡ record { number = label_count before; replica = by; op = op; stamp = Some (record { clock = clock; replica = by }) }
+an_operation_is_found_as_its_label-stamped before by op clock = refl
+
+pub an_operation_is_found_as_its_label-unstamped : (before : Records) (by : ℕ) (op : Op) → next_label before by op None
+    ≡ record { number = label_count before; replica = by; op = op; stamp = None }
+an_operation_is_found_as_its_label-unstamped before by op = refl
 
 pub misfits_are_refused-delivery : (kind : Kind) (to label : ℕ) → misfit_of kind (Deliver to label) ≡ None
 misfits_are_refused-delivery kind to label = refl

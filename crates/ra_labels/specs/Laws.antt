@@ -1,5 +1,5 @@
 -- Words of the laws above the definitions.
-use Rattle.std.specs.Prelude.{◌≡◌, ℕ, zero, suc, ◌<◌, ◌⊎◌, Bool, true, List, [], ◌∷◌, ◌++◌, Contains, Option, Some, None}
+use Rattle.std.specs.Prelude.{◌≡◌, ℕ, zero, suc, ◌<◌, ◌⊎◌, Bool, true, false, List, [], ◌∷◌, ◌++◌, Contains, Option, Some, None}
 use Rattle.ra_labels.specs.declared.kind.Kind.{Kind}
 use Rattle.ra_labels.specs.declared.operation.Op.{Op}
 use Rattle.ra_labels.specs.declared.operation.Update.{Update}
@@ -39,6 +39,11 @@ abbrev pub WasIssuedHaving : Records → ℕ → ℕ → Type 0
 WasIssuedHaving records n m =
     (later before : Records) × (by : ℕ) × (op : Op) × (clock : Option ℕ)
     × (records ≡ later ++ Operate by op clock ∷ before) × (n ≡ label_count before) × (had before by m ≡ true)
+
+-- label n was new to the replica, which had all that it sees
+abbrev pub IsCausalDelivery : Records → ℕ → ℕ → Type 0
+IsCausalDelivery before replica n =
+    (had before replica n ≡ false) × ((m : ℕ) → sees before n m ≡ true → had before replica m ≡ true)
 
 -- p is an update, and q's label sees p's
 abbrev pub IsUpdateSeenBy : Records → Part → Part → Type 0

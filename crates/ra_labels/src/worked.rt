@@ -81,7 +81,8 @@ pub fn stamped_and_unknown_are_refused()
 pub fn each_refusal_in_its_order()
     ensures { answers_of_two each_refusal
         ≡ reply.Refused refusal.UnknownReplica ∷ reply.Refused refusal.StampUnwanted
-        ∷ reply.Refused refusal.UnknownReplica ∷ reply.Refused refusal.UnknownLabel ∷ reply.Ok 0 ∷ reply.Ok 1 ∷ reply.Refused refusal.NotAnUpdate
+        ∷ reply.Refused refusal.UnknownReplica ∷ reply.Refused refusal.UnknownLabel
+        ∷ reply.Ok 0 ∷ reply.Ok 1 ∷ reply.Refused refusal.NotAnUpdate
         ∷ reply.Refused refusal.AlreadySeen ∷ reply.Got 0 ∷ reply.Refused refusal.AlreadySeen
         ∷ reply.Refused refusal.UnknownLabel ∷ reply.Yes 2 ∷ [] }
 {}

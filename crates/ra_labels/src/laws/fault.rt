@@ -1,14 +1,30 @@
 //! When records hold, and the fault.
-ghost use Rattle.std.specs.Prelude.{◌≡◌, ◌↔◌, ℕ, ◌<◌, ◌++◌, Some, None};
+ghost use Rattle.std.specs.Prelude.{◌≡◌, ◌↔◌, true, false, ℕ, ◌<◌, ◌++◌, Some, None};
 ghost use Rattle.ra_labels.specs.declared.kind.Kind.{Kind};
 ghost use Rattle.ra_labels.specs.declared.reply.Fault.{Fault};
+ghost use Rattle.ra_labels.specs.declared.reply.Cause.TheVariants.{Order, Update, Query};
 ghost use Rattle.ra_labels.specs.Records.{Records, label_count, records_to};
+ghost use Rattle.ra_labels.specs.Linearization.{extends_visibility, updates_admitted, queries_admitted};
+ghost use Rattle.ra_labels.specs.NamedOrder.{named_sequence};
 ghost use Rattle.ra_labels.specs.Fault.{Holds, cause_of, fault_of, records_before_fault};
 ghost use Rattle.ra_labels.specs.Laws.{IsLeastFault};
 
 /// Records hold exactly where their named sequence fails none of the three conditions.
 pub fn no_cause_where_records_hold()
     ensures { (kind : Kind) (records : Records) → (cause_of kind records ≡ None) ↔ Holds kind records }
+{}
+
+/// The cause is the first of the three conditions that the named sequence fails.
+pub fn the_cause_is_the_first_that_fails()
+    ensures order { (kind : Kind) (records : Records) → (cause_of kind records ≡ Some Order)
+        ↔ (extends_visibility records (named_sequence kind records) ≡ false) }
+    ensures update { (kind : Kind) (records : Records) → (cause_of kind records ≡ Some Update)
+        ↔ ((extends_visibility records (named_sequence kind records) ≡ true)
+        × (updates_admitted kind (named_sequence kind records) ≡ false)) }
+    ensures query { (kind : Kind) (records : Records) → (cause_of kind records ≡ Some Query)
+        ↔ ((extends_visibility records (named_sequence kind records) ≡ true)
+        × (updates_admitted kind (named_sequence kind records) ≡ true)
+        × (queries_admitted kind records (named_sequence kind records) ≡ false)) }
 {}
 
 /// Where records have no fault the named sequence is an RA-linearization.
@@ -42,4 +58,12 @@ pub fn records_before_fault_have_none()
         → records_before_fault kind records ≡ records }
     ensures count { (kind : Kind) (records : Records) (fault : Fault) → fault_of kind records ≡ Some fault
         → label_count (records_before_fault kind records) ≡ fault.label }
+{}
+
+/// The records before the fault are what was there at some time, and at no later time was there no fault.
+pub fn records_before_fault_are_the_longest()
+    ensures prefix { (kind : Kind) (records : Records)
+        → (later : Records) × (records ≡ later ++ records_before_fault kind records) }
+    ensures longest { (kind : Kind) (later before : Records) → fault_of kind before ≡ None
+        → (more : Records) × (records_before_fault kind (later ++ before) ≡ more ++ before) }
 {}

@@ -1,8 +1,28 @@
 //! The records.
-ghost use Rattle.std.specs.Prelude.{◌≡◌, ℕ};
-ghost use Rattle.ra_labels.specs.Records.{Records, replica_count};
+ghost use Rattle.std.specs.Prelude.{◌≡◌, ℕ, ◌≤◌, [], ◌∷◌, ◌++◌, Option, Some, None};
+ghost use Rattle.ra_labels.specs.declared.operation.Op.{Op};
+ghost use Rattle.ra_labels.specs.declared.command.Command.TheVariants.{Operate};
+ghost use Rattle.ra_labels.specs.Records.{Records, label_count, label_at, next_label, records_to, replica_count};
 
 /// No command adds a replica: there are as many as there were first.
 pub fn no_command_adds_a_replica()
     ensures { (first : ℕ) (records : Records) → replica_count first records ≡ first }
+{}
+
+/// An operation is found, in all later records, as the label with the number of labels before it; with its replica, and
+/// with the stamp of this replica and the clock, where one came.
+pub fn an_operation_is_found_as_its_label()
+    ensures found { (later before : Records) (by : ℕ) (op : Op) (clock : Option ℕ)
+        → label_at (later ++ Operate by op clock ∷ before) (label_count before) ≡ Some (next_label before by op clock) }
+    ensures stamped { (before : Records) (by : ℕ) (op : Op) (clock : ℕ) → next_label before by op (Some clock)
+        ≡ record { number = label_count before; replica = by; op = op; stamp = Some (record { clock = clock; replica = by }) } }
+    ensures unstamped { (before : Records) (by : ℕ) (op : Op) → next_label before by op None
+        ≡ record { number = label_count before; replica = by; op = op; stamp = None } }
+{}
+
+/// The records up to a label end with its operation, and are none where there is no such label.
+pub fn records_to_a_label_end_with_it()
+    ensures there { (later before : Records) (by : ℕ) (op : Op) (clock : Option ℕ)
+        → records_to (later ++ Operate by op clock ∷ before) (label_count before) ≡ Operate by op clock ∷ before }
+    ensures none { (records : Records) (n : ℕ) → label_count records ≤ n → records_to records n ≡ [] }
 {}

@@ -1,5 +1,5 @@
 //! The labels, the named order and the named sequence.
-ghost use Rattle.std.specs.Prelude.{◌≡◌, ◌↔◌, ℕ, ◌<◌, ◌≤◌, List, map, reverse, Contains, flat_map, IsPermutation, IsSorted, Some, None};
+ghost use Rattle.std.specs.Prelude.{◌≡◌, ◌↔◌, ◌⊎◌, ℕ, ◌<◌, ◌≤◌, List, map, reverse, Contains, flat_map, IsPermutation, IsSorted, Some, None};
 ghost use Rattle.ra_labels.specs.declared.kind.Kind.{Kind};
 ghost use Rattle.ra_labels.specs.declared.kind.Kind.TheVariants as kind;
 ghost use Rattle.std.specs.declared.cmp.Ordering.TheVariants.{Less, Equal};
@@ -32,6 +32,13 @@ pub fn stamps_by_clock_and_then_by_replica()
     ensures less { (s t : Stamp) → (stamp_cmp s t ≡ Less) ↔ IsStampBelow s t }
     ensures equal { (s t : Stamp) → (stamp_cmp s t ≡ Equal) ↔ (s ≡ t) }
     ensures derived { (s t : Stamp) → derived.ghosts.cmp s t ≡ stamp_cmp s t }
+{}
+
+/// Labels are ordered by rank, and at one rank by number.
+pub fn labels_by_rank_and_then_by_number()
+    ensures { (kind : Kind) (records : Records) (l m : Label) → (label_cmp kind records l m ≡ Less)
+        ↔ (IsStampBelow (rank_of kind records l) (rank_of kind records m)
+        ⊎ ((rank_of kind records l ≡ rank_of kind records m) × (l.number < m.number))) }
 {}
 
 /// The named sequence lists each part once, and nothing else.

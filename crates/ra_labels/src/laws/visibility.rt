@@ -1,8 +1,9 @@
 //! What a label sees, and what a replica had.
-ghost use Rattle.std.specs.Prelude.{◌≡◌, ◌↔◌, ◌⊎◌, ℕ, ◌<◌, ◌++◌, true};
+ghost use Rattle.std.specs.Prelude.{◌≡◌, ◌↔◌, ◌⊎◌, ℕ, ◌<◌, ◌∷◌, ◌++◌, true};
+ghost use Rattle.ra_labels.specs.declared.command.Command.TheVariants.{Deliver};
 ghost use Rattle.ra_labels.specs.Records.{Records, label_count};
 ghost use Rattle.ra_labels.specs.Visibility.{had, is_update_at, sees, IsCausal};
-ghost use Rattle.ra_labels.specs.Laws.{WasIssuedAt, WasDeliveredTo, WasIssuedHaving};
+ghost use Rattle.ra_labels.specs.Laws.{WasIssuedAt, WasDeliveredTo, WasIssuedHaving, IsCausalDelivery};
 
 /// What a replica had is what it issued, where that is an update, and what was delivered to it.
 pub fn had_what_was_issued_or_delivered()
@@ -44,6 +45,14 @@ pub fn had_updates()
 pub fn had_is_kept()
     ensures { (later records : Records) (replica n : ℕ) → had records replica n ≡ true
         → had (later ++ records) replica n ≡ true }
+{}
+
+/// Records are causal where each delivery brought a label that was new to its receiver, which had all that the label
+/// sees.
+pub fn causal_where_each_delivery_is()
+    ensures { (records : Records) → IsCausal records
+        ↔ ((later before : Records) (replica n : ℕ) → records ≡ later ++ Deliver replica n ∷ before
+        → IsCausalDelivery before replica n) }
 {}
 
 /// In causal records a replica that had a label had all that the label sees, and a label sees all that the labels
