@@ -49,7 +49,8 @@ pub(crate) fn draw_ticket<M: Journal, R: Wait>(
     ensures seat { IsSameSeat seat.old seat.new }
     ensures slot { seat.new.me.1 ≡ seat.old.me.1 }
     ensures drawn { IfSome result (λ ticket. stage_of seat.new.me.0 ≡ Some (Waiting ticket)) }
-    ensures worn { IfNone result ((stage_of seat.new.me.0 ≡ Some Idle) × (next_of seat.new.me.0 ≡ GREATEST_TICKET + 1)) }
+    ensures worn { IfNone result
+        ((stage_of seat.new.me.0 ≡ Some Idle) × (next_of seat.new.me.0 ≡ GREATEST_TICKET + 1)) }
 {
     let mut ticket = learn_next(board, seat);
     for _ in rt.forever() {

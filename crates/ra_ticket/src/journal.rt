@@ -14,8 +14,8 @@ pub enum StepFault<C> {
     NoMemory(C),
 }
 
-/// An object that answers commands one after another and logs each answer. A step is a function of the setup, of the log
-/// so far and of the command. Each call but `step` costs a constant.
+/// An object that answers commands one after another and logs each answer. A step is a function of the setup, of the
+/// log so far and of the command. Each call but `step` costs a constant.
 pub trait Journal: Drop + Send {
     ghost use Rattle.ra_ticket.specs.declared.entry.Entry.{Entry};
 

@@ -22,8 +22,9 @@ pub const MOST_PASSES: u8 = 64;
 fn split_first<M: Journal>(board: &Board<M>, rest: &mut LockSeat<M>) -> LockSeat<M>
     requires table { IsSeated rest.old.table_id board.now.table_id }
     requires idle { stage_of rest.old.me.0 ≡ Some Idle }
-    ensures rest { (rest.new.table_id ≡ rest.old.table_id) × (rest.new.me ≡ (other_passes rest.old.me.0, rest.old.me.1)) }
-    ensures first { (result.table_id ≡ rest.old.table_id) × (result.me ≡ (first_pass rest.old.me.0, [])) }
+    ensures table { (rest.new.table_id ≡ rest.old.table_id) × (result.table_id ≡ rest.old.table_id) }
+    ensures rest { rest.new.me ≡ (other_passes rest.old.me.0, rest.old.me.1) }
+    ensures first { result.me ≡ (first_pass rest.old.me.0, []) }
 {
     board.split_seat::<CutFirst>(rest)
 }
