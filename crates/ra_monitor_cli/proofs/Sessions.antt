@@ -1,5 +1,5 @@
 -- What a session took, step by step.
-use Rattle.std.proofs.Common.{◌≡◌, ◌≢◌, ℕ, ◌<◌, List, [], ◌∷◌, ◌++◌, length, All, Result, Ok, Err, refl, sym, ap, subst, ◌∙◌, arith}
+use Rattle.std.proofs.Common.{◌≡◌, ◌≢◌, ℕ, ◌<◌, ◌≤◌, List, [], ◌∷◌, ◌++◌, length, All, Result, Ok, Err, refl, sym, ap, subst, ◌∙◌, arith}
 use Rattle.std.specs.Prelude.{flat_map, OnOk}
 use Rattle.std.specs.List.{AllByRecursion}
 use Rattle.std.proofs.lemmas.List.{append_assoc, append-nil, length_push}
@@ -14,6 +14,7 @@ use Rattle.ra_monitor_cli.specs.declared.check.session.Stage.{Stage}
 use Rattle.ra_monitor_cli.specs.declared.check.session.Stage.TheVariants.{Commands}
 use Rattle.ra_monitor_cli.specs.declared.check.session.Session.{Session}
 use Rattle.ra_monitor_cli.specs.Bytes.{Grows}
+use Rattle.ra_monitor_cli.specs.declared.limits.TheConstants.{LONGEST_LINE}
 use Rattle.ra_monitor_cli.specs.Fields.{IsCutAt}
 use Rattle.ra_monitor_cli.specs.Grammar.{IsLine, bytes_of, first_line, Spells, SpellEach}
 use Rattle.ra_monitor_cli.specs.Output.{reply_line, end_line, answers_in, records_in, IsReportOf, IsAnswered}
@@ -87,17 +88,21 @@ IsAfter-extend old new stream part after extends none = record {
   };
 }
 
-pub IsAfter-close : (old new : Session) (stream more : List ℕ) → IsAfter old stream → ClosesLine old new more → IsAfter new (stream ++ 10 ∷ [])
-IsAfter-close old new stream more after ends = record {
-  lines = after.lines ++ old.partial.items ∷ [];
-  taken = ends.line.taken after.lines after.taken;
-  are_lines = lines_push IsLine after.lines old.partial.items after.are_lines after.rest;
-  parts =
-      ap (λ (bs : List ℕ). bs ++ 10 ∷ []) after.parts ∙ append_assoc (bytes_of after.lines) old.partial.items (10 ∷ [])
-      ∙ sym (bytes_push after.lines old.partial.items) ∙ sym (append-nil (bytes_of (after.lines ++ old.partial.items ∷ [])))
-      ∙ ap (λ (bs : List ℕ). bytes_of (after.lines ++ old.partial.items ∷ []) ++ bs) (sym ends.partial);
-  rest = subst IsLine (sym ends.partial) IsLine-nil;
-}
+pub IsAfter-close : (old new : Session) (stream last more : List ℕ) → IsAfter old stream → All (λ b. b ≢ 10) last → ClosesLine old new last more → IsAfter new ((stream ++ last) ++ 10 ∷ [])
+IsAfter-close old new stream last more after none closes =
+    let line : List ℕ = old.partial.items ++ last in
+    record {
+      lines = after.lines ++ line ∷ [];
+      taken = closes.line.taken after.lines after.taken;
+      are_lines = lines_push IsLine after.lines line after.are_lines (record { one = All-append (λ b. b ≢ 10) old.partial.items last after.rest.one none; short = closes.short after.rest.short });
+      parts =
+          ap (λ (bs : List ℕ). (bs ++ last) ++ 10 ∷ []) after.parts
+          ∙ ap (λ (bs : List ℕ). bs ++ 10 ∷ []) (append_assoc (bytes_of after.lines) old.partial.items last)
+          ∙ append_assoc (bytes_of after.lines) line (10 ∷ [])
+          ∙ sym (bytes_push after.lines line) ∙ sym (append-nil (bytes_of (after.lines ++ line ∷ [])))
+          ∙ ap (λ (bs : List ℕ). bytes_of (after.lines ++ line ∷ []) ++ bs) (sym closes.partial);
+      rest = subst IsLine (sym closes.partial) IsLine-nil;
+    }
 
 -- nothing is taken yet
 pub fed_none : (session : Session) (piece out : List ℕ) → IsFedUpTo session session piece piece out out
@@ -113,10 +118,10 @@ fed_none session piece out = record {
 }
 
 -- one more line is taken
-pub fed_line : (first old mid new : Session) (piece rest front behind out_first out_old out_new more : List ℕ)
-    → IsFedUpTo first old piece rest out_first out_old → IsCutAt 10 rest front behind → Extends old mid front
-    → Grows out_old out_new more → ClosesLine mid new more → IsFedUpTo first new piece behind out_first out_new
-fed_line first old mid new piece rest front behind out_first out_old out_new more fed cut extends grows ends = record {
+pub fed_line : (first old new : Session) (piece rest front behind out_first out_old out_new more : List ℕ)
+    → IsFedUpTo first old piece rest out_first out_old → IsCutAt 10 rest front behind
+    → Grows out_old out_new more → ClosesLine old new front more → IsFedUpTo first new piece behind out_first out_new
+fed_line first old new piece rest front behind out_first out_old out_new more fed cut grows closes = record {
   prefix = fed.prefix ++ (front ++ 10 ∷ []);
   more = fed.more ++ more;
   parts =
@@ -125,11 +130,9 @@ fed_line first old mid new piece rest front behind out_first out_old out_new mor
   grows = grows ∙ ap (λ (bs : List ℕ). bs ++ more) fed.grows ∙ append_assoc out_first fed.more more;
   takes = record {
     after = λ stream after.
-        let here = IsAfter-close mid new ((stream ++ fed.prefix) ++ front) more (IsAfter-extend old mid (stream ++ fed.prefix) front (fed.takes.after stream after) extends cut.first) ends in
+        let here = IsAfter-close old new (stream ++ fed.prefix) front more (fed.takes.after stream after) cut.first closes in
         subst (IsAfter new) (append_assoc (stream ++ fed.prefix) front (10 ∷ []) ∙ append_assoc stream fed.prefix (front ++ 10 ∷ [])) here;
-    replied =
-        ends.line.replied ∙ ap (λ (s : Stage). replies_at s ++ more) extends.stage ∙ ap (λ (bs : List ℕ). bs ++ more) fed.takes.replied
-        ∙ append_assoc (replies_at first.stage) fed.more more;
+    replied = closes.line.replied ∙ ap (λ (bs : List ℕ). bs ++ more) fed.takes.replied ∙ append_assoc (replies_at first.stage) fed.more more;
   };
 }
 
@@ -183,3 +186,12 @@ pub feed_rest : {T E : Type 0} (r : Result T E) (first old new : Session) (piece
     → OnOk r ((more : List ℕ) × Grows out_first out_old more × Takes first new piece more)
 feed_rest (Ok x) first old new piece rest out_first out_old fed none extends = fed_all first old new piece rest out_first out_old fed none extends
 feed_rest (Err e) first old new piece rest out_first out_old fed none extends = tt
+
+-- a line that came in parts is taken
+pub close_gathered : (old mid new : Session) (last line more : List ℕ) → Extends old mid last → line ≡ mid.partial.items
+    → TakesLine mid.stage new.stage line more → new.partial.items ≡ [] → ClosesLine old new last more
+close_gathered old mid new last line more extends whole takes cleared = record {
+  line = rw (sym extends.partial, sym extends.stage, sym whole) takes;
+  partial = cleared;
+  short = λ below. rw (sym extends.partial) (extends.short below);
+}

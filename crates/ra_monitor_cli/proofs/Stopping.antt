@@ -1,5 +1,5 @@
 -- Where a session stops inside a piece.
-use Rattle.std.proofs.Common.{◌≡◌, ◌≢◌, ℕ, List, [], ◌∷◌, ◌++◌, All, Option, Result, Ok, Err, IfErr, refl, sym, ap, ◌∙◌, arith}
+use Rattle.std.proofs.Common.{◌≡◌, ◌≢◌, ℕ, ◌<◌, ◌≤◌, List, [], ◌∷◌, ◌++◌, All, length, Option, Result, Ok, Err, IfErr, refl, sym, ap, subst, ◌∙◌, arith}
 use Rattle.std.proofs.lemmas.List.{append_assoc, append-nil, length-append}
 use Rattle.std.proofs.lemmas.List.Elements.{All-append}
 use Rattle.ra_monitor_cli.specs.declared.check.fault.CheckFault.{CheckFault}
@@ -7,10 +7,10 @@ use Rattle.ra_monitor_cli.specs.declared.check.fault.CheckFault.TheVariants.{Rea
 use Rattle.ra_monitor_cli.specs.declared.check.session.Stage.{Stage}
 use Rattle.ra_monitor_cli.specs.declared.check.session.Session.{Session}
 use Rattle.ra_monitor_cli.specs.Fields.{IsCutAt}
+use Rattle.ra_monitor_cli.specs.declared.limits.TheConstants.{LONGEST_LINE}
 use Rattle.ra_monitor_cli.specs.Grammar.{IsLine, bytes_of}
-use Rattle.ra_monitor_cli.specs.Progress.{replies_at, StopsLine, IsAfter, Extends, StopsExtending, IsFedUpTo}
-use Rattle.ra_monitor_cli.specs.Stopped.{StopsBefore, IsOfSession, IsAnsweredUpTo, Stops, StopsInside}
-use Rattle.ra_monitor_cli.proofs.Sessions.{IsAfter-extend}
+use Rattle.ra_monitor_cli.specs.Progress.{replies_at, TakesMemory, StopsLine, IsAfter, Extends, StopsExtending, IsNotTaken, StopsClosing, IsFedUpTo}
+use Rattle.ra_monitor_cli.specs.Stopped.{BeginsWithStop, StopsBefore, IsOfSession, IsAnsweredUpTo, Stops, StopsInside}
 
 -- the text so far is answered, and what comes of the next line is the rest
 pub answered_so_far : (session : Session) (stream behind : List ℕ) → IsAfter session stream
@@ -57,26 +57,58 @@ own_extending session part (Full n) stops = absurd stops
 
 -- ---- the next line is whole, and is not taken
 
-why_line : (stage : Stage) (line behind : List ℕ) (left : Option (List ℕ)) (fault : CheckFault) → IsLine line → StopsLine stage line fault
-    → StopsBefore stage (line ++ 10 ∷ behind) left fault
-why_line stage line behind left (Syntax n) is stops = record { line = line; behind = behind; parts = refl; is_line = is; stops = stops }
-why_line stage line behind left (Full n) is stops = record { line = line; behind = behind; parts = refl; is_line = is; stops = stops }
-why_line stage line behind left NoMemory is stops = tt
-why_line stage line behind left Read is stops = absurd stops
-why_line stage line behind left Write is stops = absurd stops
-why_line stage line behind left (LineTooLong n) is stops = absurd stops
-why_line stage line behind left (Truncated n) is stops = absurd stops
-why_line stage line behind left Endless is stops = absurd stops
+-- a line that is whole with this last part
+whole_line : (session : Session) (last behind stream : List ℕ) (fault : CheckFault) → IsAfter session stream → All (λ b. b ≢ 10) last → IsNotTaken session last fault
+    → BeginsWithStop session.stage (session.partial.items ++ (last ++ 10 ∷ behind)) fault
+whole_line session last behind stream fault after none stops = record {
+  line = session.partial.items ++ last;
+  behind = behind;
+  parts = sym (append_assoc session.partial.items last (10 ∷ behind));
+  is_line = record { one = All-append (λ b. b ≢ 10) session.partial.items last after.rest.one none; short = stops.short after.rest.short };
+  stops = stops.stops;
+}
 
-own_line : (stage : Stage) (line : List ℕ) (fault : CheckFault) → StopsLine stage line fault → IsOfSession fault
-own_line stage line (Syntax n) stops = tt
-own_line stage line (Full n) stops = tt
-own_line stage line NoMemory stops = tt
-own_line stage line Read stops = absurd stops
-own_line stage line Write stops = absurd stops
-own_line stage line (LineTooLong n) stops = absurd stops
-own_line stage line (Truncated n) stops = absurd stops
-own_line stage line Endless stops = absurd stops
+why_closing : (session : Session) (last behind stream : List ℕ) (left : Option (List ℕ)) (fault : CheckFault) → IsAfter session stream
+    → All (λ b. b ≢ 10) last → StopsClosing session last fault → StopsBefore session.stage (session.partial.items ++ (last ++ 10 ∷ behind)) left fault
+why_closing session last behind stream left (Syntax n) after none stops = whole_line session last behind stream (Syntax n) after none stops
+why_closing session last behind stream left (Full n) after none stops = whole_line session last behind stream (Full n) after none stops
+why_closing session last behind stream left (LineTooLong n) after none stops = why_extending session last (10 ∷ behind) stream left (LineTooLong n) after none stops
+why_closing session last behind stream left NoMemory after none stops = tt
+why_closing session last behind stream left Read after none stops = absurd stops
+why_closing session last behind stream left Write after none stops = absurd stops
+why_closing session last behind stream left (Truncated n) after none stops = absurd stops
+why_closing session last behind stream left Endless after none stops = absurd stops
+
+own_closing : (session : Session) (last : List ℕ) (fault : CheckFault) → StopsClosing session last fault → IsOfSession fault
+own_closing session last (Syntax n) stops = tt
+own_closing session last (Full n) stops = tt
+own_closing session last (LineTooLong n) stops = tt
+own_closing session last NoMemory stops = tt
+own_closing session last Read stops = absurd stops
+own_closing session last Write stops = absurd stops
+own_closing session last (Truncated n) stops = absurd stops
+own_closing session last Endless stops = absurd stops
+
+stop_whole : (session : Session) (last line : List ℕ) (fault : CheckFault) → line ≡ session.partial.items ++ last
+    → (length session.partial.items ≤ LONGEST_LINE → length (session.partial.items ++ last) ≤ LONGEST_LINE) → StopsLine session.stage line fault → StopsClosing session last fault
+stop_whole session last line (Syntax n) whole short stops = record { short = short; stops = rw (sym whole) stops }
+stop_whole session last line (Full n) whole short stops = record { short = short; stops = rw (sym whole) stops }
+stop_whole session last line NoMemory whole short stops = λ nothing. subst (TakesMemory session.stage) (whole ∙ ap (λ (bs : List ℕ). bs ++ last) nothing) stops
+stop_whole session last line Read whole short stops = absurd stops
+stop_whole session last line Write whole short stops = absurd stops
+stop_whole session last line (LineTooLong n) whole short stops = absurd stops
+stop_whole session last line (Truncated n) whole short stops = absurd stops
+stop_whole session last line Endless whole short stops = absurd stops
+
+-- a line that came in parts is not taken
+pub stop_gathered : (old mid : Session) (last line : List ℕ) (fault : CheckFault) → Extends old mid last → line ≡ mid.partial.items
+    → StopsLine mid.stage line fault → StopsClosing old last fault
+stop_gathered old mid last line fault extends is stops =
+    let whole : line ≡ old.partial.items ++ last = is ∙ extends.partial in
+    let here : StopsLine old.stage line fault = rw (sym extends.stage) stops in
+    let short : length old.partial.items ≤ LONGEST_LINE → length (old.partial.items ++ last) ≤ LONGEST_LINE =
+    λ below. rw (sym extends.partial) (extends.short below) in
+    stop_whole old last line fault whole short here
 
 -- ---- inside a piece
 
@@ -110,18 +142,13 @@ stop_extending first old piece rest part behind out_first out_old fault fed part
     let why = why_extending old part (behind ++ later) stream left fault after none stops in
     rw (parts, append_assoc part behind later) why)
 
-pub stop_line : (first old mid : Session) (piece rest front behind out_first out_old out_new : List ℕ) (fault : CheckFault) → IsFedUpTo first old piece rest out_first out_old
-    → IsCutAt 10 rest front behind → Extends old mid front → StopsLine mid.stage mid.partial.items fault → out_new ≡ out_old
-    → StopsInside first piece out_first out_new fault
-stop_line first old mid piece rest front behind out_first out_old out_new fault fed cut extends stops same =
-    stop_after first old piece rest out_first out_old out_new fault fed same (own_line mid.stage mid.partial.items fault stops)
+pub stop_line : (first old : Session) (piece rest front behind out_first out_old out_new : List ℕ) (fault : CheckFault) → IsFedUpTo first old piece rest out_first out_old
+    → IsCutAt 10 rest front behind → StopsClosing old front fault → out_new ≡ out_old → StopsInside first piece out_first out_new fault
+stop_line first old piece rest front behind out_first out_old out_new fault fed cut stops same =
+    stop_after first old piece rest out_first out_old out_new fault fed same (own_closing old front fault stops)
     (λ stream later left after.
-    let next = IsAfter-extend old mid stream front after extends cut.first in
-    let why = why_line mid.stage mid.partial.items (behind ++ later) left fault next.rest stops in
-    let parts : old.partial.items ++ (rest ++ later) ≡ mid.partial.items ++ 10 ∷ (behind ++ later) =
-    ap (λ (bs : List ℕ). old.partial.items ++ (bs ++ later)) cut.parts ∙ ap (λ (bs : List ℕ). old.partial.items ++ bs) (append_assoc front (10 ∷ behind) later)
-    ∙ sym (append_assoc old.partial.items front (10 ∷ (behind ++ later))) ∙ ap (λ (bs : List ℕ). bs ++ 10 ∷ (behind ++ later)) (sym extends.partial) in
-    rw (parts, sym extends.stage) why)
+    let why = why_closing old front (behind ++ later) stream left fault after cut.first stops in
+    rw (cut.parts, append_assoc front (10 ∷ behind) later) why)
 
 -- the rest has no whole line
 pub feed_stops : {T : Type 0} (r : Result T CheckFault) (first old : Session) (piece rest out_first out_old : List ℕ)

@@ -11,7 +11,7 @@ use Rattle.ra_monitor_cli.specs.declared.check.session.Session.{Session}
 use Rattle.ra_monitor_cli.specs.declared.limits.TheConstants.{LONGEST_LINE, MOST_COMMANDS}
 use Rattle.ra_monitor_cli.specs.Grammar.{IsLine, bytes_of, first_line, ListsNames, SpellEach}
 use Rattle.ra_monitor_cli.specs.Output.{reply_line, answers_in}
-use Rattle.ra_monitor_cli.specs.Recorder.{SpellsNone, SpellsOneTooMany}
+use Rattle.ra_monitor_cli.specs.Recorder.{SpellsNone, SpellsOne, SpellsOneTooMany}
 
 -- these lines were taken in, and lead to this stage
 abbrev pub AreTaken : Stage → List (List ℕ) → Type 0
@@ -50,11 +50,17 @@ IsOneTooMany FirstLine line = ⊥
 IsOneTooMany (NamesLine kind) line = ⊥
 IsOneTooMany (Commands recorder) line = SpellsOneTooMany recorder line
 
+-- taking the line may take memory: it may list names, or it spells a command
+abbrev pub TakesMemory : Stage → List ℕ → Type 0
+TakesMemory FirstLine line = ⊥
+TakesMemory (NamesLine kind) line = ⊤
+TakesMemory (Commands recorder) line = SpellsOne recorder line
+
 -- why a stage does not take a line
 abbrev pub StopsLine : Stage → List ℕ → CheckFault → Type 0
 StopsLine stage line (Syntax line_number) = (line_number ≡ next_line stage) × IsNoLine stage line
 StopsLine stage line (Full line_number) = (line_number ≡ next_line stage) × IsOneTooMany stage line
-StopsLine stage line NoMemory = ⊤
+StopsLine stage line NoMemory = TakesMemory stage line
 StopsLine stage line _ = ⊥
 
 -- the stream so far: whole lines, and what has come of the next one
@@ -77,13 +83,27 @@ pub record Extends (old new : Session) (part : List ℕ) : Type 0 where
 abbrev pub StopsExtending : Session → List ℕ → CheckFault → Type 0
 StopsExtending old part (LineTooLong line_number) =
     (line_number ≡ next_line old.stage) × (LONGEST_LINE < length old.partial.items + length part)
-StopsExtending old part NoMemory = ⊤
+StopsExtending old part NoMemory = length old.partial.items + length part ≤ LONGEST_LINE
 StopsExtending old part _ = ⊥
 
--- the next line is whole, and taken, and these bytes are the reply to it
-pub record ClosesLine (old new : Session) (more : List ℕ) : Type 0 where
-  pub line : TakesLine old.stage new.stage old.partial.items more
+-- with this last part the next line is whole, and it is taken, and these bytes are the reply to it
+pub record ClosesLine (old new : Session) (last more : List ℕ) : Type 0 where
+  pub line : TakesLine old.stage new.stage (old.partial.items ++ last) more
   pub partial : new.partial.items ≡ []
+  pub short : length old.partial.items ≤ LONGEST_LINE → length (old.partial.items ++ last) ≤ LONGEST_LINE
+
+-- the line that is whole with this last part is not taken
+pub record IsNotTaken (old : Session) (last : List ℕ) (fault : CheckFault) : Type 0 where
+  pub short : length old.partial.items ≤ LONGEST_LINE → length (old.partial.items ++ last) ≤ LONGEST_LINE
+  pub stops : StopsLine old.stage (old.partial.items ++ last) fault
+
+-- why the next line is not whole, or not taken, with this last part: a line that lies in one piece takes no memory to
+-- be read
+abbrev pub StopsClosing : Session → List ℕ → CheckFault → Type 0
+StopsClosing old last (Syntax line_number) = IsNotTaken old last (Syntax line_number)
+StopsClosing old last (Full line_number) = IsNotTaken old last (Full line_number)
+StopsClosing old last NoMemory = old.partial.items ≡ [] → TakesMemory old.stage last
+StopsClosing old last fault = StopsExtending old last fault
 
 -- the session took a piece of the stream, and these bytes are the reply lines of its whole lines
 pub record Takes (old new : Session) (piece more : List ℕ) : Type 0 where

@@ -41,10 +41,13 @@ pub record RecordsLine (old new : Recorder) (line more : List ℕ) : Type 0 wher
 abbrev pub SpellsNone : Recorder → List ℕ → Type 0
 SpellsNone recorder line = (command : Command) → Spells recorder.kind recorder.names line command → ⊥
 
+-- the line spells a command
+abbrev pub SpellsOne : Recorder → List ℕ → Type 0
+SpellsOne recorder line = (command : Command) × Spells recorder.kind recorder.names line command
+
 -- the line spells a command, and there is no room for one more
 abbrev pub SpellsOneTooMany : Recorder → List ℕ → Type 0
-SpellsOneTooMany recorder line =
-    (length recorder.commands ≡ MOST_COMMANDS) × ((command : Command) × Spells recorder.kind recorder.names line command)
+SpellsOneTooMany recorder line = (length recorder.commands ≡ MOST_COMMANDS) × SpellsOne recorder line
 
 -- why a command is not answered
 abbrev pub StopsAnswering : Recorder → CheckFault → Type 0
@@ -52,9 +55,9 @@ StopsAnswering old (Full line_number) = (line_number ≡ length old.commands + 3
 StopsAnswering old NoMemory = ⊤
 StopsAnswering old _ = ⊥
 
--- why a line is not recorded
+-- why a line is not recorded: memory can be missing only where the line spells a command
 abbrev pub StopsRecording : Recorder → List ℕ → CheckFault → Type 0
 StopsRecording old line (Syntax line_number) = (line_number ≡ length old.commands + 3) × SpellsNone old line
 StopsRecording old line (Full line_number) = (line_number ≡ length old.commands + 3) × SpellsOneTooMany old line
-StopsRecording old line NoMemory = ⊤
+StopsRecording old line NoMemory = SpellsOne old line
 StopsRecording old line _ = ⊥

@@ -71,7 +71,7 @@ impl Names {
         }
         let mut names = Names::none(alloc);
         while let Some(name) = fields.take() {
-            names.add(alloc, name)?;
+            names.add(name)?;
         }
         if names.count() == 0 {
             return Err(LineFault::Syntax);
@@ -102,7 +102,7 @@ impl Names {
     }
 
     // Adds a name at the end. An `Err` changes nothing.
-    fn add(&mut self, alloc: Global, name: &[u8]) -> Result<(), LineFault>
+    fn add(&mut self, name: &[u8]) -> Result<(), LineFault>
         ensures ok { OnOk result (self.new ≡ self.old ++ name.now ∷ []) }
         ensures may { OnOk result (MayJoin self.old name.now) }
         ensures syntax { IsErrOf result Syntax → MayJoin self.old name.now → ⊥ }
@@ -112,7 +112,7 @@ impl Names {
         if is_full || !is_name(name) || place_in(&self.names, name) < self.names.len() {
             return Err(LineFault::Syntax);
         }
-        let own = Vec::from_slice(alloc, name)?;
+        let own = Vec::from_slice(*self.names.allocator(), name)?;
         self.names.push(own)?;
         Ok(())
     }

@@ -4,7 +4,7 @@ ghost use Rattle.ra_labels.specs.declared.kind.Kind.{Kind};
 ghost use Rattle.ra_monitor_cli.specs.Bytes.{Grows};
 ghost use Rattle.ra_monitor_cli.specs.Grammar.{first_line};
 ghost use Rattle.ra_monitor_cli.specs.Output.{IsAnswered};
-ghost use Rattle.ra_monitor_cli.specs.Progress.{replies_at, next_line, TakesLine, IsNoLine, StopsLine, IsAfter, Extends, StopsExtending, ClosesLine, StopsEnding, Takes};
+ghost use Rattle.ra_monitor_cli.specs.Progress.{replies_at, next_line, TakesLine, IsNoLine, StopsLine, IsAfter, Extends, StopsExtending, ClosesLine, StopsClosing, StopsEnding, Takes};
 ghost use Rattle.ra_monitor_cli.specs.Stopped.{StopsInside};
 ghost use Rattle.ra_monitor_cli.specs.declared.check.fault.CheckFault.TheVariants.{Syntax};
 ghost use Rattle.ra_monitor_cli.specs.declared.check.session.Stage.TheVariants as stage;
@@ -43,7 +43,7 @@ impl Stage {
     }
 
     // Takes a line, and puts the line of the reply, if it has one, behind the others.
-    fn take_line(&mut self, alloc: Global, line: &[u8], out: &mut String) -> Result<(), CheckFault>
+    fn take_line(&mut self, line: &[u8], out: &mut String) -> Result<(), CheckFault>
         ensures taken { OnOk result ((more : List ℕ) × Grows (string_bytes out.old) (string_bytes out.new) more × TakesLine self.old self.new line.now more) }
         ensures fault { IfErr result (StopsLine self.old line.now) }
         ensures err { OnErr result (string_bytes out.new ≡ string_bytes out.old) }
@@ -54,10 +54,10 @@ impl Stage {
                 Ok(())
             }
             Stage::NamesLine(kind) => {
-                *self = after_names(alloc, *kind, line)?;
+                *self = after_names(*out.allocator(), *kind, line)?;
                 Ok(())
             }
-            Stage::Commands(recorder) => recorder.record(alloc, line, out),
+            Stage::Commands(recorder) => recorder.record(line, out),
         }
     }
 }
@@ -101,7 +101,6 @@ fn after_names(alloc: Global, kind: Kind, line: &[u8]) -> Result<Stage, CheckFau
 /// What was taken of a text so far.
 #[derive(Debug, Drop)]
 pub struct Session {
-    alloc: Global,
     stage: Stage,
     partial: Vec<u8>,
 }
@@ -113,7 +112,6 @@ impl Session {
         ensures replies { replies_at result.stage ≡ [] }
     {
         Session {
-            alloc,
             stage: Stage::FirstLine,
             partial: Vec::new(alloc),
         }
@@ -127,8 +125,7 @@ impl Session {
     {
         let mut rest = piece;
         while let Some((front, behind)) = cut_at(b'\n', rest) {
-            self.extend(front)?;
-            self.close_line(out)?;
+            self.close_line(front, out)?;
             rest = behind;
         }
         self.extend(rest)
@@ -147,7 +144,7 @@ impl Session {
         match &self.stage {
             Stage::Commands(recorder) => {
                 let report = recorder.report();
-                let line = end_line(self.alloc, report.labels, report.fault)?;
+                let line = end_line(*out.allocator(), report.labels, report.fault)?;
                 out.push_str(line.as_str())?;
                 Ok(report)
             }
@@ -170,13 +167,18 @@ impl Session {
         Ok(())
     }
 
-    // The next line is whole.
-    fn close_line(&mut self, out: &mut String) -> Result<(), CheckFault>
-        ensures taken { OnOk result ((more : List ℕ) × Grows (string_bytes out.old) (string_bytes out.new) more × ClosesLine self.old self.new more) }
-        ensures fault { IfErr result (StopsLine self.old.stage self.old.partial.items) }
+    // The next line is whole with this last part, which has no line feed. A line that lies in one piece is read there.
+    fn close_line(&mut self, last: &[u8], out: &mut String) -> Result<(), CheckFault>
+        ensures taken { OnOk result ((more : List ℕ) × Grows (string_bytes out.old) (string_bytes out.new) more
+            × ClosesLine self.old self.new last.now more) }
+        ensures fault { IfErr result (StopsClosing self.old last.now) }
         ensures err { OnErr result (string_bytes out.new ≡ string_bytes out.old) }
     {
-        self.stage.take_line(self.alloc, &self.partial, out)?;
+        if self.partial.is_empty() && last.len() <= LONGEST_LINE {
+            return self.stage.take_line(last, out);
+        }
+        self.extend(last)?;
+        self.stage.take_line(&self.partial, out)?;
         self.partial.clear();
         Ok(())
     }

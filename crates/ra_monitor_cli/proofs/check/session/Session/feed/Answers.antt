@@ -1,6 +1,5 @@
-use Rattle.std.proofs.Common.{◌≢◌, ◌∷◌, All, rules, string_bytes}
-use Rattle.ra_monitor_cli.specs.Fields.{IsCutAt}
-use Rattle.ra_monitor_cli.proofs.Stopping.{stop_extending, stop_line, feed_stops}
+use Rattle.std.proofs.Common.{◌≢◌, All, rules, string_bytes}
+use Rattle.ra_monitor_cli.proofs.Stopping.{stop_line, feed_stops}
 use Rattle.ra_monitor_cli.proofs.Sessions.{fed_none, fed_line, feed_rest}
 use Rattle.ra_monitor_cli.proofs.check.session.Session.feed.Goals as goal
 
@@ -9,32 +8,25 @@ loop-front-init c = fed_none c.args.self.now c.args.piece.now (string_bytes c.ar
 
 pub loop-front-preserved : goal.loop-front-preserved
 loop-front-preserved c =
-    let ended = c.in_ok-close_line.ensures.taken in
-    fed_line c.args.self.now c.loop-front.self c.extend.new.self c.close_line.new.self c.args.piece.now c.loop-front.rest.now c.in-Some.front.now c.in-Some.behind.now
-    (string_bytes c.args.out.now) (string_bytes c.loop-front.out) (string_bytes c.close_line.new.out) ended.0 c.loop-front.invariant c.in-Some.ensures c.in_ok-extend.ensures.taken ended.1 ended.2
+    let closed = c.in_ok-close_line.ensures.taken in
+    fed_line c.args.self.now c.loop-front.self c.close_line.new.self c.args.piece.now c.loop-front.rest.now c.in-Some.front.now c.in-Some.behind.now
+    (string_bytes c.args.out.now) (string_bytes c.loop-front.out) (string_bytes c.close_line.new.out) closed.0 c.loop-front.invariant c.in-Some.ensures closed.1 closed.2
 
 pub returns-clause-taken : goal.returns-clause-taken
 returns-clause-taken c =
     let none : All (λ b. b ≢ 10) c.loop-front.rest.now = search rules in
-    feed_rest c.extend-2.result c.args.self.now c.loop-front.self c.extend-2.new.self c.args.piece.now c.loop-front.rest.now (string_bytes c.args.out.now) (string_bytes c.loop-front.out)
-    c.loop-front.invariant none c.extend-2.ensures.taken
-
-pub returns-in_err-extend-clause-fault : goal.returns-in_err-extend-clause-fault
-returns-in_err-extend-clause-fault c =
-    let cut : IsCutAt 10 c.loop-front.rest.now c.in-Some.front.now c.in-Some.behind.now = c.in-Some.ensures in
-    let stopped = stop_extending c.args.self.now c.loop-front.self c.args.piece.now c.loop-front.rest.now c.in-Some.front.now (10 ∷ c.in-Some.behind.now)
-    (string_bytes c.args.out.now) (string_bytes c.loop-front.out) c.in_err-extend.field-0.0 c.loop-front.invariant cut.parts cut.first c.in_err-extend.ensures.fault in
-    search rules
+    feed_rest c.extend.result c.args.self.now c.loop-front.self c.extend.new.self c.args.piece.now c.loop-front.rest.now (string_bytes c.args.out.now) (string_bytes c.loop-front.out)
+    c.loop-front.invariant none c.extend.ensures.taken
 
 pub returns-clause-fault : goal.returns-clause-fault
 returns-clause-fault c =
     let none : All (λ b. b ≢ 10) c.loop-front.rest.now = search rules in
-    feed_stops c.extend-2.result c.args.self.now c.loop-front.self c.args.piece.now c.loop-front.rest.now (string_bytes c.args.out.now) (string_bytes c.loop-front.out)
-    c.loop-front.invariant none c.extend-2.ensures.fault
+    feed_stops c.extend.result c.args.self.now c.loop-front.self c.args.piece.now c.loop-front.rest.now (string_bytes c.args.out.now) (string_bytes c.loop-front.out)
+    c.loop-front.invariant none c.extend.ensures.fault
 
 pub returns-in_err-close_line-clause-fault : goal.returns-in_err-close_line-clause-fault
 returns-in_err-close_line-clause-fault c =
-    let stopped = stop_line c.args.self.now c.loop-front.self c.extend.new.self c.args.piece.now c.loop-front.rest.now c.in-Some.front.now c.in-Some.behind.now
+    let stopped = stop_line c.args.self.now c.loop-front.self c.args.piece.now c.loop-front.rest.now c.in-Some.front.now c.in-Some.behind.now
     (string_bytes c.args.out.now) (string_bytes c.loop-front.out) (string_bytes c.close_line.new.out) c.in_err-close_line.field-0.0
-    c.loop-front.invariant c.in-Some.ensures c.in_ok-extend.ensures.taken c.in_err-close_line.ensures.fault c.in_err-close_line.ensures.err in
+    c.loop-front.invariant c.in-Some.ensures c.in_err-close_line.ensures.fault c.in_err-close_line.ensures.err in
     search rules
