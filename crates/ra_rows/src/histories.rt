@@ -158,13 +158,14 @@ pub fn stands_in_turn(rt: &impl Abort, monitor: &Monitor, labels: u32) {
         panic!(rt; "no memory");
     };
     assert_eq!(rt; sequence.len(), labels as usize);
-    let mut label = 0;
-    for part in sequence.iter() {
-        let whole = PartRef {
-            label,
-            half: Half::Whole,
-        };
-        assert_eq!(rt; *part, whole);
-        label = label.wrapping_add(1);
+    assert!(rt; are_whole_in_turn(sequence.as_slice()));
+}
+
+fn are_whole_in_turn(parts: &[PartRef]) -> bool {
+    for (at, part) in parts.iter().enumerate() {
+        if part.label as usize != at || part.half != Half::Whole {
+            return false;
+        }
     }
+    true
 }
