@@ -1,12 +1,12 @@
 -- What the tests of the definitions decide, in the words of the laws.
-use Rattle.std.proofs.Common.{◌≡◌, ℕ, ◌<◌, Bool, true, false, eqb, List, [], ◌∷◌, Option, Some, None, refl, sym, ap, ◌∙◌, subst, inl, inr, arith}
-use Rattle.std.specs.Prelude.{ℤ, ◌⊎◌, ◌==◌, ◌&&◌, ◌||◌, nat_lt, is_some}
+use Rattle.std.proofs.Common.{◌≡◌, ℕ, ◌<◌, Bool, true, false, eqb, List, [], ◌∷◌, ◌++◌, Option, Some, None, refl, sym, ap, ◌∙◌, subst, inl, inr, arith}
+use Rattle.std.specs.Prelude.{ℤ, ◌⊎◌, ◌==◌, ◌&&◌, ◌||◌, nat_lt, is_some, filter}
 use Rattle.std.specs.Option.{option_map_or}
 use Rattle.std.specs.Bool.{Decides}
 use Rattle.std.proofs.lemmas.Bool.{false≢true, eqb-true, eq-eqb, cond_both, cond-true, or_cases, or_left, and_parts, and_from}
 use Rattle.std.proofs.lemmas.Bool.Decides.{Decides-int_eq, Decides-eqb, Decides-ltb, Decides-and, Decides-or}
 use Rattle.std.proofs.lemmas.Option.{none-some, same_Some}
-use Rattle.std.proofs.lemmas.List.Elements.{All-contains}
+use Rattle.std.proofs.lemmas.List.Elements.{All-contains, filter-append, filter_map-append}
 use Rattle.std.proofs.lemmas.List.Sums.{AllPass-from_list_all}
 use Rattle.ra_labels.specs.declared.kind.Kind.{Kind}
 use Rattle.ra_labels.specs.declared.operation.Update.{Update}
@@ -160,3 +160,12 @@ queries-exactly kind records sequence =
       (λ each. list_all-from_contains (is_query_admitted kind records sequence) sequence (λ part there.
           (asked (is_answered_after kind (seen part)) part.act).1 (λ query asks. (answered (state_after kind (seen part)) query).1 (each part query there asks)))),
     )
+
+-- updates stand in the order of the sequence
+pub updates_of-append : (first later : List Part) → updates_of (first ++ later) ≡ updates_of first ++ updates_of later
+updates_of-append first later = filter_map-append (λ part. update_of part.act) first later
+
+pub visible_updates-append : (records : Records) (first later : List Part) (n : ℕ) → visible_updates records (first ++ later) n ≡ visible_updates records first n ++ visible_updates records later n
+visible_updates-append records first later n =
+    let seen = λ (p : Part). sees records n p.label.number in
+    ap updates_of (filter-append seen first later) ∙ updates_of-append (filter seen first) (filter seen later)

@@ -3,7 +3,7 @@ use Rattle.std.proofs.Common.{◌≡◌, ℕ, suc, ◌+◌, ◌<◌, true, false
 use Rattle.std.specs.Prelude.{IsPermutation, IsSorted, All, Contains, count_by, cond}
 use Rattle.std.specs.Ordering.{is_lt, is_eq, ordering_reverse, ordering_then, nat_cmp}
 use Rattle.std.specs.declared.cmp.Ordering.TheVariants.{Less, Equal, Greater}
-use Rattle.std.specs.Cmp.{IsTotalOrder}
+use Rattle.std.specs.Cmp.{IsTotalOrder, Equal-is}
 use Rattle.std.proofs.lemmas.Bool.{false≢true, cases_Bool, cond-true, eq-eqb}
 use Rattle.std.proofs.lemmas.Cmp.{tied_itself, ranked}
 use Rattle.std.proofs.lemmas.Option.{same_Some}
@@ -25,11 +25,6 @@ neither_below o Less e lt gt = absurd (false≢true (sym gt))
 neither_below o Equal e lt gt = ap is_eq e
 neither_below o Greater e lt gt = absurd (false≢true (sym lt ∙ ap is_lt e))
 
-equal_from_is_eq : (o : Ordering) → is_eq o ≡ true → o ≡ Equal
-equal_from_is_eq Less is = absurd (false≢true is)
-equal_from_is_eq Equal is = refl
-equal_from_is_eq Greater is = absurd (false≢true is)
-
 module _ {A : Type 0} (cmp : A → A → Ordering) (total : IsTotalOrder cmp) where
   -- how often an element that ranks as z does stands in the list
   abbrev ties : A → List A → ℕ
@@ -45,7 +40,7 @@ module _ {A : Type 0} (cmp : A → A → Ordering) (total : IsTotalOrder cmp) wh
   tie_found : (z : A) (xs : List A) → 0 < ties z xs → (w : A) × Contains xs w × (cmp z w ≡ Equal)
   tie_found z [] some = absurd (omega arith)
   tie_found z (x ∷ xs) some = elim (cases_Bool (is_eq (cmp z x))) [
-    | inl here ↦ (x, (0, omega arith, refl), equal_from_is_eq (cmp z x) here)
+    | inl here ↦ (x, (0, omega arith, refl), (Equal-is (cmp z x)).0 here)
     | inr other ↦
         let none : weight z x ≡ 0 = rw other in
         let rest = tie_found z xs (omega (arith, ties-cons z x xs)) in
@@ -82,7 +77,7 @@ module _ {A : Type 0} (cmp : A → A → Ordering) (total : IsTotalOrder cmp) wh
   same_order P alike (x ∷ xs) (y ∷ ys) all_xs all_ys up_xs up_ys same =
       let not_below = head_not_below x y xs ys same up_ys in
       let not_above = head_not_below y x ys xs (λ z. sym (same z)) up_xs in
-      let tie = equal_from_is_eq (cmp x y) (neither_below (cmp x y) (cmp y x) (total.antisymm x y) not_below not_above) in
+      let tie = (Equal-is (cmp x y)).0 (neither_below (cmp x y) (cmp y x) (total.antisymm x y) not_below not_above) in
       let heads : x ≡ y = alike x y (All-head P x xs all_xs) (All-head P y ys all_ys) tie in
       let rest = same_order P alike xs ys (All-tail P x xs all_xs) (All-tail P y ys all_ys) (sorted_behind x xs up_xs) (sorted_behind y ys up_ys) (λ z.
       let weights : weight z x ≡ weight z y = ap (weight z) heads in

@@ -2,6 +2,7 @@
 use Rattle.std.specs.Prelude.{ℕ, pos, negsuc, List, [], ◌∷◌, Some, None}
 use Rattle.ra_labels.specs.declared.kind.Kind.TheVariants.{Counter}
 use Rattle.ra_labels.specs.declared.operation.Op.TheVariants.{Inc, Dec, Count}
+use Rattle.ra_labels.specs.declared.operation.Update.{Update}
 use Rattle.ra_labels.specs.declared.operation.Update.TheVariants as update
 use Rattle.ra_labels.specs.declared.operation.Query.TheVariants as query
 use Rattle.ra_labels.specs.declared.command.Command.{Command}
@@ -9,6 +10,8 @@ use Rattle.ra_labels.specs.declared.command.Command.TheVariants.{Operate, Delive
 use Rattle.ra_labels.specs.declared.reply.Reply.{Reply}
 use Rattle.ra_labels.specs.Records.{Records}
 use Rattle.ra_labels.specs.Rewriting.{Half, Whole, QueryHalf, UpdateHalf, Act, Does, Asks, Part}
+use Rattle.ra_labels.specs.Linearization.{visible_updates}
+use Rattle.ra_labels.specs.NamedOrder.{named_sequence}
 use Rattle.ra_labels.specs.Answer.{answers_to, records_after_all}
 
 -- `a inc`; `b got 0`; `b read 1`
@@ -103,6 +106,11 @@ answers_of_three commands = answers_to Counter 3 [] commands
 -- the records that they leave
 abbrev pub records_of_three : List Command → Records
 records_of_three commands = records_after_all Counter 3 [] commands
+
+-- the updates that label n sees after them, in the named order
+abbrev pub seen_by : List Command → ℕ → List Update
+seen_by commands n =
+    visible_updates (records_of_three commands) (named_sequence Counter (records_of_three commands)) n
 
 -- the answers of a counter of two replicas
 abbrev pub answers_of_two : List Command → List Reply

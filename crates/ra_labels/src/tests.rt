@@ -2,34 +2,34 @@
 use crate::{Command, Kind, NoMemory, Op, Refusal, fits};
 use std::alloc::{AllocError, AllocFailed};
 
-#[test]
-fn a_stamp_is_unwanted_and_its_want_fits(rt: HostRuntime) {
-    let unwanted = Some(Refusal::StampUnwanted);
-    let cases = [
-        (Op::Inc, None, None),
-        (Op::Inc, Some(3), unwanted),
-        (Op::Dec, Some(0), unwanted),
-        (Op::Count(-12), Some(4294967295), unwanted),
-        (Op::Count(-12), None, None),
-    ];
-    for (op, stamp, want) in cases {
-        let command = Command::Operate {
-            replica: 200,
-            op,
-            stamp,
-        };
-        assert_eq!(rt; fits(Kind::Counter, &command), want);
+/// The operation at replica 200, with this clock.
+fn operation(op: Op, stamp: Option<u32>) -> Command {
+    Command::Operate {
+        replica: 200,
+        op,
+        stamp,
     }
 }
 
 #[test]
-fn deliveries_and_verdicts_fit(rt: HostRuntime) {
+fn a_stamp_is_unwanted_and_all_else_fits(rt: HostRuntime) {
+    let unwanted = Some(Refusal::StampUnwanted);
     let delivery = Command::Deliver {
         replica: 200,
         label: 7,
     };
-    assert_eq!(rt; fits(Kind::Counter, &delivery), None);
-    assert_eq!(rt; fits(Kind::Counter, &Command::Verdict), None);
+    let cases = [
+        (operation(Op::Inc, None), None),
+        (operation(Op::Inc, Some(3)), unwanted),
+        (operation(Op::Dec, Some(0)), unwanted),
+        (operation(Op::Count(-12), Some(4294967295)), unwanted),
+        (operation(Op::Count(-12), None), None),
+        (delivery, None),
+        (Command::Verdict, None),
+    ];
+    for (command, want) in cases {
+        assert_eq!(rt; fits(Kind::Counter, &command), want);
+    }
 }
 
 #[test]

@@ -1,13 +1,14 @@
 //! Worked histories of a counter, answered by computing the definitions.
 ghost use Rattle.std.specs.Prelude.{◌≡◌, true, false, [], ◌∷◌, Some, None};
 ghost use Rattle.ra_labels.specs.declared.kind.Kind.TheVariants.{Counter};
+ghost use Rattle.ra_labels.specs.declared.operation.Update.TheVariants as update;
 ghost use Rattle.ra_labels.specs.declared.reply.Reply.TheVariants as reply;
 ghost use Rattle.ra_labels.specs.declared.reply.Cause.TheVariants as cause;
 ghost use Rattle.ra_labels.specs.declared.refusal.Refusal.TheVariants as refusal;
 ghost use Rattle.ra_labels.specs.Linearization.{must_precede, extends_visibility};
 ghost use Rattle.ra_labels.specs.NamedOrder.{named_sequence};
 ghost use Rattle.ra_labels.specs.Fault.{fault_of, fault_at};
-ghost use Rattle.ra_labels.specs.Worked.{answers_of_three, records_of_three, answers_of_two, delivered_and_read, delivered_out_of_causal_order, delivered_to_one, two_reads, read_numbered, the_query_half, the_update_half, the_increment, the_read, nothing_was_delivered, only_verdicts, nothing_to_count, each_counts_what_it_had, stamped_and_unknown, each_refusal};
+ghost use Rattle.ra_labels.specs.Worked.{answers_of_three, records_of_three, seen_by, answers_of_two, delivered_and_read, delivered_out_of_causal_order, delivered_to_one, two_reads, read_numbered, the_query_half, the_update_half, the_increment, the_read, nothing_was_delivered, only_verdicts, nothing_to_count, each_counts_what_it_had, stamped_and_unknown, each_refusal};
 
 /// An increment that was delivered is counted.
 pub fn delivered_and_read_holds()
@@ -67,8 +68,10 @@ pub fn nothing_to_count_fails()
 
 /// A read counts the updates that its replica had, and not all that there are.
 pub fn each_counts_what_it_had_holds()
-    ensures { answers_of_three each_counts_what_it_had
+    ensures replies { answers_of_three each_counts_what_it_had
         ≡ reply.Ok 0 ∷ reply.Ok 1 ∷ reply.Ok 2 ∷ reply.Got 1 ∷ reply.Ok 3 ∷ [] }
+    ensures own { seen_by each_counts_what_it_had 2 ≡ update.Dec ∷ [] }
+    ensures both { seen_by each_counts_what_it_had 3 ≡ update.Inc ∷ update.Dec ∷ [] }
 {}
 
 /// A counter's operations carry no stamp, and a replica has to be one of those that there are.

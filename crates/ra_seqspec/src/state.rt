@@ -1,5 +1,5 @@
 ghost use Rattle.std.specs.Prelude.{◌≡◌, IfOk, IsOk, IfSome, OnErr, false, is_some, unwrap_or};
-ghost use Rattle.ra_labels.specs.Specification.{start_of, step_of, answers};
+ghost use Rattle.ra_labels.specs.Specification.{Number, start_of, step_of, answers};
 ghost use Rattle.ra_seqspec.specs.Range.{IsInRange};
 ghost use Rattle.ra_seqspec.specs.Memory.{takes_memory};
 
@@ -37,9 +37,7 @@ impl State {
         ensures memory { takes_memory (start_of kind) ≡ false → IsOk result }
     {
         match kind {
-            Kind::Counter => Ok(State {
-                form: Form::Counter(0),
-            }),
+            Kind::Counter => Ok(State::counter(0)),
         }
     }
 
@@ -49,9 +47,7 @@ impl State {
         ensures memory { takes_memory self.now ≡ false → IsOk result }
     {
         match self.form {
-            Form::Counter(number) => Ok(State {
-                form: Form::Counter(number),
-            }),
+            Form::Counter(number) => Ok(State::counter(number)),
         }
     }
 
@@ -71,6 +67,14 @@ impl State {
                 }
                 Ok(true)
             }
+        }
+    }
+
+    fn counter(number: i32) -> State
+        ensures { result ≡ Number number }
+    {
+        State {
+            form: Form::Counter(number),
         }
     }
 

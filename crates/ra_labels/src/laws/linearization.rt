@@ -1,5 +1,5 @@
 //! What must stand before, and RA-linearization.
-ghost use Rattle.std.specs.Prelude.{◌≡◌, ◌↔◌, ◌⊎◌, true, false, Bool, List, Contains, Some, is_some};
+ghost use Rattle.std.specs.Prelude.{◌≡◌, ◌↔◌, ◌⊎◌, ◌++◌, ℕ, true, false, Bool, List, Contains, Some, is_some};
 ghost use Rattle.std.specs.List.{list_any};
 ghost use Rattle.ra_labels.specs.declared.kind.Kind.{Kind};
 ghost use Rattle.ra_labels.specs.declared.operation.Op.{Op};
@@ -7,7 +7,7 @@ ghost use Rattle.ra_labels.specs.Records.{Records};
 ghost use Rattle.ra_labels.specs.Visibility.{is_update};
 ghost use Rattle.ra_labels.specs.Rewriting.{Part, acts_of, update_of, updates_of};
 ghost use Rattle.ra_labels.specs.Specification.{State, state_after};
-ghost use Rattle.ra_labels.specs.Linearization.{parts_in, is_visible_to, is_earlier_there, is_query_half_of, must_precede, extends, updates_admitted, queries_admitted, IsRaLinearizationBy, IsRaLinearization};
+ghost use Rattle.ra_labels.specs.Linearization.{parts_in, is_visible_to, is_earlier_there, is_query_half_of, must_precede, extends, visible_updates, updates_admitted, queries_admitted, IsRaLinearizationBy, IsRaLinearization};
 ghost use Rattle.ra_labels.specs.Laws.{IsUpdateSeenBy, IsEarlierAtReplica, AreHalvesOfOneLabel, EachQueryIsAnswered, StandsBefore, AllStandBefore, NoneTwice};
 
 /// A part must stand before another in three cases, and in no other: it is an update that the other's label sees; its
@@ -33,6 +33,13 @@ pub fn extending_puts_before()
         → (sequence : List Part) → extends precedes sequence ≡ true → AllStandBefore precedes sequence }
     ensures extends { (precedes : Part → Part → Bool) (sequence : List Part) → NoneTwice sequence
         → AllStandBefore precedes sequence → extends precedes sequence ≡ true }
+{}
+
+/// The updates of a sequence, and those that a label sees, stand in the sequence's order.
+pub fn updates_stand_in_order()
+    ensures all { (first later : List Part) → updates_of (first ++ later) ≡ updates_of first ++ updates_of later }
+    ensures visible { (records : Records) (first later : List Part) (n : ℕ) → visible_updates records (first ++ later) n
+        ≡ visible_updates records first n ++ visible_updates records later n }
 {}
 
 /// The updates of a sequence are admitted exactly where they lead to a state.
