@@ -11,3 +11,4 @@ pub mod Progress
 pub mod Stopped
 pub mod Run
 pub mod Written
+pub mod Program

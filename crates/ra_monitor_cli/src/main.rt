@@ -3,32 +3,28 @@
 
 mod check;
 mod limits;
+mod run;
 
-use crate::check::outcome::status;
+use crate::run::{WordsFault, run};
 use std::env::Env;
 use std::process::ExitCode;
 use std::{env, io};
 
 fn main(rt: HostRuntime) -> ExitCode {
-    if !is_asked_to_check(&rt) {
-        let _ = eprintln!(rt; "usage");
-        return ExitCode::from(2);
-    }
-    let outcome = check::check(rt.alloc(), &mut rt.reader(), &mut io::writer(&rt));
-    if let Err(fault) = &outcome {
-        let _ = eprintln!(rt; "{fault}");
-    }
-    ExitCode::from(status(&outcome))
+    let words = words_of(&rt);
+    let ending = run(
+        rt.alloc(),
+        &words,
+        &mut rt.reader(),
+        &mut io::writer(&rt),
+        &mut rt.stderr(),
+    );
+    ExitCode::from(ending.status)
 }
 
-// Are the words of the command line the one word `check`?
-fn is_asked_to_check<R: Env + AllocGlobal>(rt: &R) -> bool {
-    let Ok(mut words) = env::args(rt) else {
-        return false;
-    };
+// The words of the command line behind the program's name.
+fn words_of<R: Env + AllocGlobal>(rt: &R) -> Result<Vec<String>, WordsFault> {
+    let mut words = env::args(rt)?;
     let _program = words.next();
-    match (words.next(), words.next()) {
-        (Some(word), None) => word.as_str() == "check",
-        _ => false,
-    }
+    Ok(words.collect(rt.alloc())?)
 }

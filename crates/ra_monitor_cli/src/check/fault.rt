@@ -1,11 +1,12 @@
 //! Why a line, or a text, is not read to its end.
-ghost use Rattle.std.specs.Prelude.{◌≡◌};
+ghost use Rattle.std.specs.Prelude.{◌≡◌, Some};
 ghost use Rattle.ra_monitor_cli.specs.declared.check.fault.LineFault.TheVariants as line_fault;
 ghost use Rattle.ra_monitor_cli.specs.declared.check.fault.CheckFault.TheVariants as check_fault;
-ghost use Rattle.ra_monitor_cli.specs.Faults.{fault_at_line};
+ghost use Rattle.ra_monitor_cli.specs.Faults.{fault_at_line, check_fault_words};
 
 use std::alloc::{AllocError, AllocFailed};
-use thiserror::Error;
+use std::error::Error;
+use std::fmt;
 
 /// Why a line is not read.
 #[derive(Clone, Copy, Debug, PartialEq, Eq)]
@@ -45,33 +46,44 @@ impl<T: Drop> From<AllocFailed<T>> for LineFault {
 }
 
 /// Why a check gives no verdict. Lines count from 1.
-#[derive(Clone, Copy, Debug, PartialEq, Eq, Error)]
+#[derive(Clone, Copy, Debug, PartialEq, Eq)]
 pub enum CheckFault {
     /// The reader failed.
-    #[error("read fault")]
     Read,
     /// The writer failed, or took no byte.
-    #[error("write fault")]
     Write,
     /// The line is not one of the text's grammar.
-    #[error("line {0}: syntax")]
     Syntax(u32),
     /// The input ends inside the line, or before it where it is the first or the second.
-    #[error("line {0}: truncated")]
     Truncated(u32),
     /// The line has more than 1,048,576 bytes.
-    #[error("line {0}: too long")]
     LineTooLong(u32),
     /// A growth was refused for want of memory.
-    #[error("no memory")]
     NoMemory,
     /// The input did not end within 4,294,967,296 reads.
-    #[error("endless input")]
     Endless,
     /// The log has as many entries as its limit allows.
-    #[error("line {0}: full")]
     Full(u32),
 }
+
+impl fmt::Display for CheckFault {
+    ghost output = { λ fault. Some (check_fault_words fault) };
+
+    fn fmt<W: fmt::Write>(&self, f: &mut fmt::Formatter<W>) -> fmt::Result {
+        match self {
+            CheckFault::Read => f.write_str("read fault"),
+            CheckFault::Write => f.write_str("write fault"),
+            CheckFault::Syntax(line) => write!(f, "line {line}: syntax"),
+            CheckFault::Truncated(line) => write!(f, "line {line}: truncated"),
+            CheckFault::LineTooLong(line) => write!(f, "line {line}: too long"),
+            CheckFault::NoMemory => f.write_str("no memory"),
+            CheckFault::Endless => f.write_str("endless input"),
+            CheckFault::Full(line) => write!(f, "line {line}: full"),
+        }
+    }
+}
+
+impl Error for CheckFault {}
 
 impl From<AllocError> for CheckFault {
     ghost from_gives = { λ _ fault. fault ≡ check_fault.NoMemory };
