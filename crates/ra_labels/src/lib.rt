@@ -19,8 +19,6 @@ mod memory;
 mod operation;
 mod refusal;
 mod reply;
-#[cfg(test)]
-mod tests;
 pub mod worked;
 
 pub use command::Command;
