@@ -36,7 +36,7 @@ bytes_cons : (line : List ℕ) (lines : List (List ℕ)) (rest : List ℕ) → b
 bytes_cons line lines rest = append_assoc (line ++ 10 ∷ []) (bytes_of lines) rest ∙ append_assoc line (10 ∷ []) (bytes_of lines ++ rest)
 
 -- the others have a line more than these lines, with which the rest behind these begins
-record IsLonger (lines others : List (List ℕ)) (rest : List ℕ) : Type 0 where
+pub record IsLonger (lines others : List (List ℕ)) (rest : List ℕ) : Type 0 where
   pub next : List ℕ
   pub more : List (List ℕ)
   pub behind : List ℕ
@@ -44,7 +44,7 @@ record IsLonger (lines others : List (List ℕ)) (rest : List ℕ) : Type 0 wher
   pub is_line : IsLine next
   pub parts : rest ≡ next ++ 10 ∷ behind
 
-parting : (lines others : List (List ℕ)) (rest other : List ℕ) → AllByRecursion IsLine lines → AllByRecursion IsLine others → bytes_of lines ++ rest ≡ bytes_of others ++ other
+pub parting : (lines others : List (List ℕ)) (rest other : List ℕ) → AllByRecursion IsLine lines → AllByRecursion IsLine others → bytes_of lines ++ rest ≡ bytes_of others ++ other
     → ((lines ≡ others) × (rest ≡ other)) ⊎ (IsLonger lines others rest ⊎ IsLonger others lines other)
 parting [] [] rest other are are_others same = inl (refl, same)
 parting [] (l ∷ others) rest other are are_others same =

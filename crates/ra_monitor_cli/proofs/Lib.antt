@@ -9,3 +9,4 @@ pub mod Runs
 pub mod Halts
 pub mod Texts
 pub mod Endings
+pub mod Prefixes

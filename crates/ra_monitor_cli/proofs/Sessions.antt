@@ -1,5 +1,5 @@
 -- What a session took, step by step.
-use Rattle.std.proofs.Common.{◌≡◌, ◌≢◌, ℕ, ◌<◌, ◌≤◌, List, [], ◌∷◌, ◌++◌, length, All, Result, Ok, Err, refl, sym, ap, subst, ◌∙◌, arith}
+use Rattle.std.proofs.Common.{◌≡◌, ◌≢◌, ℕ, ◌<◌, List, [], ◌∷◌, ◌++◌, length, All, Result, Ok, Err, refl, sym, ap, subst, ◌∙◌, arith}
 use Rattle.std.specs.Prelude.{flat_map, OnOk}
 use Rattle.std.specs.List.{AllByRecursion}
 use Rattle.std.proofs.lemmas.List.{append_assoc, append-nil, length_push}
@@ -14,7 +14,6 @@ use Rattle.ra_monitor_cli.specs.declared.check.session.Stage.{Stage}
 use Rattle.ra_monitor_cli.specs.declared.check.session.Stage.TheVariants.{Commands}
 use Rattle.ra_monitor_cli.specs.declared.check.session.Session.{Session}
 use Rattle.ra_monitor_cli.specs.Bytes.{Grows}
-use Rattle.ra_monitor_cli.specs.declared.limits.TheConstants.{LONGEST_LINE}
 use Rattle.ra_monitor_cli.specs.Fields.{IsCutAt}
 use Rattle.ra_monitor_cli.specs.Grammar.{IsLine, bytes_of, first_line, Spells, SpellEach}
 use Rattle.ra_monitor_cli.specs.Output.{reply_line, end_line, answers_in, records_in, IsReportOf, IsAnswered}

@@ -1,14 +1,13 @@
 -- Where a session stops inside a piece.
-use Rattle.std.proofs.Common.{◌≡◌, ◌≢◌, ℕ, ◌<◌, ◌≤◌, List, [], ◌∷◌, ◌++◌, All, length, Option, Result, Ok, Err, IfErr, refl, sym, ap, subst, ◌∙◌, arith}
+use Rattle.std.proofs.Common.{◌≡◌, ◌≢◌, ℕ, ◌≤◌, List, [], ◌∷◌, ◌++◌, All, length, Option, Result, Ok, Err, IfErr, refl, sym, ap, subst, ◌∙◌, arith}
 use Rattle.std.proofs.lemmas.List.{append_assoc, append-nil, length-append}
 use Rattle.std.proofs.lemmas.List.Elements.{All-append}
 use Rattle.ra_monitor_cli.specs.declared.check.fault.CheckFault.{CheckFault}
 use Rattle.ra_monitor_cli.specs.declared.check.fault.CheckFault.TheVariants.{Read, Write, Syntax, Truncated, LineTooLong, NoMemory, Endless, Full}
-use Rattle.ra_monitor_cli.specs.declared.check.session.Stage.{Stage}
 use Rattle.ra_monitor_cli.specs.declared.check.session.Session.{Session}
 use Rattle.ra_monitor_cli.specs.Fields.{IsCutAt}
 use Rattle.ra_monitor_cli.specs.declared.limits.TheConstants.{LONGEST_LINE}
-use Rattle.ra_monitor_cli.specs.Grammar.{IsLine, bytes_of}
+use Rattle.ra_monitor_cli.specs.Grammar.{bytes_of}
 use Rattle.ra_monitor_cli.specs.Progress.{replies_at, TakesMemory, StopsLine, IsAfter, Extends, StopsExtending, IsNotTaken, StopsClosing, IsFedUpTo}
 use Rattle.ra_monitor_cli.specs.Stopped.{BeginsWithStop, StopsBefore, IsOfSession, IsAnsweredUpTo, Stops, StopsInside}
 

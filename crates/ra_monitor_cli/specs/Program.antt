@@ -27,10 +27,10 @@ asks_for_check (Ok words) = are_check words.items
 asks_for_check (Err fault) = false
 
 -- what is told of words that ask for no check
-abbrev pub refusal_words : Words → List ℕ
-refusal_words (Ok words) = codes "usage"
-refusal_words (Err NotText) = codes "usage"
-refusal_words (Err NoMemory) = codes "no memory"
+abbrev pub stop_words : Words → List ℕ
+stop_words (Ok words) = codes "usage"
+stop_words (Err NotText) = codes "usage"
+stop_words (Err NoMemory) = codes "no memory"
 
 -- The program stops with status 2. Where it could tell these words, the error writer's bytes grew by them and a line
 -- feed.

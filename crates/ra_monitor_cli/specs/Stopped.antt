@@ -55,6 +55,12 @@ IsOfText (LineTooLong line_number) = ⊤
 IsOfText (Full line_number) = ⊤
 IsOfText _ = ⊥
 
+-- a fault of the reader
+abbrev pub IsOfReader : CheckFault → Type 0
+IsOfReader Read = ⊤
+IsOfReader Endless = ⊤
+IsOfReader _ = ⊥
+
 -- a fault that a session may meet: one of the text's own, or missing memory
 abbrev pub IsOfSession : CheckFault → Type 0
 IsOfSession NoMemory = ⊤

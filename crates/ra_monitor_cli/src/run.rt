@@ -1,7 +1,7 @@
 //! The program, over the words of its command line, a reader and two writers.
 ghost use Rattle.std.specs.Prelude.{◌≡◌, ◌≢◌, true, false};
 ghost use Rattle.ra_monitor_cli.specs.Faults.{check_fault_words};
-ghost use Rattle.ra_monitor_cli.specs.Program.{are_check, asks_for_check, refusal_words, StopsProgram, ChecksText};
+ghost use Rattle.ra_monitor_cli.specs.Program.{are_check, asks_for_check, stop_words, StopsProgram, ChecksText};
 
 use crate::check::check;
 use crate::check::fault::CheckFault;
@@ -59,7 +59,7 @@ pub fn run<R: Read, W: Write, E: Write>(
     ensures unread { asks_for_check words.now ≡ false → reader.new ≡ reader.old }
     ensures unwritten { asks_for_check words.now ≡ false → out.new ≡ out.old }
     ensures usage { asks_for_check words.now ≡ false →
-        StopsProgram result (E.contents err.old) (E.contents err.new) (refusal_words words.now) }
+        StopsProgram result (E.contents err.old) (E.contents err.new) (stop_words words.now) }
     // The word `check` has a text checked, and the status is the table's.
     ensures checked { asks_for_check words.now ≡ true → ChecksText result (R.remaining reader.old)
         (R.remaining reader.new) (W.contents out.old) (W.contents out.new) (E.contents err.old) (E.contents err.new) }
