@@ -5,29 +5,28 @@ use mathlib.Core.Option as maybe
 use lib.ListN.{get_elem?}
 use Rattle.atomic_table.specs.Table.{State}
 use Rattle.atomic_table.proofs.Lists.{at_set}
-use Rattle.ra_ticket.specs.declared.entry.Entry.{Entry}
 use Rattle.ra_ticket.specs.declared.board.View.{View}
 use Rattle.ra_ticket.specs.declared.board.View.TheVariants.{Spent, Knows}
 use Rattle.ra_ticket.specs.declared.board.Known.{Known}
 use Rattle.ra_ticket.specs.declared.board.Stage.{Stage}
 use Rattle.ra_ticket.specs.declared.board.Stage.TheVariants.{Idle, Waiting, Holding}
-use Rattle.ra_ticket.specs.Log.{AllBelow}
+use Rattle.ra_ticket.specs.Log.{Readings, AllBelow}
 use Rattle.ra_ticket.specs.Views.{numbers_of, next_of, serving_of, ticket_at, ticket_of, held_at, held_of}
 use Rattle.ra_ticket.specs.Rule.{At, SitsAt, NobodyHolds, TurnsKept}
 use Rattle.ra_ticket.proofs.Seats.{at_after, at_back, at_forth, apart_after}
 
-module _ {M C R : Type 0} (log : M → List (Entry C R)) where
+module _ {M C R S : Type 0} (j : Readings M C R S) where
   abbrev pub Table : Type 0
-  Table = State (Option M) View
+  Table = State (Option M) (View C R S)
 
   abbrev pub Homes : Type 0
   Homes = List (maybe.Option (Option M))
 
   abbrev pub Rule : Table → Type 0
-  Rule = TurnsKept log
+  Rule = TurnsKept j
 
   -- who holds has a ticket
-  held_ticket : (v : View) (t : ℕ) → held_of v ≡ Some t → ticket_of v ≡ Some t
+  held_ticket : (v : View C R S) (t : ℕ) → held_of v ≡ Some t → ticket_of v ≡ Some t
   held_ticket Spent t e = absurd (cc)
   held_ticket (Knows k) t e = go k.stage e
     where
@@ -42,7 +41,7 @@ module _ {M C R : Type 0} (log : M → List (Entry C R)) where
       r.tickets_apart seat id t (subst (At ticket_of s.views seat) ((r.out seat u a).0 ∙ sym served) (a.0, a.1, held_ticket a.0 u a.2)) mine
 
   -- so nobody holds while it waits
-  pub nobody_holds : (s : Table) (r : Rule s) (id t : ℕ) (k : Known) → get_elem? s.views id ≡ some (Knows k) → k.stage ≡ Waiting t → t ≡ r.serving → NobodyHolds s.views
+  pub nobody_holds : (s : Table) (r : Rule s) (id t : ℕ) (k : Known C R S) → get_elem? s.views id ≡ some (Knows k) → k.stage ≡ Waiting t → t ≡ r.serving → NobodyHolds s.views
   nobody_holds s r id t k here waits served seat u a =
       let same : seat ≡ id = holder_is s r id t (Knows k, here, ap ticket_at waits) served seat u a in
       let me : Knows k ≡ a.0 = some-injective (Knows k) a.0 (sym here ∙ (ap (get_elem? s.views) (sym same) ∙ a.1)) in
@@ -50,7 +49,7 @@ module _ {M C R : Type 0} (log : M → List (Entry C R)) where
       let none_held = ap held_at waits in cc
 
   -- the seat id goes from v to w, the words to next' and serving', and the slots to homes'
-  pub record Change (s : Table) (r : Rule s) (id : ℕ) (v w : View) (next' serving' : ℕ) (homes' : Homes) : Type 0 where
+  pub record Change (s : Table) (r : Rule s) (id : ℕ) (v w : View C R S) (next' serving' : ℕ) (homes' : Homes) : Type 0 where
     pub order : serving' ≤ next'
     pub fits : next' < 2 ^ 64
     pub next_up : r.next ≤ next'
@@ -62,9 +61,9 @@ module _ {M C R : Type 0} (log : M → List (Entry C R)) where
     pub apart : (seat t : ℕ) → ticket_of w ≡ Some t → seat ≢ id → At ticket_of s.views seat t → ⊥
     pub out : (seat t : ℕ) → At held_of (set s.views id w) seat t → (t ≡ serving') × (homes' ≡ none ∷ [])
     pub home : NobodyHolds (set s.views id w) → (journal : M) × (homes' ≡ some (Some journal) ∷ [])
-    pub served : (journal : M) → homes' ≡ some (Some journal) ∷ [] → AllBelow serving' (log journal)
+    pub served : (journal : M) → homes' ≡ some (Some journal) ∷ [] → AllBelow serving' (j.log journal)
 
-  module _ (s : Table) (r : Rule s) (id : ℕ) (v w : View) (here : get_elem? s.views id ≡ some v) where
+  module _ (s : Table) (r : Rule s) (id : ℕ) (v w : View C R S) (here : get_elem? s.views id ≡ some v) where
     sits_back : numbers_of w ≡ numbers_of v → (seat k number : ℕ) → SitsAt (set s.views id w) seat k number → SitsAt s.views seat k number
     sits_back same seat k number a = ⊎_elim
         (λ (t : (seat ≡ id) × (w ≡ a.0)). (v, ap (get_elem? s.views) t.0 ∙ here, ap (λ (l : List ℕ). get_elem? l k) (sym same ∙ ap numbers_of t.1) ∙ a.2))
@@ -79,7 +78,7 @@ module _ {M C R : Type 0} (log : M → List (Entry C R)) where
       words = refl;
       order = c.order;
       fits = c.fits;
-      reached = λ seat u at. ⊎_elim (λ (t : (seat ≡ id) × (w ≡ u)). subst (λ (x : View). (next_of x ≤ next') × (serving_of x ≤ serving')) t.1 c.reached)
+      reached = λ seat u at. ⊎_elim (λ (t : (seat ≡ id) × (w ≡ u)). subst (λ (x : View C R S). (next_of x ≤ next') × (serving_of x ≤ serving')) t.1 c.reached)
           (λ (t : (seat ≢ id) × (get_elem? s.views seat ≡ some u)). let low = r.reached seat u t.1 in (le_trans low.0 c.next_up, le_trans low.1 c.serving_up)) (at_set s.views id seat w u at);
       drawn = λ seat t a. ⊎_elim (λ (e : (seat ≡ id) × (ticket_of w ≡ Some t)). c.drawn t e.1)
           (λ (e : (seat ≢ id) × At ticket_of s.views seat t). (c.others_drawn seat t e.0 e.1, let b = r.drawn seat t e.1 in let up = c.next_up in omega arith)) (at_after ticket_of s.views id v w here seat t a);

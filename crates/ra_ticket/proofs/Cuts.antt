@@ -12,7 +12,7 @@ use Rattle.ra_ticket.specs.declared.board.View.{View}
 use Rattle.ra_ticket.specs.declared.board.View.TheVariants.{Spent, Knows}
 use Rattle.ra_ticket.specs.declared.board.Known.{Known}
 use Rattle.ra_ticket.specs.declared.board.Stage.TheVariants.{Idle}
-use Rattle.ra_ticket.specs.Log.{AllBelow}
+use Rattle.ra_ticket.specs.Log.{Readings, AllBelow}
 use Rattle.ra_ticket.specs.Views.{stage_of, numbers_of, next_of, serving_of, ticket_at, ticket_of, held_at, held_of, starting, first_only, others_only, first_pass, other_passes}
 use Rattle.ra_ticket.specs.Rule.{At, SitsAt, TurnsKept}
 use Rattle.ra_ticket.proofs.Seats.{inside}
@@ -40,61 +40,61 @@ at_first_only (y ∷ ys) zero x e = (refl, e)
 at_first_only (y ∷ ys) (suc j) x e = absurd (some-ne-none x (sym e))
 
 -- the only seat of the first table
-only : (v u : View) (seat : ℕ) → get_elem? (v ∷ []) seat ≡ some u → (seat ≡ 0) × (v ≡ u)
+only : {C R S : Type 0} (v u : View C R S) (seat : ℕ) → get_elem? (v ∷ []) seat ≡ some u → (seat ≡ 0) × (v ≡ u)
 only v u zero e = (refl, some-injective v u e)
 only v u (suc seat) e = absurd (some-ne-none u (sym e))
 
-module _ {M C R : Type 0} (log : M → List (Entry C R)) where
-  abbrev Rule : State (Option M) View → Type 0
-  Rule = TurnsKept log
+module _ {M C R S : Type 0} (j : Readings M C R S) where
+  abbrev Rule : State (Option M) (View C R S) → Type 0
+  Rule = TurnsKept j
 
-  pub starts : (passes first : ℕ) (journal : M) → first < 2 ^ 64 → log journal ≡ [] → Rule (opening (first ∷ first ∷ []) (Some journal ∷ []) (starting passes first))
-  starts passes first journal fits empty = let v : View = starting passes first in record {
+  pub starts : (passes first : ℕ) (setup : S) (journal : M) → first < 2 ^ 64 → j.log journal ≡ [] → Rule (opening (first ∷ first ∷ []) (Some journal ∷ []) (starting passes first setup))
+  starts passes first setup journal fits empty = let v : View C R S = starting passes first setup in record {
     next = first;
     serving = first;
     others = [];
     words = refl;
     order = le_refl first;
     fits = fits;
-    reached = λ seat u e. subst (λ (x : View). (next_of x ≤ first) × (serving_of x ≤ first)) (only v u seat e).1 (le_refl first, le_refl first);
+    reached = λ seat u e. subst (λ (x : View C R S). (next_of x ≤ first) × (serving_of x ≤ first)) (only v u seat e).1 (le_refl first, le_refl first);
     drawn = λ seat t a. let none_drawn : None ≡ Some t = ap ticket_of (only v a.0 seat a.1).1 ∙ a.2 in absurd (cc);
     tickets_apart = λ a b t p q. (only v p.0 a p.1).0 ∙ sym (only v q.0 b q.1).0;
     out = λ seat t a. let none_held : None ≡ Some t = ap held_of (only v a.0 seat a.1).1 ∙ a.2 in absurd (cc);
     home = λ _. (journal, refl);
-    served = λ j at. let is : journal ≡ j = cc in subst (λ (m : M). AllBelow first (log m)) is (subst (λ (es : List (Entry C R)). AllBelow first es) (sym empty) (λ k d l. absurd (omega arith)));
+    served = λ other at. let is : journal ≡ other = cc in subst (λ (m : M). AllBelow first (j.log m)) is (subst (λ (es : List (Entry C R)). AllBelow first es) (sym empty) (λ k d l. absurd (omega arith)));
     passes_apart = λ a b j k number p q. (
       (only v p.0 a p.1).0 ∙ sym (only v q.0 b q.1).0,
-      let x : number ≡ 0 + j = number_at 0 passes j number (ap (λ (u : View). get_elem? (numbers_of u) j) (only v p.0 a p.1).1 ∙ p.2) in
-          let y : number ≡ 0 + k = number_at 0 passes k number (ap (λ (u : View). get_elem? (numbers_of u) k) (only v q.0 b q.1).1 ∙ q.2) in omega arith,
+      let x : number ≡ 0 + j = number_at 0 passes j number (ap (λ (u : View C R S). get_elem? (numbers_of u) j) (only v p.0 a p.1).1 ∙ p.2) in
+          let y : number ≡ 0 + k = number_at 0 passes k number (ap (λ (u : View C R S). get_elem? (numbers_of u) k) (only v q.0 b q.1).1 ∙ q.2) in omega arith,
     );
   }
 
-  module _ (s : State (Option M) View) (r : Rule s) (id : ℕ) (k : Known) (here : get_elem? s.views id ≡ some (Knows k)) (idle : k.stage ≡ Idle) where
-    abbrev left : View
+  module _ (s : State (Option M) (View C R S)) (r : Rule s) (id : ℕ) (k : Known C R S) (here : get_elem? s.views id ≡ some (Knows k)) (idle : k.stage ≡ Idle) where
+    abbrev left : View C R S
     left = Knows (record k { numbers = others_only k.numbers })
 
-    abbrev right : View
+    abbrev right : View C R S
     right = Knows (record k { numbers = first_only k.numbers })
 
-    abbrev cut : List View
+    abbrev cut : List (View C R S)
     cut = set s.views id left ++ right ∷ []
 
-    abbrev IsCut : ℕ → View → Type 0
+    abbrev IsCut : ℕ → View C R S → Type 0
     IsCut seat u = ((seat ≡ id) × (left ≡ u)) ⊎ (((seat ≢ id) × (get_elem? s.views seat ≡ some u)) ⊎ ((seat ≡ length s.views) × (right ≡ u)))
 
     -- who sits at a seat after the cut
-    cut_at : (seat : ℕ) (u : View) → get_elem? cut seat ≡ some u → IsCut seat u
+    cut_at : (seat : ℕ) (u : View C R S) → get_elem? cut seat ≡ some u → IsCut seat u
     cut_at seat u e = ⊎_elim
         (λ (t : (seat < length (set s.views id left)) × (get_elem? (set s.views id left) seat ≡ some u)). ⊎_elim (λ (x : (seat ≡ id) × (left ≡ u)). inl x) (λ (x : (seat ≢ id) × (get_elem? s.views seat ≡ some u)). inr (inl x)) (at_set s.views id seat left u t.1))
         (λ (t : (seat ≡ length (set s.views id left)) × (right ≡ u)). inr (inr (t.0 ∙ length-set s.views id left, t.1))) (at_end (set s.views id left) right u seat e)
 
     -- a reading that gives nothing at an idle view reads the same as before
-    back : (of : View → Option ℕ) → of left ≡ None → of right ≡ None → (seat t : ℕ) → At of cut seat t → At of s.views seat t
+    back : (of : View C R S → Option ℕ) → of left ≡ None → of right ≡ None → (seat t : ℕ) → At of cut seat t → At of s.views seat t
     back of l i seat t a = ⊎_elim (λ (x : (seat ≡ id) × (left ≡ a.0)). let no : None ≡ Some t = sym l ∙ (ap of x.1 ∙ a.2) in absurd (cc))
         (λ (y : ((seat ≢ id) × (get_elem? s.views seat ≡ some a.0)) ⊎ ((seat ≡ length s.views) × (right ≡ a.0))). ⊎_elim (λ (x : (seat ≢ id) × (get_elem? s.views seat ≡ some a.0)). (a.0, x.1, a.2))
         (λ (x : (seat ≡ length s.views) × (right ≡ a.0)). let no : None ≡ Some t = sym i ∙ (ap of x.1 ∙ a.2) in absurd (cc)) y) (cut_at seat a.0 a.1)
 
-    forth : (of : View → Option ℕ) → of (Knows k) ≡ None → (seat t : ℕ) → At of s.views seat t → At of cut seat t
+    forth : (of : View C R S → Option ℕ) → of (Knows k) ≡ None → (seat t : ℕ) → At of s.views seat t → At of cut seat t
     forth of i seat t a = dite (ℕ_discrete seat id)
         (λ e. let no : None ≡ Some t = sym i ∙ (ap of (some-injective (Knows k) a.0 (sym here ∙ (ap (get_elem? s.views) (sym e) ∙ a.1))) ∙ a.2) in absurd (cc))
         (λ other. (a.0, at_longer (set s.views id left) (right ∷ []) seat a.0 (set_else s.views id seat left other ∙ a.1), a.2))
@@ -105,10 +105,10 @@ module _ {M C R : Type 0} (log : M → List (Entry C R)) where
 
     was : (seat j number : ℕ) → SitsAt cut seat j number → (seat' j' : ℕ) × SitsAt s.views seat' j' number × Was seat j seat' j'
     was seat j number a = ⊎_elim
-        (λ (x : (seat ≡ id) × (left ≡ a.0)). (id, suc j, (Knows k, here, at_others_only k.numbers j number (ap (λ (u : View). get_elem? (numbers_of u) j) x.1 ∙ a.2)), inl (x.0, refl, refl)))
+        (λ (x : (seat ≡ id) × (left ≡ a.0)). (id, suc j, (Knows k, here, at_others_only k.numbers j number (ap (λ (u : View C R S). get_elem? (numbers_of u) j) x.1 ∙ a.2)), inl (x.0, refl, refl)))
         (λ (y : ((seat ≢ id) × (get_elem? s.views seat ≡ some a.0)) ⊎ ((seat ≡ length s.views) × (right ≡ a.0))). ⊎_elim
         (λ (x : (seat ≢ id) × (get_elem? s.views seat ≡ some a.0)). (seat, j, (a.0, x.1, a.2), inr (inl (x.0, inside s.views seat a.0 x.1, refl, refl))))
-        (λ (x : (seat ≡ length s.views) × (right ≡ a.0)). let f = at_first_only k.numbers j number (ap (λ (u : View). get_elem? (numbers_of u) j) x.1 ∙ a.2) in
+        (λ (x : (seat ≡ length s.views) × (right ≡ a.0)). let f = at_first_only k.numbers j number (ap (λ (u : View C R S). get_elem? (numbers_of u) j) x.1 ∙ a.2) in
         (id, 0, (Knows k, here, f.1), inr (inr (x.0, refl, refl, f.0)))) y)
         (cut_at seat a.0 a.1)
 
@@ -124,9 +124,9 @@ module _ {M C R : Type 0} (log : M → List (Entry C R)) where
       words = r.words;
       order = r.order;
       fits = r.fits;
-      reached = λ seat u e. ⊎_elim (λ (x : (seat ≡ id) × (left ≡ u)). subst (λ (z : View). (next_of z ≤ r.next) × (serving_of z ≤ r.serving)) x.1 low)
+      reached = λ seat u e. ⊎_elim (λ (x : (seat ≡ id) × (left ≡ u)). subst (λ (z : View C R S). (next_of z ≤ r.next) × (serving_of z ≤ r.serving)) x.1 low)
           (λ (y : ((seat ≢ id) × (get_elem? s.views seat ≡ some u)) ⊎ ((seat ≡ length s.views) × (right ≡ u))). ⊎_elim (λ (x : (seat ≢ id) × (get_elem? s.views seat ≡ some u)). r.reached seat u x.1)
-          (λ (x : (seat ≡ length s.views) × (right ≡ u)). subst (λ (z : View). (next_of z ≤ r.next) × (serving_of z ≤ r.serving)) x.1 low) y) (cut_at seat u e);
+          (λ (x : (seat ≡ length s.views) × (right ≡ u)). subst (λ (z : View C R S). (next_of z ≤ r.next) × (serving_of z ≤ r.serving)) x.1 low) y) (cut_at seat u e);
       drawn = λ seat t a. r.drawn seat t (back ticket_of no_ticket no_ticket seat t a);
       tickets_apart = λ a b t p q. r.tickets_apart a b t (back ticket_of no_ticket no_ticket a t p) (back ticket_of no_ticket no_ticket b t q);
       out = λ seat t a. r.out seat t (back held_of not_held not_held seat t a);
@@ -137,12 +137,12 @@ module _ {M C R : Type 0} (log : M → List (Entry C R)) where
     }
 
   -- an idle seat is cut in two
-  pub splits : (id : ℕ) (v : View) → stage_of v ≡ Some Idle → Splits Rule id v (other_passes v) (first_pass v)
+  pub splits : (id : ℕ) (v : View C R S) → stage_of v ≡ Some Idle → Splits Rule id v (other_passes v) (first_pass v)
   splits id Spent idle s r at = absurd (cc)
   splits id (Knows k) idle s r at = let is : k.stage ≡ Idle = cc in splits_here s r id k at is
 
 -- what an idle seat with numbers from k on is cut into
-pub record AreCut (v : View) (k n : ℕ) : Type 0 where
+pub record AreCut {C R S : Type 0} (v : View C R S) (k n : ℕ) : Type 0 where
   pub idle : stage_of (other_passes v) ≡ Some Idle
   pub numbers : numbers_of (other_passes v) ≡ range_with_len (k + 1) n
   pub next : next_of (other_passes v) ≡ next_of v
@@ -152,7 +152,7 @@ pub record AreCut (v : View) (k n : ℕ) : Type 0 where
   pub first_next : next_of (first_pass v) ≡ next_of v
   pub first_serving : serving_of (first_pass v) ≡ serving_of v
 
-pub are_cut : (v : View) (k n : ℕ) → stage_of v ≡ Some Idle → numbers_of v ≡ range_with_len k (suc n) → AreCut v k n
+pub are_cut : {C R S : Type 0} (v : View C R S) (k n : ℕ) → stage_of v ≡ Some Idle → numbers_of v ≡ range_with_len k (suc n) → AreCut v k n
 are_cut Spent k n idle numbers = absurd (cc)
 are_cut (Knows w) k n idle numbers = record {
   idle = idle;

@@ -4,3 +4,4 @@ pub mod Moves
 pub mod Cuts
 pub mod Pushes
 pub mod Tickets
+pub mod Journals

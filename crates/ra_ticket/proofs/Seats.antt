@@ -14,7 +14,7 @@ inside [] j b e = absurd (some-ne-none b (sym e))
 inside (x ∷ xs) zero b e = omega arith
 inside (x ∷ xs) (suc j) b e = let l = inside xs j b e in omega arith
 
-module _ {X : Type 0} (of : View → Option X) (views : List View) (id : ℕ) (v w : View) (here : get_elem? views id ≡ some v) where
+module _ {C R S X : Type 0} (of : View C R S → Option X) (views : List (View C R S)) (id : ℕ) (v w : View C R S) (here : get_elem? views id ≡ some v) where
   -- what stands at a seat after the change stood there before, or is new at the seat id
   pub at_after : (seat : ℕ) (x : X) → At of (set views id w) seat x → ((seat ≡ id) × (of w ≡ Some x)) ⊎ ((seat ≢ id) × At of views seat x)
   at_after seat x a = ⊎_elim (λ (t : (seat ≡ id) × (w ≡ a.0)). inl (t.0, ap of t.1 ∙ a.2))

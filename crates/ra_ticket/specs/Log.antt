@@ -5,6 +5,19 @@ use Rattle.ra_ticket.specs.declared.entry.Entry.{Entry}
 use Rattle.ra_ticket.specs.declared.journal.StepFault.{StepFault}
 use Rattle.ra_ticket.specs.declared.journal.StepFault.TheVariants.{Full, NoMemory}
 
+-- what the lock reads off a journal: its setup and log, and what a log under a setup makes of a command and of the
+-- fault
+pub record Readings (M C R S : Type 0) : Type 0 where
+  pub setup : M → S
+  pub log : M → List (Entry C R)
+  pub reply_of : S → List (Entry C R) → C → R
+  pub fault_of : S → List (Entry C R) → Option ℕ
+
+abbrev pub readings : {M C R S : Type 0} → (M → S) → (M → List (Entry C R)) → (S → List (Entry C R) → C → R)
+    → (S → List (Entry C R) → Option ℕ) → Readings M C R S
+readings setup log reply_of fault_of =
+    record { setup = setup; log = log; reply_of = reply_of; fault_of = fault_of }
+
 module _ {C R : Type 0} where
   abbrev pub entry : ℕ → ℕ → C → R → Entry C R
   entry p t c r = record { pass = p; ticket = t; command = c; reply = r }

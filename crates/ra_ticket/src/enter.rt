@@ -1,6 +1,6 @@
 //! How a pass waits for its turn and takes the journal.
 ghost use Rattle.std.specs.Prelude.{◌≡◌, [], ◌∷◌, Some, None, MatchBool};
-ghost use Rattle.ra_ticket.specs.Log.{AllBelow};
+ghost use Rattle.ra_ticket.specs.Log.{readings, AllBelow};
 ghost use Rattle.ra_ticket.specs.Steps.{IsSeated, IsSameSeat, Carries};
 ghost use Rattle.ra_ticket.specs.Views.{stage_of};
 ghost use Rattle.ra_ticket.specs.declared.board.Stage.TheVariants.{Waiting, Holding};
@@ -17,7 +17,7 @@ fn look<M: Journal>(board: &Board<M>, seat: &mut LockSeat<M>, ticket: u64) -> bo
     requires waits { (stage_of seat.old.me.0 ≡ Some (Waiting ticket)) × (seat.old.me.1 ≡ []) }
     ensures seat { IsSameSeat seat.old seat.new }
     ensures served { MatchBool result
-        ((stage_of seat.new.me.0 ≡ Some (Holding ticket)) × Carries M.log seat.new ticket)
+        ((stage_of seat.new.me.0 ≡ Some (Holding ticket)) × Carries (readings M.setup M.log M.reply_of M.fault_of) seat.new ticket)
         ((stage_of seat.new.me.0 ≡ Some (Waiting ticket)) × (seat.new.me.1 ≡ [])) }
 {
     board.load::<Look<M>>(seat, SERVING) == ticket

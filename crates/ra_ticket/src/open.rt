@@ -14,6 +14,7 @@ use crate::pass::Pass;
 use crate::plays::CutFirst;
 use atomic_table::Table;
 use std::alloc::{AllocError, Global};
+use std::snapshot::Snapshot;
 
 /// The most passes that a lock may have.
 pub const MOST_PASSES: u8 = 64;
@@ -39,11 +40,16 @@ fn set_table<M: Journal>(
     requires { M.log state ≡ [] }
     ensures table { IfOk result (λ t. (t.0.shared.table_id.words ≡ 2) × (t.0.shared.table_id.slots ≡ 1)) }
     ensures at_table { IfOk result (λ t. t.1.table_id ≡ t.0.shared.table_id) }
-    ensures seat { IfOk result (λ t. t.1.me ≡ (starting passes first, [])) }
+    ensures seat { IfOk result (λ t. t.1.me ≡ (starting passes first (M.setup state), [])) }
 {
+    let about = About {
+        passes,
+        first,
+        opening: Snapshot::of(&state),
+    };
     let mut slots = Vec::new(alloc);
     slots.push(Some(state))?;
-    match Table::new(alloc, &[first, first], slots, &About { passes, first }) {
+    match Table::new(alloc, &[first, first], slots, &about) {
         Ok(made) => Ok(made),
         Err(_) => Err(AllocError),
     }

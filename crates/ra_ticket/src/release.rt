@@ -1,5 +1,6 @@
 //! How a pass gives the journal back.
 ghost use Rattle.std.specs.Prelude.{◌≡◌, ◌+◌, [], ◌∷◌, Some, None};
+ghost use Rattle.ra_ticket.specs.Log.{readings};
 ghost use Rattle.ra_ticket.specs.Steps.{IsSeated, IsSameSeat, HoldsServed};
 ghost use Rattle.ra_ticket.specs.Views.{stage_of};
 ghost use Rattle.ra_ticket.specs.declared.board.Stage.TheVariants.{Idle};
@@ -21,7 +22,7 @@ pub(crate) fn put_back<M: Journal>(board: &Board<M>, seat: &mut LockSeat<M>, jou
 /// An addition to `serving`: the slot goes home, and the next ticket is served.
 pub(crate) fn release<M: Journal>(board: &Board<M>, seat: &mut LockSeat<M>)
     requires table { IsSeated seat.old.table_id board.now.table_id }
-    requires holds { HoldsServed M.log seat.old }
+    requires holds { HoldsServed (readings M.setup M.log M.reply_of M.fault_of) seat.old }
     ensures seat { IsSameSeat seat.old seat.new }
     ensures idle { (stage_of seat.new.me.0 ≡ Some Idle) × (seat.new.me.1 ≡ []) }
 {
