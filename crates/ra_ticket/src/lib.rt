@@ -20,6 +20,7 @@ mod entry;
 mod fault;
 mod journal;
 mod lock;
+mod mark;
 mod open;
 mod pass;
 mod plays;
