@@ -1,5 +1,6 @@
 //! The table that the passes share.
-//! Word 0 is `next`, the next ticket to be drawn, and word 1 is `serving`, the ticket that may enter.
+//! Word 0 is `next`, the next ticket to be drawn, word 1 is `serving`, the ticket that may enter, and word 2 is `mark`,
+//! how many calls the log has and the number of its fault.
 //! Slot 0 holds the journal. It is out only with the seat whose ticket is served.
 use crate::entry::Entry;
 use crate::journal::Journal;
@@ -14,6 +15,9 @@ pub const NEXT: usize = 0;
 
 /// The word that has the ticket that may enter.
 pub const SERVING: usize = 1;
+
+/// The word that has the calls and the fault.
+pub const MARK: usize = 2;
 
 /// The slot of the journal.
 pub const JOURNAL: usize = 0;
@@ -73,7 +77,7 @@ impl<M: Journal> TableRule<Option<M>, JournalView<M>, About<M>> for Turns<M> {
     ghost use Rattle.ra_ticket.specs.Views.{starting};
     ghost use Rattle.ra_ticket.specs.Rule.{TurnsKept};
 
-    ghost holds = { λ _. TurnsKept (readings M.setup M.log M.reply_of M.fault_of) };
+    ghost holds = { λ about. TurnsKept (readings M.setup M.log M.reply_of M.fault_of) (M.setup about.opening.value) };
 
     ghost first = { λ about. starting about.passes about.first (M.setup about.opening.value) };
 }

@@ -1,6 +1,6 @@
 //! What each step on the table tells.
 ghost use Rattle.ra_ticket.specs.Log.{readings};
-ghost use Rattle.ra_ticket.specs.Steps.{learned, drew, looked, released};
+ghost use Rattle.ra_ticket.specs.Steps.{learned, drew, looked, published, released};
 ghost use Rattle.ra_ticket.specs.Views.{first_pass, other_passes};
 
 use crate::board::{JournalView, View};
@@ -29,6 +29,15 @@ pub(crate) struct Look<M> {
 
 impl<M: Journal> Play<Option<M>, JournalView<M>> for Look<M> {
     ghost then = { looked (readings M.setup M.log M.reply_of M.fault_of) };
+}
+
+/// A store of `mark`.
+pub(crate) struct Publish<M> {
+    journal: PhantomData<M>,
+}
+
+impl<M: Journal> Play<Option<M>, JournalView<M>> for Publish<M> {
+    ghost then = { published (readings M.setup M.log M.reply_of M.fault_of) };
 }
 
 /// An addition to `serving`.

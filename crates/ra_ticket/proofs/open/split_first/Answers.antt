@@ -4,4 +4,4 @@ use Rattle.ra_ticket.proofs.Cuts.{splits}
 use Rattle.ra_ticket.proofs.open.split_first.Goals as goal
 
 pub split_seat-requires : goal.split_seat-requires
-split_seat-requires g c = (search rules, search rules, splits (of_journal g.M.Journal) _ _ c.requires.idle)
+split_seat-requires g c = (search rules, search rules, splits (of_journal g.M.Journal) _ _ _ c.requires.idle)
