@@ -1,5 +1,5 @@
 -- One seat goes from one view to another, and the words go up: what the rule of the lock asks of that.
-use Rattle.std.proofs.Common.{◌≡◌, ◌≢◌, ℕ, ◌^◌, ◌<◌, ◌≤◌, List, [], ◌∷◌, set, Option, Some, refl, sym, ap, ◌∙◌, subst, ⊎_elim, le_refl, le_trans, arith}
+use Rattle.std.proofs.Common.{◌≡◌, ◌≢◌, ℕ, ◌+◌, ◌^◌, ◌<◌, ◌≤◌, List, [], ◌∷◌, set, Option, Some, IfSome, refl, sym, ap, ◌∙◌, subst, ⊎_elim, le_refl, le_trans, arith}
 use mathlib.Core.Option.{none, some, some-injective}
 use mathlib.Core.Option as maybe
 use lib.ListN.{get_elem?}
@@ -11,23 +11,28 @@ use Rattle.ra_ticket.specs.declared.board.View.TheVariants.{Spent, Knows}
 use Rattle.ra_ticket.specs.declared.board.Known.{Known}
 use Rattle.ra_ticket.specs.declared.board.Stage.{Stage}
 use Rattle.ra_ticket.specs.declared.board.Stage.TheVariants.{Idle, Waiting, Holding}
-use Rattle.ra_ticket.specs.Log.{AllBelow}
-use Rattle.ra_ticket.specs.Views.{numbers_of, next_of, serving_of, ticket_at, ticket_of, held_at, held_of}
+use Rattle.ra_ticket.specs.Log.{Readings, AllBelow, BeginsWith, IsLegal}
+use Rattle.ra_ticket.specs.Mark.{IsMarkOf}
+use Rattle.ra_ticket.specs.Views.{numbers_of, next_of, serving_of, ticket_at, ticket_of, held_at, held_of, setup_of, seen_of}
 use Rattle.ra_ticket.specs.Rule.{At, SitsAt, NobodyHolds, TurnsKept}
-use Rattle.ra_ticket.proofs.Seats.{at_after, at_back, at_forth, apart_after}
+use Rattle.ra_ticket.proofs.Seats.{each_after, at_after, at_back, at_forth, apart_after}
+use Rattle.ra_ticket.proofs.Logs.{begins_same, begins_trans}
 
-module _ {M C R : Type 0} (log : M → List (Entry C R)) where
+module _ {M C R S : Type 0} (j : Readings M C R S) (opened : S) where
   abbrev pub Table : Type 0
-  Table = State (Option M) View
+  Table = State (Option M) (View C R S)
 
   abbrev pub Homes : Type 0
   Homes = List (maybe.Option (Option M))
 
+  abbrev pub Log : Type 0
+  Log = List (Entry C R)
+
   abbrev pub Rule : Table → Type 0
-  Rule = TurnsKept log
+  Rule = TurnsKept j opened
 
   -- who holds has a ticket
-  held_ticket : (v : View) (t : ℕ) → held_of v ≡ Some t → ticket_of v ≡ Some t
+  held_ticket : (v : View C R S) (t : ℕ) → held_of v ≡ Some t → ticket_of v ≡ Some t
   held_ticket Spent t e = absurd (cc)
   held_ticket (Knows k) t e = go k.stage e
     where
@@ -42,69 +47,100 @@ module _ {M C R : Type 0} (log : M → List (Entry C R)) where
       r.tickets_apart seat id t (subst (At ticket_of s.views seat) ((r.out seat u a).0 ∙ sym served) (a.0, a.1, held_ticket a.0 u a.2)) mine
 
   -- so nobody holds while it waits
-  pub nobody_holds : (s : Table) (r : Rule s) (id t : ℕ) (k : Known) → get_elem? s.views id ≡ some (Knows k) → k.stage ≡ Waiting t → t ≡ r.serving → NobodyHolds s.views
+  pub nobody_holds : (s : Table) (r : Rule s) (id t : ℕ) (k : Known C R S) → get_elem? s.views id ≡ some (Knows k) → k.stage ≡ Waiting t → t ≡ r.serving → NobodyHolds s.views
   nobody_holds s r id t k here waits served seat u a =
       let same : seat ≡ id = holder_is s r id t (Knows k, here, ap ticket_at waits) served seat u a in
       let me : Knows k ≡ a.0 = some-injective (Knows k) a.0 (sym here ∙ (ap (get_elem? s.views) (sym same) ∙ a.1)) in
       let held : held_at k.stage ≡ Some u = ap held_of me ∙ a.2 in
       let none_held = ap held_at waits in cc
 
-  -- the seat id goes from v to w, the words to next' and serving', and the slots to homes'
-  pub record Change (s : Table) (r : Rule s) (id : ℕ) (v w : View) (next' serving' : ℕ) (homes' : Homes) : Type 0 where
+  -- the seat id goes from v to w, the words to next', serving' and mark', the slots to homes' and the front to front'
+  pub record Change (s : Table) (r : Rule s) (id : ℕ) (v w : View C R S) (next' serving' mark' : ℕ) (homes' : Homes) (front' : Log) : Type 0 where
     pub order : serving' ≤ next'
     pub fits : next' < 2 ^ 64
     pub next_up : r.next ≤ next'
     pub serving_up : r.serving ≤ serving'
     pub reached : (next_of w ≤ next') × (serving_of w ≤ serving')
     pub numbers : numbers_of w ≡ numbers_of v
+    pub setup : setup_of w ≡ setup_of v
     pub others_drawn : (seat t : ℕ) → seat ≢ id → At ticket_of s.views seat t → serving' ≤ t
     pub drawn : (t : ℕ) → ticket_of w ≡ Some t → (serving' ≤ t) × (t < next')
     pub apart : (seat t : ℕ) → ticket_of w ≡ Some t → seat ≢ id → At ticket_of s.views seat t → ⊥
     pub out : (seat t : ℕ) → At held_of (set s.views id w) seat t → (t ≡ serving') × (homes' ≡ none ∷ [])
     pub home : NobodyHolds (set s.views id w) → (journal : M) × (homes' ≡ some (Some journal) ∷ [])
-    pub served : (journal : M) → homes' ≡ some (Some journal) ∷ [] → AllBelow serving' (log journal)
+    pub grows : BeginsWith front' r.front
+    pub others_held : (seat t : ℕ) (u : View C R S) → seat ≢ id → get_elem? s.views seat ≡ some u → held_of u ≡ Some t → seen_of u ≡ front'
+    pub held : (t : ℕ) → held_of w ≡ Some t → seen_of w ≡ front'
+    pub rests : (journal : M) → homes' ≡ some (Some journal) ∷ [] → (j.log journal ≡ front') × AllBelow serving' front'
+    pub served : AllBelow (serving' + 1) front'
+    pub legal : IsLegal (j.reply_of opened) front'
+    pub told : IsMarkOf j opened front' mark'
+    pub begun : BeginsWith front' (seen_of w)
+    pub home_set_up : (journal : M) → homes' ≡ some (Some journal) ∷ [] → j.setup journal ≡ opened
 
-  module _ (s : Table) (r : Rule s) (id : ℕ) (v w : View) (here : get_elem? s.views id ≡ some v) where
+  module _ (s : Table) (r : Rule s) (id : ℕ) (v w : View C R S) (here : get_elem? s.views id ≡ some v) where
     sits_back : numbers_of w ≡ numbers_of v → (seat k number : ℕ) → SitsAt (set s.views id w) seat k number → SitsAt s.views seat k number
     sits_back same seat k number a = ⊎_elim
         (λ (t : (seat ≡ id) × (w ≡ a.0)). (v, ap (get_elem? s.views) t.0 ∙ here, ap (λ (l : List ℕ). get_elem? l k) (sym same ∙ ap numbers_of t.1) ∙ a.2))
         (λ (t : (seat ≢ id) × (get_elem? s.views seat ≡ some a.0)). (a.0, t.1, a.2)) (at_set s.views id seat w a.0 a.1)
 
     -- such a change keeps the rule
-    pub changed : (next' serving' : ℕ) (homes' : Homes) → Change s r id v w next' serving' homes' → Rule record { words = next' ∷ serving' ∷ r.others; homes = homes'; views = set s.views id w }
-    changed next' serving' homes' c = record {
+    pub changed : (next' serving' mark' : ℕ) (homes' : Homes) (front' : Log) → Change s r id v w next' serving' mark' homes' front'
+        → Rule record { words = next' ∷ serving' ∷ mark' ∷ r.others; homes = homes'; views = set s.views id w }
+    changed next' serving' mark' homes' front' c = record {
       next = next';
       serving = serving';
+      mark = mark';
       others = r.others;
       words = refl;
       order = c.order;
       fits = c.fits;
-      reached = λ seat u at. ⊎_elim (λ (t : (seat ≡ id) × (w ≡ u)). subst (λ (x : View). (next_of x ≤ next') × (serving_of x ≤ serving')) t.1 c.reached)
-          (λ (t : (seat ≢ id) × (get_elem? s.views seat ≡ some u)). let low = r.reached seat u t.1 in (le_trans low.0 c.next_up, le_trans low.1 c.serving_up)) (at_set s.views id seat w u at);
+      reached = each_after (λ (x : View C R S). (next_of x ≤ next') × (serving_of x ≤ serving')) s.views id w c.reached
+          (λ seat u _ at. let low = r.reached seat u at in (le_trans low.0 c.next_up, le_trans low.1 c.serving_up));
       drawn = λ seat t a. ⊎_elim (λ (e : (seat ≡ id) × (ticket_of w ≡ Some t)). c.drawn t e.1)
           (λ (e : (seat ≢ id) × At ticket_of s.views seat t). (c.others_drawn seat t e.0 e.1, let b = r.drawn seat t e.1 in let up = c.next_up in omega arith)) (at_after ticket_of s.views id v w here seat t a);
       tickets_apart = apart_after ticket_of s.views id v w here r.tickets_apart c.apart;
       out = c.out;
       home = c.home;
+      front = front';
+      held = λ seat t u at. each_after (λ (x : View C R S). held_of x ≡ Some t → seen_of x ≡ front') s.views id w (c.held t) (λ a x other there. c.others_held a t x other there) seat u at;
+      rests = c.rests;
       served = c.served;
-      passes_apart = λ a b j k number p q. r.passes_apart a b j k number (sits_back c.numbers a j number p) (sits_back c.numbers b k number q);
+      legal = c.legal;
+      told = c.told;
+      begun = each_after (λ (x : View C R S). BeginsWith front' (seen_of x)) s.views id w c.begun
+          (λ seat u _ at. begins_trans front' r.front (seen_of u) c.grows (r.begun seat u at));
+      passes_apart = λ a b k l number p q. r.passes_apart a b k l number (sits_back c.numbers a k number p) (sits_back c.numbers b l number q);
+      set_up = each_after (λ (x : View C R S). IfSome (setup_of x) (λ y. y ≡ opened)) s.views id w
+          (subst (λ (o : Option S). IfSome o (λ y. y ≡ opened)) (sym c.setup) (r.set_up id v here)) (λ seat u _ at. r.set_up seat u at);
+      home_set_up = c.home_set_up;
     }
 
-    -- a change that leaves the slot and `serving` alone
+    -- a change that leaves the slot, `serving` and the front alone
     pub unmoved : (next' : ℕ) → next' < 2 ^ 64 → r.next ≤ next' → (next_of w ≤ next') × (serving_of w ≤ r.serving) → numbers_of w ≡ numbers_of v → held_of w ≡ held_of v
+        → setup_of w ≡ setup_of v → seen_of w ≡ seen_of v
         → ((t : ℕ) → ticket_of w ≡ Some t → (r.serving ≤ t) × (t < next')) → ((seat t : ℕ) → ticket_of w ≡ Some t → seat ≢ id → At ticket_of s.views seat t → ⊥)
-        → Rule record { words = next' ∷ r.serving ∷ r.others; homes = s.homes; views = set s.views id w }
-    unmoved next' fits up reached numbers held drawn apart = changed next' r.serving s.homes record {
+        → Rule record { words = next' ∷ r.serving ∷ r.mark ∷ r.others; homes = s.homes; views = set s.views id w }
+    unmoved next' fits up reached numbers held setup seen drawn apart = changed next' r.serving r.mark s.homes r.front record {
       order = le_trans r.order up;
       fits = fits;
       next_up = up;
       serving_up = le_refl r.serving;
       reached = reached;
       numbers = numbers;
+      setup = setup;
       others_drawn = λ seat t _ a. (r.drawn seat t a).0;
       drawn = drawn;
       apart = apart;
       out = λ seat t a. r.out seat t (at_back held_of s.views id v w here held seat t a);
       home = λ nobody. r.home (λ seat t a. nobody seat t (at_forth held_of s.views id v w here held seat t a));
+      grows = begins_same r.front r.front refl;
+      others_held = λ seat t u _ at e. r.held seat t u at e;
+      held = λ t e. seen ∙ r.held id t v here (sym held ∙ e);
+      rests = r.rests;
       served = r.served;
+      legal = r.legal;
+      told = r.told;
+      begun = subst (λ (l : Log). BeginsWith r.front l) (sym seen) (r.begun id v here);
+      home_set_up = r.home_set_up;
     }

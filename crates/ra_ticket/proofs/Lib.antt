@@ -4,3 +4,5 @@ pub mod Moves
 pub mod Cuts
 pub mod Pushes
 pub mod Tickets
+pub mod Logs
+pub mod Journals

@@ -1,5 +1,5 @@
 -- Each step on a word keeps the rule of the lock, and tells what it says.
-use Rattle.std.proofs.Common.{◌≡◌, ◌≢◌, ℕ, ◌+◌, ◌%◌, ◌^◌, ◌<◌, ◌≤◌, eqb, List, [], ◌∷◌, get_or, set, Option, Some, refl, sym, ap, ◌∙◌, subst, ⊎_elim, le_refl, mod-eq_of_lt, arith}
+use Rattle.std.proofs.Common.{◌≡◌, ◌≢◌, ℕ, ◌+◌, ◌%◌, ◌^◌, ◌<◌, ◌≤◌, eqb, List, [], ◌∷◌, ◌++◌, get_or, set, Option, Some, refl, sym, ap, ◌∙◌, subst, ⊎_elim, le_refl, mod-eq_of_lt, arith}
 use mathlib.Core.Logic.{dite}
 use mathlib.Core.Option.{none, some}
 use lib.ListN.{get_elem?}
@@ -13,155 +13,276 @@ use Rattle.ra_ticket.specs.declared.board.View.TheVariants.{Spent, Knows}
 use Rattle.ra_ticket.specs.declared.board.Known.{Known}
 use Rattle.ra_ticket.specs.declared.board.Stage.{Stage}
 use Rattle.ra_ticket.specs.declared.board.Stage.TheVariants.{Idle, Waiting, Holding}
-use Rattle.ra_ticket.specs.Log.{AllBelow}
-use Rattle.ra_ticket.specs.Views.{stage_of, ticket_at, ticket_of, held_at, held_of}
+use Rattle.ra_ticket.specs.Log.{Readings, AllBelow, IsLegal}
+use Rattle.ra_ticket.specs.Mark.{IsMarkOf}
+use Rattle.ra_ticket.specs.Views.{stage_of, ticket_at, ticket_of, held_at, held_of, setup_of}
 use Rattle.ra_ticket.specs.Rule.{At, NobodyHolds}
-use Rattle.ra_ticket.specs.Steps.{learned, drew, looked, released}
-use Rattle.ra_ticket.proofs.Seats.{at_after, at_new}
+use Rattle.ra_ticket.specs.Steps.{IsAsSeen, HasEntered, IsAhead, learned, drew, looked, published, released}
+use Rattle.ra_ticket.proofs.Seats.{at_after, at_back, at_new}
+use Rattle.ra_ticket.proofs.Logs.{begins_same, legal_push}
+use Rattle.ra_ticket.proofs.Tickets.{below_more}
+use Rattle.std.proofs.lemmas.List.Elements.{All-push}
 use Rattle.ra_ticket.proofs.Changes as changes
 
-stage_is : (k : Known) (st : Stage) → stage_of (Knows k) ≡ Some st → k.stage ≡ st
-stage_is k st e = cc
+module _ {C R S : Type 0} where
+  stage_is : (k : Known C R S) (st : Stage) → stage_of (Knows k) ≡ Some st → k.stage ≡ st
+  stage_is k st e = cc
 
-no_ticket : (k : Known) → k.stage ≡ Idle → (t : ℕ) → ticket_at k.stage ≡ Some t → ⊥
-no_ticket k idle t e = let none_there = ap ticket_at idle in cc
+  no_ticket : (k : Known C R S) → k.stage ≡ Idle → (t : ℕ) → ticket_at k.stage ≡ Some t → ⊥
+  no_ticket k idle t e = let none_there = ap ticket_at idle in cc
 
--- the views that steps lead to
-abbrev with_next : Known → ℕ → View
-with_next k n = Knows (record k { next = n })
+  -- the views that steps lead to
+  abbrev with_next : Known C R S → ℕ → View C R S
+  with_next k n = Knows (record k { next = n })
 
-abbrev with_serving : Known → ℕ → View
-with_serving k n = Knows (record k { serving = n })
+  abbrev with_serving : Known C R S → ℕ → View C R S
+  with_serving k n = Knows (record k { serving = n })
 
-abbrev waiting : Known → ℕ → View
-waiting k t = Knows (record k { next = t + 1; stage = Waiting t })
+  abbrev waiting : Known C R S → ℕ → View C R S
+  waiting k t = Knows (record k { next = t + 1; stage = Waiting t })
 
-abbrev holding : Known → ℕ → ℕ → View
-holding k n t = Knows (record k { serving = n; stage = Holding t })
+  abbrev holding : Known C R S → ℕ → ℕ → List (Entry C R) → View C R S
+  holding k n t log = Knows (record k { serving = n; stage = Holding t; seen = log })
 
-abbrev done : Known → ℕ → View
-done k t = Knows (record k { serving = t + 1; stage = Idle })
+  abbrev publishing : Known C R S → List (Entry C R) → View C R S
+  publishing k log = Knows (record k { seen = log })
 
-module _ {M C R : Type 0} (log : M → List (Entry C R)) where
-  abbrev Rule : changes.Table log → Type 0
-  Rule = changes.Rule log
+  abbrev done : Known C R S → ℕ → View C R S
+  done k t = Knows (record k { serving = t + 1; stage = Idle })
+
+module _ {M C R S : Type 0} (j : Readings M C R S) (opened : S) where
+  abbrev Rule : changes.Table j opened → Type 0
+  Rule = changes.Rule j opened
 
   abbrev Slots : Type 0
   Slots = List (ℕ × Option M)
 
-  -- a step on the word i, which becomes n, has a view and an act that keep the rule, and tells `then`
-  abbrev Goes : changes.Table log → ℕ → Slots → List ℕ → (View × Slots → Type 0) → Type 0
-  Goes s id c words then = (w : View) × (a : Act (Option M)) × Valid s.homes c a × Rule record { words = words; homes = homes_after s.homes c a; views = set s.views id w } × then (w, carried_after c a)
+  abbrev carried_first : Option M → Slots → Option M
+  carried_first none_there [] = none_there
+  carried_first none_there (x ∷ xs) = x.1
 
-  module _ (s : changes.Table log) (r : Rule s) (id : ℕ) (k : Known) (here : get_elem? s.views id ≡ some (Knows k)) (c : Slots) (st : Step (Option M)) where
-    learning : k.stage ≡ Idle → Rule record { words = r.next ∷ r.serving ∷ r.others; homes = s.homes; views = set s.views id (with_next k r.next) }
-    learning idle = changes.unmoved log s r id (Knows k) (with_next k r.next) here r.next r.fits (le_refl r.next) (le_refl r.next, (r.reached id (Knows k) here).1) refl refl
+  carries_one : (a b : M) → ◌≡◌ {A = Slots} ((0, Some a) ∷ []) ((0, Some b) ∷ []) → a ≡ b
+  carries_one a b e = let same : Some a ≡ Some b = ap (carried_first (Some a)) e in cc
+
+  -- a step on the word i, which becomes n, has a view and an act that keep the rule, and tells `then`
+  abbrev Goes : changes.Table j opened → ℕ → Slots → List ℕ → (View C R S × Slots → Type 0) → Type 0
+  Goes s id c words then = (w : View C R S) × (a : Act (Option M)) × Valid s.homes c a × Rule record { words = words; homes = homes_after s.homes c a; views = set s.views id w } × then (w, carried_after c a)
+
+  module _ (s : changes.Table j opened) (r : Rule s) (id : ℕ) (k : Known C R S) (here : get_elem? s.views id ≡ some (Knows k)) (c : Slots) (st : Step (Option M)) where
+    learning : k.stage ≡ Idle → Rule record { words = r.next ∷ r.serving ∷ r.mark ∷ r.others; homes = s.homes; views = set s.views id (with_next k r.next) }
+    learning idle = changes.unmoved j opened s r id (Knows k) (with_next k r.next) here r.next r.fits (le_refl r.next) (le_refl r.next, (r.reached id (Knows k) here).1) refl refl refl refl
         (λ t e. absurd (no_ticket k idle t e)) (λ seat t e _ _. no_ticket k idle t e)
 
-    drawing : (t : ℕ) → k.stage ≡ Idle → r.next ≡ t → t + 1 < 2 ^ 64 → Rule record { words = (t + 1) ∷ r.serving ∷ r.others; homes = s.homes; views = set s.views id (waiting k t) }
-    drawing t idle e room = changes.unmoved log s r id (Knows k) (waiting k t) here (t + 1) room (omega arith) (le_refl (t + 1), (r.reached id (Knows k) here).1) refl
-        (sym (ap held_at idle))
+    drawing : (t : ℕ) → k.stage ≡ Idle → r.next ≡ t → t + 1 < 2 ^ 64 → Rule record { words = (t + 1) ∷ r.serving ∷ r.mark ∷ r.others; homes = s.homes; views = set s.views id (waiting k t) }
+    drawing t idle e room = changes.unmoved j opened s r id (Knows k) (waiting k t) here (t + 1) room (omega arith) (le_refl (t + 1), (r.reached id (Knows k) here).1) refl
+        (sym (ap held_at idle)) refl refl
         (λ u same. let is : t ≡ u = cc in (let o = r.order in omega arith, omega arith))
         (λ seat u same other a. let is : t ≡ u = cc in let b = r.drawn seat u a in omega arith)
 
-    waits_on : (t : ℕ) → k.stage ≡ Waiting t → r.serving ≢ t → Goes s id c (r.next ∷ r.serving ∷ r.others) (looked log st (Knows k, c) r.serving)
+    waits_on : (t : ℕ) → k.stage ≡ Waiting t → r.serving ≢ t → Goes s id c (r.next ∷ r.serving ∷ r.mark ∷ r.others) (looked j st (Knows k, c) r.serving)
     waits_on t waits ne = let low = r.reached id (Knows k) here in (
       with_serving k r.serving,
       keeps,
       tt,
-      changes.unmoved log s r id (Knows k) (with_serving k r.serving) here r.next r.fits (le_refl r.next) (low.0, le_refl r.serving) refl refl (λ u e. r.drawn id u (Knows k, here, e))
+      changes.unmoved j opened s r id (Knows k) (with_serving k r.serving) here r.next r.fits (le_refl r.next) (low.0, le_refl r.serving) refl refl refl refl (λ u e. r.drawn id u (Knows k, here, e))
           (λ seat u e other a. other (r.tickets_apart seat id u a (Knows k, here, e))),
-      λ u is. let same : t ≡ u = cc in (record { numbers = refl; next = le_refl k.next; serving = low.1 }, (λ e. absurd (ne (e ∙ sym same))), λ _. (is, refl)),
+      λ u is. let same : t ≡ u = cc in (record { numbers = refl; setup = refl; next = le_refl k.next; serving = low.1 }, begins_same k.seen k.seen refl, (λ e. absurd (ne (e ∙ sym same))), λ _. (is, refl, refl)),
     )
 
     -- the journal is at home, and the seat takes it
     entering : (t : ℕ) → k.stage ≡ Waiting t → t ≡ r.serving → (journal : M) → s.homes ≡ some (Some journal) ∷ [] → NobodyHolds s.views
-        → Rule record { words = r.next ∷ r.serving ∷ r.others; homes = set s.homes 0 none; views = set s.views id (holding k r.serving t) }
-    entering t waits served journal home nobody = changes.changed log s r id (Knows k) (holding k r.serving t) here r.next r.serving (set s.homes 0 none) record {
+        → Rule record { words = r.next ∷ r.serving ∷ r.mark ∷ r.others; homes = set s.homes 0 none; views = set s.views id (holding k r.serving t r.front) }
+    entering t waits served journal home nobody = changes.changed j opened s r id (Knows k) (holding k r.serving t r.front) here r.next r.serving r.mark (set s.homes 0 none) r.front record {
       order = r.order;
       fits = r.fits;
       next_up = le_refl r.next;
       serving_up = le_refl r.serving;
       reached = ((r.reached id (Knows k) here).0, le_refl r.serving);
       numbers = refl;
+      setup = refl;
       others_drawn = λ seat u _ a. (r.drawn seat u a).0;
       drawn = λ u e. let is : t ≡ u = cc in r.drawn id u (Knows k, here, ap ticket_at waits ∙ ap (λ (n : ℕ). Some n) is);
       apart = λ seat u e other a. let is : t ≡ u = cc in other (r.tickets_apart seat id u a (Knows k, here, ap ticket_at waits ∙ ap (λ (n : ℕ). Some n) is));
       out = λ seat u a. (
-        ⊎_elim (λ (h : (seat ≡ id) × (held_of (holding k r.serving t) ≡ Some u)). let e = h.1 in let is : t ≡ u = cc in sym is ∙ served)
-            (λ (h : (seat ≢ id) × At held_of s.views seat u). absurd (nobody seat u h.1)) (at_after held_of s.views id (Knows k) (holding k r.serving t) here seat u a),
+        ⊎_elim (λ (h : (seat ≡ id) × (held_of (holding k r.serving t r.front) ≡ Some u)). let e = h.1 in let is : t ≡ u = cc in sym is ∙ served)
+            (λ (h : (seat ≢ id) × At held_of s.views seat u). absurd (nobody seat u h.1)) (at_after held_of s.views id (Knows k) (holding k r.serving t r.front) here seat u a),
         taken,
       );
-      home = λ none_holds. absurd (none_holds id t (at_new held_of s.views id (Knows k) (holding k r.serving t) here t refl));
-      served = λ other there. let gone = taken in absurd (cc);
+      home = λ none_holds. absurd (none_holds id t (at_new held_of s.views id (Knows k) (holding k r.serving t r.front) here t refl));
+      grows = begins_same r.front r.front refl;
+      others_held = λ seat u v _ at e. absurd (nobody seat u (v, at, e));
+      held = λ u e. refl;
+      rests = λ other there. let gone = taken in absurd (cc);
+      served = r.served;
+      legal = r.legal;
+      told = r.told;
+      begun = begins_same r.front r.front refl;
+      home_set_up = λ other there. let gone = taken in absurd (cc);
     }
       where
         taken : set s.homes 0 none ≡ none ∷ []
-        taken = ap (λ (hs : changes.Homes log). set hs 0 none) home
+        taken = ap (λ (hs : changes.Homes j opened). set hs 0 none) home
 
-    enters : (t : ℕ) → k.stage ≡ Waiting t → t ≡ r.serving → Goes s id c (r.next ∷ r.serving ∷ r.others) (looked log st (Knows k, c) r.serving)
-    enters t waits served = let low = r.reached id (Knows k) here in let nobody = changes.nobody_holds log s r id t k here waits served in let found = r.home nobody in (
-      holding k r.serving t,
+    -- what the seat then knows of it
+    entered : (t : ℕ) → t ≡ r.serving → (journal : M) → s.homes ≡ some (Some journal) ∷ [] → HasEntered j (holding k r.serving t r.front) t journal
+    entered t served journal home = record {
+      as_seen = record { setup = ap (λ (x : S). Some x) same_setup; log = (r.rests journal home).0 };
+      below = subst (λ (n : ℕ). AllBelow n r.front) (sym served) (r.rests journal home).1;
+      legal = subst (λ (x : S). IsLegal (j.reply_of x) r.front) (sym (r.home_set_up journal home)) r.legal;
+    }
+      where
+        same_setup : k.setup ≡ j.setup journal
+        same_setup = r.set_up id (Knows k) here ∙ sym (r.home_set_up journal home)
+
+    enters : (t : ℕ) → k.stage ≡ Waiting t → t ≡ r.serving → Goes s id c (r.next ∷ r.serving ∷ r.mark ∷ r.others) (looked j st (Knows k, c) r.serving)
+    enters t waits served = let low = r.reached id (Knows k) here in let nobody = changes.nobody_holds j opened s r id t k here waits served in let found = r.home nobody in (
+      holding k r.serving t r.front,
       takes 0 (Some found.0),
-      ap (λ (hs : changes.Homes log). get_elem? hs 0) found.1,
+      ap (λ (hs : changes.Homes j opened). get_elem? hs 0) found.1,
       entering t waits served found.0 found.1 nobody,
       λ u is. let same : t ≡ u = cc in (
-        record { numbers = refl; next = le_refl k.next; serving = low.1 },
-        (λ _. (ap (λ (n : ℕ). Some (Holding n)) same, (found.0, refl, subst (λ (n : ℕ). AllBelow n (log found.0)) (sym served ∙ same) (r.served found.0 found.1)))),
+        record { numbers = refl; setup = refl; next = le_refl k.next; serving = low.1 },
+        r.begun id (Knows k) here,
+        (λ _. (ap (λ (n : ℕ). Some (Holding n)) same, (found.0, refl, subst (λ (n : ℕ). HasEntered j (holding k r.serving t r.front) n found.0) same (entered t served found.0 found.1)))),
         λ ne. absurd (ne (sym served ∙ same)),
       ),
     )
 
+    -- what a seat that holds knows of the table
+    mine : (t : ℕ) → k.stage ≡ Holding t → At ticket_of s.views id t
+    mine t holds = (Knows k, here, ap ticket_at holds)
+
+    slot : (t : ℕ) → k.stage ≡ Holding t → (t ≡ r.serving) × (s.homes ≡ none ∷ [])
+    slot t holds = r.out id t (Knows k, here, ap held_at holds)
+
+    has_front : (t : ℕ) → k.stage ≡ Holding t → k.seen ≡ r.front
+    has_front t holds = r.held id t (Knows k) here (ap held_at holds)
+
+    alone : (t : ℕ) → k.stage ≡ Holding t → (seat u : ℕ) → seat ≢ id → At held_of s.views seat u → ⊥
+    alone t holds seat u other a = other (changes.holder_is j opened s r id t (mine t holds) (slot t holds).0 seat u a)
+
+    opened_so : (journal : M) → setup_of (Knows k) ≡ Some (j.setup journal) → j.setup journal ≡ opened
+    opened_so journal e = let same : k.setup ≡ j.setup journal = cc in sym same ∙ r.set_up id (Knows k) here
+
     -- the seat gives the journal back
-    leaving : (t : ℕ) (journal : M) → k.stage ≡ Holding t → AllBelow (t + 1) (log journal)
-        → Rule record { words = r.next ∷ (t + 1) ∷ r.others; homes = set s.homes 0 (some (Some journal)); views = set s.views id (done k t) }
-    leaving t journal holds below = changes.changed log s r id (Knows k) (done k t) here r.next (t + 1) (set s.homes 0 (some (Some journal))) record {
-      order = let d = (r.drawn id t mine).1 in omega arith;
+    leaving : (t : ℕ) (journal : M) → k.stage ≡ Holding t → IsAsSeen j (Knows k) journal
+        → Rule record { words = r.next ∷ (t + 1) ∷ r.mark ∷ r.others; homes = set s.homes 0 (some (Some journal)); views = set s.views id (done k t) }
+    leaving t journal holds seen = changes.changed j opened s r id (Knows k) (done k t) here r.next (t + 1) r.mark (set s.homes 0 (some (Some journal))) r.front record {
+      order = let d = (r.drawn id t (mine t holds)).1 in omega arith;
       fits = r.fits;
       next_up = le_refl r.next;
-      serving_up = let e = slot.0 in omega arith;
+      serving_up = let e = served in omega arith;
       reached = ((r.reached id (Knows k) here).0, le_refl (t + 1));
       numbers = refl;
-      others_drawn = λ seat u other a. let b = (r.drawn seat u a).0 in let e = slot.0 in
-          let ne : u ≢ t = λ is. other (r.tickets_apart seat id t (subst (At ticket_of s.views seat) is a) mine) in omega arith;
+      setup = refl;
+      others_drawn = λ seat u other a. let b = (r.drawn seat u a).0 in let e = served in
+          let ne : u ≢ t = λ is. other (r.tickets_apart seat id t (subst (At ticket_of s.views seat) is a) (mine t holds)) in omega arith;
       drawn = λ u e. absurd (cc);
       apart = λ seat u e _ _. cc;
       out = λ seat u a. ⊎_elim (λ (h : (seat ≡ id) × (held_of (done k t) ≡ Some u)). let e = h.1 in absurd (cc))
-          (λ (h : (seat ≢ id) × At held_of s.views seat u). absurd (h.0 (changes.holder_is log s r id t mine slot.0 seat u h.1))) (at_after held_of s.views id (Knows k) (done k t) here seat u a);
+          (λ (h : (seat ≢ id) × At held_of s.views seat u). absurd (alone t holds seat u h.0 h.1)) (at_after held_of s.views id (Knows k) (done k t) here seat u a);
       home = λ _. (journal, back);
-      served = λ other there. let is : journal ≡ other = let b = back in cc in subst (λ (m : M). AllBelow (t + 1) (log m)) is below;
+      grows = begins_same r.front r.front refl;
+      others_held = λ seat u v other at e. absurd (alone t holds seat u other (v, at, e));
+      held = λ u e. absurd (cc);
+      rests = λ other there. let is : journal ≡ other = let b = back in cc in subst (λ (m : M). (j.log m ≡ r.front) × AllBelow (t + 1) r.front) is (seen.log ∙ has_front t holds, below);
+      served = below_more r.front (t + 1) below;
+      legal = r.legal;
+      told = r.told;
+      begun = r.begun id (Knows k) here;
+      home_set_up = λ other there. let is : journal ≡ other = let b = back in cc in subst (λ (m : M). j.setup m ≡ opened) is (opened_so journal seen.setup);
     }
       where
-        mine : At ticket_of s.views id t
-        mine = (Knows k, here, ap ticket_at holds)
+        served : t ≡ r.serving
+        served = (slot t holds).0
 
-        slot : (t ≡ r.serving) × (s.homes ≡ none ∷ [])
-        slot = r.out id t (Knows k, here, ap held_at holds)
+        below : AllBelow (t + 1) r.front
+        below = subst (λ (n : ℕ). AllBelow (n + 1) r.front) (sym served) r.served
 
         back : set s.homes 0 (some (Some journal)) ≡ some (Some journal) ∷ []
-        back = ap (λ (hs : changes.Homes log). set hs 0 (some (Some journal))) slot.1
+        back = ap (λ (hs : changes.Homes j opened). set hs 0 (some (Some journal))) (slot t holds).1
 
-    leaves : (t : ℕ) (journal : M) → k.stage ≡ Holding t → AllBelow (t + 1) (log journal)
-        → Goes s id ((0, Some journal) ∷ []) (r.next ∷ ((r.serving + 1) % 2 ^ 64) ∷ r.others) (released st (Knows k, (0, Some journal) ∷ []) r.serving)
-    leaves t journal holds below = (
+    leaves : (t : ℕ) (journal : M) → k.stage ≡ Holding t → IsAsSeen j (Knows k) journal
+        → Goes s id ((0, Some journal) ∷ []) (r.next ∷ ((r.serving + 1) % 2 ^ 64) ∷ r.mark ∷ r.others) (released st (Knows k, (0, Some journal) ∷ []) r.serving)
+    leaves t journal holds seen = (
       done k t,
       gives,
       tt,
-      subst (λ (n : ℕ). Rule record { words = r.next ∷ n ∷ r.others; homes = set s.homes 0 (some (Some journal)); views = set s.views id (done k t) }) (sym up) (leaving t journal holds below),
-      λ u is. let same : t ≡ u = cc in (record { numbers = refl; next = le_refl k.next; serving = let l = (r.reached id (Knows k) here).1 in let e = served in omega arith }, refl, refl, ap (λ (n : ℕ). n + 1) same),
+      subst (λ (n : ℕ). Rule record { words = r.next ∷ n ∷ r.mark ∷ r.others; homes = set s.homes 0 (some (Some journal)); views = set s.views id (done k t) }) (sym up) (leaving t journal holds seen),
+      λ u is. let same : t ≡ u = cc in (
+        (record { numbers = refl; setup = refl; next = le_refl k.next; serving = let l = (r.reached id (Knows k) here).1 in let e = served in omega arith }, refl),
+        refl,
+        refl,
+        ap (λ (n : ℕ). n + 1) same,
+      ),
     )
       where
         served : t ≡ r.serving
-        served = (r.out id t (Knows k, here, ap held_at holds)).0
+        served = (slot t holds).0
 
         room : r.serving + 1 < 2 ^ 64
-        room = let d = (r.drawn id t (Knows k, here, ap ticket_at holds)).1 in let f = r.fits in let e = served in omega arith
+        room = let d = (r.drawn id t (mine t holds)).1 in let f = r.fits in let e = served in omega arith
 
         up : (r.serving + 1) % 2 ^ 64 ≡ t + 1
         up = mod-eq_of_lt room ∙ ap (λ (n : ℕ). n + 1) (sym served)
 
+    -- the log of a journal that is one entry ahead of the holder
+    legal : (t : ℕ) (journal : M) → k.stage ≡ Holding t → IsAhead j (Knows k) t journal → IsLegal (j.reply_of (j.setup journal)) (j.log journal)
+    legal t journal holds ahead = subst (IsLegal (j.reply_of (j.setup journal))) (sym ahead.log)
+        (legal_push (j.reply_of (j.setup journal)) k.seen ahead.last before ahead.follows)
+      where
+        before : IsLegal (j.reply_of (j.setup journal)) k.seen
+        before = subst (IsLegal (j.reply_of (j.setup journal))) (sym (has_front t holds))
+            (subst (λ (x : S). IsLegal (j.reply_of x) r.front) (sym (opened_so journal ahead.setup)) r.legal)
+
+    -- the seat publishes the log of the journal that it carries
+    tells : (t mark : ℕ) (journal : M) → k.stage ≡ Holding t → IsAhead j (Knows k) t journal → IsMarkOf j (j.setup journal) (j.log journal) mark
+        → Rule record { words = r.next ∷ r.serving ∷ mark ∷ r.others; homes = s.homes; views = set s.views id (publishing k (j.log journal)) }
+    tells t mark journal holds ahead is_mark = changes.changed j opened s r id (Knows k) (publishing k (j.log journal)) here r.next r.serving mark s.homes (j.log journal) record {
+      order = r.order;
+      fits = r.fits;
+      next_up = le_refl r.next;
+      serving_up = le_refl r.serving;
+      reached = r.reached id (Knows k) here;
+      numbers = refl;
+      setup = refl;
+      others_drawn = λ seat u _ a. (r.drawn seat u a).0;
+      drawn = λ u e. r.drawn id u (Knows k, here, e);
+      apart = λ seat u e other a. other (r.tickets_apart seat id u a (Knows k, here, e));
+      out = λ seat u a. r.out seat u (at_back held_of s.views id (Knows k) (publishing k (j.log journal)) here refl seat u a);
+      home = λ nobody. absurd (nobody id t (at_new held_of s.views id (Knows k) (publishing k (j.log journal)) here t (ap held_at holds)));
+      grows = (ahead.last ∷ [], grown);
+      others_held = λ seat u v other at e. absurd (alone t holds seat u other (v, at, e));
+      held = λ u e. refl;
+      rests = λ other there. let gone = (slot t holds).1 in absurd (cc);
+      served = subst (AllBelow (r.serving + 1)) (sym grown) (All-push (λ (e : Entry C R). e.ticket < r.serving + 1) r.front ahead.last r.served (let a = ahead.its_ticket in let b = (slot t holds).0 in omega arith));
+      legal = subst (λ (x : S). IsLegal (j.reply_of x) (j.log journal)) (opened_so journal ahead.setup) (legal t journal holds ahead);
+      told = subst (λ (x : S). IsMarkOf j x (j.log journal) mark) (opened_so journal ahead.setup) is_mark;
+      begun = begins_same (j.log journal) (j.log journal) refl;
+      home_set_up = λ other there. let gone = (slot t holds).1 in absurd (cc);
+    }
+      where
+        grown : j.log journal ≡ r.front ++ ahead.last ∷ []
+        grown = ahead.log ∙ ap (λ (l : List (Entry C R)). l ++ ahead.last ∷ []) (has_front t holds)
+
+    publishes_here : (t mark : ℕ) (journal : M) → k.stage ≡ Holding t → IsAhead j (Knows k) t journal → IsMarkOf j (j.setup journal) (j.log journal) mark
+        → Goes s id ((0, Some journal) ∷ []) (r.next ∷ r.serving ∷ mark ∷ r.others) (published j st (Knows k, (0, Some journal) ∷ []) mark)
+    publishes_here t mark journal holds ahead is_mark = (
+      publishing k (j.log journal),
+      keeps,
+      tt,
+      tells t mark journal holds ahead is_mark,
+      λ u other stands carries. let is : journal ≡ other = carries_one journal other carries in (
+        record { numbers = refl; setup = refl; next = le_refl k.next; serving = le_refl k.serving },
+        refl,
+        stands,
+        ap j.log is,
+        subst (λ (m : M). IsLegal (j.reply_of (j.setup m)) (j.log m)) is (legal t journal holds ahead),
+      ),
+    )
+
   -- an idle seat learns `next`
-  pub learns : (slots id : ℕ) (v : View) (c : Slots) (st : Step (Option M)) → stage_of v ≡ Some Idle → Allows Rule slots id (v, c) 0 (λ n. n) (learned st (v, c))
+  pub learns : (slots id : ℕ) (v : View C R S) (c : Slots) (st : Step (Option M)) → stage_of v ≡ Some Idle → Allows Rule slots id (v, c) 0 (λ n. n) (learned st (v, c))
   learns slots id Spent c st idle s r deep at fits = absurd (cc)
   learns slots id (Knows k) c st idle s r deep at fits =
       subst (λ (ws : List ℕ). Goes s id c (set ws 0 (get_or ws 0 0)) (learned st (Knows k, c) (get_or ws 0 0))) (sym r.words) (
@@ -169,42 +290,51 @@ module _ {M C R : Type 0} (log : M → List (Entry C R)) where
         keeps,
         tt,
         learning s r id k at c st (stage_is k Idle idle),
-        λ _. (record { numbers = refl; next = (r.reached id (Knows k) at).0; serving = le_refl k.serving }, refl, idle, refl),
+        λ _. ((record { numbers = refl; setup = refl; next = (r.reached id (Knows k) at).0; serving = le_refl k.serving }, refl), refl, idle, refl),
       )
 
   -- an idle seat draws the ticket t
-  pub draws : (slots id : ℕ) (v : View) (c : Slots) (t : ℕ) (st : Step (Option M)) → st.first ≡ t → t + 1 < 2 ^ 64 → stage_of v ≡ Some Idle
+  pub draws : (slots id : ℕ) (v : View C R S) (c : Slots) (t : ℕ) (st : Step (Option M)) → st.first ≡ t → t + 1 < 2 ^ 64 → stage_of v ≡ Some Idle
       → Allows Rule slots id (v, c) 0 (λ n. either (eqb n t) (t + 1) n) (drew st (v, c))
   draws slots id Spent c t st asked room idle s r deep at fits = absurd (cc)
   draws slots id (Knows k) c t st asked room idle s r deep at fits = let low = r.reached id (Knows k) at in
       subst (λ (ws : List ℕ). Goes s id c (set ws 0 (either (eqb (get_or ws 0 0) t) (t + 1) (get_or ws 0 0))) (drew st (Knows k, c) (get_or ws 0 0))) (sym r.words)
-      (exchanged r.next t (t + 1) (λ (n : ℕ). Goes s id c (n ∷ r.serving ∷ r.others) (drew st (Knows k, c) r.next))
+      (exchanged r.next t (t + 1) (λ (n : ℕ). Goes s id c (n ∷ r.serving ∷ r.mark ∷ r.others) (drew st (Knows k, c) r.next))
       (λ e. (
         waiting k t,
         keeps,
         tt,
         drawing s r id k at c st t (stage_is k Idle idle) e room,
-        λ _. (record { numbers = refl; next = let l : k.next ≤ r.next = low.0 in omega arith; serving = le_refl k.serving }, refl, (λ _. ap (λ (n : ℕ). Some (Waiting n)) (sym asked)), λ other. absurd (other (e ∙ sym asked))),
+        λ _. ((record { numbers = refl; setup = refl; next = let l : k.next ≤ r.next = low.0 in omega arith; serving = le_refl k.serving }, refl), refl, (λ _. ap (λ (n : ℕ). Some (Waiting n)) (sym asked)), λ other. absurd (other (e ∙ sym asked))),
       ))
       (λ ne. (
         with_next k r.next,
         keeps,
         tt,
         learning s r id k at c st (stage_is k Idle idle),
-        λ _. (record { numbers = refl; next = low.0; serving = le_refl k.serving }, refl, (λ e. absurd (ne (e ∙ asked))), λ _. (idle, refl)),
+        λ _. ((record { numbers = refl; setup = refl; next = low.0; serving = le_refl k.serving }, refl), refl, (λ e. absurd (ne (e ∙ asked))), λ _. (idle, refl)),
       )))
 
   -- a waiting seat looks at `serving`, and takes the journal where its ticket is served
-  pub looks : (slots id : ℕ) (v : View) (c : Slots) (t : ℕ) (st : Step (Option M)) → stage_of v ≡ Some (Waiting t) → Allows Rule slots id (v, c) 1 (λ n. n) (looked log st (v, c))
+  pub looks : (slots id : ℕ) (v : View C R S) (c : Slots) (t : ℕ) (st : Step (Option M)) → stage_of v ≡ Some (Waiting t) → Allows Rule slots id (v, c) 1 (λ n. n) (looked j st (v, c))
   looks slots id Spent c t st waits s r deep at fits = absurd (cc)
   looks slots id (Knows k) c t st waits s r deep at fits =
-      subst (λ (ws : List ℕ). Goes s id c (set ws 1 (get_or ws 1 0)) (looked log st (Knows k, c) (get_or ws 1 0))) (sym r.words)
+      subst (λ (ws : List ℕ). Goes s id c (set ws 1 (get_or ws 1 0)) (looked j st (Knows k, c) (get_or ws 1 0))) (sym r.words)
       (dite (ℕ_discrete t r.serving) (λ e. enters s r id k at c st t (stage_is k (Waiting t) waits) e) (λ ne. waits_on s r id k at c st t (stage_is k (Waiting t) waits) (λ e. ne (sym e))))
 
   -- a holding seat gives the journal back, and the next ticket is served
-  pub releases : (slots id : ℕ) (v : View) (journal : M) (t : ℕ) (st : Step (Option M)) → stage_of v ≡ Some (Holding t) → AllBelow (t + 1) (log journal)
+  pub releases : (slots id : ℕ) (v : View C R S) (journal : M) (t : ℕ) (st : Step (Option M)) → stage_of v ≡ Some (Holding t) → IsAsSeen j v journal
       → Allows Rule slots id (v, (0, Some journal) ∷ []) 1 (λ n. (n + 1) % 2 ^ 64) (released st (v, (0, Some journal) ∷ []))
-  releases slots id Spent journal t st holds below s r deep at fits = absurd (cc)
-  releases slots id (Knows k) journal t st holds below s r deep at fits =
+  releases slots id Spent journal t st holds seen s r deep at fits = absurd (cc)
+  releases slots id (Knows k) journal t st holds seen s r deep at fits =
       subst (λ (ws : List ℕ). Goes s id ((0, Some journal) ∷ []) (set ws 1 ((get_or ws 1 0 + 1) % 2 ^ 64)) (released st (Knows k, (0, Some journal) ∷ []) (get_or ws 1 0))) (sym r.words)
-      (leaves s r id k at [] st t journal (stage_is k (Holding t) holds) below)
+      (leaves s r id k at [] st t journal (stage_is k (Holding t) holds) seen)
+
+  -- a holding seat stores the mark of the journal that it carries, which is one entry ahead
+  pub publishes : (slots id : ℕ) (v : View C R S) (journal : M) (t mark : ℕ) (st : Step (Option M)) → stage_of v ≡ Some (Holding t) → IsAhead j v t journal
+      → IsMarkOf j (j.setup journal) (j.log journal) mark
+      → Allows Rule slots id (v, (0, Some journal) ∷ []) 2 (λ _. mark) (λ _. published j st (v, (0, Some journal) ∷ []) mark)
+  publishes slots id Spent journal t mark st holds ahead is_mark s r deep at fits = absurd (cc)
+  publishes slots id (Knows k) journal t mark st holds ahead is_mark s r deep at fits =
+      subst (λ (ws : List ℕ). Goes s id ((0, Some journal) ∷ []) (set ws 2 mark) (published j st (Knows k, (0, Some journal) ∷ []) mark)) (sym r.words)
+      (publishes_here s r id k at [] st t mark journal (stage_is k (Holding t) holds) ahead is_mark)

@@ -14,7 +14,14 @@ inside [] j b e = absurd (some-ne-none b (sym e))
 inside (x ∷ xs) zero b e = omega arith
 inside (x ∷ xs) (suc j) b e = let l = inside xs j b e in omega arith
 
-module _ {X : Type 0} (of : View → Option X) (views : List View) (id : ℕ) (v w : View) (here : get_elem? views id ≡ some v) where
+-- what holds of each seat, after one has changed
+pub each_after : {C R S : Type 0} (P : View C R S → Type 0) (views : List (View C R S)) (id : ℕ) (w : View C R S) → P w
+    → ((seat : ℕ) (u : View C R S) → seat ≢ id → get_elem? views seat ≡ some u → P u)
+    → (seat : ℕ) (u : View C R S) → get_elem? (set views id w) seat ≡ some u → P u
+each_after P views id w new others seat u at = ⊎_elim (λ (t : (seat ≡ id) × (w ≡ u)). subst P t.1 new)
+    (λ (t : (seat ≢ id) × (get_elem? views seat ≡ some u)). others seat u t.0 t.1) (at_set views id seat w u at)
+
+module _ {C R S X : Type 0} (of : View C R S → Option X) (views : List (View C R S)) (id : ℕ) (v w : View C R S) (here : get_elem? views id ≡ some v) where
   -- what stands at a seat after the change stood there before, or is new at the seat id
   pub at_after : (seat : ℕ) (x : X) → At of (set views id w) seat x → ((seat ≡ id) × (of w ≡ Some x)) ⊎ ((seat ≢ id) × At of views seat x)
   at_after seat x a = ⊎_elim (λ (t : (seat ≡ id) × (w ≡ a.0)). inl (t.0, ap of t.1 ∙ a.2))

@@ -14,7 +14,7 @@ module _ {C R : Type 0} where
   pub above_last : (log : List (Entry C R)) (t : ℕ) → AllBelow t log → IsAboveLast log t
   above_last log t below = at_below log t (length log - 1) below
 
-  below_more : (log : List (Entry C R)) (t : ℕ) → AllBelow t log → AllBelow (t + 1) log
+  pub below_more : (log : List (Entry C R)) (t : ℕ) → AllBelow t log → AllBelow (t + 1) log
   below_more log t below k d l = let b = below k d l in omega arith
 
   -- an entry with the ticket t, or none, is added to a log whose tickets are below t

@@ -1,6 +1,4 @@
 -- What a call that failed tells.
-use Rattle.std.specs.Prelude.{◌≡◌, ℕ, ◌<◌, List, length}
-use Rattle.ra_ticket.specs.declared.entry.Entry.{Entry}
 use Rattle.ra_ticket.specs.declared.journal.StepFault as step
 use Rattle.ra_ticket.specs.declared.journal.StepFault.TheVariants as step_is
 use Rattle.ra_ticket.specs.declared.fault.CallFault.{CallFault}
@@ -30,10 +28,3 @@ module _ {C : Type 0} where
   abbrev pub fault_of_step : step.StepFault C → CallFault C
   fault_of_step (step_is.Full command) = Full command
   fault_of_step (step_is.NoMemory command) = NoMemory command
-
--- some log has as many entries as its setup allows, which are some
-pub record IsAtLimit (C R : Type 0) {S : Type 0} (limit_of : S → ℕ) : Type 0 where
-  pub setup : S
-  pub log : List (Entry C R)
-  pub some : 0 < limit_of setup
-  pub full : length log ≡ limit_of setup

@@ -1,4 +1,5 @@
 pub mod Log
+pub mod Mark
 pub mod Faults
 pub mod Views
 pub mod Rule

@@ -1,9 +1,22 @@
 -- Logs of calls, as a journal keeps them.
-use Rattle.std.specs.Prelude.{◌≡◌, ℕ, ◌-◌, ◌<◌, List, length, All, Option, option_map, slice_get}
+use Rattle.std.specs.Prelude.{◌≡◌, ℕ, ◌-◌, ◌<◌, List, [], ◌∷◌, ◌++◌, length, All, Option, option_map, slice_get}
 use Rattle.std.specs.Option.{ForSome}
 use Rattle.ra_ticket.specs.declared.entry.Entry.{Entry}
 use Rattle.ra_ticket.specs.declared.journal.StepFault.{StepFault}
 use Rattle.ra_ticket.specs.declared.journal.StepFault.TheVariants.{Full, NoMemory}
+
+-- what the lock reads off a journal: its setup and log, and what a log under a setup makes of a command and of the
+-- fault
+pub record Readings (M C R S : Type 0) : Type 0 where
+  pub setup : M → S
+  pub log : M → List (Entry C R)
+  pub reply_of : S → List (Entry C R) → C → R
+  pub fault_of : S → List (Entry C R) → Option ℕ
+
+abbrev pub readings : {M C R S : Type 0} → (M → S) → (M → List (Entry C R)) → (S → List (Entry C R) → C → R)
+    → (S → List (Entry C R) → Option ℕ) → Readings M C R S
+readings setup log reply_of fault_of =
+    record { setup = setup; log = log; reply_of = reply_of; fault_of = fault_of }
 
 module _ {C R : Type 0} where
   abbrev pub entry : ℕ → ℕ → C → R → Entry C R
@@ -21,17 +34,25 @@ module _ {C R : Type 0} where
   abbrev pub AllBelow : ℕ → List (Entry C R) → Type 0
   AllBelow ticket log = All (λ e. e.ticket < ticket) log
 
+  -- the log begins with these entries
+  abbrev pub BeginsWith : List (Entry C R) → List (Entry C R) → Type 0
+  BeginsWith log first = (rest : List (Entry C R)) × (log ≡ first ++ rest)
+
+  -- a legal log: each reply is the answer after the entries before it, and tickets rise strictly
+  module _ (answer_after : List (Entry C R) → C → R) where
+    -- the entry may come next
+    abbrev pub MayFollow : List (Entry C R) → Entry C R → Type 0
+    MayFollow before e = (e.reply ≡ answer_after before e.command) × IsAboveLast before e.ticket
+
+    -- each of the entries may follow those before it, of which the first ones are given
+    abbrev pub IsLegalAfter : List (Entry C R) → List (Entry C R) → Type 0
+    IsLegalAfter before [] = Unit {0}
+    IsLegalAfter before (e ∷ rest) = MayFollow before e × IsLegalAfter (before ++ e ∷ []) rest
+
+    abbrev pub IsLegal : List (Entry C R) → Type 0
+    IsLegal log = IsLegalAfter [] log
+
 -- the command that a fault of a step hands back
 abbrev pub unstepped : {C : Type 0} → StepFault C → C
 unstepped (Full command) = command
 unstepped (NoMemory command) = command
-
--- After some log under some setup the journal answers the command with this reply. The ticket of the call is above
--- that log's last.
-pub record IsAnswer {C R S : Type 0} (reply_of : S → List (Entry C R) → C → R) (command : C) (reply : R) : Type 0
-  where
-    pub setup : S
-    pub log : List (Entry C R)
-    pub ticket : ℕ
-    pub above : IsAboveLast log ticket
-    pub is : reply ≡ reply_of setup log command

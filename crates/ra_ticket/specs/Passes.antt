@@ -1,9 +1,11 @@
 -- What callers see of a lock and its passes.
-use Rattle.std.specs.Prelude.{◌≡◌, ℕ, ◌≤◌}
+use Rattle.std.specs.Prelude.{◌≡◌, ℕ, ◌≤◌, List, [], ◌∷◌, ◌++◌, Option, IfSome}
+use Rattle.ra_ticket.specs.declared.entry.Entry.{Entry}
 use Rattle.ra_ticket.specs.declared.journal.Journal.{Ghosts}
 use Rattle.ra_ticket.specs.declared.lock.TicketLock.{TicketLock}
 use Rattle.ra_ticket.specs.declared.pass.Pass.{Pass}
-use Rattle.ra_ticket.specs.Views.{next_of, serving_of}
+use Rattle.ra_ticket.specs.Views.{next_of, serving_of, setup_of, seen_of}
+use Rattle.ra_ticket.specs.Log.{entry, BeginsWith, IsLegal}
 
 module _ {M C R S : Type 0} {g : Ghosts M C R S} where
   abbrev pub number_of : Pass M C R S g → ℕ
@@ -16,13 +18,34 @@ module _ {M C R S : Type 0} {g : Ghosts M C R S} where
   abbrev pub serving_reached : Pass M C R S g → ℕ
   serving_reached p = serving_of p.seat.me.0
 
+  -- the setup of the journal, as `open` gave it
+  abbrev pub pass_setup : Pass M C R S g → Option S
+  pass_setup p = setup_of p.seat.me.0
+
+  -- the log as far as the pass has seen it
+  abbrev pub seen : Pass M C R S g → List (Entry C R)
+  seen p = seen_of p.seat.me.0
+
+  -- what it has seen is a legal log under its setup
+  abbrev pub KnowsLegal : (S → List (Entry C R) → C → R) → Pass M C R S g → Type 0
+  KnowsLegal reply_of p = IfSome (pass_setup p) (λ s. IsLegal (reply_of s) (seen p))
+
   -- the lock gave this pass
   abbrev pub IsPassOf : TicketLock M C R S → Pass M C R S g → Type 0
   IsPassOf lock p = p.seat.table_id ≡ lock.table.shared.table_id
 
-  -- the same pass of the same lock, which knows no less of the words
+  -- the same pass of the same lock, which knows no less of the words and of the log
   pub record IsSamePass (p q : Pass M C R S g) : Type 0 where
     pub number : number_of q ≡ number_of p
     pub lock : q.seat.table_id ≡ p.seat.table_id
     pub next : next_reached p ≤ next_reached q
     pub serving : serving_reached p ≤ serving_reached q
+    pub setup : pass_setup q ≡ pass_setup p
+    pub seen_more : BeginsWith (seen q) (seen p)
+
+  -- what the pass has seen ends with this call of its own, which comes after all that it had seen before
+  pub record IsLogged (p q : Pass M C R S g) (command : C) (reply : R) : Type 0 where
+    pub before : List (Entry C R)
+    pub ticket : ℕ
+    pub begins : BeginsWith before (seen p)
+    pub last : seen q ≡ before ++ entry (number_of p) ticket command reply ∷ []

@@ -1,37 +1,41 @@
 -- The rule of the lock, which holds between any two steps.
-use Rattle.std.specs.Prelude.{◌≡◌, ℕ, ◌^◌, ◌<◌, ◌≤◌, List, [], ◌∷◌, Option, Some}
+use Rattle.std.specs.Prelude.{◌≡◌, ℕ, ◌+◌, ◌^◌, ◌<◌, ◌≤◌, List, [], ◌∷◌, Option, Some, IfSome}
 use mathlib.Core.Option.{some, none}
 use lib.ListN.{get_elem?}
 use Rattle.atomic_table.specs.Table.{State}
 use Rattle.ra_ticket.specs.declared.entry.Entry.{Entry}
 use Rattle.ra_ticket.specs.declared.board.View.{View}
-use Rattle.ra_ticket.specs.Log.{AllBelow}
-use Rattle.ra_ticket.specs.Views.{numbers_of, next_of, serving_of, ticket_of, held_of}
+use Rattle.ra_ticket.specs.Log.{Readings, AllBelow, BeginsWith, IsLegal}
+use Rattle.ra_ticket.specs.Mark.{IsMarkOf}
+use Rattle.ra_ticket.specs.Views.{numbers_of, next_of, serving_of, ticket_of, held_of, setup_of, seen_of}
 
--- the view at a seat has the value x, by this reading of views
-abbrev pub At : {X : Type 0} → (View → Option X) → List View → ℕ → X → Type 0
-At of views seat x = (v : View) × (get_elem? views seat ≡ some v) × (of v ≡ Some x)
+module _ {C R S : Type 0} where
+  -- the view at a seat has the value x, by this reading of views
+  abbrev pub At : {X : Type 0} → (View C R S → Option X) → List (View C R S) → ℕ → X → Type 0
+  At of views seat x = (v : View C R S) × (get_elem? views seat ≡ some v) × (of v ≡ Some x)
 
--- the pass of this number is the k-th at a seat
-abbrev pub SitsAt : List View → ℕ → ℕ → ℕ → Type 0
-SitsAt views seat k number =
-    (v : View) × (get_elem? views seat ≡ some v) × (get_elem? (numbers_of v) k ≡ some number)
+  -- the pass of this number is the k-th at a seat
+  abbrev pub SitsAt : List (View C R S) → ℕ → ℕ → ℕ → Type 0
+  SitsAt views seat k number =
+      (v : View C R S) × (get_elem? views seat ≡ some v) × (get_elem? (numbers_of v) k ≡ some number)
 
--- no seat holds the slot
-abbrev pub NobodyHolds : List View → Type 0
-NobodyHolds views = (seat ticket : ℕ) → ¬ (At held_of views seat ticket)
+  -- no seat holds the slot
+  abbrev pub NobodyHolds : List (View C R S) → Type 0
+  NobodyHolds views = (seat ticket : ℕ) → ¬ (At held_of views seat ticket)
 
-module _ {M C R : Type 0} (log : M → List (Entry C R)) where
-  pub record TurnsKept (s : State (Option M) View) : Type 0 where
-    -- the words begin with `next` and `serving`
+-- the rule of a lock over a journal that is read so, which was opened with this setup
+module _ {M C R S : Type 0} (j : Readings M C R S) (opened : S) where
+  pub record TurnsKept (s : State (Option M) (View C R S)) : Type 0 where
+    -- the words begin with `next`, `serving` and `mark`
     pub next : ℕ
     pub serving : ℕ
+    pub mark : ℕ
     pub others : List ℕ
-    pub words : s.words ≡ next ∷ serving ∷ others
+    pub words : s.words ≡ next ∷ serving ∷ mark ∷ others
     -- bounds: `serving` is at most `next`, which fits its word, and no seat knows of more than the words have reached
     pub order : serving ≤ next
     pub fits : next < 2 ^ 64
-    pub reached : (seat : ℕ) (v : View) → get_elem? s.views seat ≡ some v
+    pub reached : (seat : ℕ) (v : View C R S) → get_elem? s.views seat ≡ some v
         → (next_of v ≤ next) × (serving_of v ≤ serving)
     -- tickets: those that are out lie from `serving` up to below `next`, and no two seats have the same
     pub drawn : (seat ticket : ℕ) → At ticket_of s.views seat ticket → (serving ≤ ticket) × (ticket < next)
@@ -40,8 +44,23 @@ module _ {M C R : Type 0} (log : M → List (Entry C R)) where
     pub out : (seat ticket : ℕ) → At held_of s.views seat ticket → (ticket ≡ serving) × (s.homes ≡ none ∷ [])
     -- where none holds, the slot is at home with a journal
     pub home : NobodyHolds s.views → (journal : M) × (s.homes ≡ some (Some journal) ∷ [])
-    -- all tickets in the log of the journal at home are below `serving`
-    pub served : (journal : M) → s.homes ≡ some (Some journal) ∷ [] → AllBelow serving (log journal)
+    -- front: what the holder has seen, or else the log of the journal at home. All its tickets are below `serving`,
+    -- that of the holder's own entry excepted
+    pub front : List (Entry C R)
+    pub held : (seat ticket : ℕ) (v : View C R S) → get_elem? s.views seat ≡ some v → held_of v ≡ Some ticket
+        → seen_of v ≡ front
+    pub rests : (journal : M) → s.homes ≡ some (Some journal) ∷ []
+        → (j.log journal ≡ front) × AllBelow serving front
+    pub served : AllBelow (serving + 1) front
+    pub legal : IsLegal (j.reply_of opened) front
+    -- mark
+    pub told : IsMarkOf j opened front mark
+    -- knowledge: each seat has seen a beginning of the front
+    pub begun : (seat : ℕ) (v : View C R S) → get_elem? s.views seat ≡ some v → BeginsWith front (seen_of v)
     -- seats: each pass sits in one place
-    pub passes_apart : (a b j k number : ℕ) → SitsAt s.views a j number → SitsAt s.views b k number
-        → (a ≡ b) × (j ≡ k)
+    pub passes_apart : (a b k l number : ℕ) → SitsAt s.views a k number → SitsAt s.views b l number
+        → (a ≡ b) × (k ≡ l)
+    -- each seat has the setup of the opening, and so has the journal at home
+    pub set_up : (seat : ℕ) (v : View C R S) → get_elem? s.views seat ≡ some v
+        → IfSome (setup_of v) (λ x. x ≡ opened)
+    pub home_set_up : (journal : M) → s.homes ≡ some (Some journal) ∷ [] → j.setup journal ≡ opened

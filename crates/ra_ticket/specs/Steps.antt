@@ -1,60 +1,107 @@
 -- What each step on the table tells the seat that made it.
-use Rattle.std.specs.Prelude.{◌≡◌, ◌≢◌, ℕ, ◌+◌, ◌<◌, ◌≤◌, List, [], ◌∷◌, Option, Some}
+use Rattle.std.specs.Prelude.{◌≡◌, ◌≢◌, ℕ, ◌+◌, ◌<◌, ◌≤◌, [], ◌∷◌, ◌++◌, Option, Some, None}
 use Rattle.atomic_table.specs.Table.{Me, Step, rest}
 use Rattle.atomic_table.specs.Seated.{TableId}
 use Rattle.atomic_table.specs.declared.shared.Seat.{Seat}
 use Rattle.ra_ticket.specs.declared.entry.Entry.{Entry}
 use Rattle.ra_ticket.specs.declared.board.View.{View}
 use Rattle.ra_ticket.specs.declared.board.Stage.TheVariants.{Idle, Waiting, Holding}
-use Rattle.ra_ticket.specs.Log.{AllBelow}
-use Rattle.ra_ticket.specs.Views.{stage_of, numbers_of, next_of, serving_of}
+use Rattle.ra_ticket.specs.Log.{Readings, AllBelow, BeginsWith, MayFollow, IsLegal}
+use Rattle.ra_ticket.specs.Mark.{IsMarkOf}
+use Rattle.ra_ticket.specs.Views.{stage_of, numbers_of, next_of, serving_of, setup_of, seen_of}
 
--- the same passes, and no less is known of the words
-pub record Stays (v w : View) : Type 0 where
-  pub numbers : numbers_of w ≡ numbers_of v
-  pub next : next_of v ≤ next_of w
-  pub serving : serving_of v ≤ serving_of w
+module _ {C R S : Type 0} where
+  -- the same passes and setup, and no less is known of the words
+  pub record Stays (v w : View C R S) : Type 0 where
+    pub numbers : numbers_of w ≡ numbers_of v
+    pub setup : setup_of w ≡ setup_of v
+    pub next : next_of v ≤ next_of w
+    pub serving : serving_of v ≤ serving_of w
 
-abbrev Sat : Type 0 → Type 0
-Sat M = Me (Option M) View
+  -- and the same entries are seen
+  abbrev pub SeesTheSame : View C R S → View C R S → Type 0
+  SeesTheSame v w = Stays v w × (seen_of w ≡ seen_of v)
 
-module _ {M : Type 0} where
+module _ {M C R S : Type 0} (j : Readings M C R S) where
+  -- the journal is as the seat has seen it
+  pub record IsAsSeen (v : View C R S) (journal : M) : Type 0 where
+    pub setup : setup_of v ≡ Some (j.setup journal)
+    pub log : j.log journal ≡ seen_of v
+
+  -- the seat has entered with this ticket, and found this journal: its log is legal and its tickets are below
+  pub record HasEntered (v : View C R S) (ticket : ℕ) (journal : M) : Type 0 where
+    pub as_seen : IsAsSeen v journal
+    pub below : AllBelow ticket (seen_of v)
+    pub legal : IsLegal (j.reply_of (j.setup journal)) (seen_of v)
+
+  -- the journal is one entry, with this ticket, ahead of what the seat has seen
+  pub record IsAhead (v : View C R S) (ticket : ℕ) (journal : M) : Type 0 where
+    pub setup : setup_of v ≡ Some (j.setup journal)
+    pub last : Entry C R
+    pub log : j.log journal ≡ seen_of v ++ last ∷ []
+    pub its_ticket : last.ticket ≡ ticket
+    pub follows : MayFollow (j.reply_of (j.setup journal)) (seen_of v) last
+
+abbrev Sat : Type 0 → Type 0 → Type 0 → Type 0 → Type 0
+Sat M C R S = Me (Option M) (View C R S)
+
+module _ {M C R S : Type 0} where
   -- an idle seat learns `next`
-  abbrev pub learned : Step (Option M) → Sat M → ℕ → Sat M → Type 0
+  abbrev pub learned : Step (Option M) → Sat M C R S → ℕ → Sat M C R S → Type 0
   learned step m found m' = stage_of m.0 ≡ Some Idle
-      → Stays m.0 m'.0 × (m'.1 ≡ m.1) × (stage_of m'.0 ≡ Some Idle) × (next_of m'.0 ≡ found)
+      → SeesTheSame m.0 m'.0 × (m'.1 ≡ m.1) × (stage_of m'.0 ≡ Some Idle) × (next_of m'.0 ≡ found)
 
   -- an idle seat draws the ticket, where `next` was it
-  abbrev pub drew : Step (Option M) → Sat M → ℕ → Sat M → Type 0
-  drew step m found m' = stage_of m.0 ≡ Some Idle → Stays m.0 m'.0 × (m'.1 ≡ m.1)
+  abbrev pub drew : Step (Option M) → Sat M C R S → ℕ → Sat M C R S → Type 0
+  drew step m found m' = stage_of m.0 ≡ Some Idle → SeesTheSame m.0 m'.0 × (m'.1 ≡ m.1)
       × (found ≡ step.first → stage_of m'.0 ≡ Some (Waiting step.first))
       × (found ≢ step.first → (stage_of m'.0 ≡ Some Idle) × (next_of m'.0 ≡ found))
 
-  -- a waiting seat takes the journal, where its ticket is served: the tickets in the journal's log are below its own
-  abbrev pub looked : {C R : Type 0} → (M → List (Entry C R)) → Step (Option M) → Sat M → ℕ → Sat M → Type 0
-  looked log step m found m' = (t : ℕ) → stage_of m.0 ≡ Some (Waiting t) → Stays m.0 m'.0
+  -- a waiting seat takes the journal and sees its log, where its ticket is served
+  abbrev pub looked : Readings M C R S → Step (Option M) → Sat M C R S → ℕ → Sat M C R S → Type 0
+  looked j step m found m' = (t : ℕ) → stage_of m.0 ≡ Some (Waiting t)
+      → Stays m.0 m'.0 × BeginsWith (seen_of m'.0) (seen_of m.0)
       × (found ≡ t → (stage_of m'.0 ≡ Some (Holding t))
-      × ((journal : M) × (m'.1 ≡ (0, Some journal) ∷ m.1) × AllBelow t (log journal)))
-      × (found ≢ t → (stage_of m'.0 ≡ Some (Waiting t)) × (m'.1 ≡ m.1))
+      × ((journal : M) × (m'.1 ≡ (0, Some journal) ∷ m.1) × HasEntered j m'.0 t journal))
+      × (found ≢ t → (stage_of m'.0 ≡ Some (Waiting t)) × (m'.1 ≡ m.1) × (seen_of m'.0 ≡ seen_of m.0))
+
+  -- a holding seat publishes the log of the journal that it carries
+  abbrev pub published : Readings M C R S → Step (Option M) → Sat M C R S → ℕ → Sat M C R S → Type 0
+  published j step m found m' = (t : ℕ) (journal : M) → stage_of m.0 ≡ Some (Holding t)
+      → m.1 ≡ (0, Some journal) ∷ []
+      → Stays m.0 m'.0 × (m'.1 ≡ m.1) × (stage_of m'.0 ≡ Some (Holding t)) × (seen_of m'.0 ≡ j.log journal)
+      × IsLegal (j.reply_of (j.setup journal)) (j.log journal)
 
   -- a holding seat gives the journal back, and the next ticket is served
-  abbrev pub released : Step (Option M) → Sat M → ℕ → Sat M → Type 0
+  abbrev pub released : Step (Option M) → Sat M C R S → ℕ → Sat M C R S → Type 0
   released step m found m' = (t : ℕ) → stage_of m.0 ≡ Some (Holding t)
-      → Stays m.0 m'.0 × (m'.1 ≡ rest m.1) × (stage_of m'.0 ≡ Some Idle) × (serving_of m'.0 ≡ t + 1)
+      → SeesTheSame m.0 m'.0 × (m'.1 ≡ rest m.1) × (stage_of m'.0 ≡ Some Idle) × (serving_of m'.0 ≡ t + 1)
 
--- it is the same seat, and knows no less
-abbrev pub IsSameSeat : {S : Type 0} → Seat S View → Seat S View → Type 0
+-- it is the same seat, and knows no less of the words
+abbrev pub IsSameSeat : {X C R S : Type 0} → Seat X (View C R S) → Seat X (View C R S) → Type 0
 IsSameSeat s t = (t.table_id ≡ s.table_id) × (t.id ≡ s.id) × Stays s.me.0 t.me.0
 
--- a seat at this table, which has both words
+-- a seat at this table, which has the three words
 abbrev pub IsSeated : TableId → TableId → Type 0
-IsSeated seat table = (seat ≡ table) × (1 < table.words)
+IsSeated seat table = (seat ≡ table) × (2 < table.words)
 
-module _ {M C R : Type 0} (log : M → List (Entry C R)) where
-  -- the seat has the slot with a journal in whose log all tickets are below this one
-  abbrev pub Carries : Seat (Option M) View → ℕ → Type 0
-  Carries s ticket = (journal : M) × (s.me.1 ≡ (0, Some journal) ∷ []) × AllBelow ticket (log journal)
+module _ {M C R S : Type 0} (j : Readings M C R S) where
+  -- the seat has the slot with the journal that it found
+  abbrev pub Carries : Seat (Option M) (View C R S) → ℕ → Type 0
+  Carries s ticket = (journal : M) × (s.me.1 ≡ (0, Some journal) ∷ []) × HasEntered j s.me.0 ticket journal
 
-  -- the seat holds by some ticket, and no ticket in its journal's log is above that
-  abbrev pub HoldsServed : Seat (Option M) View → Type 0
-  HoldsServed s = (ticket : ℕ) × (stage_of s.me.0 ≡ Some (Holding ticket)) × Carries s (ticket + 1)
+  -- the seat holds by some ticket, and the journal in its slot is as it has seen it
+  abbrev pub HoldsPublished : Seat (Option M) (View C R S) → Type 0
+  HoldsPublished s = (ticket : ℕ) × (stage_of s.me.0 ≡ Some (Holding ticket))
+      × ((journal : M) × (s.me.1 ≡ (0, Some journal) ∷ []) × IsAsSeen j s.me.0 journal)
+
+  -- the seat holds by some ticket, its slot is empty, and the journal is one entry ahead of what it has seen
+  abbrev pub HoldsAhead : Seat (Option M) (View C R S) → M → Type 0
+  HoldsAhead s journal = (ticket : ℕ) × (stage_of s.me.0 ≡ Some (Holding ticket))
+      × (s.me.1 ≡ (0, None) ∷ []) × IsAhead j s.me.0 ticket journal
+
+  -- the same with the journal in the slot, and this is its mark
+  abbrev pub MayPublish : Seat (Option M) (View C R S) → ℕ → Type 0
+  MayPublish s mark = (ticket : ℕ) × (stage_of s.me.0 ≡ Some (Holding ticket))
+      × ((journal : M) × (s.me.1 ≡ (0, Some journal) ∷ []) × IsAhead j s.me.0 ticket journal
+      × IsMarkOf j (j.setup journal) (j.log journal) mark)

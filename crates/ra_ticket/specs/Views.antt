@@ -1,30 +1,11 @@
 -- What a seat at the lock's table knows.
 use Rattle.std.specs.Prelude.{ℕ, List, [], ◌∷◌, Option, Some, None}
 use Rattle.std.specs.List.{range_with_len}
+use Rattle.ra_ticket.specs.declared.entry.Entry.{Entry}
 use Rattle.ra_ticket.specs.declared.board.Stage.{Stage}
 use Rattle.ra_ticket.specs.declared.board.Stage.TheVariants.{Idle, Waiting, Holding}
 use Rattle.ra_ticket.specs.declared.board.View.{View}
 use Rattle.ra_ticket.specs.declared.board.View.TheVariants.{Spent, Knows}
-
--- what it is about, where it is not spent
-abbrev pub stage_of : View → Option Stage
-stage_of Spent = None
-stage_of (Knows k) = Some k.stage
-
--- the numbers of its passes
-abbrev pub numbers_of : View → List ℕ
-numbers_of Spent = []
-numbers_of (Knows k) = k.numbers
-
--- a number that the word `next` has reached
-abbrev pub next_of : View → ℕ
-next_of Spent = 0
-next_of (Knows k) = k.next
-
--- a number that the word `serving` has reached
-abbrev pub serving_of : View → ℕ
-serving_of Spent = 0
-serving_of (Knows k) = k.serving
 
 -- the ticket that it has drawn and that is not released
 abbrev pub ticket_at : Stage → Option ℕ
@@ -32,24 +13,11 @@ ticket_at Idle = None
 ticket_at (Waiting t) = Some t
 ticket_at (Holding t) = Some t
 
-abbrev pub ticket_of : View → Option ℕ
-ticket_of Spent = None
-ticket_of (Knows k) = ticket_at k.stage
-
 -- the ticket by which it holds the slot
 abbrev pub held_at : Stage → Option ℕ
 held_at Idle = None
 held_at (Waiting t) = None
 held_at (Holding t) = Some t
-
-abbrev pub held_of : View → Option ℕ
-held_of Spent = None
-held_of (Knows k) = held_at k.stage
-
--- the view of the first seat: all passes, idle, and both words at `first`
-abbrev pub starting : ℕ → ℕ → View
-starting passes first =
-    Knows record { numbers = range_with_len 0 passes; next = first; serving = first; stage = Idle }
 
 -- the first of some numbers alone, and the others
 abbrev pub first_only : List ℕ → List ℕ
@@ -60,11 +28,61 @@ abbrev pub others_only : List ℕ → List ℕ
 others_only [] = []
 others_only (x ∷ xs) = xs
 
--- a view is cut in two: its first pass, and the others. All else is in both
-abbrev pub first_pass : View → View
-first_pass Spent = Spent
-first_pass (Knows k) = Knows record k { numbers = first_only k.numbers }
+module _ {C R S : Type 0} where
+  -- what it is about, where it is not spent
+  abbrev pub stage_of : View C R S → Option Stage
+  stage_of Spent = None
+  stage_of (Knows k) = Some k.stage
 
-abbrev pub other_passes : View → View
-other_passes Spent = Spent
-other_passes (Knows k) = Knows record k { numbers = others_only k.numbers }
+  -- the numbers of its passes
+  abbrev pub numbers_of : View C R S → List ℕ
+  numbers_of Spent = []
+  numbers_of (Knows k) = k.numbers
+
+  -- a number that the word `next` has reached
+  abbrev pub next_of : View C R S → ℕ
+  next_of Spent = 0
+  next_of (Knows k) = k.next
+
+  -- a number that the word `serving` has reached
+  abbrev pub serving_of : View C R S → ℕ
+  serving_of Spent = 0
+  serving_of (Knows k) = k.serving
+
+  -- the setup of the journal
+  abbrev pub setup_of : View C R S → Option S
+  setup_of Spent = None
+  setup_of (Knows k) = Some k.setup
+
+  -- the entries that it has seen
+  abbrev pub seen_of : View C R S → List (Entry C R)
+  seen_of Spent = []
+  seen_of (Knows k) = k.seen
+
+  abbrev pub ticket_of : View C R S → Option ℕ
+  ticket_of Spent = None
+  ticket_of (Knows k) = ticket_at k.stage
+
+  abbrev pub held_of : View C R S → Option ℕ
+  held_of Spent = None
+  held_of (Knows k) = held_at k.stage
+
+  -- the view of the first seat: all passes, idle, both words at `first`, and no entry seen
+  abbrev pub starting : ℕ → ℕ → S → View C R S
+  starting passes first setup = Knows record {
+    numbers = range_with_len 0 passes;
+    next = first;
+    serving = first;
+    stage = Idle;
+    setup = setup;
+    seen = [];
+  }
+
+  -- a view is cut in two: its first pass, and the others. All else is in both
+  abbrev pub first_pass : View C R S → View C R S
+  first_pass Spent = Spent
+  first_pass (Knows k) = Knows record k { numbers = first_only k.numbers }
+
+  abbrev pub other_passes : View C R S → View C R S
+  other_passes Spent = Spent
+  other_passes (Knows k) = Knows record k { numbers = others_only k.numbers }

@@ -1,7 +1,7 @@
 //! How a pass draws a ticket.
 ghost use Rattle.std.specs.Prelude.{◌≡◌, ◌≢◌, ◌+◌, ◌≤◌, Some, IfSome, IfNone};
 ghost use Rattle.ra_ticket.specs.Steps.{IsSeated, IsSameSeat};
-ghost use Rattle.ra_ticket.specs.Views.{stage_of, next_of};
+ghost use Rattle.ra_ticket.specs.Views.{stage_of, next_of, seen_of};
 ghost use Rattle.ra_ticket.specs.declared.board.Stage.TheVariants.{Idle, Waiting};
 
 use crate::board::{Board, LockSeat, NEXT};
@@ -18,6 +18,7 @@ fn learn_next<M: Journal>(board: &Board<M>, seat: &mut LockSeat<M>) -> u64
     requires idle { stage_of seat.old.me.0 ≡ Some Idle }
     ensures seat { IsSameSeat seat.old seat.new }
     ensures slot { seat.new.me.1 ≡ seat.old.me.1 }
+    ensures seen { seen_of seat.new.me.0 ≡ seen_of seat.old.me.0 }
     ensures idle { stage_of seat.new.me.0 ≡ Some Idle }
     ensures learned { next_of seat.new.me.0 ≡ result }
 {
@@ -31,6 +32,7 @@ fn try_draw<M: Journal>(board: &Board<M>, seat: &mut LockSeat<M>, ticket: u64) -
     requires room { ticket ≤ GREATEST_TICKET }
     ensures seat { IsSameSeat seat.old seat.new }
     ensures slot { seat.new.me.1 ≡ seat.old.me.1 }
+    ensures seen { seen_of seat.new.me.0 ≡ seen_of seat.old.me.0 }
     ensures drawn { result ≡ ticket → stage_of seat.new.me.0 ≡ Some (Waiting ticket) }
     ensures missed { result ≢ ticket → (stage_of seat.new.me.0 ≡ Some Idle) × (next_of seat.new.me.0 ≡ result) }
 {
@@ -48,6 +50,7 @@ pub(crate) fn draw_ticket<M: Journal, R: Wait>(
     requires idle { stage_of seat.old.me.0 ≡ Some Idle }
     ensures seat { IsSameSeat seat.old seat.new }
     ensures slot { seat.new.me.1 ≡ seat.old.me.1 }
+    ensures seen { seen_of seat.new.me.0 ≡ seen_of seat.old.me.0 }
     ensures drawn { IfSome result (λ ticket. stage_of seat.new.me.0 ≡ Some (Waiting ticket)) }
     ensures worn { IfNone result
         ((stage_of seat.new.me.0 ≡ Some Idle) × (next_of seat.new.me.0 ≡ GREATEST_TICKET + 1)) }

@@ -1,8 +1,8 @@
 //! How a pass waits for its turn and takes the journal.
 ghost use Rattle.std.specs.Prelude.{◌≡◌, [], ◌∷◌, Some, None, MatchBool};
-ghost use Rattle.ra_ticket.specs.Log.{AllBelow};
-ghost use Rattle.ra_ticket.specs.Steps.{IsSeated, IsSameSeat, Carries};
-ghost use Rattle.ra_ticket.specs.Views.{stage_of};
+ghost use Rattle.ra_ticket.specs.Log.{readings, BeginsWith};
+ghost use Rattle.ra_ticket.specs.Steps.{IsSeated, IsSameSeat, Carries, HasEntered};
+ghost use Rattle.ra_ticket.specs.Views.{stage_of, seen_of};
 ghost use Rattle.ra_ticket.specs.declared.board.Stage.TheVariants.{Waiting, Holding};
 
 use crate::backoff::Backoff;
@@ -17,8 +17,10 @@ fn look<M: Journal>(board: &Board<M>, seat: &mut LockSeat<M>, ticket: u64) -> bo
     requires waits { (stage_of seat.old.me.0 ≡ Some (Waiting ticket)) × (seat.old.me.1 ≡ []) }
     ensures seat { IsSameSeat seat.old seat.new }
     ensures served { MatchBool result
-        ((stage_of seat.new.me.0 ≡ Some (Holding ticket)) × Carries M.log seat.new ticket)
-        ((stage_of seat.new.me.0 ≡ Some (Waiting ticket)) × (seat.new.me.1 ≡ [])) }
+        ((stage_of seat.new.me.0 ≡ Some (Holding ticket)) × Carries (readings M.setup M.log M.reply_of M.fault_of) seat.new ticket)
+        ((stage_of seat.new.me.0 ≡ Some (Waiting ticket)) × (seat.new.me.1 ≡ [])
+        × (seen_of seat.new.me.0 ≡ seen_of seat.old.me.0)) }
+    ensures begins { BeginsWith (seen_of seat.new.me.0) (seen_of seat.old.me.0) }
 {
     board.load::<Look<M>>(seat, SERVING) == ticket
 }
@@ -46,7 +48,8 @@ pub(crate) fn enter<M: Journal, R: Wait>(
     requires waits { (stage_of seat.old.me.0 ≡ Some (Waiting ticket)) × (seat.old.me.1 ≡ []) }
     ensures seat { IsSameSeat seat.old seat.new }
     ensures holds { (stage_of seat.new.me.0 ≡ Some (Holding ticket)) × (seat.new.me.1 ≡ (0, None) ∷ []) }
-    ensures log { AllBelow ticket (M.log result) }
+    ensures entered { HasEntered (readings M.setup M.log M.reply_of M.fault_of) seat.new.me.0 ticket result }
+    ensures begins { BeginsWith (seen_of seat.new.me.0) (seen_of seat.old.me.0) }
 {
     let mut backoff = Backoff::new();
     for _ in rt.forever() {

@@ -69,7 +69,6 @@ pub trait Journal: Drop + Send {
         ensures reply { IfOk result (λ r. r ≡ reply_of (setup self.old) (log self.old) command) }
         ensures logged { IfOk result (λ r. log self.new ≡ log self.old ++ entry pass ticket command r ∷ []) }
         ensures full { (result ≡ Err (StepFault.Full command)) ↔ (length (log self.old) ≡ limit_of (setup self.old)) }
-        ensures range { (0 < limit_of (setup self.old)) × (limit_of (setup self.old) ≤ MOST_ENTRIES) }
         ensures handed_back { IfErr result (λ f. unstepped f ≡ command) }
         ensures unchanged { OnErr result (log self.new ≡ log self.old) }
         ensures same_setup { setup self.new ≡ setup self.old };

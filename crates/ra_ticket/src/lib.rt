@@ -1,14 +1,15 @@
 //! A ticket lock over a journal: threads that hold passes take turns at one object, in the order of the tickets that
 //! they draw.
 //!
-//! The crate's one contract is that of `TicketLock::submit`, for any `Journal`: a reply is the journal's answer to the
-//! command after some log, under some setup, with a ticket above that log's last; a fault hands the command back.
-//! It speaks of some log (`IsAnswer`, and `IsAtLimit` of a full one), since no pass knows the log yet. So it refuses a
-//! body that is generic in the journal and gives another answer, and tells the user of one journal little: which reply
-//! came after which is not said until the history stands under the lock.
+//! The crate's one contract is that of `TicketLock::submit`, for any `Journal`. A pass has seen a log, at first none, and
+//! each reply adds to it: what the pass has seen then is a legal log under the setup of the journal that was put in, it
+//! begins with what the pass had seen before, and it ends with this call. After `Full` it has as many entries as the
+//! setup allows. A fault hands the command back and logs nothing.
 //!
 //! Behind it stands the rule of the lock (`specs/Rule`), which each step on the table keeps: no two calls hold one
-//! ticket, and the journal is out of its slot with one call at most, the one whose ticket is served.
+//! ticket, the journal is out of its slot with one call at most, the one whose ticket is served, and there is one legal
+//! log, the front, of which each pass has seen a beginning and which the word `mark` tells. Only the holder of the
+//! journal makes it longer, by one entry, with its store of `mark`.
 //! That anyone is ever served is not said.
 #![tactic(auto)]
 
@@ -20,6 +21,7 @@ mod entry;
 mod fault;
 mod journal;
 mod lock;
+mod mark;
 mod open;
 mod pass;
 mod plays;

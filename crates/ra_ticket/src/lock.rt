@@ -7,23 +7,22 @@ use crate::enter::enter;
 use crate::fault::CallFault;
 use crate::journal::Journal;
 use crate::pass::Pass;
-use crate::release::{put_back, release};
+use crate::release::{publish, put_back, release};
 use std::sync::Wait;
 
 /// A journal that passes take turns at, in the order of the tickets that they draw.
 #[derive(Drop)]
 pub struct TicketLock<M: Journal> {
     pub(crate) table: LockTable<M>,
-    ghost sized: { (table.shared.table_id.words ≡ 2) × (table.shared.table_id.slots ≡ 1) },
+    ghost sized: { (table.shared.table_id.words ≡ 3) × (table.shared.table_id.slots ≡ 1) },
 }
 
 impl<M: Journal> TicketLock<M> {
-    ghost use Rattle.std.specs.Prelude.{◌≡◌, ◌+◌, IfOk, IfErr};
-    ghost use Rattle.ra_ticket.specs.Log.{IsAnswer};
-    ghost use Rattle.ra_ticket.specs.Faults.{unserved, IsWorn, IsFull, IsBusy, IsAtLimit};
-    ghost use Rattle.ra_ticket.specs.Passes.{IsPassOf, IsSamePass, next_reached};
+    ghost use Rattle.std.specs.Prelude.{◌≡◌, ◌+◌, length, IfOk, IfErr, IfSome};
+    ghost use Rattle.ra_ticket.specs.Faults.{unserved, IsWorn, IsFull, IsBusy};
+    ghost use Rattle.ra_ticket.specs.Passes.{IsPassOf, IsSamePass, IsLogged, KnowsLegal, next_reached, pass_setup, seen};
 
-    /// Draws a ticket, waits until it is served and lets the journal answer the command.
+    /// Draws a ticket, waits until it is served, lets the journal answer the command and publishes the answer.
     /// `Worn` comes before a ticket is drawn; after `Full` and `NoMemory` the ticket is served and leaves no entry.
     ///
     /// It costs the journal's step and a few atomic steps, one more for each pass that draws at the same time, and the
@@ -38,10 +37,14 @@ impl<M: Journal> TicketLock<M> {
     ) -> Result<M::Reply, CallFault<M::Command>>
         requires own { IsPassOf self.now pass.old }
         ensures pass { IsSamePass pass.old pass.new }
-        ensures reply { IfOk result (λ r. IsAnswer M.reply_of command r) }
+        ensures legal { IfOk result (λ _. KnowsLegal M.reply_of pass.new) }
+        ensures legal_still { KnowsLegal M.reply_of pass.old → KnowsLegal M.reply_of pass.new }
+        ensures logged { IfOk result (λ r. IsLogged pass.old pass.new command r) }
         ensures handed_back { IfErr result (λ f. unserved f ≡ command) }
         ensures worn_at_the_end { IfErr result (λ f. IsWorn f → next_reached pass.new ≡ GREATEST_TICKET + 1) }
-        ensures full_at_the_limit { IfErr result (λ f. IsFull f → IsAtLimit M.Command M.Reply M.limit_of) }
+        ensures worn_unchanged { IfErr result (λ f. IsWorn f → seen pass.new ≡ seen pass.old) }
+        ensures full_at_the_limit { IfErr result (λ f. IsFull f
+            → IfSome (pass_setup pass.new) (λ s. length (seen pass.new) ≡ M.limit_of s)) }
         ensures never_busy { IfErr result (λ f. ¬ (IsBusy f)) }
     {
         let board = &self.table.shared;
@@ -49,9 +52,17 @@ impl<M: Journal> TicketLock<M> {
             return Err(CallFault::Worn(command));
         };
         let mut journal = enter(rt, board, &mut pass.seat, ticket);
-        let outcome = journal.step(pass.number, ticket, command);
-        put_back(board, &mut pass.seat, journal);
-        release(board, &mut pass.seat);
-        Ok(outcome?)
+        match journal.step(pass.number, ticket, command) {
+            Ok(reply) => {
+                publish(board, &mut pass.seat, journal);
+                release(board, &mut pass.seat);
+                Ok(reply)
+            }
+            Err(fault) => {
+                put_back(board, &mut pass.seat, journal);
+                release(board, &mut pass.seat);
+                Err(CallFault::from(fault))
+            }
+        }
     }
 }

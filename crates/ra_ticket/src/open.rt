@@ -2,18 +2,20 @@
 ghost use Rattle.std.specs.Prelude.{◌≡◌, ◌+◌, ◌-◌, ◌<◌, ◌≤◌, ◌⊎◌, [], map, All, IfOk, IsOkUnless, Some};
 ghost use Rattle.std.specs.List.{range_with_len};
 ghost use Rattle.ra_ticket.specs.Steps.{IsSeated, IsSameSeat};
-ghost use Rattle.ra_ticket.specs.Views.{stage_of, numbers_of, next_of, serving_of, first_pass, other_passes, starting};
-ghost use Rattle.ra_ticket.specs.Passes.{number_of, next_reached, serving_reached, IsPassOf};
+ghost use Rattle.ra_ticket.specs.Views.{stage_of, numbers_of, next_of, serving_of, setup_of, seen_of, first_pass, other_passes, starting};
+ghost use Rattle.ra_ticket.specs.Passes.{number_of, next_reached, serving_reached, pass_setup, seen, IsPassOf};
 ghost use Rattle.ra_ticket.specs.declared.board.Stage.TheVariants.{Idle};
 
 use crate::board::{About, Board, LockSeat, LockTable};
 use crate::fault::OpenFault;
 use crate::journal::Journal;
 use crate::lock::TicketLock;
+use crate::mark::pack;
 use crate::pass::Pass;
 use crate::plays::CutFirst;
 use atomic_table::Table;
 use std::alloc::{AllocError, Global};
+use std::snapshot::Snapshot;
 
 /// The most passes that a lock may have.
 pub const MOST_PASSES: u8 = 64;
@@ -37,13 +39,19 @@ fn set_table<M: Journal>(
     first: u64,
 ) -> Result<(LockTable<M>, LockSeat<M>), AllocError>
     requires { M.log state ≡ [] }
-    ensures table { IfOk result (λ t. (t.0.shared.table_id.words ≡ 2) × (t.0.shared.table_id.slots ≡ 1)) }
+    ensures table { IfOk result (λ t. (t.0.shared.table_id.words ≡ 3) × (t.0.shared.table_id.slots ≡ 1)) }
     ensures at_table { IfOk result (λ t. t.1.table_id ≡ t.0.shared.table_id) }
-    ensures seat { IfOk result (λ t. t.1.me ≡ (starting passes first, [])) }
+    ensures seat { IfOk result (λ t. t.1.me ≡ (starting passes first (M.setup state), [])) }
 {
+    let mark = pack(state.calls(), state.fault());
+    let about = About {
+        passes,
+        first,
+        opening: Snapshot::of(&state),
+    };
     let mut slots = Vec::new(alloc);
     slots.push(Some(state))?;
-    match Table::new(alloc, &[first, first], slots, &About { passes, first }) {
+    match Table::new(alloc, &[first, first, mark], slots, &about) {
         Ok(made) => Ok(made),
         Err(_) => Err(AllocError),
     }
@@ -58,10 +66,13 @@ fn deal<M: Journal>(
 ) -> Result<Vec<Pass<M>>, AllocError>
     requires table { IsSeated rest.table_id board.now.table_id }
     requires idle { (stage_of rest.me.0 ≡ Some Idle) × (numbers_of rest.me.0 ≡ range_with_len 0 passes) }
+    requires new { seen_of rest.me.0 ≡ [] }
     ensures numbers { IfOk result (λ v. map number_of v.items ≡ range_with_len 0 passes) }
     ensures own { IfOk result (λ v. All (λ p. p.seat.table_id ≡ board.now.table_id) v.items) }
     ensures next { IfOk result (λ v. All (λ p. next_reached p ≡ next_of rest.me.0) v.items) }
     ensures serving { IfOk result (λ v. All (λ p. serving_reached p ≡ serving_of rest.me.0) v.items) }
+    ensures setup { IfOk result (λ v. All (λ p. pass_setup p ≡ setup_of rest.me.0) v.items) }
+    ensures seen { IfOk result (λ v. All (λ p. seen p ≡ []) v.items) }
 {
     let mut dealt = Vec::with_capacity(alloc, usize::from(passes))?;
     for number in 0..passes {
@@ -85,6 +96,8 @@ impl<M: Journal> TicketLock<M> {
         ensures own { IfOk result (λ l. All (IsPassOf l.0) l.1.items) }
         ensures next { IfOk result (λ l. All (λ p. next_reached p ≡ first) l.1.items) }
         ensures serving { IfOk result (λ l. All (λ p. serving_reached p ≡ first) l.1.items) }
+        ensures setup { IfOk result (λ l. All (λ p. pass_setup p ≡ Some (M.setup state)) l.1.items) }
+        ensures seen { IfOk result (λ l. All (λ p. seen p ≡ []) l.1.items) }
         ensures bad_passes { (passes ≡ 0) ⊎ (MOST_PASSES < passes) → result ≡ Err (OpenFault.BadPasses state) }
         ensures else_no_memory { 0 < passes → passes ≤ MOST_PASSES → IsOkUnless result OpenFault.NoMemory }
     {

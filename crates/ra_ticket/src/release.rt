@@ -1,12 +1,14 @@
-//! How a pass gives the journal back.
+//! How a pass publishes its entry and gives the journal back.
 ghost use Rattle.std.specs.Prelude.{◌≡◌, ◌+◌, [], ◌∷◌, Some, None};
-ghost use Rattle.ra_ticket.specs.Steps.{IsSeated, IsSameSeat, HoldsServed};
-ghost use Rattle.ra_ticket.specs.Views.{stage_of};
+ghost use Rattle.ra_ticket.specs.Log.{readings, IsLegal};
+ghost use Rattle.ra_ticket.specs.Steps.{IsSeated, IsSameSeat, HoldsPublished, HoldsAhead, MayPublish};
+ghost use Rattle.ra_ticket.specs.Views.{stage_of, seen_of};
 ghost use Rattle.ra_ticket.specs.declared.board.Stage.TheVariants.{Idle};
 
-use crate::board::{Board, JOURNAL, LockSeat, SERVING};
+use crate::board::{Board, JOURNAL, LockSeat, MARK, SERVING};
 use crate::journal::Journal;
-use crate::plays::Release;
+use crate::mark::pack;
+use crate::plays::{Publish, Release};
 
 /// Puts the journal back into the slot that the seat has.
 pub(crate) fn put_back<M: Journal>(board: &Board<M>, seat: &mut LockSeat<M>, journal: M)
@@ -18,12 +20,39 @@ pub(crate) fn put_back<M: Journal>(board: &Board<M>, seat: &mut LockSeat<M>, jou
     let _ = board.exchange(seat, JOURNAL, Some(journal));
 }
 
+/// A store of `mark`: the log of the journal in the slot becomes the front.
+pub(crate) fn store_mark<M: Journal>(board: &Board<M>, seat: &mut LockSeat<M>, mark: u64)
+    requires table { IsSeated seat.old.table_id board.now.table_id }
+    requires ahead { MayPublish (readings M.setup M.log M.reply_of M.fault_of) seat.old mark }
+    ensures seat { IsSameSeat seat.old seat.new }
+    ensures holds { HoldsPublished (readings M.setup M.log M.reply_of M.fault_of) seat.new }
+    ensures told { (journal : M) → seat.old.me.1 ≡ (0, Some journal) ∷ []
+        → (seen_of seat.new.me.0 ≡ M.log journal) × IsLegal (M.reply_of (M.setup journal)) (M.log journal) }
+{
+    board.store::<Publish<M>>(seat, MARK, mark);
+}
+
+/// Puts the journal, which has answered, back into the slot and stores its mark.
+pub(crate) fn publish<M: Journal>(board: &Board<M>, seat: &mut LockSeat<M>, journal: M)
+    requires table { IsSeated seat.old.table_id board.now.table_id }
+    requires ahead { HoldsAhead (readings M.setup M.log M.reply_of M.fault_of) seat.old journal }
+    ensures seat { IsSameSeat seat.old seat.new }
+    ensures holds { HoldsPublished (readings M.setup M.log M.reply_of M.fault_of) seat.new }
+    ensures seen { seen_of seat.new.me.0 ≡ M.log journal }
+    ensures legal { IsLegal (M.reply_of (M.setup journal)) (M.log journal) }
+{
+    let mark = pack(journal.calls(), journal.fault());
+    put_back(board, seat, journal);
+    store_mark(board, seat, mark);
+}
+
 /// An addition to `serving`: the slot goes home, and the next ticket is served.
 pub(crate) fn release<M: Journal>(board: &Board<M>, seat: &mut LockSeat<M>)
     requires table { IsSeated seat.old.table_id board.now.table_id }
-    requires holds { HoldsServed M.log seat.old }
+    requires holds { HoldsPublished (readings M.setup M.log M.reply_of M.fault_of) seat.old }
     ensures seat { IsSameSeat seat.old seat.new }
     ensures idle { (stage_of seat.new.me.0 ≡ Some Idle) × (seat.new.me.1 ≡ []) }
+    ensures seen { seen_of seat.new.me.0 ≡ seen_of seat.old.me.0 }
 {
     board.fetch_add::<Release>(seat, SERVING, 1);
 }

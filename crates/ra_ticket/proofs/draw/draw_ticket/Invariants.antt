@@ -1,6 +1,6 @@
 use Rattle.std.proofs.Common.{◌≡◌, ◌^◌, ◌<◌, Some}
 use Rattle.ra_ticket.specs.Steps.{IsSameSeat}
-use Rattle.ra_ticket.specs.Views.{stage_of, next_of}
+use Rattle.ra_ticket.specs.Views.{stage_of, next_of, seen_of}
 use Rattle.ra_ticket.specs.declared.board.Stage.TheVariants.{Idle}
 use Rattle.ra_ticket.proofs.draw.draw_ticket.Given as goal
 
@@ -8,6 +8,7 @@ abbrev pub invariant-loop : goal.invariant-loop
 invariant-loop g l = record {
   seat : IsSameSeat l.fn.seat l.seat;
   slot : l.seat.me.1 ≡ l.fn.seat.me.1;
+  seen : seen_of l.seat.me.0 ≡ seen_of l.fn.seat.me.0;
   idle : stage_of l.seat.me.0 ≡ Some Idle;
   learned : next_of l.seat.me.0 ≡ l.ticket;
   fits : l.ticket < 2 ^ 64;

@@ -1,6 +1,6 @@
 use Rattle.std.proofs.Common.{◌≡◌, [], Some}
 use Rattle.ra_ticket.specs.Steps.{IsSameSeat}
-use Rattle.ra_ticket.specs.Views.{stage_of}
+use Rattle.ra_ticket.specs.Views.{stage_of, seen_of}
 use Rattle.ra_ticket.specs.declared.board.Stage.TheVariants.{Waiting}
 use Rattle.ra_ticket.proofs.enter.enter.Given as goal
 
@@ -9,4 +9,5 @@ invariant-loop g l = record {
   seat : IsSameSeat l.fn.seat l.seat;
   waits : stage_of l.seat.me.0 ≡ Some (Waiting l.ticket);
   empty : l.seat.me.1 ≡ [];
+  seen : seen_of l.seat.me.0 ≡ seen_of l.fn.seat.me.0;
 }

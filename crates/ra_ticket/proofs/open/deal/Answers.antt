@@ -1,8 +1,8 @@
-use Rattle.std.proofs.Common.{arith, ◌≡◌, suc, ◌+◌, ◌-◌, ap, ◌∙◌, refl}
+use Rattle.std.proofs.Common.{arith, ◌≡◌, suc, ◌+◌, ◌-◌, ap, ◌∙◌, [], refl}
 use Rattle.std.specs.List.{range_with_len}
 use Rattle.std.proofs.lemmas.List.Elements.{All-push}
-use Rattle.ra_ticket.specs.Views.{stage_of, numbers_of, next_of, serving_of}
-use Rattle.ra_ticket.specs.Passes.{number_of, next_reached, serving_reached}
+use Rattle.ra_ticket.specs.Views.{stage_of, numbers_of, next_of, serving_of, setup_of, seen_of}
+use Rattle.ra_ticket.specs.Passes.{number_of, next_reached, serving_reached, pass_setup, seen}
 use Rattle.ra_ticket.proofs.Cuts.{AreCut, are_cut}
 use Rattle.ra_ticket.proofs.Pushes.{numbered_push}
 use Rattle.ra_ticket.proofs.open.deal.Goals as goal
@@ -32,4 +32,10 @@ loop-number-preserved g c = let n = c.loop-number.number in let left = c.args.pa
           (ap (λ m. next_of m.0) first ∙ (cut.first_next ∙ was.next)));
       dealt_serving = rw pushed (All-push (λ p. serving_reached p ≡ serving_of c.args.rest.me.0) c.loop-number.dealt.items _ was.dealt_serving
           (ap (λ m. serving_of m.0) first ∙ (cut.first_serving ∙ was.serving)));
+      setup = ap (λ m. setup_of m.0) rest ∙ (cut.setup ∙ was.setup);
+      seen_none = ap (λ m. seen_of m.0) rest ∙ (cut.seen ∙ was.seen_none);
+      dealt_setup = rw pushed (All-push (λ p. pass_setup p ≡ setup_of c.args.rest.me.0) c.loop-number.dealt.items _ was.dealt_setup
+          (ap (λ m. setup_of m.0) first ∙ (cut.first_setup ∙ was.setup)));
+      dealt_seen = rw pushed (All-push (λ p. seen p ≡ []) c.loop-number.dealt.items _ was.dealt_seen
+          (ap (λ m. seen_of m.0) first ∙ (cut.first_seen ∙ was.seen_none)));
     }

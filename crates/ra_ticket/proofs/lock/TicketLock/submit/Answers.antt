@@ -1,23 +1,13 @@
 use Rattle.std.proofs.Common.{rules}
-use Rattle.ra_ticket.proofs.Tickets.{above_last, stepped_below}
+use Rattle.ra_ticket.proofs.Journals.{of_journal}
+use Rattle.ra_ticket.proofs.Logs.{is_ahead}
 use Rattle.ra_ticket.proofs.lock.TicketLock.submit.Goals as goal
 
-pub release-requires-clause-holds : goal.release-requires-clause-holds
-release-requires-clause-holds g c κs within = (
+pub publish-requires-clause-ahead : goal.publish-requires-clause-ahead
+publish-requires-clause-ahead g c κs within = (
   c.in-Some.ticket,
   search rules,
-  (
-    c.step-outcome.new.self,
-    search rules,
-    stepped_below c.in-Some.ticket (g.M.Journal.log c.enter-journal.result) _ _ _ c.step-outcome.result c.enter-journal.ensures.log c.step-outcome.ensures.logged c.step-outcome.ensures.unchanged,
-  ),
+  search rules,
+  is_ahead (of_journal g.M.Journal) c.enter-journal.new.seat.me.0 c.in-Some.ticket c.args.pass.now.number c.enter-journal.result c.step.new.self c.args.command c.in-Ok.reply
+      c.enter-journal.ensures.entered (search rules) (search rules) (search rules),
 )
-
-pub returns-clause-reply : goal.returns-clause-reply
-returns-clause-reply g c = record {
-  setup = g.M.Journal.setup c.enter-journal.result;
-  log = g.M.Journal.log c.enter-journal.result;
-  ticket = c.in-Some.ticket;
-  above = above_last (g.M.Journal.log c.enter-journal.result) c.in-Some.ticket c.enter-journal.ensures.log;
-  is = search rules;
-}
