@@ -4,7 +4,7 @@ use Rattle.std.specs.Prelude.{vec_len}
 use Rattle.ra_labels.specs.Answer.{answer_of, records_after}
 use Rattle.ra_monitor.specs.declared.monitor.Monitor.TheInside.{Inside}
 use Rattle.ra_monitor.specs.Replies.{is_refused}
-use Rattle.ra_monitor.specs.Monitor.{MonitorEntry, protocol_of, records_of, refused_count, IsLegalLog, IsNextTicket}
+use Rattle.ra_monitor.specs.Monitor.{MonitorEntry, answer_after, records_of, refused_count, IsLegalLog, IsNextTicket}
 use Rattle.ra_monitor.specs.History.{StandsFor}
 use Rattle.ra_monitor.specs.Kept.{monitor_of, MonitorKept}
 use Rattle.ra_monitor.proofs.Legal.{legal-push, records_of-push, refused_count-push}
@@ -13,7 +13,7 @@ use Rattle.ra_monitor.proofs.Legal.{legal-push, records_of-push, refused_count-p
 pub legal_after : (m : Inside) (entry : MonitorEntry) → MonitorKept m → IsNextTicket (monitor_of m) entry.ticket
     → entry.reply ≡ answer_of m.setup.kind m.setup.replicas (records_of m.setup m.log.items) entry.command
     → IsLegalLog m.setup (m.log.items ++ entry ∷ [])
-legal_after m entry kept next answered = legal-push (protocol_of m.setup) [] m.log.items entry kept.legal (answered, next)
+legal_after m entry kept next answered = legal-push (answer_after m.setup) [] m.log.items entry kept.legal (answered, next)
 
 pub kept_after : (m n : Inside) (entry : MonitorEntry) → MonitorKept m → IsNextTicket (monitor_of m) entry.ticket → length m.log.items < m.setup.limit
     → entry.reply ≡ answer_of m.setup.kind m.setup.replicas (records_of m.setup m.log.items) entry.command

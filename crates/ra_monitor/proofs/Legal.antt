@@ -14,18 +14,18 @@ use Rattle.ra_labels.specs.Laws.{ReplySays}
 use Rattle.ra_labels.proofs.TheLaws.{no_fault_holds}
 use Rattle.ra_labels.proofs.TheLaws.{what_a_reply_says, no_exactly_at_a_fault, answers_in_turn-records}
 use Rattle.ra_monitor.specs.declared.setup.Setup.{Setup}
-use Rattle.ra_monitor.specs.Log.{Protocol, MayFollow, IsLegalAfter}
+use Rattle.ra_ticket.specs.Log.{MayFollow, IsLegalAfter}
 use Rattle.ra_monitor.specs.Replies.{is_yes, is_refused}
 use Rattle.ra_monitor.specs.Monitor.{MonitorEntry, commands_of, records_of, refused_count, IsRaLinearizable, IsNoAtFault}
 
-pub legal-push : {Entry Command Reply : Type 0} (protocol : Protocol Entry Command Reply) (before log : List Entry) (entry : Entry)
-    → IsLegalAfter protocol before log → MayFollow protocol (before ++ log) entry → IsLegalAfter protocol before (log ++ entry ∷ [])
-legal-push {Entry} protocol before [] entry legal follows =
-    (subst (λ (l : List Entry). MayFollow protocol l entry) (append-nil before) follows, tt)
-legal-push {Entry} protocol before (first ∷ log) entry legal follows = (
+pub legal-push : (answer : List MonitorEntry → Command → Reply) (before log : List MonitorEntry) (entry : MonitorEntry)
+    → IsLegalAfter answer before log → MayFollow answer (before ++ log) entry → IsLegalAfter answer before (log ++ entry ∷ [])
+legal-push answer before [] entry legal follows =
+    (subst (λ (l : List MonitorEntry). MayFollow answer l entry) (append-nil before) follows, tt)
+legal-push answer before (first ∷ log) entry legal follows = (
   legal.0,
-  legal-push protocol (before ++ first ∷ []) log entry legal.1
-      (subst (λ (l : List Entry). MayFollow protocol l entry) (sym (append_assoc before (first ∷ []) log)) follows),
+  legal-push answer (before ++ first ∷ []) log entry legal.1
+      (subst (λ (l : List MonitorEntry). MayFollow answer l entry) (sym (append_assoc before (first ∷ []) log)) follows),
 )
 
 -- the records of a log with one entry more

@@ -5,5 +5,4 @@ pub mod Growth
 pub mod Legal
 pub mod Keeping
 pub mod BeforeFault
-pub mod LastEntry
 pub mod LogLaws

@@ -1,47 +1,56 @@
 -- Laws of a legal log.
-use Rattle.std.proofs.Common.{◌≡◌, ◌<◌, true, List, [], ◌∷◌, ◌++◌, Option, Some, refl, sym, subst, append_assoc, arith}
+use Rattle.std.proofs.Common.{◌≡◌, ℕ, ◌-◌, ◌<◌, true, List, [], ◌∷◌, ◌++◌, length, Option, Some, refl, sym, ap, ◌∙◌, subst, append_assoc, length-append, arith}
 use Rattle.std.proofs.lemmas.List.{append-nil}
-use Rattle.std.specs.Prelude.{IfSome}
+use Rattle.std.specs.Prelude.{option_map, slice_get}
+use Rattle.std.specs.Option.{ForSome}
 use Rattle.ra_monitor.specs.declared.setup.Setup.{Setup}
-use Rattle.ra_monitor.specs.Log.{Protocol, last_of, MayFollow, IsLegalAfter}
+use Rattle.ra_ticket.specs.Log.{last_ticket_of, MayFollow, IsLegalAfter}
+use Rattle.ra_labels.specs.declared.command.Command.{Command}
+use Rattle.ra_labels.specs.declared.reply.Reply.{Reply}
 use Rattle.ra_monitor.specs.Replies.{is_yes}
-use Rattle.ra_monitor.specs.Monitor.{MonitorEntry, protocol_of, IsLegalLog, IsRaLinearizable, IsNoAtFault}
+use Rattle.ra_monitor.specs.Monitor.{MonitorEntry, answer_after, IsLegalLog, IsRaLinearizable, IsNoAtFault}
 use Rattle.ra_monitor.proofs.Legal.{linearizable_after, no_after}
 
--- what is left of a legal log is legal after what was taken off its front
-legal-drop : {Entry Command Reply : Type 0} (protocol : Protocol Entry Command Reply) (start front rest : List Entry)
-    → IsLegalAfter protocol start (front ++ rest) → IsLegalAfter protocol (start ++ front) rest
-legal-drop {Entry} protocol start [] rest legal = subst (λ (l : List Entry). IsLegalAfter protocol l rest) (sym (append-nil start)) legal
-legal-drop {Entry} protocol start (first ∷ front) rest legal =
-    subst (λ (l : List Entry). IsLegalAfter protocol l rest) (append_assoc start (first ∷ []) front) (legal-drop protocol (start ++ first ∷ []) front rest legal.1)
+-- what is left of a legal log is legal after what was taken off its beginning
+legal-drop : (answer : List MonitorEntry → Command → Reply) (start first rest : List MonitorEntry)
+    → IsLegalAfter answer start (first ++ rest) → IsLegalAfter answer (start ++ first) rest
+legal-drop answer start [] rest legal = subst (λ (l : List MonitorEntry). IsLegalAfter answer l rest) (sym (append-nil start)) legal
+legal-drop answer start (entry ∷ first) rest legal =
+    subst (λ (l : List MonitorEntry). IsLegalAfter answer l rest) (append_assoc start (entry ∷ []) first) (legal-drop answer (start ++ entry ∷ []) first rest legal.1)
 
-last_of-push : {A : Type 0} (xs : List A) (x : A) → last_of (xs ++ x ∷ []) ≡ Some x
-last_of-push [] x = refl
-last_of-push (y ∷ []) x = refl
-last_of-push (y ∷ z ∷ rest) x = last_of-push (z ∷ rest) x
+slice_get-end : (log : List MonitorEntry) (entry : MonitorEntry) → slice_get (log ++ entry ∷ []) (length log) ≡ Some entry
+slice_get-end [] entry = refl
+slice_get-end (x ∷ log) entry = slice_get-end log entry
+
+-- the last ticket of a log with one entry more
+last_ticket_of-push : (log : List MonitorEntry) (entry : MonitorEntry) → last_ticket_of (log ++ entry ∷ []) ≡ Some entry.ticket
+last_ticket_of-push log entry =
+    let at : length (log ++ entry ∷ []) - 1 ≡ length log = omega (arith, length-append log (entry ∷ [])) in
+    ap (λ n. option_map (λ (e : MonitorEntry). e.ticket) (slice_get (log ++ entry ∷ []) n)) at
+    ∙ ap (option_map (λ (e : MonitorEntry). e.ticket)) (slice_get-end log entry)
 
 -- the next entry's ticket is above that of the last
-above : {Entry Command Reply : Type 0} (protocol : Protocol Entry Command Reply) (before : List Entry) (p q : Entry)
-    → MayFollow protocol (before ++ p ∷ []) q → protocol.ticket_of p < protocol.ticket_of q
-above {Entry} protocol before p q follows =
-    subst (λ (last : Option Entry). IfSome last (λ e. protocol.ticket_of e < protocol.ticket_of q)) (last_of-push before p) follows.1
+above : (answer : List MonitorEntry → Command → Reply) (before : List MonitorEntry) (p q : MonitorEntry)
+    → MayFollow answer (before ++ p ∷ []) q → p.ticket < q.ticket
+above answer before p q follows =
+    subst (λ (last : Option ℕ). ForSome last (λ t. t < q.ticket)) (last_ticket_of-push before p) follows.1 p.ticket refl
 
-rises : {Entry Command Reply : Type 0} (protocol : Protocol Entry Command Reply) (before between after : List Entry) (p q : Entry)
-    → IsLegalAfter protocol (before ++ p ∷ []) (between ++ q ∷ after) → protocol.ticket_of p < protocol.ticket_of q
-rises protocol before [] after p q legal = above protocol before p q legal.0
-rises protocol before (r ∷ between) after p q legal =
-    let first = above protocol before p r legal.0 in
-    let later = rises protocol (before ++ p ∷ []) between after r q legal.1 in
+rises : (answer : List MonitorEntry → Command → Reply) (before between after : List MonitorEntry) (p q : MonitorEntry)
+    → IsLegalAfter answer (before ++ p ∷ []) (between ++ q ∷ after) → p.ticket < q.ticket
+rises answer before [] after p q legal = above answer before p q legal.0
+rises answer before (r ∷ between) after p q legal =
+    let first = above answer before p r legal.0 in
+    let later = rises answer (before ++ p ∷ []) between after r q legal.1 in
     omega (arith, first, later)
 
 pub may_follow : (setup : Setup) (before after : List MonitorEntry) (entry : MonitorEntry)
-    → IsLegalLog setup (before ++ entry ∷ after) → MayFollow (protocol_of setup) before entry
-may_follow setup before after entry legal = (legal-drop (protocol_of setup) [] before (entry ∷ after) legal).0
+    → IsLegalLog setup (before ++ entry ∷ after) → MayFollow (answer_after setup) before entry
+may_follow setup before after entry legal = (legal-drop (answer_after setup) [] before (entry ∷ after) legal).0
 
 pub tickets_rise : (setup : Setup) (before between after : List MonitorEntry) (earlier later : MonitorEntry)
     → IsLegalLog setup (before ++ earlier ∷ (between ++ later ∷ after)) → earlier.ticket < later.ticket
 tickets_rise setup before between after earlier later legal =
-    rises (protocol_of setup) before between after earlier later (legal-drop (protocol_of setup) [] before (earlier ∷ (between ++ later ∷ after)) legal).1
+    rises (answer_after setup) before between after earlier later (legal-drop (answer_after setup) [] before (earlier ∷ (between ++ later ∷ after)) legal).1
 
 pub yes_is_evidence : (setup : Setup) (before after : List MonitorEntry) (entry : MonitorEntry)
     → IsLegalLog setup (before ++ entry ∷ after) → is_yes entry.reply ≡ true → IsRaLinearizable setup (before ++ entry ∷ [])

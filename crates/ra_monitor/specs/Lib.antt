@@ -1,4 +1,3 @@
-pub mod Log
 pub mod Replies
 pub mod Monitor
 pub mod Limits

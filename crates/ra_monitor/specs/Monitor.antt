@@ -1,5 +1,7 @@
 -- What contracts see of a monitor: its setup and its log, and nothing else.
-use Rattle.std.specs.Prelude.{◌≡◌, ℕ, List, [], map, count_by, Option, Some, ◌↔◌}
+use Rattle.std.specs.Prelude.{◌≡◌, ℕ, List, [], map, count_by, Option, Some, option_map, ◌↔◌}
+use Rattle.ra_ticket.specs.declared.entry.Entry.{Entry}
+use Rattle.ra_ticket.specs.Log.{IsLegal, IsAboveLast}
 use Rattle.ra_labels.specs.declared.command.Command.{Command}
 use Rattle.ra_labels.specs.declared.reply.Reply.{Reply}
 use Rattle.ra_labels.specs.declared.reply.Reply.TheVariants.{No}
@@ -10,10 +12,8 @@ use Rattle.ra_labels.specs.Rewriting.{Part}
 use Rattle.ra_labels.specs.Linearization.{IsRaLinearization}
 use Rattle.ra_labels.specs.Fault.{fault_of, fault_at, records_before_fault}
 use Rattle.ra_labels.specs.Answer.{answer_of, records_after_all}
-use Rattle.ra_monitor.specs.declared.entry.Entry.{Entry}
 use Rattle.ra_monitor.specs.declared.setup.Setup.{Setup}
 use Rattle.ra_monitor.specs.Replies.{is_refused}
-use Rattle.ra_monitor.specs.Log.{Protocol, IsLegal, IsAboveLast}
 
 abbrev pub MonitorEntry : Type 0
 MonitorEntry = Entry Command Reply
@@ -30,21 +30,16 @@ commands_of log = map (λ entry. entry.command) log
 abbrev pub records_of : Setup → List MonitorEntry → Records
 records_of setup log = records_after_all setup.kind setup.replicas [] (commands_of log)
 
--- what the one-thread monitor answers after the records of a log
-abbrev pub protocol_of : Setup → Protocol MonitorEntry Command Reply
-protocol_of setup = record {
-  ticket_of = λ entry. entry.ticket;
-  command_of = λ entry. entry.command;
-  reply_of = λ entry. entry.reply;
-  answer_after = λ before command. answer_of setup.kind setup.replicas (records_of setup before) command;
-}
+-- what the one-thread monitor answers after the entries of a log
+abbrev pub answer_after : Setup → List MonitorEntry → Command → Reply
+answer_after setup before command = answer_of setup.kind setup.replicas (records_of setup before) command
 
 abbrev pub IsLegalLog : Setup → List MonitorEntry → Type 0
-IsLegalLog setup log = IsLegal (protocol_of setup) log
+IsLegalLog setup log = IsLegal (answer_after setup) log
 
 -- the ticket is above the log's last
 abbrev pub IsNextTicket : Monitor → ℕ → Type 0
-IsNextTicket monitor ticket = IsAboveLast (protocol_of monitor.setup) monitor.log ticket
+IsNextTicket monitor ticket = IsAboveLast monitor.log ticket
 
 -- the records of a log before its fault, or all of them where it has none
 abbrev pub records_before_fault_in : Setup → List MonitorEntry → Records
@@ -52,6 +47,10 @@ records_before_fault_in setup log = records_before_fault setup.kind (records_of 
 
 abbrev pub fault_in : Setup → List MonitorEntry → Option Fault
 fault_in setup log = fault_of setup.kind (records_of setup log)
+
+-- the label of the fault of a log
+abbrev pub fault_label_in : Setup → List MonitorEntry → Option ℕ
+fault_label_in setup log = option_map (λ fault. fault.label) (fault_in setup log)
 
 abbrev pub refused_count : List MonitorEntry → ℕ
 refused_count log = count_by (λ entry. is_refused entry.reply) log

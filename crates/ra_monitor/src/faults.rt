@@ -1,12 +1,3 @@
-/// Why a step gave no reply. The command is handed back, and nothing changed.
-#[derive(Debug, PartialEq, Eq, Drop)]
-pub enum StepFault<C> {
-    /// The log has as many entries as its limit allows.
-    Full(C),
-    /// A growth was refused for want of memory.
-    NoMemory(C),
-}
-
 /// Why no monitor was made, in the order in which the reasons are tested.
 #[derive(Clone, Copy, Debug, PartialEq, Eq)]
 pub enum NewFault {

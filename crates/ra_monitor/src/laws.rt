@@ -1,14 +1,14 @@
 //! Laws of a log, each the clause of a function that does nothing.
 ghost use Rattle.std.specs.Prelude.{◌<◌, List, [], ◌∷◌, ◌++◌, IsTrue};
-ghost use Rattle.ra_monitor.specs.Log.{MayFollow};
+ghost use Rattle.ra_ticket.specs.Log.{MayFollow};
 ghost use Rattle.ra_monitor.specs.Replies.{is_yes};
-ghost use Rattle.ra_monitor.specs.Monitor.{MonitorEntry, protocol_of, IsLegalLog, IsRaLinearizable, IsNoAtFault};
+ghost use Rattle.ra_monitor.specs.Monitor.{MonitorEntry, answer_after, IsLegalLog, IsRaLinearizable, IsNoAtFault};
 ghost use Rattle.ra_monitor.specs.declared.setup.Setup.{Setup};
 
 /// In a legal log each entry may follow those before it: its reply is the answer after them.
 pub fn each_entry_may_follow()
     ensures { (setup : Setup) (before after : List MonitorEntry) (entry : MonitorEntry)
-        → IsLegalLog setup (before ++ entry ∷ after) → MayFollow (protocol_of setup) before entry }
+        → IsLegalLog setup (before ++ entry ∷ after) → MayFollow (answer_after setup) before entry }
 {}
 
 /// Along a legal log tickets rise strictly: each is below every later one.

@@ -7,7 +7,6 @@
 #![tactic(auto)]
 
 mod accepted;
-mod entry;
 mod faults;
 mod fold;
 mod had;
@@ -24,8 +23,7 @@ mod seen;
 mod sequence;
 mod setup;
 
-pub use entry::Entry;
-pub use faults::{NewFault, StepFault};
+pub use faults::NewFault;
 pub use limits::{MOST_ENTRIES, MOST_REPLICAS};
 pub use monitor::Monitor;
 pub use part_ref::{Half, PartRef};

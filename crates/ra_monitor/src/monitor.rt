@@ -3,13 +3,12 @@ ghost use Rattle.ra_labels.specs.Records.{label_count};
 ghost use Rattle.ra_labels.specs.Linearization.{IsRaLinearization};
 ghost use Rattle.ra_labels.specs.NamedOrder.{named_sequence};
 ghost use Rattle.ra_labels.specs.Answer.{answer_of};
-ghost use Rattle.ra_monitor.specs.Log.{last_of};
-ghost use Rattle.ra_monitor.specs.Limits.{AreReplicas, IsLimit, handed_back};
+ghost use Rattle.ra_monitor.specs.Limits.{AreReplicas, IsLimit};
+ghost use Rattle.ra_ticket.specs.Log.{last_ticket_of, unstepped};
 ghost use Rattle.ra_monitor.specs.Sequence.{ref_of};
 ghost use Rattle.ra_monitor.specs.Replies.{is_yes, is_refused};
 
-use crate::entry::Entry;
-use crate::faults::{NewFault, StepFault};
+use crate::faults::NewFault;
 use crate::history::History;
 use crate::limits::{MOST_ENTRIES, MOST_REPLICAS};
 use crate::part_ref::PartRef;
@@ -17,6 +16,7 @@ use crate::report::Report;
 use crate::sequence::part_refs;
 use crate::setup::Setup;
 use ra_labels::{Command, Kind, NoMemory, Reply};
+use ra_ticket::{Entry, Journal, StepFault};
 use std::alloc::Global;
 use std::marker::Model;
 
@@ -42,7 +42,7 @@ impl Model for Monitor {
 }
 
 impl Monitor {
-    ghost use Rattle.ra_monitor.specs.Monitor.{records_of, records_before_fault_in, fault_in, refused_count, IsNextTicket, IsLegalLog, IsRaLinearizable, IsNoAtFault};
+    ghost use Rattle.ra_monitor.specs.Monitor.{records_of, records_before_fault_in, fault_in, refused_count, IsLegalLog};
 
     /// A monitor of a history of this kind, at this many replicas, whose log may have `limit` entries.
     pub fn new(alloc: Global, kind: Kind, replicas: u8, limit: u32) -> Result<Monitor, NewFault>
@@ -72,71 +72,6 @@ impl Monitor {
                 refused: 0,
             }),
             Err(NoMemory) => Err(NewFault::NoMemory),
-        }
-    }
-
-    /// Takes a command and answers it. The reply is logged under the pass and the ticket.
-    ///
-    /// `Full` comes exactly where the log has as many entries as its limit allows, and is tested first;
-    /// `NoMemory` where a growth was refused. After both nothing changed, and the command is handed back.
-    ///
-    /// This first form sorts and folds the whole history afresh at each operation.
-    pub fn step(
-        &mut self,
-        pass: u8,
-        ticket: u64,
-        command: Command,
-    ) -> Result<Reply, StepFault<Command>>
-        requires { IsNextTicket self.old ticket }
-
-        // The reply is the one-thread monitor's, and is logged.
-        ensures reply { IfOk result (λ reply.
-            reply ≡ answer_of self.old.setup.kind self.old.setup.replicas
-            (records_of self.old.setup self.old.log) command) }
-        ensures logged { IfOk result (λ reply. self.new.log
-            ≡ self.old.log ++ record { pass = pass; ticket = ticket; command = command; reply = reply } ∷ []) }
-        ensures setup { self.new.setup ≡ self.old.setup }
-        ensures legal { IsLegalLog self.new.setup self.new.log }
-
-        // A yes is evidence, and a no comes exactly where the fault is.
-        ensures yes { IfOk result (λ reply. IsTrue (is_yes reply) → IsRaLinearizable self.new.setup self.new.log) }
-        ensures no { IfOk result (λ reply. IsNoAtFault self.new.setup self.new.log reply) }
-
-        // After a fault nothing changed.
-        ensures full { IsErrOf result (StepFault.Full command) ↔ (length self.old.log ≡ self.old.setup.limit) }
-        ensures unchanged { OnErr result (self.new.log ≡ self.old.log) }
-        ensures handed_back { IfErr result (λ fault. handed_back fault ≡ command) }
-    {
-        if self.log.len() == self.setup.limit as usize {
-            return Err(StepFault::Full(command));
-        }
-        if self.log.reserve(1).is_err() {
-            return Err(StepFault::NoMemory(command));
-        }
-        match self.history.take(&self.setup, &command) {
-            Ok(reply) => {
-                self.refused += refusals(reply);
-                let entry = Entry {
-                    pass,
-                    ticket,
-                    command,
-                    reply,
-                };
-                append(&mut self.log, entry);
-                Ok(reply)
-            }
-            Err(NoMemory) => Err(StepFault::NoMemory(command)),
-        }
-    }
-
-    /// The ticket of the log's last entry, above which the next has to be.
-    pub fn last_ticket(&self) -> Option<u64>
-        ensures last { result ≡ option_map (λ entry. entry.ticket) (last_of self.now.log) }
-        ensures next { (ticket : ℕ) → IfSome result (λ last. last < ticket) → IsNextTicket self.now ticket }
-    {
-        match self.log.as_slice().last() {
-            Some(entry) => Some(entry.ticket),
-            None => None,
         }
     }
 
@@ -173,6 +108,104 @@ impl Monitor {
             labels: self.history.labels.len() as u32,
             refused: self.refused,
             fault: self.history.fault,
+        }
+    }
+}
+
+impl Journal for Monitor {
+    type Command = Command;
+
+    type Reply = Reply;
+
+    type Setup = Setup;
+
+    ghost use Rattle.ra_monitor.specs.Monitor.{answer_after, records_of, fault_label_in, IsNextTicket, IsLegalLog, IsRaLinearizable, IsNoAtFault};
+
+    ghost setup = { λ m. m.setup };
+
+    ghost log = { λ m. m.log };
+
+    ghost reply_of = { λ setup log command. answer_after setup log command };
+
+    ghost fault_of = { λ setup log. fault_label_in setup log };
+
+    ghost limit_of = { λ setup. setup.limit };
+
+    /// The most entries that the log may have.
+    fn limit(&self) -> u32 {
+        self.setup.limit
+    }
+
+    /// How many entries the log has.
+    fn calls(&self) -> u32 {
+        self.log.len() as u32
+    }
+
+    /// The label of the fault, if there is one.
+    fn fault(&self) -> Option<u32> {
+        match self.history.fault {
+            Some(fault) => Some(fault.label),
+            None => None,
+        }
+    }
+
+    /// The ticket of the log's last entry, above which the next has to be.
+    fn last_ticket(&self) -> Option<u64>
+        ensures last { result ≡ last_ticket_of self.now.log }
+        ensures next { (ticket : ℕ) → IfSome result (λ last. last < ticket) → IsNextTicket self.now ticket }
+    {
+        match self.log.as_slice().last() {
+            Some(entry) => Some(entry.ticket),
+            None => None,
+        }
+    }
+
+    /// Takes a command and answers it. The reply is logged under the pass and the ticket.
+    ///
+    /// `Full` comes exactly where the log has as many entries as its limit allows, and is tested first;
+    /// `NoMemory` where a growth was refused. After both nothing changed, and the command is handed back.
+    ///
+    /// This first form sorts and folds the whole history afresh at each operation.
+    fn step(&mut self, pass: u8, ticket: u64, command: Command) -> Result<Reply, StepFault<Command>>
+        requires { IsNextTicket self.old ticket }
+
+        // The reply is the one-thread monitor's, and is logged.
+        ensures reply { IfOk result (λ reply.
+            reply ≡ answer_of self.old.setup.kind self.old.setup.replicas
+            (records_of self.old.setup self.old.log) command) }
+        ensures logged { IfOk result (λ reply. self.new.log
+            ≡ self.old.log ++ record { pass = pass; ticket = ticket; command = command; reply = reply } ∷ []) }
+        ensures same_setup { self.new.setup ≡ self.old.setup }
+        ensures legal { IsLegalLog self.new.setup self.new.log }
+
+        // A yes is evidence, and a no comes exactly where the fault is.
+        ensures yes { IfOk result (λ reply. IsTrue (is_yes reply) → IsRaLinearizable self.new.setup self.new.log) }
+        ensures no { IfOk result (λ reply. IsNoAtFault self.new.setup self.new.log reply) }
+
+        // After a fault nothing changed.
+        ensures full { (result ≡ Err (StepFault.Full command)) ↔ (length self.old.log ≡ self.old.setup.limit) }
+        ensures unchanged { OnErr result (self.new.log ≡ self.old.log) }
+        ensures handed_back { IfErr result (λ fault. unstepped fault ≡ command) }
+    {
+        if self.log.len() == self.setup.limit as usize {
+            return Err(StepFault::Full(command));
+        }
+        if self.log.reserve(1).is_err() {
+            return Err(StepFault::NoMemory(command));
+        }
+        match self.history.take(&self.setup, &command) {
+            Ok(reply) => {
+                self.refused += refusals(reply);
+                let entry = Entry {
+                    pass,
+                    ticket,
+                    command,
+                    reply,
+                };
+                append(&mut self.log, entry);
+                Ok(reply)
+            }
+            Err(NoMemory) => Err(StepFault::NoMemory(command)),
         }
     }
 }

@@ -2,7 +2,7 @@ use Rattle.std.proofs.Common.{ℕ, ◌+◌, ◌<◌, ◌∷◌, ◌++◌, [], Li
 use Rattle.ra_monitor.specs.Monitor.{MonitorEntry, Monitor, records_of, IsRaLinearizable, IsNoAtFault, IsNextTicket}
 use Rattle.ra_monitor.proofs.Legal.{linearizable_after, no_after}
 use Rattle.ra_monitor.proofs.Keeping.{legal_after, kept_after}
-use Rattle.ra_monitor.proofs.monitor.Monitor.step.Goals as goal
+use Rattle.ra_monitor.proofs.monitor.MonitorJournal.step.Goals as goal
 
 pub invariant_of-self-in-Ok : goal.invariant_of-self-in-Ok
 invariant_of-self-in-Ok c =
@@ -24,7 +24,7 @@ returns-in-Ok c =
     record {
       reply = search rules;
       logged = search rules;
-      setup = search rules;
+      same_setup = search rules;
       legal = rw log (legal_after m entry c.self.invariant next taken.0);
       yes = λ said. subst (IsRaLinearizable m.setup) (sym log) (linearizable_after m.setup m.log.items entry taken.0 said);
       no = subst (λ (l : List MonitorEntry). IsNoAtFault m.setup l c.in-Ok.reply) (sym log) (no_after m.setup m.log.items entry taken.0);
