@@ -9,7 +9,7 @@ use Rattle.ra_labels.specs.declared.reply.Reply.{Reply}
 use Rattle.ra_labels.specs.Records.{Records}
 use Rattle.ra_labels.specs.Answer.{answer_of, answers_to, records_after, records_after_all}
 use Rattle.ra_monitor.specs.Log.{last_of}
-use Rattle.ra_monitor.specs.Monitor.{Logged, MonitorEntry, commands_of, records_of}
+use Rattle.ra_monitor.specs.Monitor.{Monitor, MonitorEntry, commands_of, records_of}
 use Rattle.ra_monitor_cli.specs.declared.check.recorder.Recorder.TheInside.{Inside}
 use Rattle.ra_monitor_cli.specs.RecorderKept.{RecorderKept, are_tickets_below}
 
@@ -32,7 +32,7 @@ answers_push kind n records (first ∷ commands) command =
     ap (λ (replies : List Reply). answer_of kind n records first ∷ replies) (answers_push kind n (records_after kind n records first) commands command)
 
 -- nothing changed
-pub kept_same : (r : Inside) (m : Logged) → RecorderKept r → m.log ≡ r.monitor.log → m.setup ≡ r.monitor.setup → RecorderKept (record { kind = r.kind; names = r.names; monitor = m })
+pub kept_same : (r : Inside) (m : Monitor) → RecorderKept r → m.log ≡ r.monitor.log → m.setup ≡ r.monitor.setup → RecorderKept (record { kind = r.kind; names = r.names; monitor = m })
 kept_same r m kept log setup = record {
   kind = ap (λ s. s.kind) setup ∙ kept.kind;
   replicas = ap (λ s. s.replicas) setup ∙ kept.replicas;
@@ -43,7 +43,7 @@ kept_same r m kept log setup = record {
 }
 
 -- a command was answered and logged
-pub kept_next : (r : Inside) (m : Logged) (entry : MonitorEntry) → RecorderKept r → m.log ≡ r.monitor.log ++ entry ∷ [] → m.setup ≡ r.monitor.setup
+pub kept_next : (r : Inside) (m : Monitor) (entry : MonitorEntry) → RecorderKept r → m.log ≡ r.monitor.log ++ entry ∷ [] → m.setup ≡ r.monitor.setup
     → entry.ticket ≡ length r.monitor.log → length r.monitor.log < 1048576
     → entry.reply ≡ answer_of r.monitor.setup.kind r.monitor.setup.replicas (records_of r.monitor.setup r.monitor.log) entry.command
     → RecorderKept (record { kind = r.kind; names = r.names; monitor = m })
