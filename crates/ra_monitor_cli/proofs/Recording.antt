@@ -1,6 +1,6 @@
 -- What is kept true of a recorder, step by step.
-use Rattle.std.proofs.Common.{◌≡◌, ℕ, ◌+◌, ◌<◌, ◌≤◌, true, ltb, List, [], ◌∷◌, ◌++◌, length, map, Result, Ok, Err, IfSome, refl, sym, ap, ◌∙◌, arith, inl, inr}
-use Rattle.std.specs.Prelude.{◌↔◌, IsErrOf}
+use Rattle.std.proofs.Common.{◌≡◌, ℕ, zero, suc, ◌+◌, ◌-◌, ◌<◌, ◌≤◌, true, ltb, List, [], ◌∷◌, ◌++◌, length, map, Result, Ok, Err, Some, refl, sym, ap, ◌∙◌, arith, inl, inr}
+use Rattle.std.specs.Prelude.{◌↔◌, option_map, slice_get}
 use Rattle.std.proofs.lemmas.Bool.{cases_eq, and_parts, and_from, ltb-true, lt-ltb}
 use Rattle.std.proofs.lemmas.List.{length_push, map_push}
 use Rattle.ra_labels.specs.declared.kind.Kind.{Kind}
@@ -8,15 +8,25 @@ use Rattle.ra_labels.specs.declared.command.Command.{Command}
 use Rattle.ra_labels.specs.declared.reply.Reply.{Reply}
 use Rattle.ra_labels.specs.Records.{Records}
 use Rattle.ra_labels.specs.Answer.{answer_of, answers_to, records_after, records_after_all}
-use Rattle.ra_monitor.specs.Log.{last_of}
+use Rattle.ra_ticket.specs.Log.{IsAboveLast}
 use Rattle.ra_monitor.specs.Monitor.{Monitor, MonitorEntry, commands_of, records_of}
 use Rattle.ra_monitor_cli.specs.declared.check.recorder.Recorder.TheInside.{Inside}
 use Rattle.ra_monitor_cli.specs.RecorderKept.{RecorderKept, are_tickets_below}
 
-pub next_ticket : (count : ℕ) (log : List MonitorEntry) → are_tickets_below count log ≡ true → IfSome (last_of log) (λ last. last.ticket < count)
-next_ticket count [] below = tt
-next_ticket count (entry ∷ []) below = ltb-true entry.ticket count (and_parts (ltb entry.ticket count) true below).0
-next_ticket count (entry ∷ another ∷ log) below = next_ticket count (another ∷ log) (and_parts (ltb entry.ticket count) (are_tickets_below count (another ∷ log)) below).1
+-- an entry's ticket is below the number of entries
+below_at : (count i : ℕ) (log : List MonitorEntry) (ticket : ℕ) → are_tickets_below count log ≡ true
+    → option_map (λ (e : MonitorEntry). e.ticket) (slice_get log i) ≡ Some ticket → ticket < count
+below_at count i [] ticket below is = absurd (cc (is))
+below_at count zero (entry ∷ log) ticket below is =
+    let here = ltb-true entry.ticket count (and_parts (ltb entry.ticket count) (are_tickets_below count log) below).0 in
+    let same : entry.ticket ≡ ticket = cc (is) in
+    omega (arith, here, same)
+below_at count (suc i) (entry ∷ log) ticket below is =
+    below_at count i log ticket (and_parts (ltb entry.ticket count) (are_tickets_below count log) below).1 is
+
+-- so the number of entries may be the next ticket
+pub next_ticket : (count : ℕ) (log : List MonitorEntry) → are_tickets_below count log ≡ true → IsAboveLast log count
+next_ticket count log below = λ ticket is. below_at count (length log - 1) log ticket below is
 
 tickets_push : (count : ℕ) (log : List MonitorEntry) (entry : MonitorEntry) → are_tickets_below count log ≡ true → entry.ticket ≡ count → are_tickets_below (count + 1) (log ++ entry ∷ []) ≡ true
 tickets_push count [] entry below is = and_from (ltb entry.ticket (count + 1)) true (lt-ltb entry.ticket (count + 1) (omega arith)) refl
@@ -66,7 +76,7 @@ kept_next r m entry kept log setup ticket room reply = record {
 }
 
 -- a log that is not full has room below its limit
-pub has_room : {T E : Type 0} (r : Result T E) (x : T) (e : E) (count limit : ℕ) → r ≡ Ok x → (IsErrOf r e ↔ (count ≡ limit)) → count ≤ 1048576 → limit ≡ 1048576 → count < 1048576
+pub has_room : {T E : Type 0} (r : Result T E) (x : T) (e : E) (count limit : ℕ) → r ≡ Ok x → ((r ≡ Err e) ↔ (count ≡ limit)) → count ≤ 1048576 → limit ≡ 1048576 → count < 1048576
 has_room r x e count limit is full fits most =
     elim (cases_eq count limit) [
       | inl same ↦ let failed : r ≡ Err e = full.1 same in absurd (let both = sym is ∙ failed in cc)

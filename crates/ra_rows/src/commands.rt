@@ -1,7 +1,8 @@
 //! Commands by short names, and runs of them.
 
 use ra_labels::{Command, Kind, Op, Reply};
-use ra_monitor::{Monitor, StepFault};
+use ra_monitor::Monitor;
+use ra_ticket::{Journal, StepFault};
 use std::alloc::Global;
 use std::process::Abort;
 

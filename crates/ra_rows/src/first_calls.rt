@@ -3,6 +3,7 @@
 use ra_labels::{Command, Kind, NoMemory, Op, Query, Refusal, Reply, Update, fits};
 use ra_monitor::Monitor;
 use ra_seqspec::State;
+use ra_ticket::Journal;
 use std::alloc::{AllocError, AllocFailed};
 use std::process::Abort;
 use std::test::Fail;

@@ -3,7 +3,8 @@
 use crate::commands::{Say, command_of, counter_of, reply_to, step_by};
 use crate::histories::stands_in_turn;
 use ra_labels::{Kind, Reply};
-use ra_monitor::{Monitor, NewFault, StepFault};
+use ra_monitor::{Monitor, NewFault};
+use ra_ticket::{Journal, StepFault};
 use std::process::Abort;
 use std::test::Fail;
 

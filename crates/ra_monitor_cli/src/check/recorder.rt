@@ -12,7 +12,8 @@ use crate::check::name::Names;
 use crate::check::reply::reply_line;
 use crate::limits::MOST_COMMANDS;
 use ra_labels::{Command, Kind, Reply};
-use ra_monitor::{Monitor, Report, StepFault};
+use ra_monitor::{Monitor, Report};
+use ra_ticket::{Journal, StepFault};
 use std::alloc::Global;
 use std::marker::Model;
 

@@ -10,7 +10,7 @@ pub invariant_of-self : goal.invariant_of-self
 invariant_of-self c = elim c.match-step.branch [
   | in-Ok w ↦
       let room = has_room c.step.result w.in-Ok.reply _ (length c.self.inside.monitor.log) c.self.inside.monitor.setup.limit w.in-Ok.is c.step.ensures.full c.self.invariant.fits c.self.invariant.limit in
-      kept_next c.self.inside c.step.new.self _ c.self.invariant w.in-Ok.ensures.logged w.in-Ok.ensures.setup (ap length c.log.ensures.entries) room w.in-Ok.ensures.reply
-  | in-Err-Full w ↦ kept_same c.self.inside c.step.new.self c.self.invariant w.in-Err-Full.ensures.unchanged w.in-Err-Full.ensures.setup
-  | in-Err-NoMemory w ↦ kept_same c.self.inside c.step.new.self c.self.invariant w.in-Err-NoMemory.ensures.unchanged w.in-Err-NoMemory.ensures.setup
+      kept_next c.self.inside c.step.new.self _ c.self.invariant w.in-Ok.ensures.logged w.in-Ok.ensures.same_setup (ap length c.log.ensures.entries) room w.in-Ok.ensures.reply
+  | in-Err-Full w ↦ kept_same c.self.inside c.step.new.self c.self.invariant w.in-Err-Full.ensures.unchanged w.in-Err-Full.ensures.same_setup
+  | in-Err-NoMemory w ↦ kept_same c.self.inside c.step.new.self c.self.invariant w.in-Err-NoMemory.ensures.unchanged w.in-Err-NoMemory.ensures.same_setup
 ]
