@@ -17,10 +17,12 @@ fn look<M: Journal>(board: &Board<M>, seat: &mut LockSeat<M>, ticket: u64) -> bo
     requires waits { (stage_of seat.old.me.0 ≡ Some (Waiting ticket)) × (seat.old.me.1 ≡ []) }
     ensures seat { IsSameSeat seat.old seat.new }
     ensures served { MatchBool result
-        ((stage_of seat.new.me.0 ≡ Some (Holding ticket)) × Carries (readings M.setup M.log M.reply_of M.fault_of) seat.new ticket)
-        ((stage_of seat.new.me.0 ≡ Some (Waiting ticket)) × (seat.new.me.1 ≡ [])
-        × (seen_of seat.new.me.0 ≡ seen_of seat.old.me.0)) }
-    ensures begins { BeginsWith (seen_of seat.new.me.0) (seen_of seat.old.me.0) }
+        ((stage_of seat.new.me.0 ≡ Some (Holding ticket))
+        × Carries (readings M.setup M.log M.reply_of M.fault_of) seat.new ticket)
+        ((stage_of seat.new.me.0 ≡ Some (Waiting ticket)) × (seat.new.me.1 ≡ [])) }
+    ensures seen { MatchBool result
+        (BeginsWith (seen_of seat.new.me.0) (seen_of seat.old.me.0))
+        (seen_of seat.new.me.0 ≡ seen_of seat.old.me.0) }
 {
     board.load::<Look<M>>(seat, SERVING) == ticket
 }

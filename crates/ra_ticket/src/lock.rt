@@ -52,17 +52,17 @@ impl<M: Journal> TicketLock<M> {
             return Err(CallFault::Worn(command));
         };
         let mut journal = enter(rt, board, &mut pass.seat, ticket);
-        match journal.step(pass.number, ticket, command) {
+        let outcome = match journal.step(pass.number, ticket, command) {
             Ok(reply) => {
                 publish(board, &mut pass.seat, journal);
-                release(board, &mut pass.seat);
                 Ok(reply)
             }
             Err(fault) => {
                 put_back(board, &mut pass.seat, journal);
-                release(board, &mut pass.seat);
                 Err(CallFault::from(fault))
             }
-        }
+        };
+        release(board, &mut pass.seat);
+        outcome
     }
 }

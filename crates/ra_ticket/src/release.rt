@@ -20,8 +20,8 @@ pub(crate) fn put_back<M: Journal>(board: &Board<M>, seat: &mut LockSeat<M>, jou
     let _ = board.exchange(seat, JOURNAL, Some(journal));
 }
 
-/// A store of `mark`: the log of the journal in the slot becomes the front.
-pub(crate) fn store_mark<M: Journal>(board: &Board<M>, seat: &mut LockSeat<M>, mark: u64)
+// A store of `mark`: the log of the journal in the slot becomes the front.
+fn store_mark<M: Journal>(board: &Board<M>, seat: &mut LockSeat<M>, mark: u64)
     requires table { IsSeated seat.old.table_id board.now.table_id }
     requires ahead { MayPublish (readings M.setup M.log M.reply_of M.fault_of) seat.old mark }
     ensures seat { IsSameSeat seat.old seat.new }

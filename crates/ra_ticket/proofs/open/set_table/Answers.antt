@@ -1,4 +1,4 @@
-use Rattle.std.proofs.Common.{rules, ◌≡◌, [], ◌∷◌, Option, Some, List, sym, ap, subst}
+use Rattle.std.proofs.Common.{rules, ◌≡◌, [], ◌∷◌, Option, Some, List, sym, subst}
 use Rattle.atomic_table.specs.Table.{opening}
 use Rattle.ra_ticket.specs.Views.{starting}
 use Rattle.ra_ticket.specs.Rule.{TurnsKept}
