@@ -108,7 +108,8 @@ pub record SpellsDelivery (names : List (List ℕ)) (fields : List (List ℕ)) (
   pub words : fields ≡ name ∷ codes "got" ∷ decimal label ∷ []
 
 -- a line with these fields is the operation at the replica, with this clock
-pub record SpellsOperation (kind : Kind) (names fields : List (List ℕ)) (replica : ℕ) (op : Op) (clock : Option ℕ) : Type 0 where
+pub record SpellsOperation (kind : Kind) (names fields : List (List ℕ)) (replica : ℕ) (op : Op)
+    (clock : Option ℕ) : Type 0 where
   pub name : List ℕ
   pub who : NamesReplica names name replica
   pub own : has_words kind op ≡ true

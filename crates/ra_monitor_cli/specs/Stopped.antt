@@ -82,8 +82,8 @@ pub record Stops (text out : List ℕ) (left : Option (List ℕ)) (fault : Check
   pub answered : IsAnsweredUpTo text out rest stage
   pub why : StopsBefore stage rest left fault
 
--- a session stops inside this piece of a text, whatever comes behind; these bytes are the reply lines of its whole lines
--- before
+-- a session stops inside this piece of a text, whatever comes behind; these bytes are the reply lines of its whole
+-- lines before
 pub record StopsInside (old : Session) (piece out_old out_new : List ℕ) (fault : CheckFault) : Type 0 where
   pub more : List ℕ
   pub grows : Grows out_old out_new more

@@ -50,8 +50,8 @@ pub fn check<R: Read, W: Write>(
     // prefix of what was to be written was.
     ensures stopped { IfErr result (λ fault. IfSome (R.remaining reader.old) (λ text.
         StopsCheck text (R.remaining reader.new) (W.contents writer.old) (W.contents writer.new) fault)) }
-    // Endless says that the reader gave at least 4,294,967,296 bytes. That its reads are counted, of which each gave one
-    // byte or more, is seen by reading.
+    // Endless says that the reader gave at least 4,294,967,296 bytes. That its reads are counted, of which each gave
+    // one byte or more, is seen by reading.
     ensures endless { IsErrOf result Endless → HasGiven (R.remaining reader.old) (R.remaining reader.new) MOST_READS }
 {
     let mut session = Session::new(alloc);
