@@ -1,34 +1,38 @@
-use Rattle.std.proofs.Common.{ℕ, ◌+◌, ◌<◌, ◌∷◌, ◌++◌, [], List, length, refl, sym, ap, ◌∙◌, subst, arith, rules}
+use Rattle.std.proofs.Common.{◌≡◌, ℕ, ◌+◌, ◌<◌, ◌∷◌, ◌++◌, [], List, length, refl, sym, ap, ◌∙◌, subst, arith}
+use Rattle.ra_labels.specs.Answer.{answer_of}
 use Rattle.ra_monitor.specs.Monitor.{MonitorEntry, Monitor, records_of, IsRaLinearizable, IsNoAtFault, IsNextTicket}
 use Rattle.ra_monitor.proofs.Legal.{linearizable_after, no_after}
 use Rattle.ra_monitor.proofs.Keeping.{legal_after, kept_after}
 use Rattle.ra_monitor.proofs.monitor.Monitor.step.Goals as goal
 
+-- the entry that joins the log
+abbrev entry_of : goal.After-append → MonitorEntry
+entry_of c = record { pass = c.args.pass; ticket = c.args.ticket; command = c.args.command; reply = c.in-Ok.reply }
+
+log_is : (c : goal.After-append) → c.append.new.log.items ≡ c.self.inside.log.items ++ entry_of c ∷ []
+log_is c = c.append.ensures ∙ ap (λ (l : List MonitorEntry). l ++ entry_of c ∷ []) c.reserve.ensures.items
+
+next_is : (c : goal.After-append) → IsNextTicket (record { setup = c.self.inside.setup; log = c.self.inside.log.items }) c.args.ticket
+next_is c = subst (λ (l : Monitor). IsNextTicket l c.args.ticket) (sym c.self.view_is) c.requires
+
+answered : (c : goal.After-append)
+    → c.in-Ok.reply ≡ answer_of c.self.inside.setup.kind c.self.inside.setup.replicas (records_of c.self.inside.setup c.self.inside.log.items) c.args.command
+answered c = (c.in-Ok.ensures.taken (records_of c.self.inside.setup c.self.inside.log.items) c.self.invariant.history).0
+
 pub invariant_of-self-in-Ok : goal.invariant_of-self-in-Ok
 invariant_of-self-in-Ok c =
     let m = c.self.inside in
-    let entry : MonitorEntry = record { pass = c.args.pass; ticket = c.args.ticket; command = c.args.command; reply = c.in-Ok.reply } in
-    let log = c.append.ensures ∙ ap (λ (l : List MonitorEntry). l ++ entry ∷ []) c.reserve.ensures.items in
-    let next = subst (λ (l : Monitor). IsNextTicket l c.args.ticket) (sym c.self.view_is) c.requires in
-    let taken = c.in-Ok.ensures.taken (records_of m.setup m.log.items) c.self.invariant.history in
+    let stands = (c.in-Ok.ensures.taken (records_of m.setup m.log.items) c.self.invariant.history).1 in
     let room : length m.log.items < m.setup.limit = omega (arith, c.self.invariant.fits, c.len.ensures, c.if-len-self.false, m.log.ok.0) in
-    kept_after m _ entry c.self.invariant next room taken.0 refl log taken.1 c.in-Ok.ensures.one (ap (λ (k : ℕ). m.refused + k) c.refusals.ensures)
+    kept_after m _ (entry_of c) c.self.invariant (next_is c) room (answered c) refl (log_is c) stands c.in-Ok.ensures.one (ap (λ (k : ℕ). m.refused + k) c.refusals.ensures)
 
-pub returns-in-Ok : goal.returns-in-Ok
-returns-in-Ok c =
-    let m = c.self.inside in
-    let entry : MonitorEntry = record { pass = c.args.pass; ticket = c.args.ticket; command = c.args.command; reply = c.in-Ok.reply } in
-    let log = c.append.ensures ∙ ap (λ (l : List MonitorEntry). l ++ entry ∷ []) c.reserve.ensures.items in
-    let next = subst (λ (l : Monitor). IsNextTicket l c.args.ticket) (sym c.self.view_is) c.requires in
-    let taken = c.in-Ok.ensures.taken (records_of m.setup m.log.items) c.self.invariant.history in
-    record {
-      reply = search rules;
-      logged = search rules;
-      setup = search rules;
-      legal = rw log (legal_after m entry c.self.invariant next taken.0);
-      yes = λ said. subst (IsRaLinearizable m.setup) (sym log) (linearizable_after m.setup m.log.items entry taken.0 said);
-      no = subst (λ (l : List MonitorEntry). IsNoAtFault m.setup l c.in-Ok.reply) (sym log) (no_after m.setup m.log.items entry taken.0);
-      full = search rules;
-      unchanged = search rules;
-      handed_back = search rules;
-    }
+pub returns-in-Ok-clause-legal : goal.returns-in-Ok-clause-legal
+returns-in-Ok-clause-legal c = rw (log_is c) (legal_after c.self.inside (entry_of c) c.self.invariant (next_is c) (answered c))
+
+pub returns-in-Ok-clause-yes : goal.returns-in-Ok-clause-yes
+returns-in-Ok-clause-yes c = λ said.
+    subst (IsRaLinearizable c.self.inside.setup) (sym (log_is c)) (linearizable_after c.self.inside.setup c.self.inside.log.items (entry_of c) (answered c) said)
+
+pub returns-in-Ok-clause-no : goal.returns-in-Ok-clause-no
+returns-in-Ok-clause-no c =
+    subst (λ (l : List MonitorEntry). IsNoAtFault c.self.inside.setup l c.in-Ok.reply) (sym (log_is c)) (no_after c.self.inside.setup c.self.inside.log.items (entry_of c) (answered c))
