@@ -1,8 +1,10 @@
 //! Laws of a log, each the clause of a function that does nothing.
-ghost use Rattle.std.specs.Prelude.{◌<◌, List, [], ◌∷◌, ◌++◌, IsTrue};
-ghost use Rattle.ra_ticket.specs.Log.{MayFollow};
+ghost use Rattle.std.specs.Prelude.{◌≡◌, ◌<◌, List, [], ◌∷◌, ◌++◌, IsTrue};
+ghost use Rattle.ra_labels.specs.Answer.{answer_of};
+ghost use Rattle.ra_ticket.specs.Log.{MayFollow, IsLegal};
+ghost use Rattle.ra_monitor.specs.contracts.monitor.MonitorJournal.TheImpl as journal;
 ghost use Rattle.ra_monitor.specs.Replies.{is_yes};
-ghost use Rattle.ra_monitor.specs.Monitor.{MonitorEntry, answer_after, IsLegalLog, IsRaLinearizable, IsNoAtFault};
+ghost use Rattle.ra_monitor.specs.Monitor.{MonitorEntry, answer_after, records_of, IsLegalLog, IsRaLinearizable, IsNoAtFault};
 ghost use Rattle.ra_monitor.specs.declared.setup.Setup.{Setup};
 
 /// In a legal log each entry may follow those before it: its reply is the answer after them.
@@ -28,4 +30,19 @@ pub fn each_yes_is_evidence()
 pub fn each_no_is_at_the_fault()
     ensures { (setup : Setup) (before after : List MonitorEntry) (entry : MonitorEntry)
         → IsLegalLog setup (before ++ entry ∷ after) → IsNoAtFault setup (before ++ entry ∷ []) entry.reply }
+{}
+
+/// The headline. What a pass of a desk has seen is a log that is legal for the journal that a monitor is. Each reply in
+/// such a log is the one-thread monitor's answer after the entries before it; each yes has an RA-linearization of the
+/// records up to there; and each no comes exactly at the fault.
+pub fn each_reply_under_the_lock()
+    ensures reply { (setup : Setup) (before after : List MonitorEntry) (entry : MonitorEntry)
+        → IsLegal (journal.ghosts.reply_of setup) (before ++ entry ∷ after)
+        → entry.reply ≡ answer_of setup.kind setup.replicas (records_of setup before) entry.command }
+    ensures yes { (setup : Setup) (before after : List MonitorEntry) (entry : MonitorEntry)
+        → IsLegal (journal.ghosts.reply_of setup) (before ++ entry ∷ after)
+        → IsTrue (is_yes entry.reply) → IsRaLinearizable setup (before ++ entry ∷ []) }
+    ensures no { (setup : Setup) (before after : List MonitorEntry) (entry : MonitorEntry)
+        → IsLegal (journal.ghosts.reply_of setup) (before ++ entry ∷ after)
+        → IsNoAtFault setup (before ++ entry ∷ []) entry.reply }
 {}

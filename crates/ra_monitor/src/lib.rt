@@ -3,10 +3,12 @@
 //!
 //! The one contract for the layers above: `Monitor::step` answers as the definition of the one-thread monitor
 //! says (`ra_labels/specs/Answer`), after the records of its log, and appends that entry. Every monitor's log is
-//! legal, and a yes in it implies an RA-linearization of the records up to there.
+//! legal, and a yes in it implies an RA-linearization of the records up to there. A monitor is a journal of the ticket
+//! lock; a `Desk` is one behind that lock, and `laws` says what its replies are.
 #![tactic(auto)]
 
 mod accepted;
+mod desk;
 mod faults;
 mod fold;
 mod had;
@@ -23,6 +25,7 @@ mod seen;
 mod sequence;
 mod setup;
 
+pub use desk::Desk;
 pub use faults::NewFault;
 pub use limits::{MOST_ENTRIES, MOST_REPLICAS};
 pub use monitor::Monitor;

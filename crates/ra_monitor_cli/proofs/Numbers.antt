@@ -193,10 +193,6 @@ none_is : {X : Type 0} (o : Option X) → ((x : X) → o ≡ Some x → ⊥) →
 none_is None never = refl
 none_is (Some x) never = absurd (never x refl)
 
-pub number_is : (o : Option ℕ) (ds : List ℕ) → IfSome o (λ n. (ds ≡ decimal n) × (n < 2 ^ 32)) → ((n : ℕ) → n < 2 ^ 32 → ds ≡ decimal n → o ≡ Some n) → o ≡ number_read ds
-number_is (Some n) ds found only = sym (ap number_read found.0 ∙ number_read-decimal n found.1)
-number_is None ds found only = none_is (number_read ds) (λ n e. let says = number_read-Some ds n e in let some = only n says.1 says.0 in absurd cc)
-
 signed_test_of : (z : ℤ) (ds : List ℕ) → mag z < 2 ^ 31 → ds ≡ signed_decimal z → (bytes_eq ds (signed_decimal z) && ltb (mag z) (2 ^ 31)) ≡ true
 signed_test_of z ds small spelled = and_from (bytes_eq ds (signed_decimal z)) (ltb (mag z) (2 ^ 31)) ((bytes_eq-Decides ds (signed_decimal z)).1 spelled) (lt-ltb (mag z) (2 ^ 31) small)
 
@@ -233,6 +229,31 @@ signed_read-Some ds z e =
       | inr failed ↦ let none = rw failed at here in absurd cc
     ]
 
-pub signed_is : (o : Option ℤ) (ds : List ℕ) → IfSome o (λ z. (ds ≡ signed_decimal z) × FitsSigned w32 z) → ((z : ℤ) → FitsSigned w32 z → ds ≡ signed_decimal z → o ≡ Some z) → o ≡ signed_read ds
-signed_is (Some z) ds found only = sym (ap signed_read found.0 ∙ signed_read-decimal z found.1)
-signed_is None ds found only = none_is (signed_read ds) (λ z e. let says = signed_read-Some ds z e in let some = only z says.1 says.0 in absurd cc)
+-- ---- how a field is read, in both cases
+
+-- what was read is spelled so, what is spelled is read, and it is read as the specification reads it
+pub record ReadsField {V : Type 0} (spell : V → List ℕ) (Fits : V → Type 0) (read : List ℕ → Option V) (field : List ℕ) (o : Option V) : Type 0 where
+  pub found : IfSome o (λ v. (field ≡ spell v) × Fits v)
+  pub only : (v : V) → Fits v → field ≡ spell v → o ≡ Some v
+  pub as_read : o ≡ read field
+
+read_so : {V : Type 0} (spell : V → List ℕ) (Fits : V → Type 0) (read : List ℕ → Option V)
+    → ((v : V) → Fits v → read (spell v) ≡ Some v) → ((field : List ℕ) (v : V) → read field ≡ Some v → (field ≡ spell v) × Fits v)
+    → (field : List ℕ) (o : Option V) → IfSome o (λ v. (field ≡ spell v) × Fits v) → ((v : V) → Fits v → field ≡ spell v → o ≡ Some v) → o ≡ read field
+read_so spell Fits read back says field (Some v) found only = sym (ap read found.0 ∙ back v found.1)
+read_so spell Fits read back says field None found only =
+    none_is (read field) (λ v e. let said = says field v e in let some = only v said.1 said.0 in absurd cc)
+
+abbrev pub ReadsNumber : List ℕ → Option ℕ → Type 0
+ReadsNumber = ReadsField decimal (λ n. n < 2 ^ 32) number_read
+
+abbrev pub ReadsSigned : List ℕ → Option ℤ → Type 0
+ReadsSigned = ReadsField signed_decimal (FitsSigned w32) signed_read
+
+pub reads_number : (field : List ℕ) (o : Option ℕ) → IfSome o (λ n. (field ≡ decimal n) × (n < 2 ^ 32)) → ((n : ℕ) → n < 2 ^ 32 → field ≡ decimal n → o ≡ Some n) → ReadsNumber field o
+reads_number field o found only =
+    record { found = found; only = only; as_read = read_so decimal (λ n. n < 2 ^ 32) number_read number_read-decimal number_read-Some field o found only }
+
+pub reads_signed : (field : List ℕ) (o : Option ℤ) → IfSome o (λ z. (field ≡ signed_decimal z) × FitsSigned w32 z) → ((z : ℤ) → FitsSigned w32 z → field ≡ signed_decimal z → o ≡ Some z) → ReadsSigned field o
+reads_signed field o found only =
+    record { found = found; only = only; as_read = read_so signed_decimal (FitsSigned w32) signed_read signed_read-decimal signed_read-Some field o found only }

@@ -108,7 +108,8 @@ pub record SpellsDelivery (names : List (List ℕ)) (fields : List (List ℕ)) (
   pub words : fields ≡ name ∷ codes "got" ∷ decimal label ∷ []
 
 -- a line with these fields is the operation at the replica, with this clock
-pub record SpellsOperation (kind : Kind) (names : List (List ℕ)) (fields : List (List ℕ)) (replica : ℕ) (op : Op) (clock : Option ℕ) : Type 0 where
+pub record SpellsOperation (kind : Kind) (names fields : List (List ℕ)) (replica : ℕ) (op : Op)
+    (clock : Option ℕ) : Type 0 where
   pub name : List ℕ
   pub who : NamesReplica names name replica
   pub own : has_words kind op ≡ true
@@ -129,7 +130,8 @@ Spells kind names line command = AreFieldsOf kind names (fields_of line) command
 -- each of the lines spells the command in its place
 abbrev pub SpellEach : Kind → List (List ℕ) → List (List ℕ) → List Command → Type 0
 SpellEach kind names [] [] = Unit {0}
-SpellEach kind names (line ∷ lines) (command ∷ commands) = Spells kind names line command × SpellEach kind names lines commands
+SpellEach kind names (line ∷ lines) (command ∷ commands) =
+    Spells kind names line command × SpellEach kind names lines commands
 SpellEach kind names _ _ = ⊥
 
 -- ---- the text

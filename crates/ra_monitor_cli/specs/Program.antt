@@ -40,11 +40,14 @@ pub record StopsProgram (ending : Ending) (old new : Option (List ℕ)) (words :
 
 -- A check that has this answer: all was read, and what is stated of it was written; or it stopped, and its fault is
 -- told.
-abbrev pub EndsProgram : Result Outcome CheckFault → Ending → (text left old new err_old err_new : Option (List ℕ)) → Type 0
+abbrev pub EndsProgram : Result Outcome CheckFault → Ending →
+    (text left old new err_old err_new : Option (List ℕ)) → Type 0
 EndsProgram (Ok outcome) ending text left old new err_old err_new =
-    (ending.status ≡ status_of (Ok outcome)) × IsAtEnd left × IfSome text (λ bytes. WritesAnswer bytes old new outcome.report)
+    (ending.status ≡ status_of (Ok outcome)) × IsAtEnd left
+    × IfSome text (λ bytes. WritesAnswer bytes old new outcome.report)
 EndsProgram (Err fault) ending text left old new err_old err_new =
-    StopsProgram ending err_old err_new (check_fault_words fault) × IfSome text (λ bytes. StopsCheck bytes left old new fault)
+    StopsProgram ending err_old err_new (check_fault_words fault)
+    × IfSome text (λ bytes. StopsCheck bytes left old new fault)
     × (fault ≡ Endless → HasGiven text left MOST_READS)
 
 -- the program checks a text, and ends as that check does

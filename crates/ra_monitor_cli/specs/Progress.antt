@@ -116,11 +116,11 @@ HasToCome FirstLine = ⊤
 HasToCome (NamesLine kind) = ⊤
 HasToCome (Commands recorder) = ⊥
 
--- why a session cannot end here
+-- why a session cannot end here: memory is asked for the `end` line alone
 abbrev pub StopsEnding : Session → CheckFault → Type 0
 StopsEnding session (Truncated line_number) =
     (line_number ≡ next_line session.stage) × (session.partial.items ≡ [] → HasToCome session.stage)
-StopsEnding session NoMemory = ⊤
+StopsEnding session NoMemory = HasToCome session.stage → ⊥
 StopsEnding session _ = ⊥
 
 -- a piece of which a part is taken, and what is left of it

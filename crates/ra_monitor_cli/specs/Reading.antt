@@ -56,7 +56,8 @@ delivery_read replica (field ∷ another ∷ more) = None
 -- a counter's read, with the fields behind `read`
 abbrev pub count_read : ℕ → List (List ℕ) → Option Command
 count_read replica [] = None
-count_read replica (field ∷ fields) = option_and_then (λ value. operation_read replica (Count value) fields) (signed_read field)
+count_read replica (field ∷ fields) =
+    option_and_then (λ value. operation_read replica (Count value) fields) (signed_read field)
 
 -- the command of a replica, by the word behind its name
 abbrev pub replica_command_read : Kind → ℕ → List ℕ → List (List ℕ) → Option Command

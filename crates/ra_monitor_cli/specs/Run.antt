@@ -18,14 +18,15 @@ pub record WritesAnswer (text : List ℕ) (old new : Option (List ℕ)) (report 
   pub answered : IsAnswered text out report
   pub appends : Appends old new out
 
--- the writer's bytes, where they are known, grew by a prefix of what is written for the text or for its first lines, and
--- not by the rest of it
+-- the writer's bytes, where they are known, grew by a prefix of what is written for the text or for its first lines,
+-- and not by the rest of it
 pub record WritesPrefix (text : List ℕ) (old new : Option (List ℕ)) : Type 0 where
   pub out : List ℕ
   pub rest : List ℕ
   pub short : 0 < length rest
   pub written : HasWritten old new out rest
-  pub answered : ((stage : Stage) × (behind : List ℕ) × IsAnsweredUpTo text out behind stage) ⊎ ((report : Report) × IsAnswered text out report)
+  pub answered : ((stage : Stage) × (behind : List ℕ) × IsAnsweredUpTo text out behind stage)
+      ⊎ ((report : Report) × IsAnswered text out report)
 
 -- a check stops with this fault, when the reader has these bytes left: the writer's bytes grew by the replies to the
 -- lines before the stop, or by a prefix of what was to be written, where the writer failed
@@ -46,7 +47,8 @@ HasRead (Some all) None session = ⊥
 HasRead (Some all) (Some rest) session = (prefix : List ℕ) × (all ≡ prefix ++ rest) × IsAfter session prefix
 
 -- a check before a read: the reply lines so far are written
-pub record IsRunning (reader_old reader_new writer_old writer_new : Option (List ℕ)) (session : Session) (out : List ℕ) : Type 0 where
+pub record IsRunning (reader_old reader_new writer_old writer_new : Option (List ℕ)) (session : Session)
+    (out : List ℕ) : Type 0 where
   pub read : HasRead reader_old reader_new session
   pub written : Appends writer_old writer_new (replies_at session.stage)
   pub nothing : out ≡ []

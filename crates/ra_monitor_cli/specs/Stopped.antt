@@ -74,16 +74,19 @@ pub record IsAnsweredUpTo (text out rest : List ℕ) (stage : Stage) : Type 0 wh
   pub taken : AreTaken stage lines
   pub replied : out ≡ replies_at stage
 
--- the text stops with this fault, and these bytes are the reply lines to the lines before; the reader has these bytes left
+-- the text stops with this fault, and these bytes are the reply lines to the lines before; the reader has these bytes
+-- left
 pub record Stops (text out : List ℕ) (left : Option (List ℕ)) (fault : CheckFault) : Type 0 where
   pub stage : Stage
   pub rest : List ℕ
   pub answered : IsAnsweredUpTo text out rest stage
   pub why : StopsBefore stage rest left fault
 
--- a session stops inside this piece of a text, whatever comes behind; these bytes are the reply lines of its whole lines before
+-- a session stops inside this piece of a text, whatever comes behind; these bytes are the reply lines of its whole
+-- lines before
 pub record StopsInside (old : Session) (piece out_old out_new : List ℕ) (fault : CheckFault) : Type 0 where
   pub more : List ℕ
   pub grows : Grows out_old out_new more
   pub own : IsOfSession fault
-  pub stops : (stream behind : List ℕ) (left : Option (List ℕ)) → IsAfter old stream → Stops (stream ++ (piece ++ behind)) (replies_at old.stage ++ more) left fault
+  pub stops : (stream behind : List ℕ) (left : Option (List ℕ)) → IsAfter old stream →
+      Stops (stream ++ (piece ++ behind)) (replies_at old.stage ++ more) left fault

@@ -33,9 +33,9 @@ use std::io::{Read, Write};
 /// # Errors
 ///
 /// `Syntax`, `Truncated`, `LineTooLong` and `Full` come where the text itself stops, with the number of its line: the
-/// reply lines to the lines before were written, and so they were with `Read` and `Endless`, where nothing more is read.
-/// With `NoMemory`, where a growth is refused, the reply lines to some of the first lines were written, and with
-/// `Write`, where the writer fails, a front of the output. After an error reader and writer are not asked again.
+/// reply lines to the lines before were written, and so they were with `Read` and `Endless`, where nothing more is
+/// read. With `NoMemory`, where a growth is refused, the reply lines to some of the first lines were written, and with
+/// `Write`, where the writer fails, a prefix of the output. After an error reader and writer are not asked again.
 pub fn check<R: Read, W: Write>(
     alloc: Global,
     reader: &mut R,
@@ -47,10 +47,11 @@ pub fn check<R: Read, W: Write>(
     ensures written { IfOk result (λ outcome. IfSome (R.remaining reader.old) (λ text.
         WritesAnswer text (W.contents writer.old) (W.contents writer.new) outcome.report)) }
     // Where it stops, the replies to the lines before were written, and nothing else; or the writer failed, and a
-    // front of what was to be written was.
+    // prefix of what was to be written was.
     ensures stopped { IfErr result (λ fault. IfSome (R.remaining reader.old) (λ text.
         StopsCheck text (R.remaining reader.new) (W.contents writer.old) (W.contents writer.new) fault)) }
-    // Endless comes after 4,294,967,296 reads, each of which gave a byte.
+    // Endless says that the reader gave at least 4,294,967,296 bytes. That its reads are counted, of which each gave
+    // one byte or more, is seen by reading.
     ensures endless { IsErrOf result Endless → HasGiven (R.remaining reader.old) (R.remaining reader.new) MOST_READS }
 {
     let mut session = Session::new(alloc);

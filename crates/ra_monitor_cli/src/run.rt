@@ -45,8 +45,9 @@ pub struct Ending {
 
 /// Runs the program on the words behind its name.
 ///
-/// The one word `check` has the text that the reader gives checked, with the replies on `out` and a fault's line on `err`.
-/// Other words are answered with the line `usage` on `err`, or `no memory` where they could not be read for want of it.
+/// The one word `check` has the text that the reader gives checked, with the replies on `out` and a fault's line on
+/// `err`. Other words are answered with the line `usage` on `err`, or `no memory` where they could not be read for want
+/// of it.
 /// Costs what `check` does.
 pub fn run<R: Read, W: Write, E: Write>(
     alloc: Global,

@@ -5,8 +5,8 @@ ghost use Rattle.ra_monitor_cli.specs.declared.check.fault.CheckFault.TheVariant
 ghost use Rattle.ra_monitor_cli.specs.Faults.{fault_at_line, check_fault_words};
 
 use std::alloc::{AllocError, AllocFailed};
-use std::error::Error;
 use std::fmt;
+use thiserror::Error;
 
 /// Why a line is not read.
 #[derive(Clone, Copy, Debug, PartialEq, Eq)]
@@ -46,7 +46,7 @@ impl<T: Drop> From<AllocFailed<T>> for LineFault {
 }
 
 /// Why a check gives no verdict. Lines count from 1.
-#[derive(Clone, Copy, Debug, PartialEq, Eq)]
+#[derive(Clone, Copy, Debug, PartialEq, Eq, Error)]
 pub enum CheckFault {
     /// The reader failed.
     Read,
@@ -82,8 +82,6 @@ impl fmt::Display for CheckFault {
         }
     }
 }
-
-impl Error for CheckFault {}
 
 impl From<AllocError> for CheckFault {
     ghost from_gives = { λ _ fault. fault ≡ check_fault.NoMemory };

@@ -21,7 +21,8 @@ pub fn a_line_spells_one_command()
 
 /// A text says at most one history: one kind, one list of names and one list of commands.
 pub fn a_text_says_one_history()
-    ensures { (text : List ℕ) (kind other_kind : Kind) (names other_names : List (List ℕ)) (commands other_commands : List Command) →
+    ensures { (text : List ℕ) (kind other_kind : Kind) (names other_names : List (List ℕ))
+        (commands other_commands : List Command) →
         Says text kind names commands → Says text other_kind other_names other_commands →
         (kind ≡ other_kind) × (names ≡ other_names) × (commands ≡ other_commands) }
 {}

@@ -70,7 +70,8 @@ impl Recorder {
     /// Reads a line, gives its command to the monitor, and puts the line of its reply behind the others. After a
     /// fault the recorder is of no further use; no line was added.
     pub fn record(&mut self, line: &[u8], out: &mut String) -> Result<(), CheckFault>
-        ensures taken { OnOk result ((more : List ℕ) × Grows (string_bytes out.old) (string_bytes out.new) more × RecordsLine self.old self.new line.now more) }
+        ensures taken { OnOk result ((more : List ℕ) × Grows (string_bytes out.old) (string_bytes out.new) more
+            × RecordsLine self.old self.new line.now more) }
         ensures fault { IfErr result (StopsRecording self.old line.now) }
         ensures err { OnErr result (string_bytes out.new ≡ string_bytes out.old) }
     {

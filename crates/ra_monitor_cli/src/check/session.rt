@@ -44,7 +44,8 @@ impl Stage {
 
     // Takes a line, and puts the line of the reply, if it has one, behind the others.
     fn take_line(&mut self, line: &[u8], out: &mut String) -> Result<(), CheckFault>
-        ensures taken { OnOk result ((more : List ℕ) × Grows (string_bytes out.old) (string_bytes out.new) more × TakesLine self.old self.new line.now more) }
+        ensures taken { OnOk result ((more : List ℕ) × Grows (string_bytes out.old) (string_bytes out.new) more
+            × TakesLine self.old self.new line.now more) }
         ensures fault { IfErr result (StopsLine self.old line.now) }
         ensures err { OnErr result (string_bytes out.new ≡ string_bytes out.old) }
     {
@@ -120,7 +121,8 @@ impl Session {
     /// Takes the next piece of the text, and puts the reply lines of the lines that are whole now behind the
     /// others. After a fault the session is of no further use; the reply lines of the lines before are there.
     pub fn feed(&mut self, piece: &[u8], out: &mut String) -> Result<(), CheckFault>
-        ensures taken { OnOk result ((more : List ℕ) × Grows (string_bytes out.old) (string_bytes out.new) more × Takes self.old self.new piece.now more) }
+        ensures taken { OnOk result ((more : List ℕ) × Grows (string_bytes out.old) (string_bytes out.new) more
+            × Takes self.old self.new piece.now more) }
         ensures fault { IfErr result (StopsInside self.old piece.now (string_bytes out.old) (string_bytes out.new)) }
     {
         let mut rest = piece;

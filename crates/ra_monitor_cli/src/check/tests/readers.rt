@@ -129,59 +129,49 @@ impl Write for Counting<'_> {
     }
 }
 
-// A text of more than 2^24 bytes, a byte a read; a full log, which takes 1,048,576 commands and no more; and the longest
-// line, which has 1,048,576 bytes and is no line of the grammar, and one more byte, with a line feed behind and without.
+const NAMES: &[u8] = b"RAH 1 counter\nreplicas a b\n";
+
+const HEAD: &[u8] = b"RAH 1 counter\nreplicas a b\na inc\n";
+
+// The longest line of a command, which is refused.
+const LONGEST: &[u8] = b"zzzzzzzzzzzzzzzz read -2147483648 @4294967295\n";
+
+const VERDICT: &[u8] = b"verdict\n";
+
+const MANY: &[u8] = &[b'a'; 4_096];
+
+// A text of more than 2^24 bytes, a byte a read; a full log, which takes 1,048,576 commands and no more; and a line of
+// 1,048,576 bytes, the most, which is no line of the grammar, or of one more, with a line feed behind and without.
 #[test]
 fn sizes(rt: HostRuntime) {
-    let head = b"RAH 1 counter\nreplicas a b\na inc\n".as_slice();
-    let names = b"RAH 1 counter\nreplicas a b\n".as_slice();
-    let longest = b"zzzzzzzzzzzzzzzz read -2147483648 @4294967295\n".as_slice();
-    let verdict = b"verdict\n".as_slice();
-    let many = [b'a'; 4_096];
     for (now, part, times, rest, most, fault, written) in [
-        (names, longest, 364_723, "", 1, None, 24 * 364_723 + 10),
+        (NAMES, LONGEST, 364_723, "", 1, None, 24 * 364_723 + 10),
         (
-            names,
-            verdict,
+            NAMES,
+            VERDICT,
             1_048_576,
             "",
-            4_096,
+            PIECE,
             None,
             6 * 1_048_576 + 10,
         ),
         (
-            names,
-            verdict,
+            NAMES,
+            VERDICT,
             1_048_577,
             "",
-            4_096,
+            PIECE,
             Some(Full(1_048_579)),
             6 * 1_048_576,
         ),
-        (b"".as_slice(), &many, 256, "", 4_096, Some(Truncated(1)), 0),
-        (b"".as_slice(), &many, 256, "\n", 4_096, Some(Syntax(1)), 0),
-        (
-            b"".as_slice(),
-            &many,
-            256,
-            "a",
-            4_096,
-            Some(LineTooLong(1)),
-            0,
-        ),
-        (
-            b"".as_slice(),
-            &many,
-            256,
-            "a\n",
-            4_096,
-            Some(LineTooLong(1)),
-            0,
-        ),
-        (head, &many, 256, "", 4_096, Some(Truncated(4)), 5),
-        (head, &many, 256, "\n", 1_000, Some(Syntax(4)), 5),
-        (head, &many, 256, "a", 4_096, Some(LineTooLong(4)), 5),
-        (head, &many, 256, "a\n", 1_000, Some(LineTooLong(4)), 5),
+        (b"", MANY, 256, "", PIECE, Some(Truncated(1)), 0),
+        (b"", MANY, 256, "\n", PIECE, Some(Syntax(1)), 0),
+        (b"", MANY, 256, "a", PIECE, Some(LineTooLong(1)), 0),
+        (b"", MANY, 256, "a\n", PIECE, Some(LineTooLong(1)), 0),
+        (HEAD, MANY, 256, "", PIECE, Some(Truncated(4)), 5),
+        (HEAD, MANY, 256, "\n", 1_000, Some(Syntax(4)), 5),
+        (HEAD, MANY, 256, "a", PIECE, Some(LineTooLong(4)), 5),
+        (HEAD, MANY, 256, "a\n", 1_000, Some(LineTooLong(4)), 5),
     ] {
         let count = Cell::new(0);
         let mut reader = Repeats {
@@ -193,11 +183,7 @@ fn sizes(rt: HostRuntime) {
         };
         let mut writer = Counting { written: &count };
         let outcome = check(rt.alloc(), &mut reader, &mut writer);
-        assert_eq!(rt;
-            outcome.map(|outcome| outcome.report.fault).err(),
-            fault,
-            "{times} times"
-        );
+        assert_eq!(rt; outcome.err(), fault, "{times} times");
         assert_eq!(rt; count.get(), written, "{times} times");
     }
 }

@@ -14,5 +14,5 @@ returns-clause-taken c =
     let taken = c.in_ok-take_line.ensures.taken in (
       taken.0,
       taken.1,
-      close_gathered c.args.self.now c.extend.new.self _ c.args.last.now c.deref.result.now taken.0 c.in_ok-extend.ensures.taken c.deref.ensures.value taken.2 c.clear.ensures.items,
+      close_gathered c.args.self.now c.extend.new.self _ c.args.last.now c.deref.result.now taken.0 c.in_ok-extend.ensures.taken c.deref.ensures.value taken.2 (search rules),
     )

@@ -16,3 +16,6 @@ returns-in_ok-push_str-in-Commands-clause-ended c =
           answered c.args.self.now c.in-Commands.recorder text (string_bytes line) c.report-report.result c.in-Commands.is nothing
           c.report-report.ensures c.in_ok-line-in-Commands.ensures after,
     )
+
+pub returns-then-not-is_empty-clause-fault : goal.returns-then-not-is_empty-clause-fault
+returns-then-not-is_empty-clause-fault c = search rules

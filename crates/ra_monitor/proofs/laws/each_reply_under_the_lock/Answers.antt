@@ -1,0 +1,11 @@
+use Rattle.ra_monitor.proofs.LogLaws.{may_follow, yes_is_evidence, no_is_at_fault}
+use Rattle.ra_monitor.proofs.laws.each_reply_under_the_lock.Goals as goal
+
+pub returns-clause-reply : goal.returns-clause-reply
+returns-clause-reply c = λ setup before after entry legal. (may_follow setup before after entry legal).0
+
+pub returns-clause-yes : goal.returns-clause-yes
+returns-clause-yes c = λ setup before after entry legal said. yes_is_evidence setup before after entry legal said
+
+pub returns-clause-no : goal.returns-clause-no
+returns-clause-no c = λ setup before after entry legal. no_is_at_fault setup before after entry legal
