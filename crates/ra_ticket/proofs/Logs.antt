@@ -5,7 +5,7 @@ use Rattle.ra_ticket.specs.declared.entry.Entry.{Entry}
 use Rattle.ra_ticket.specs.declared.board.View.{View}
 use Rattle.ra_ticket.specs.Log.{Readings, entry, BeginsWith, MayFollow, IsLegalAfter, IsLegal}
 use Rattle.ra_ticket.specs.Steps.{HasEntered, IsAhead}
-use Rattle.ra_ticket.specs.Views.{seen_of}
+use Rattle.ra_ticket.specs.Views.{numbers_of, seen_of}
 use Rattle.ra_ticket.proofs.Tickets.{above_last}
 
 module _ {C R : Type 0} where
@@ -34,13 +34,14 @@ module _ {C R : Type 0} where
 
 -- a journal that has answered is one entry ahead of the seat that entered
 module _ {M C R S : Type 0} (j : Readings M C R S) where
-  pub is_ahead : (v : View C R S) (t p : ℕ) (m m' : M) (c : C) (r : R) → HasEntered j v t m
+  pub is_ahead : (v : View C R S) (t p : ℕ) (m m' : M) (c : C) (r : R) → HasEntered j v t m → numbers_of v ≡ p ∷ []
       → j.setup m' ≡ j.setup m → j.log m' ≡ j.log m ++ entry p t c r ∷ []
       → r ≡ j.reply_of (j.setup m) (j.log m) c → IsAhead j v t m'
-  is_ahead v t p m m' c r entered setup log reply = record {
+  is_ahead v t p m m' c r entered numbers setup log reply = record {
     setup = entered.as_seen.setup ∙ ap (λ (x : S). Some x) (sym setup);
     last = entry p t c r;
     log = log ∙ ap (λ (l : List (Entry C R)). l ++ entry p t c r ∷ []) entered.as_seen.log;
+    its_pass = numbers;
     its_ticket = refl;
     follows = (
       reply ∙ (ap (λ (s : S). j.reply_of s (j.log m) c) (sym setup)

@@ -34,11 +34,12 @@ module _ {M C R S : Type 0} (j : Readings M C R S) where
     pub below : AllBelow ticket (seen_of v)
     pub legal : IsLegal (j.reply_of (j.setup journal)) (seen_of v)
 
-  -- the journal is one entry, with this ticket, ahead of what the seat has seen
+  -- the journal is one entry, of the seat's pass and with this ticket, ahead of what the seat has seen
   pub record IsAhead (v : View C R S) (ticket : ℕ) (journal : M) : Type 0 where
     pub setup : setup_of v ≡ Some (j.setup journal)
     pub last : Entry C R
     pub log : j.log journal ≡ seen_of v ++ last ∷ []
+    pub its_pass : numbers_of v ≡ last.pass ∷ []
     pub its_ticket : last.ticket ≡ ticket
     pub follows : MayFollow (j.reply_of (j.setup journal)) (seen_of v) last
 

@@ -11,12 +11,12 @@ publish-requires-clause-ahead g c κs within = (
   search rules,
   search rules,
   is_ahead (of_journal g.M.Journal) c.enter-journal.new.seat.me.0 c.in-Some.ticket c.args.pass.now.number c.enter-journal.result c.step.new.self c.args.command c.in-Ok.reply
-      c.enter-journal.ensures.entered (search rules) (search rules) (search rules),
+      c.enter-journal.ensures.entered (search rules) (search rules) (search rules) (search rules),
 )
 
 pub release-requires-clause-holds : goal.release-requires-clause-holds
 release-requires-clause-holds g c κs within = elim c.match-step.branch [
-  | in-Ok w ↦ subst (λ p. HoldsPublished (of_journal g.M.Journal) p.1.1.0) (sym w.pass-is) w.publish.ensures.holds
+  | in-Ok w ↦ subst (λ p. HoldsPublished (of_journal g.M.Journal) p.1.1.0) (sym w.pass-is) (search rules)
   | in-Err w ↦ (
     c.in-Some.ticket,
     search rules,
