@@ -55,7 +55,7 @@ fn a_monitor_is_told_three_things(rt: HostRuntime) -> Result<(), Fail> {
     Ok(())
 }
 
-/// The operation at replica 200, with this clock.
+// The operation at replica 200, with this clock.
 fn operation(op: Op, stamp: Option<u32>) -> Command {
     Command::Operate {
         replica: 200,

@@ -6,16 +6,16 @@ use ra_monitor::{Half, Monitor, PartRef, Report};
 use std::process::Abort;
 use std::test::Fail;
 
-/// A history of three replicas.
+// A history of three replicas.
 #[derive(Clone, Copy)]
 struct Row {
-    /// What it shows.
+    // What it shows.
     name: &'static str,
     steps: &'static [(Say, Reply)],
     labels: u32,
     refused: u32,
     fault: Option<Fault>,
-    /// How many labels stand in the sequence, each of one part.
+    // How many labels stand in the sequence, each of one part.
     sequence: u32,
 }
 

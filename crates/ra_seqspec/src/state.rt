@@ -13,10 +13,10 @@ pub struct State {
     form: Form,
 }
 
-/// What each kind keeps.
+// What each kind keeps.
 #[derive(Debug, Drop)]
 enum Form {
-    /// The counter's number.
+    // The counter's number.
     Counter(i32),
 }
 

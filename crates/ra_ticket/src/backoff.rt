@@ -1,7 +1,7 @@
 //! How a waiting call spends its time.
 use std::{hint, thread};
 
-/// The longest spin is two to this power.
+// The longest spin is two to this power.
 const LAST_SPIN: u32 = 6;
 
 /// A wait that grows: each is twice as long as the one before, up to 64 spins, and from then on the processor is left

@@ -17,7 +17,7 @@ use ra_ticket::{Journal, StepFault};
 use std::alloc::Global;
 use std::marker::Model;
 
-/// How many lines stand before the first command.
+// How many lines stand before the first command.
 const LINES_BEFORE: u32 = 2;
 
 /// Reads the commands of a history, and has a monitor answer them.

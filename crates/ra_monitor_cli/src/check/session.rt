@@ -63,7 +63,7 @@ impl Stage {
     }
 }
 
-/// The kind that a first line names.
+// The kind that a first line names.
 fn kind_of(line: &[u8]) -> Option<Kind>
     ensures found { IfSome result (λ kind. line.now ≡ first_line kind) }
     ensures only { (kind : Kind) → line.now ≡ first_line kind → result ≡ Some kind }
