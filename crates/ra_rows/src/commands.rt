@@ -1,5 +1,7 @@
 //! Commands by short names, and runs of them.
 
+ghost use Rattle.std.specs.Prelude.{◌≡◌, []};
+
 use ra_labels::{Command, Kind, Op, Reply};
 use ra_monitor::Monitor;
 use ra_ticket::{Journal, StepFault};
@@ -35,7 +37,9 @@ fn operation(replica: u8, op: Op, stamp: Option<u32>) -> Command {
 }
 
 /// A monitor of a counter at this many replicas, whose log may have this many entries.
-pub fn counter_of(rt: &impl Abort, alloc: Global, replicas: u8, limit: u32) -> Monitor {
+pub fn counter_of(rt: &impl Abort, alloc: Global, replicas: u8, limit: u32) -> Monitor
+    ensures { result.log ≡ [] }
+{
     match Monitor::new(alloc, Kind::Counter, replicas, limit) {
         Ok(monitor) => monitor,
         Err(_) => panic!(rt; "no monitor"),
