@@ -52,6 +52,11 @@ module _ {M C R S : Type 0} where
   learned step m found m' = stage_of m.0 ≡ Some Idle
       → SeesTheSame m.0 m'.0 × (m'.1 ≡ m.1) × (stage_of m'.0 ≡ Some Idle) × (next_of m'.0 ≡ found)
 
+  -- an idle seat learns `serving`
+  abbrev pub learned_serving : Step (Option M) → Sat M C R S → ℕ → Sat M C R S → Type 0
+  learned_serving step m found m' = stage_of m.0 ≡ Some Idle
+      → SeesTheSame m.0 m'.0 × (m'.1 ≡ m.1) × (stage_of m'.0 ≡ Some Idle) × (serving_of m'.0 ≡ found)
+
   -- an idle seat draws the ticket, where `next` was it
   abbrev pub drew : Step (Option M) → Sat M C R S → ℕ → Sat M C R S → Type 0
   drew step m found m' = stage_of m.0 ≡ Some Idle → SeesTheSame m.0 m'.0 × (m'.1 ≡ m.1)

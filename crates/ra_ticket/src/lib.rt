@@ -13,6 +13,7 @@
 //! That anyone is ever served is not said.
 #![tactic(auto)]
 
+mod at_once;
 mod backoff;
 mod board;
 mod draw;
