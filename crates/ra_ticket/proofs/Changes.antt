@@ -116,12 +116,12 @@ module _ {M C R S : Type 0} (j : Readings M C R S) (opened : S) where
       home_set_up = c.home_set_up;
     }
 
-    -- a change that leaves the slot, `serving` and the front alone
-    pub unmoved : (next' : ℕ) → next' < 2 ^ 64 → r.next ≤ next' → (next_of w ≤ next') × (serving_of w ≤ r.serving) → numbers_of w ≡ numbers_of v → held_of w ≡ held_of v
-        → setup_of w ≡ setup_of v → seen_of w ≡ seen_of v
+    -- a change that leaves the slot, `serving` and the front alone, of which the seat may see more
+    pub seeing : (next' : ℕ) → next' < 2 ^ 64 → r.next ≤ next' → (next_of w ≤ next') × (serving_of w ≤ r.serving) → numbers_of w ≡ numbers_of v → held_of w ≡ held_of v
+        → setup_of w ≡ setup_of v → BeginsWith r.front (seen_of w) → ((t : ℕ) → held_of w ≡ Some t → seen_of w ≡ r.front)
         → ((t : ℕ) → ticket_of w ≡ Some t → (r.serving ≤ t) × (t < next')) → ((seat t : ℕ) → ticket_of w ≡ Some t → seat ≢ id → At ticket_of s.views seat t → ⊥)
         → Rule record { words = next' ∷ r.serving ∷ r.mark ∷ r.others; homes = s.homes; views = set s.views id w }
-    unmoved next' fits up reached numbers held setup seen drawn apart = changed next' r.serving r.mark s.homes r.front record {
+    seeing next' fits up reached numbers held setup begun front drawn apart = changed next' r.serving r.mark s.homes r.front record {
       order = le_trans r.order up;
       fits = fits;
       next_up = up;
@@ -136,11 +136,19 @@ module _ {M C R S : Type 0} (j : Readings M C R S) (opened : S) where
       home = λ nobody. r.home (λ seat t a. nobody seat t (at_forth held_of s.views id v w here held seat t a));
       grows = begins_same r.front r.front refl;
       others_held = λ seat t u _ at e. r.held seat t u at e;
-      held = λ t e. seen ∙ r.held id t v here (sym held ∙ e);
+      held = front;
       rests = r.rests;
       served = r.served;
       legal = r.legal;
       told = r.told;
-      begun = subst (λ (l : Log). BeginsWith r.front l) (sym seen) (r.begun id v here);
+      begun = begun;
       home_set_up = r.home_set_up;
     }
+
+    -- the same, where the seat sees what it saw before
+    pub unmoved : (next' : ℕ) → next' < 2 ^ 64 → r.next ≤ next' → (next_of w ≤ next') × (serving_of w ≤ r.serving) → numbers_of w ≡ numbers_of v → held_of w ≡ held_of v
+        → setup_of w ≡ setup_of v → seen_of w ≡ seen_of v
+        → ((t : ℕ) → ticket_of w ≡ Some t → (r.serving ≤ t) × (t < next')) → ((seat t : ℕ) → ticket_of w ≡ Some t → seat ≢ id → At ticket_of s.views seat t → ⊥)
+        → Rule record { words = next' ∷ r.serving ∷ r.mark ∷ r.others; homes = s.homes; views = set s.views id w }
+    unmoved next' fits up reached numbers held setup seen drawn apart = seeing next' fits up reached numbers held setup
+        (subst (λ (l : Log). BeginsWith r.front l) (sym seen) (r.begun id v here)) (λ t e. seen ∙ r.held id t v here (sym held ∙ e)) drawn apart

@@ -6,3 +6,4 @@ pub mod Pushes
 pub mod Tickets
 pub mod Logs
 pub mod Journals
+pub mod Marks

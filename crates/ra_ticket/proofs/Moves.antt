@@ -17,7 +17,7 @@ use Rattle.ra_ticket.specs.Log.{Readings, AllBelow, IsLegal}
 use Rattle.ra_ticket.specs.Mark.{IsMarkOf}
 use Rattle.ra_ticket.specs.Views.{stage_of, ticket_at, ticket_of, held_at, held_of, setup_of}
 use Rattle.ra_ticket.specs.Rule.{At, NobodyHolds}
-use Rattle.ra_ticket.specs.Steps.{IsAsSeen, HasEntered, IsAhead, learned, drew, looked, published, released}
+use Rattle.ra_ticket.specs.Steps.{IsAsSeen, HasEntered, IsAhead, IsTold, learned, learned_serving, glanced, drew, looked, published, released}
 use Rattle.ra_ticket.proofs.Seats.{at_after, at_back, at_new}
 use Rattle.ra_ticket.proofs.Logs.{begins_same, legal_push}
 use Rattle.ra_ticket.proofs.Tickets.{below_more}
@@ -72,6 +72,17 @@ module _ {M C R S : Type 0} (j : Readings M C R S) (opened : S) where
     learning : k.stage ≡ Idle → Rule record { words = r.next ∷ r.serving ∷ r.mark ∷ r.others; homes = s.homes; views = set s.views id (with_next k r.next) }
     learning idle = changes.unmoved j opened s r id (Knows k) (with_next k r.next) here r.next r.fits (le_refl r.next) (le_refl r.next, (r.reached id (Knows k) here).1) refl refl refl refl
         (λ t e. absurd (no_ticket k idle t e)) (λ seat t e _ _. no_ticket k idle t e)
+
+    learning_serving : k.stage ≡ Idle → Rule record { words = r.next ∷ r.serving ∷ r.mark ∷ r.others; homes = s.homes; views = set s.views id (with_serving k r.serving) }
+    learning_serving idle = changes.unmoved j opened s r id (Knows k) (with_serving k r.serving) here r.next r.fits (le_refl r.next) ((r.reached id (Knows k) here).0, le_refl r.serving) refl refl refl refl
+        (λ t e. absurd (no_ticket k idle t e)) (λ seat t e _ _. no_ticket k idle t e)
+
+    glancing : k.stage ≡ Idle → Rule record { words = r.next ∷ r.serving ∷ r.mark ∷ r.others; homes = s.homes; views = set s.views id (publishing k r.front) }
+    glancing idle = changes.seeing j opened s r id (Knows k) (publishing k r.front) here r.next r.fits (le_refl r.next) (r.reached id (Knows k) here) refl refl refl
+        (begins_same r.front r.front refl) (λ t e. refl) (λ t e. absurd (no_ticket k idle t e)) (λ seat t e _ _. no_ticket k idle t e)
+
+    front_told : IsTold j (publishing k r.front) r.mark
+    front_told = subst (λ (x : S). IsLegal (j.reply_of x) r.front × IsMarkOf j x r.front r.mark) (sym (r.set_up id (Knows k) here)) (r.legal, r.told)
 
     drawing : (t : ℕ) → k.stage ≡ Idle → r.next ≡ t → t + 1 < 2 ^ 64 → Rule record { words = (t + 1) ∷ r.serving ∷ r.mark ∷ r.others; homes = s.homes; views = set s.views id (waiting k t) }
     drawing t idle e room = changes.unmoved j opened s r id (Knows k) (waiting k t) here (t + 1) room (omega arith) (le_refl (t + 1), (r.reached id (Knows k) here).1) refl
@@ -291,6 +302,36 @@ module _ {M C R S : Type 0} (j : Readings M C R S) (opened : S) where
         tt,
         learning s r id k at c st (stage_is k Idle idle),
         λ _. ((record { numbers = refl; setup = refl; next = (r.reached id (Knows k) at).0; serving = le_refl k.serving }, refl), refl, idle, refl),
+      )
+
+  -- an idle seat learns `serving`
+  pub learns_serving : (slots id : ℕ) (v : View C R S) (c : Slots) (st : Step (Option M)) → stage_of v ≡ Some Idle → Allows Rule slots id (v, c) 1 (λ n. n) (learned_serving st (v, c))
+  learns_serving slots id Spent c st idle s r deep at fits = absurd (cc)
+  learns_serving slots id (Knows k) c st idle s r deep at fits =
+      subst (λ (ws : List ℕ). Goes s id c (set ws 1 (get_or ws 1 0)) (learned_serving st (Knows k, c) (get_or ws 1 0))) (sym r.words) (
+        with_serving k r.serving,
+        keeps,
+        tt,
+        learning_serving s r id k at c st (stage_is k Idle idle),
+        λ _. ((record { numbers = refl; setup = refl; next = le_refl k.next; serving = (r.reached id (Knows k) at).1 }, refl), refl, idle, refl),
+      )
+
+  -- an idle seat looks at `mark`, and sees the front
+  pub glances : (slots id : ℕ) (v : View C R S) (c : Slots) (st : Step (Option M)) → stage_of v ≡ Some Idle → Allows Rule slots id (v, c) 2 (λ n. n) (glanced j st (v, c))
+  glances slots id Spent c st idle s r deep at fits = absurd (cc)
+  glances slots id (Knows k) c st idle s r deep at fits =
+      subst (λ (ws : List ℕ). Goes s id c (set ws 2 (get_or ws 2 0)) (glanced j st (Knows k, c) (get_or ws 2 0))) (sym r.words) (
+        publishing k r.front,
+        keeps,
+        tt,
+        glancing s r id k at c st (stage_is k Idle idle),
+        λ _. (
+          record { numbers = refl; setup = refl; next = le_refl k.next; serving = le_refl k.serving },
+          refl,
+          idle,
+          r.begun id (Knows k) at,
+          front_told s r id k at c st,
+        ),
       )
 
   -- an idle seat draws the ticket t

@@ -1,5 +1,5 @@
 -- What each step on the table tells the seat that made it.
-use Rattle.std.specs.Prelude.{◌≡◌, ◌≢◌, ℕ, ◌+◌, ◌<◌, ◌≤◌, [], ◌∷◌, ◌++◌, Option, Some, None}
+use Rattle.std.specs.Prelude.{◌≡◌, ◌≢◌, ℕ, ◌+◌, ◌<◌, ◌≤◌, [], ◌∷◌, ◌++◌, Option, Some, None, IfSome}
 use Rattle.atomic_table.specs.Table.{Me, Step, rest}
 use Rattle.atomic_table.specs.Seated.{TableId}
 use Rattle.atomic_table.specs.declared.shared.Seat.{Seat}
@@ -43,6 +43,10 @@ module _ {M C R S : Type 0} (j : Readings M C R S) where
     pub its_ticket : last.ticket ≡ ticket
     pub follows : MayFollow (j.reply_of (j.setup journal)) (seen_of v) last
 
+  -- what the seat has seen is a legal log under its setup, and this is its mark
+  abbrev pub IsTold : View C R S → ℕ → Type 0
+  IsTold v mark = IfSome (setup_of v) (λ s. IsLegal (j.reply_of s) (seen_of v) × IsMarkOf j s (seen_of v) mark)
+
 abbrev Sat : Type 0 → Type 0 → Type 0 → Type 0 → Type 0
 Sat M C R S = Me (Option M) (View C R S)
 
@@ -51,6 +55,17 @@ module _ {M C R S : Type 0} where
   abbrev pub learned : Step (Option M) → Sat M C R S → ℕ → Sat M C R S → Type 0
   learned step m found m' = stage_of m.0 ≡ Some Idle
       → SeesTheSame m.0 m'.0 × (m'.1 ≡ m.1) × (stage_of m'.0 ≡ Some Idle) × (next_of m'.0 ≡ found)
+
+  -- an idle seat learns `serving`
+  abbrev pub learned_serving : Step (Option M) → Sat M C R S → ℕ → Sat M C R S → Type 0
+  learned_serving step m found m' = stage_of m.0 ≡ Some Idle
+      → SeesTheSame m.0 m'.0 × (m'.1 ≡ m.1) × (stage_of m'.0 ≡ Some Idle) × (serving_of m'.0 ≡ found)
+
+  -- an idle seat sees the front, which is a legal log with this mark
+  abbrev pub glanced : Readings M C R S → Step (Option M) → Sat M C R S → ℕ → Sat M C R S → Type 0
+  glanced j step m found m' = stage_of m.0 ≡ Some Idle
+      → Stays m.0 m'.0 × (m'.1 ≡ m.1) × (stage_of m'.0 ≡ Some Idle) × BeginsWith (seen_of m'.0) (seen_of m.0)
+      × IsTold j m'.0 found
 
   -- an idle seat draws the ticket, where `next` was it
   abbrev pub drew : Step (Option M) → Sat M C R S → ℕ → Sat M C R S → Type 0

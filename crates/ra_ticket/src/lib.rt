@@ -1,10 +1,11 @@
 //! A ticket lock over a journal: threads that hold passes take turns at one object, in the order of the tickets that
 //! they draw.
 //!
-//! The crate's one contract is that of `TicketLock::submit`, for any `Journal`. A pass has seen a log, at first none,
-//! and each reply adds to it: what the pass has seen then is a legal log under the setup of the journal that was put
-//! in, it begins with what the pass had seen before, and it ends with this call. After `Full` it has as many entries as
-//! the setup allows. A fault hands the command back and logs nothing.
+//! The crate's contract is that of `TicketLock::submit` and `TicketLock::glance`, for any `Journal`. A pass has seen a
+//! log, at first none, and each reply adds to it: what the pass has seen then is a legal log under the setup of the
+//! journal that was put in, it begins with what the pass had seen before, and it ends with this call. After `Full` it
+//! has as many entries as the setup allows. A fault hands the command back and logs nothing. A glance answers how many
+//! entries such a log has and what its fault is, and the pass has then seen it; it waits for nobody.
 //!
 //! Behind it stands the rule of the lock (`specs/Rule`), which each step on the table keeps: no two calls hold one
 //! ticket, the journal is out of its slot with one call at most, the one whose ticket is served, and there is one legal
@@ -13,12 +14,14 @@
 //! That anyone is ever served is not said.
 #![tactic(auto)]
 
+mod at_once;
 mod backoff;
 mod board;
 mod draw;
 mod enter;
 mod entry;
 mod fault;
+mod glance;
 mod journal;
 mod lock;
 mod mark;
@@ -32,6 +35,7 @@ mod tests;
 pub use draw::GREATEST_TICKET;
 pub use entry::Entry;
 pub use fault::{CallFault, OpenFault};
+pub use glance::Glance;
 pub use journal::{Journal, MOST_ENTRIES, StepFault};
 pub use lock::TicketLock;
 pub use open::MOST_PASSES;

@@ -25,10 +25,14 @@ impl<M: Journal> TicketLock<M> {
     /// Draws a ticket, waits until it is served, lets the journal answer the command and publishes the answer.
     /// `Worn` comes before a ticket is drawn; after `Full` and `NoMemory` the ticket is served and leaves no entry.
     ///
-    /// It costs the journal's step and a few atomic steps, one more for each pass that draws at the same time, and the
-    /// wait for all calls that drew before. A waiting call looks at one word, with pauses of 1, 2, 4 .. 64 spins, and
-    /// then leaves the processor to others between two looks. The journal's own bytes, not what it owns, are copied
-    /// twice.
+    /// How it waits: it first tries up to 64 times for a ticket that is served at once, and has none in its hands
+    /// between two tries. So other calls may overtake it in at most 64 tries. Then it draws the next ticket to wait
+    /// with and stands in line, and no call that draws after it is served before it. Between two tries, and then
+    /// between two looks at the ticket that is served, it pauses for 1, 2, 4 .. 64 spins, and from then on leaves the
+    /// processor to others.
+    ///
+    /// It costs the journal's step, a few atomic steps, two or three more for each try and one for each pass that
+    /// draws at the same time, and the wait. The journal's own bytes, not what it owns, are copied twice.
     pub fn submit<R: Wait>(
         &self,
         rt: &R,

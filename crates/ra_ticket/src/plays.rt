@@ -1,6 +1,6 @@
 //! What each step on the table tells.
 ghost use Rattle.ra_ticket.specs.Log.{readings};
-ghost use Rattle.ra_ticket.specs.Steps.{learned, drew, looked, published, released};
+ghost use Rattle.ra_ticket.specs.Steps.{learned, learned_serving, glanced, drew, looked, published, released};
 ghost use Rattle.ra_ticket.specs.Views.{first_pass, other_passes};
 
 use crate::board::{JournalView, View};
@@ -13,6 +13,22 @@ pub(crate) struct Learn;
 
 impl<M, C, R, S> Play<Option<M>, View<C, R, S>> for Learn {
     ghost then = { learned };
+}
+
+/// A load of `serving` by a seat with no ticket.
+pub(crate) struct LearnServing;
+
+impl<M, C, R, S> Play<Option<M>, View<C, R, S>> for LearnServing {
+    ghost then = { learned_serving };
+}
+
+/// A load of `mark`.
+pub(crate) struct LookAtMark<M> {
+    journal: PhantomData<M>,
+}
+
+impl<M: Journal> Play<Option<M>, JournalView<M>> for LookAtMark<M> {
+    ghost then = { glanced (readings M.setup M.log M.reply_of M.fault_of) };
 }
 
 /// A compare-exchange of `next`.

@@ -6,8 +6,8 @@ mod tally;
 mod threads;
 
 use crate::{
-    CallFault, GREATEST_TICKET, Journal, MOST_ENTRIES, MOST_PASSES, OpenFault, Pass, StepFault,
-    TicketLock,
+    CallFault, GREATEST_TICKET, Glance, Journal, MOST_ENTRIES, MOST_PASSES, OpenFault, Pass,
+    StepFault, TicketLock,
 };
 use std::alloc::{AllocError, Global};
 use std::sync::atomic::{AtomicU64, Ordering};
@@ -142,6 +142,31 @@ fn a_full_log_hands_the_command_back_and_the_next_pass_is_served(
             assert_eq!(rt; replies, [Err(CallFault::Full(5)), Err(CallFault::Full(6))]);
         }
     }
+    Ok(())
+}
+
+// A glance by the bound alone.
+fn calls_seen<M: Journal>(lock: &TicketLock<M>, pass: &mut Pass<M>) -> Glance
+    requires { IsPassOf lock.now pass.old }
+    ensures { IsSamePass pass.old pass.new }
+{
+    lock.glance(pass)
+}
+
+#[test]
+fn a_pass_that_has_seen_nothing_glances_each_call(rt: HostRuntime) -> Result<(), Fail> {
+    let (lock, mut passes) = TicketLock::open(rt.alloc(), tally_of(rt.alloc(), 9)?, 2, 0)?;
+    let mut other = passes.pop().ok_or("a pass")?;
+    let pass = passes.first_mut().ok_or("a pass")?;
+    let none = Glance {
+        calls: 0,
+        fault: None,
+    };
+    let one = Glance { calls: 1, ..none };
+    assert_eq!(rt; calls_seen(&lock, pass), none);
+    assert_eq!(rt; call(&rt, &lock, pass, 5), Ok(5));
+    assert_eq!(rt; calls_seen(&lock, pass), one);
+    assert_eq!(rt; calls_seen(&lock, &mut other), one);
     Ok(())
 }
 

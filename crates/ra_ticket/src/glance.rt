@@ -1,0 +1,55 @@
+//! How a pass looks at the log without a call.
+ghost use Rattle.std.specs.Prelude.{◌≡◌, Some};
+ghost use Rattle.ra_ticket.specs.Log.{readings, BeginsWith};
+ghost use Rattle.ra_ticket.specs.Steps.{IsSeated, IsSameSeat, IsTold};
+ghost use Rattle.ra_ticket.specs.Views.{stage_of, seen_of};
+ghost use Rattle.ra_ticket.specs.declared.board.Stage.TheVariants.{Idle};
+
+use crate::board::{Board, LockSeat, MARK};
+use crate::journal::Journal;
+use crate::lock::TicketLock;
+use crate::mark::read;
+use crate::pass::Pass;
+use crate::plays::LookAtMark;
+
+/// What the log of a lock came to, at one point.
+#[derive(Debug, PartialEq, Eq, Clone, Copy)]
+pub struct Glance {
+    /// How many entries it has.
+    pub calls: u32,
+    /// The number by which the journal names its fault, if it has one.
+    pub fault: Option<u32>,
+}
+
+// A load of `mark`: the seat has then seen the log that it tells.
+fn look_at_mark<M: Journal>(board: &Board<M>, seat: &mut LockSeat<M>) -> u64
+    requires table { IsSeated seat.old.table_id board.now.table_id }
+    requires idle { stage_of seat.old.me.0 ≡ Some Idle }
+    ensures seat { IsSameSeat seat.old seat.new }
+    ensures slot { seat.new.me.1 ≡ seat.old.me.1 }
+    ensures idle { stage_of seat.new.me.0 ≡ Some Idle }
+    ensures begins { BeginsWith (seen_of seat.new.me.0) (seen_of seat.old.me.0) }
+    ensures told { IsTold (readings M.setup M.log M.reply_of M.fault_of) seat.new.me.0 result }
+{
+    board.load::<LookAtMark<M>>(seat, MARK)
+}
+
+impl<M: Journal> TicketLock<M> {
+    ghost use Rattle.std.specs.Prelude.{◌≡◌, length, IfSome};
+    ghost use Rattle.ra_ticket.specs.Passes.{IsPassOf, IsSamePass, KnowsLegal, pass_setup, seen};
+
+    /// How many entries the log has and its fault, at a point during this call. The log is one that the pass has then
+    /// seen, so it begins with all that the pass had seen before. It waits for nobody, needs no memory and always
+    /// answers. It costs one atomic load.
+    pub fn glance(&self, pass: &mut Pass<M>) -> Glance
+        requires own { IsPassOf self.now pass.old }
+        ensures pass { IsSamePass pass.old pass.new }
+        ensures legal { KnowsLegal M.reply_of pass.new }
+        ensures calls { result.calls ≡ length (seen pass.new) }
+        ensures fault { IfSome (pass_setup pass.new) (λ s. result.fault ≡ M.fault_of s (seen pass.new)) }
+    {
+        let mark = look_at_mark(&self.table.shared, &mut pass.seat);
+        let (calls, fault) = read(mark);
+        Glance { calls, fault }
+    }
+}
