@@ -222,8 +222,8 @@ all_before_fault kind (command ∷ before) none =
     cond-true (is_none (fault_of kind (command ∷ before))) _ _ (ap is_none none)
 
 -- where there is a fault, the records before it are found further on
-passed_over : (o : Option Fault) (fault : Fault) (whole front : Records) → o ≡ Some fault → label_count (cond (is_none o) whole front) ≡ label_count front
-passed_over o fault whole front at = ap (λ b. label_count (cond b whole front)) (ap is_none at)
+passed_over : (o : Option Fault) (fault : Fault) (whole shorter : Records) → o ≡ Some fault → label_count (cond (is_none o) whole shorter) ≡ label_count shorter
+passed_over o fault whole shorter at = ap (λ b. label_count (cond b whole shorter)) (ap is_none at)
 
 -- there are as many labels before a fault as its label says
 pub count_before : (kind : Kind) (records : Records) (fault : Fault) → fault_of kind records ≡ Some fault → label_count (records_before_fault kind records) ≡ fault.label

@@ -1,5 +1,5 @@
 -- The named order of the labels.
-use Rattle.std.proofs.Common.{◌≡◌, ℕ, ◌+◌, ◌<◌, false, [], ◌∷◌, refl, sym, ap, ◌∙◌, inl, inr, arith, Ordering, reverse}
+use Rattle.std.proofs.Common.{◌≡◌, ℕ, ◌+◌, ◌<◌, ◌≤◌, false, [], ◌∷◌, refl, sym, ap, ◌∙◌, inl, inr, arith, Ordering, reverse}
 use mathlib.Core.List.{reverse-cons}
 use Rattle.std.specs.Prelude.{◌↔◌, ◌⊎◌, IsPermutation, IsSorted, All}
 use Rattle.std.specs.Ordering.{MatchOrdering, nat_cmp, is_lt, ordering_then}
@@ -89,6 +89,10 @@ stamp_same s t =
       (λ tie. let fields = both.0 tie in λ i. record { clock = fields.0 i; replica = fields.1 i }),
       (λ same. both.1 (ap (λ (r : Stamp). r.clock) same, ap (λ (r : Stamp). r.replica) same)),
     )
+
+-- the lowest rank is below each stamp
+pub lowest_below : (s : Stamp) → 1 ≤ s.clock → IsStampBelow lowest_rank s
+lowest_below s from_one = inl from_one
 
 then_less : (o p : Ordering) → (ordering_then o p ≡ Less) ↔ ((o ≡ Less) ⊎ ((o ≡ Equal) × (p ≡ Less)))
 then_less Less p = (λ is. inl refl, λ known. refl)

@@ -31,7 +31,7 @@ pub use Rattle.ra_labels.proofs.Seen.{sees-append as sees_the_same_later, is_upd
 pub use Rattle.ra_labels.proofs.Numbers.{numbers_of_labels as labels_are_numbered_in_turn, label_there as each_number_has_its_label-there, no_label_there as each_number_has_its_label-none}
 pub use Rattle.ra_labels.proofs.Unique.{label_found as each_number_has_its_label-found, named_labels-only as the_order_is_pinned}
 pub use Rattle.ra_labels.proofs.Holding.{IsPermutation-named_sequence as each_part_once}
-pub use Rattle.ra_labels.proofs.Order.{stamp_below as stamps_by_clock_and_then_by_replica-less, stamp_same as stamps_by_clock_and_then_by_replica-equal, label_below as labels_by_rank_and_then_by_number, IsPermutation-named_labels as named_labels_are_sorted-same, IsSorted-named_labels as named_labels_are_sorted-sorted, named_labels-by_number as named_in_order_of_execution-labels}
+pub use Rattle.ra_labels.proofs.Order.{stamp_below as stamps_by_clock_and_then_by_replica-less, stamp_same as stamps_by_clock_and_then_by_replica-equal, lowest_below as the_lowest_rank_is_below_each_stamp, label_below as labels_by_rank_and_then_by_number, IsPermutation-named_labels as named_labels_are_sorted-same, IsSorted-named_labels as named_labels_are_sorted-sorted, named_labels-by_number as named_in_order_of_execution-labels}
 -- laws::linearization
 pub use Rattle.ra_labels.proofs.Exactly.{visible-exactly as must_precede_in_three_cases-visible, earlier-exactly as must_precede_in_three_cases-earlier, halves-exactly as must_precede_in_three_cases-halves, must_precede-exactly as must_precede_in_three_cases-cases, updates_of-append as updates_stand_in_order-all, visible_updates-append as updates_stand_in_order-visible, updates-exactly as updates_admitted_where_they_lead_to_a_state, queries-exactly as queries_admitted_where_each_is_answered}
 pub use Rattle.ra_labels.proofs.Standing.{must_precede-irreflexive as no_part_precedes_itself, extends-stands as extending_puts_before-stands, stands-extends as extending_puts_before-extends, linearization_by-stands as linearization_by_an_order_puts_before, linearization_by-weaker as linearization_by_a_weaker_order, linearization-stands as linearization_puts_before, is_update-acts as update_where_a_part_is_one}

@@ -1,5 +1,5 @@
-//! Laws above the definitions, each the clause of a function that does nothing. Proofs of the crates above cite them from
-//! `proofs/TheLaws`, under these names.
+//! Laws above the definitions, each the clause of a function that does nothing. Proofs of the crates above cite them,
+//! under these names, from `proofs/TheLaws`.
 pub mod answer;
 pub mod fault;
 pub mod linearization;

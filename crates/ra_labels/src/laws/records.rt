@@ -15,7 +15,12 @@ pub fn an_operation_is_found_as_its_label()
     ensures found { (later before : Records) (by : ℕ) (op : Op) (clock : Option ℕ)
         → label_at (later ++ Operate by op clock ∷ before) (label_count before) ≡ Some (next_label before by op clock) }
     ensures stamped { (before : Records) (by : ℕ) (op : Op) (clock : ℕ) → next_label before by op (Some clock)
-        ≡ record { number = label_count before; replica = by; op = op; stamp = Some (record { clock = clock; replica = by }) } }
+        ≡ record {
+          number = label_count before;
+          replica = by;
+          op = op;
+          stamp = Some (record { clock = clock; replica = by });
+        } }
     ensures unstamped { (before : Records) (by : ℕ) (op : Op) → next_label before by op None
         ≡ record { number = label_count before; replica = by; op = op; stamp = None } }
 {}

@@ -34,6 +34,11 @@ pub fn stamps_by_clock_and_then_by_replica()
     ensures derived { (s t : Stamp) → derived.ghosts.cmp s t ≡ stamp_cmp s t }
 {}
 
+/// The rank of a label without a stamp is below each stamp, whose clock is at least 1.
+pub fn the_lowest_rank_is_below_each_stamp()
+    ensures { (s : Stamp) → 1 ≤ s.clock → IsStampBelow lowest_rank s }
+{}
+
 /// Labels are ordered by rank, and at one rank by number.
 pub fn labels_by_rank_and_then_by_number()
     ensures { (kind : Kind) (records : Records) (l m : Label) → (label_cmp kind records l m ≡ Less)
