@@ -1,0 +1,4 @@
+pub mod Tests
+pub mod Delivered
+pub mod Missing
+pub mod Issued

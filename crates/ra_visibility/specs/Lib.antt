@@ -1,2 +1,6 @@
+pub mod Replica
+pub mod Seen
 pub mod Tracked
-pub mod Tracker
+pub mod Changes
+pub mod Kept
+pub mod Least

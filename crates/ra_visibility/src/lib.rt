@@ -16,9 +16,8 @@ mod limits;
 mod replica;
 mod row;
 mod seen;
-mod tracker;
+mod tracked;
 
 pub use fault::DeliverFault;
 pub use limits::MOST_LABELS;
 pub use seen::Seen;
-pub use tracker::Tracker;
