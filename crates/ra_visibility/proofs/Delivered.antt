@@ -1,15 +1,14 @@
 -- What holds after a delivery of a replica's next update.
-use Rattle.std.proofs.Common.{◌≡◌, ◌≢◌, ℕ, ◌+◌, ◌<◌, ◌≤◌, Bool, true, false, List, ◌∷◌, length, get_or, Option, Some, None, refl, sym, ap, ◌∙◌, subst, ⊎_elim, arith}
+use Rattle.std.proofs.Common.{◌≡◌, ◌≢◌, ℕ, ◌+◌, ◌<◌, Bool, true, false, List, ◌∷◌, length, get_or, refl, sym, ap, ◌∙◌, subst, arith}
 use Rattle.std.specs.Prelude.{◌==◌, ◌&&◌, ◌||◌, nat_lt, set, take, drop}
-use Rattle.std.proofs.lemmas.List.{length-set, get_or-set_same, get_or-set_other, get_or_past}
-use Rattle.std.proofs.lemmas.Bool.{cases_lt, eq-eqb, ne_eqb, eqb-true, lt-ltb}
+use Rattle.std.proofs.lemmas.List.{length-set, get_or-set_same, get_or-set_other}
+use Rattle.std.proofs.lemmas.Bool.{eq-eqb, ne_eqb, lt-ltb}
 use Rattle.ra_labels.specs.declared.command.Command.TheVariants.{Deliver}
 use Rattle.ra_labels.specs.Records.{Records}
 use Rattle.ra_labels.specs.Visibility.{had, is_update_at}
-use Rattle.ra_visibility.specs.declared.row.Row.{Row}
 use Rattle.ra_visibility.specs.Replica.{Replica, new_replica, with_next}
-use Rattle.ra_visibility.specs.Seen.{Seen, no_row, is_in, count_in}
-use Rattle.ra_visibility.specs.Tracked.{Tracked, IsVisibilityOf, replicas_in, labels_in, replica_at, row_at, had_count, had_in, seen_in, sees_in, seen_count, counts_at}
+use Rattle.ra_visibility.specs.Seen.{Seen, is_in, count_in}
+use Rattle.ra_visibility.specs.Tracked.{Tracked, IsVisibilityOf, replicas_in, labels_in, replica_at, row_at, had_count, had_in, seen_in, counts_at}
 use Rattle.ra_visibility.specs.Changes.{with_delivery}
 use Rattle.ra_visibility.specs.Kept.{TrackedKept, IsUpdateOf, issued_count, issued_at}
 use Rattle.ra_visibility.proofs.Tests.{at_or_else, lt_same, in_same, update_there}
@@ -185,3 +184,11 @@ kept_delivered t to label kept next =
     let from = (row_at t label).replica in
     kept_gained t to from kept next.receiver (kept.row_replica label next.there) next.other
     (omega (arith, next.place, (kept.row_issued label next.there next.update).0))
+
+-- there are as many replicas, and the receiver had one update more of the label's
+pub gained_more : (t : Tracked) (to label : ℕ) → TrackedKept t → IsNext t to label
+    → (replicas_in (with_delivery t to label) ≡ replicas_in t)
+    × (had_count (with_delivery t to label) to (row_at t label).replica ≡ had_count t to (row_at t label).replica + 1)
+gained_more t to label kept next =
+    let from = (row_at t label).replica in
+    (count_same t to from, had_more t to from next.receiver (omega (arith, kept.had_length to next.receiver, kept.row_replica label next.there)))

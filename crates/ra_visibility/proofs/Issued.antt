@@ -1,12 +1,12 @@
 -- What is where after a replica's next label.
-use Rattle.std.proofs.Common.{◌≡◌, ◌≢◌, ℕ, zero, suc, ◌+◌, ◌-◌, ◌<◌, ◌≤◌, Bool, true, false, List, [], ◌∷◌, ◌++◌, length, get_or, Option, Some, None, refl, sym, ap, ◌∙◌, subst, ⊎_elim, arith, length-append}
-use Rattle.std.specs.Prelude.{◌==◌, ◌&&◌, ◌||◌, nat_lt, set, take, drop, if◌then◌else◌}
+use Rattle.std.proofs.Common.{◌≡◌, ◌≢◌, ℕ, ◌+◌, ◌<◌, ◌≤◌, Bool, true, false, List, [], ◌∷◌, ◌++◌, length, get_or, Option, Some, None, refl, sym, ap, ◌∙◌, arith, length-append}
+use Rattle.std.specs.Prelude.{set, take, drop}
 use Rattle.std.proofs.lemmas.List.{length-set, get_or-set_same, get_or-set_other, get_or_past, get_or_push, take-append-le, drop-append-le, length-drop, length-take-le}
 use Rattle.std.proofs.Math.ListN.{get_or-append}
 use Rattle.std.proofs.Math.Seq.{drop-append_seam, take-length}
 use Rattle.ra_visibility.specs.declared.row.Row.{Row}
 use Rattle.ra_visibility.specs.Replica.{Replica, new_replica, with_own, stored_at}
-use Rattle.ra_visibility.specs.Seen.{Seen, no_row, is_in, count_in}
+use Rattle.ra_visibility.specs.Seen.{no_row}
 use Rattle.ra_visibility.specs.Tracked.{Tracked, replicas_in, labels_in, replica_at, row_at, had_count, seen_in, seen_count, counts_at}
 use Rattle.ra_visibility.specs.Changes.{place_of_counts, stored_with, with_label}
 use Rattle.ra_visibility.specs.Kept.{TrackedKept, issued_count, issued_at}

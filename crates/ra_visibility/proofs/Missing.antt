@@ -1,16 +1,13 @@
 -- The least label that a delivered one sees and the receiver has not, found replica by replica.
-use Rattle.std.proofs.Common.{◌≡◌, ◌≢◌, ℕ, zero, suc, ◌+◌, ◌<◌, ◌≤◌, Bool, true, false, List, [], ◌∷◌, length, get_or, Option, Some, None, refl, sym, ap, ◌∙◌, subst, ⊎_elim, arith}
-use Rattle.std.specs.Prelude.{◌==◌, ◌&&◌, not, nat_lt, set, take, drop, MatchOption, option_map, if◌then◌else◌, cond}
+use Rattle.std.proofs.Common.{◌≡◌, ℕ, zero, suc, ◌+◌, ◌<◌, ◌≤◌, Bool, true, false, length, Option, Some, None, refl, sym, ap, ◌∙◌, subst, ⊎_elim, arith}
+use Rattle.std.specs.Prelude.{◌&&◌, not, nat_lt, drop, option_map, if◌then◌else◌, cond}
 use Rattle.std.specs.List.{find, range_with_len}
-use Rattle.std.proofs.lemmas.List.{length-set, get_or-set_same, get_or-set_other, get_or_past, length-take-le, length-drop}
-use Rattle.std.proofs.lemmas.Bool.{cases_lt, eq-eqb, ne_eqb, eqb-true, lt-ltb, le-ltb, ltb-true, ltb-false, not-false}
-use Rattle.ra_labels.specs.declared.refusal.Refusal.{Refusal}
+use Rattle.std.proofs.lemmas.List.{get_or-set_same, length-take-le, length-drop}
+use Rattle.std.proofs.lemmas.Bool.{lt-ltb, le-ltb, ltb-true, ltb-false}
 use Rattle.ra_labels.specs.declared.refusal.Refusal.TheVariants.{UnknownLabel, NotAnUpdate, AlreadySeen, NotCausal}
-use Rattle.ra_visibility.specs.declared.row.Row.{Row}
-use Rattle.ra_visibility.specs.Seen.{Seen, no_row, is_in, count_in}
-use Rattle.ra_visibility.specs.Tracked.{Tracked, replicas_in, labels_in, replica_at, row_at, is_update_in, had_count, had_in, seen_in, sees_in, seen_count, counts_at, is_missing, first_missing_in, refusal_in}
+use Rattle.ra_visibility.specs.Tracked.{Tracked, replicas_in, labels_in, row_at, is_update_in, had_count, had_in, seen_count, counts_at, is_missing, first_missing_in, refusal_in}
 use Rattle.ra_visibility.specs.Least.{lesser_of}
-use Rattle.ra_visibility.specs.Kept.{TrackedKept, IsUpdateOf, issued_count, issued_at}
+use Rattle.ra_visibility.specs.Kept.{TrackedKept, issued_count, issued_at}
 use Rattle.ra_visibility.proofs.Tests.{at_or_else, below_or_not, both_or_none, update_there}
 use Rattle.ra_visibility.proofs.Delivered.{IsNext}
 

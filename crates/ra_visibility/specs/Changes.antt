@@ -1,10 +1,10 @@
 -- How a tracker changes, and how a change is taken back.
-use Rattle.std.specs.Prelude.{ℕ, ◌+◌, ◌-◌, Bool, true, false, List, [], ◌∷◌, ◌++◌, length, Option, Some, None, is_none, if◌then◌else◌, get_or, take, drop, set, replicate}
+use Rattle.std.specs.Prelude.{ℕ, ◌-◌, Bool, List, [], ◌∷◌, ◌++◌, length, Option, Some, None, if◌then◌else◌, take, set, replicate}
 use Rattle.ra_visibility.specs.declared.row.Row.{Row}
 use Rattle.ra_visibility.specs.declared.last_change.LastChange.{LastChange}
 use Rattle.ra_visibility.specs.declared.last_change.LastChange.TheVariants.{Nothing, Issue, Delivery}
-use Rattle.ra_visibility.specs.Replica.{Replica, new_replica, with_own, without_own, stored_at, with_next, without_last}
-use Rattle.ra_visibility.specs.Tracked.{Tracked, replicas_in, labels_in, replica_at, row_at}
+use Rattle.ra_visibility.specs.Replica.{new_replica, with_own, without_own, stored_at, with_next, without_last}
+use Rattle.ra_visibility.specs.Tracked.{Tracked, labels_in, replica_at, row_at}
 
 -- no label, at so many replicas
 abbrev pub nothing_in : ℕ → Tracked

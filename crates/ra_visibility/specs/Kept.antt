@@ -1,5 +1,5 @@
 -- What holds of every tracker.
-use Rattle.std.specs.Prelude.{◌≡◌, ◌≢◌, ℕ, ◌+◌, ◌*◌, ◌<◌, ◌≤◌, true, Option, Some, length, get_or}
+use Rattle.std.specs.Prelude.{◌≡◌, ◌≢◌, ℕ, ◌+◌, ◌*◌, ◌<◌, ◌≤◌, true, Some, length, get_or}
 use Rattle.ra_visibility.specs.declared.last_change.LastChange.{LastChange}
 use Rattle.ra_visibility.specs.declared.last_change.LastChange.TheVariants.{Nothing, Issue, Delivery}
 use Rattle.ra_visibility.specs.declared.limits.TheConstants.{MOST_LABELS}

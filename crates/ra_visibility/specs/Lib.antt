@@ -4,3 +4,4 @@ pub mod Tracked
 pub mod Changes
 pub mod Kept
 pub mod Least
+pub mod Tracker

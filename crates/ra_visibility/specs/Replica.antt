@@ -1,5 +1,5 @@
 -- What is kept of a replica.
-use Rattle.std.specs.Prelude.{ℕ, ◌+◌, ◌-◌, Bool, List, [], ◌∷◌, ◌++◌, Option, Some, None, length, get_or, set, take, replicate, if◌then◌else◌}
+use Rattle.std.specs.Prelude.{ℕ, ◌+◌, ◌-◌, Bool, List, [], ◌∷◌, ◌++◌, Option, None, length, get_or, set, take, replicate, if◌then◌else◌}
 
 pub record Replica : Type 0 where
   -- how many updates of each replica it had, its own among them

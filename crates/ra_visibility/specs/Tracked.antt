@@ -1,5 +1,5 @@
 -- What contracts see of a tracker: who had which update and who sees which, in these words.
-use Rattle.std.specs.Prelude.{◌≡◌, ℕ, ◌+◌, ◌<◌, ◌==◌, nat_lt, Bool, true, false, not, ◌&&◌, List, length, Option, Some, None, if◌then◌else◌, get_or, take, drop, set, option_map}
+use Rattle.std.specs.Prelude.{◌≡◌, ℕ, ◌<◌, nat_lt, Bool, not, ◌&&◌, List, length, Option, Some, if◌then◌else◌, get_or, take, drop, set, option_map}
 use Rattle.std.specs.List.{find, range_with_len}
 use Rattle.ra_labels.specs.declared.refusal.Refusal.{Refusal}
 use Rattle.ra_labels.specs.declared.refusal.Refusal.TheVariants.{UnknownLabel, NotAnUpdate, AlreadySeen, NotCausal}

@@ -17,7 +17,9 @@ mod replica;
 mod row;
 mod seen;
 mod tracked;
+mod tracker;
 
 pub use fault::DeliverFault;
 pub use limits::MOST_LABELS;
 pub use seen::Seen;
+pub use tracker::Tracker;
