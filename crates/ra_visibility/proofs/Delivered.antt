@@ -1,5 +1,5 @@
 -- What holds after a delivery of a replica's next update.
-use Rattle.std.proofs.Common.{◌≡◌, ◌≢◌, ℕ, ◌+◌, ◌<◌, Bool, true, false, List, ◌∷◌, length, get_or, refl, sym, ap, ◌∙◌, subst, arith}
+use Rattle.std.proofs.Common.{◌≡◌, ◌≢◌, ℕ, ◌+◌, ◌<◌, ◌≤◌, Bool, true, false, List, ◌∷◌, length, get_or, refl, sym, ap, ◌∙◌, subst, arith}
 use Rattle.std.specs.Prelude.{◌==◌, ◌&&◌, ◌||◌, nat_lt, set, take, drop}
 use Rattle.std.proofs.lemmas.List.{length-set, get_or-set_same, get_or-set_other}
 use Rattle.std.proofs.lemmas.Bool.{eq-eqb, ne_eqb, lt-ltb}
@@ -8,10 +8,10 @@ use Rattle.ra_labels.specs.Records.{Records}
 use Rattle.ra_labels.specs.Visibility.{had, is_update_at}
 use Rattle.ra_visibility.specs.Replica.{Replica, new_replica, with_next}
 use Rattle.ra_visibility.specs.Seen.{Seen, is_in, count_in}
-use Rattle.ra_visibility.specs.Tracked.{Tracked, IsVisibilityOf, replicas_in, labels_in, replica_at, row_at, had_count, had_in, seen_in, counts_at}
+use Rattle.ra_visibility.specs.Tracked.{Tracked, seen_count, IsVisibilityOf, replicas_in, labels_in, replica_at, row_at, had_count, had_in, seen_in, counts_at}
 use Rattle.ra_visibility.specs.Changes.{with_delivery}
 use Rattle.ra_visibility.specs.Kept.{TrackedKept, IsUpdateOf, issued_count, issued_at}
-use Rattle.ra_visibility.proofs.Tests.{at_or_else, lt_same, in_same, update_there}
+use Rattle.ra_visibility.proofs.Tests.{at_or_else, below_or_not, lt_same, in_same, update_there}
 
 abbrev gained : Tracked → ℕ → ℕ → Tracked
 gained t to from = record { replicas = set t.replicas to (with_next (replica_at t to) from); rows = t.rows; stored = t.stored }
@@ -23,6 +23,7 @@ pub record IsNext (t : Tracked) (to label : ℕ) : Type 0 where
   pub receiver : to < replicas_in t
   pub other : to ≢ (row_at t label).replica
   pub place : had_count t to (row_at t label).replica ≡ (row_at t label).place
+  pub all : (of : ℕ) → of < replicas_in t → seen_count t label of ≤ had_count t to of
 
 replica_there : (t : Tracked) (to from q : ℕ) → to < replicas_in t → q ≡ to → replica_at (gained t to from) q ≡ with_next (replica_at t to) from
 replica_there t to from q below same = rw same (get_or-set_same t.replicas to (with_next (replica_at t to) from) (new_replica 0) below)
@@ -62,9 +63,60 @@ seen_same t to from n =
 update_same : (t : Tracked) (to from q p n : ℕ) → IsUpdateOf t q p n → IsUpdateOf (gained t to from) q p n
 update_same t to from q p n is = record { there = is.there; replica = is.replica; update = is.update; place = is.place }
 
-kept_gained : (t : Tracked) (to from : ℕ) → TrackedKept t → to < replicas_in t → from < replicas_in t → to ≢ from
-    → had_count t to from < issued_count t from → TrackedKept (gained t to from)
-kept_gained t to from kept below from_below differ more =
+-- two updates of one replica at one place are one
+only_at : (t : Tracked) (m n : ℕ) → TrackedKept t → (row_at t m).is_update ≡ true → (row_at t n).is_update ≡ true
+    → (row_at t m).replica ≡ (row_at t n).replica → (row_at t m).place ≡ (row_at t n).place → m ≡ n
+only_at t m n kept m_update n_update replica place =
+    sym (kept.row_issued m (update_there t m m_update) m_update).1
+    ∙ ap (λ q. issued_at t q (row_at t m).place) replica
+    ∙ ap (issued_at t (row_at t n).replica) place
+    ∙ (kept.row_issued n (update_there t n n_update) n_update).1
+
+had_more_at : (t : Tracked) (to from q of : ℕ) → to < replicas_in t → from < length (replica_at t to).counts → q ≡ to → of ≡ from
+    → had_count (gained t to from) q of ≡ had_count t q of + 1
+had_more_at t to from q of below inside same here = rw (same, here) (had_more t to from below inside)
+
+had_others_at : (t : Tracked) (to from q of : ℕ) → to < replicas_in t → q ≡ to → of ≢ from
+    → had_count (gained t to from) q of ≡ had_count t q of
+had_others_at t to from q of below same other = rw same (had_others t to from of below other)
+
+had_no_less : (t : Tracked) (to from q of : ℕ) → to < replicas_in t → from < length (replica_at t to).counts → had_count t q of ≤ had_count (gained t to from) q of
+had_no_less t to from q of below inside = at_or_else q to
+    (λ same. at_or_else of from
+    (λ here. omega (arith, had_more_at t to from q of below inside same here))
+    (λ there. omega (arith, had_others_at t to from q of below same there)))
+    (λ other. omega (arith, had_else t to from q of other))
+
+-- what replicas had stays closed, since the receiver had all that the label sees
+closed_gained : (t : Tracked) (to label q n of : ℕ) → TrackedKept t → IsNext t to label → q < replicas_in t → n < labels_in t → of < replicas_in t
+    → (row_at t n).is_update ≡ true → (row_at t n).place < had_count (gained t to (row_at t label).replica) q (row_at t n).replica
+    → seen_count t n of ≤ had_count (gained t to (row_at t label).replica) q of
+closed_gained t to label q n of kept next known there inside_of update had =
+    let from = (row_at t label).replica in
+    let below : to < replicas_in t = next.receiver in
+    let inside : from < length (replica_at t to).counts = omega (arith, kept.had_length to below, kept.row_replica label next.there) in
+    let r = (row_at t n).replica in
+    let p = (row_at t n).place in
+    let more = had_no_less t to from q of below inside in
+    below_or_not p (had_count t q r)
+    (λ before. omega (arith, more, kept.closed q n of known there inside_of update before))
+    (λ after. at_or_else q to
+    (λ same. at_or_else r from
+    (λ own.
+    let at : p ≡ had_count t q r = omega (arith, after, had, had_more_at t to from q r below inside same own) in
+    let was : had_count t q r ≡ (row_at t label).place = rw (same, own) next.place in
+    let is : n ≡ label = only_at t n label kept update next.update own (at ∙ was) in
+    omega (arith, more, ap (λ k. seen_count t k of) is, next.all of inside_of, ap (λ k. had_count t k of) same))
+    (λ foreign. absurd (omega (arith, after, had, had_others_at t to from q r below same foreign))))
+    (λ other. absurd (omega (arith, after, had, had_else t to from q r other))))
+
+kept_gained : (t : Tracked) (to label : ℕ) → TrackedKept t → IsNext t to label → TrackedKept (gained t to (row_at t label).replica)
+kept_gained t to label kept next =
+    let from = (row_at t label).replica in
+    let below : to < replicas_in t = next.receiver in
+    let differ : to ≢ from = next.other in
+    let more : had_count t to from < issued_count t from = omega (arith, next.place, (kept.row_issued label next.there next.update).0) in
+    let from_below : from < replicas_in t = kept.row_replica label next.there in
     let count : replicas_in (gained t to from) ≡ replicas_in t = count_same t to from in
     let issued : (q : ℕ) → (replica_at (gained t to from) q).issued ≡ (replica_at t q).issued = λ q. issued_same t to from q below in
     let inside : from < length (replica_at t to).counts = omega (arith, kept.had_length to below) in
@@ -101,6 +153,8 @@ kept_gained t to from kept below from_below differ more =
       had_own = λ q lq. at_or_else q to
           (λ same. rw same (had_others t to from to below differ ∙ kept.had_own to below ∙ sym (ap length (issued to))))
           (λ other. had_else t to from q q other ∙ kept.had_own q (omega arith) ∙ sym (ap length (issued q)));
+      closed = λ q n of lq ln lof u h.
+          omega (arith, ap (λ s. count_in s of) (seen_same t to from n), closed_gained t to label q n of kept next (omega (arith, count, lq)) ln (omega (arith, count, lof)) u h);
       stored_there = λ q at lq e. at_or_else q to
           (λ same. absurd (cc (e, ap (λ (r : Replica). r.stored) (replica_there t to from q below same))))
           (λ other. omega (arith, kept.stored_there q at (omega arith) (sym (ap (λ (r : Replica). r.stored) (replica_else t to from q other)) ∙ e)));
@@ -110,23 +164,6 @@ kept_gained t to from kept below from_below differ more =
           ∙ kept.stored_same q at of (omega arith) (sym (ap (λ (r : Replica). r.stored) (replica_else t to from q other)) ∙ e) (omega arith) differs
           ∙ sym (had_else t to from q of other));
     }
-
--- two updates of one replica at one place are one
-only_at : (t : Tracked) (m n : ℕ) → TrackedKept t → (row_at t m).is_update ≡ true → (row_at t n).is_update ≡ true
-    → (row_at t m).replica ≡ (row_at t n).replica → (row_at t m).place ≡ (row_at t n).place → m ≡ n
-only_at t m n kept m_update n_update replica place =
-    sym (kept.row_issued m (update_there t m m_update) m_update).1
-    ∙ ap (λ q. issued_at t q (row_at t m).place) replica
-    ∙ ap (issued_at t (row_at t n).replica) place
-    ∙ (kept.row_issued n (update_there t n n_update) n_update).1
-
-had_more_at : (t : Tracked) (to from q of : ℕ) → to < replicas_in t → from < length (replica_at t to).counts → q ≡ to → of ≡ from
-    → had_count (gained t to from) q of ≡ had_count t q of + 1
-had_more_at t to from q of below inside same here = rw (same, here) (had_more t to from below inside)
-
-had_others_at : (t : Tracked) (to from q of : ℕ) → to < replicas_in t → q ≡ to → of ≢ from
-    → had_count (gained t to from) q of ≡ had_count t q of
-had_others_at t to from q of below same other = rw same (had_others t to from of below other)
 
 had_delivered : (t : Tracked) (first : ℕ) (records : Records) (to label q m : ℕ) → TrackedKept t → IsVisibilityOf t first records → IsNext t to label
     → q < replicas_in t
@@ -180,10 +217,7 @@ stands_delivered t first records to label kept next stands =
 
 -- what is kept, with the delivery
 pub kept_delivered : (t : Tracked) (to label : ℕ) → TrackedKept t → IsNext t to label → TrackedKept (with_delivery t to label)
-kept_delivered t to label kept next =
-    let from = (row_at t label).replica in
-    kept_gained t to from kept next.receiver (kept.row_replica label next.there) next.other
-    (omega (arith, next.place, (kept.row_issued label next.there next.update).0))
+kept_delivered t to label kept next = kept_gained t to label kept next
 
 -- there are as many replicas, and the receiver had one update more of the label's
 pub gained_more : (t : Tracked) (to label : ℕ) → TrackedKept t → IsNext t to label

@@ -3,7 +3,7 @@ use Rattle.std.proofs.Common.{◌≡◌, ◌≢◌, ℕ, ◌+◌, ◌<◌, ◌�
 use Rattle.ra_visibility.specs.declared.limits.TheConstants.{MOST_LABELS}
 use Rattle.ra_visibility.specs.declared.row.Row.{Row}
 use Rattle.ra_visibility.specs.Replica.{Replica}
-use Rattle.ra_visibility.specs.Tracked.{Tracked, replicas_in, labels_in, replica_at, row_at, had_count, counts_at}
+use Rattle.ra_visibility.specs.Tracked.{Tracked, seen_count, replicas_in, labels_in, replica_at, row_at, had_count, counts_at}
 use Rattle.ra_visibility.specs.Changes.{with_label}
 use Rattle.ra_visibility.specs.Kept.{TrackedKept, IsUpdateOf, issued_count, issued_at}
 use Rattle.ra_visibility.proofs.Tests.{at_or_else, below_or_not}
@@ -49,6 +49,41 @@ had_within t by q of update kept below known inside =
     (λ own. omega (arith, was, issued_there t by of update below own, had_own t by q of update below (omega (arith, kept.had_length by below)) same own))
     (λ foreign. omega (arith, was, issued_else t by of update foreign, had_there t by q of update below same foreign)))
     (λ other. omega (arith, was, issued_more t by of update below, had_else t by q of update other))
+
+had_no_less : (t : Tracked) (by q of : ℕ) (update : Bool) → TrackedKept t → by < replicas_in t → had_count t q of ≤ had_count (with_label t by update) q of
+had_no_less t by q of update kept below = at_or_else q by
+    (λ same. at_or_else of by
+    (λ own. omega (arith, had_own t by q of update below (omega (arith, kept.had_length by below)) same own))
+    (λ foreign. omega (arith, had_there t by q of update below same foreign)))
+    (λ other. omega (arith, had_else t by q of update other))
+
+-- what replicas had stays closed: of the new label, which its replica has alone, and of those before
+closed_issued : (t : Tracked) (by q n of : ℕ) (update : Bool) → TrackedKept t → by < replicas_in t → q < replicas_in t → of < replicas_in t
+    → n < labels_in (with_label t by update) → (row_at (with_label t by update) n).is_update ≡ true
+    → (row_at (with_label t by update) n).place < had_count (with_label t by update) q (row_at (with_label t by update) n).replica
+    → seen_count (with_label t by update) n of ≤ had_count (with_label t by update) q of
+closed_issued t by q n of update kept below known inside there is had =
+    let new = with_label t by update in
+    let no_less = had_no_less t by q of update kept below in
+    at_or_else n (labels_in t)
+    (λ last.
+    let place : issued_count t by < had_count new q by = subst (λ (r : Row). r.place < had_count new q r.replica) (row_new t by n update last) had in
+    at_or_else q by
+    (λ same. omega (arith, seen_new t by n of update kept below inside last, no_less, ap (λ k. had_count t k of) same))
+    (λ other. absurd (omega (arith, place, had_else t by q by update other, kept.had_issued q by known below))))
+    (λ before.
+    let row = row_else t by n update before in
+    let r = (row_at t n).replica in
+    let p = (row_at t n).place in
+    let early : n < labels_in t = omega (arith, there, labels_more t by update, before) in
+    let was_update : (row_at t n).is_update ≡ true = sym (ap (λ (r : Row). r.is_update) row) ∙ is in
+    let place : p < had_count new q r = subst (λ (r : Row). r.place < had_count new q r.replica) row had in
+    let was : p < had_count t q r = at_or_else q by
+    (λ same. at_or_else r by
+    (λ own. omega (arith, (kept.row_issued n early was_update).0, kept.had_own q known, ap (had_count t q) (own ∙ sym same), ap (issued_count t) (own ∙ sym same)))
+    (λ foreign. omega (arith, place, had_there t by q r update below same foreign)))
+    (λ other. omega (arith, place, had_else t by q r update other)) in
+    omega (arith, ap (λ xs. get_or xs of 0) (seen_before t by n update kept early), kept.closed q n of known early inside was_update was, no_less))
 
 -- the counts of a replica that are stored, after the label
 stored_after : (t : Tracked) (by q at : ℕ) (update : Bool) → by < replicas_in t → (replica_at (with_label t by update) q).stored ≡ Some at → q ≡ by → counts_of_label t by ≡ at
@@ -132,6 +167,7 @@ kept_issued t by update kept below room =
       had_own = λ q lq. at_or_else q by
           (λ same. omega (arith, had_own t by q q update below inside same same, issued_there t by q update below same, kept.had_own q (omega (arith, count, lq))))
           (λ other. omega (arith, had_else t by q q update other, issued_else t by q update other, kept.had_own q (omega (arith, count, lq))));
+      closed = λ q n of lq ln lof u h. closed_issued t by q n of update kept below (omega (arith, count, lq)) (omega (arith, count, lof)) ln u h;
       stored_there = λ q at lq e. at_or_else q by
           (λ same. omega (arith, count, stored_after t by q at update below e same, counts_there t by update kept below))
           (λ other. omega (arith, count, longer.0, kept.stored_there q at (omega (arith, count, lq)) (stored_else t by q at update e other)));

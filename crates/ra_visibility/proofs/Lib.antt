@@ -6,3 +6,4 @@ pub mod Grown
 pub mod Standing
 pub mod Undone
 pub mod Changed
+pub mod Runs

@@ -12,7 +12,7 @@ use Rattle.ra_visibility.proofs.Tests.{at_or_else, below_or_not, both_or_none, u
 use Rattle.ra_visibility.proofs.Delivered.{IsNext}
 
 -- none of the numbers passes
-find_none : (p : ℕ → Bool) (a n : ℕ) → ((m : ℕ) → a ≤ m → m < a + n → p m ≡ false) → find p (range_with_len a n) ≡ None
+pub find_none : (p : ℕ → Bool) (a n : ℕ) → ((m : ℕ) → a ≤ m → m < a + n → p m ≡ false) → find p (range_with_len a n) ≡ None
 find_none p a zero fails = refl
 find_none p a (suc n) fails =
     rw (fails a (omega arith) (omega arith)) (find_none p (a + 1) n (λ m low high. fails m (omega arith) (omega arith)))
@@ -66,7 +66,7 @@ pub record IsMissing (t : Tracked) (to label m : ℕ) : Type 0 where
   pub seen : (row_at t m).place < seen_count t label (row_at t m).replica
   pub lacked : had_count t to (row_at t m).replica ≤ (row_at t m).place
 
-missing_where : (t : Tracked) (to label m : ℕ) → is_missing t to label m ≡ true → IsMissing t to label m
+pub missing_where : (t : Tracked) (to label m : ℕ) → is_missing t to label m ≡ true → IsMissing t to label m
 missing_where t to label m missing =
     let r = (row_at t m).replica in
     let p = (row_at t m).place in
@@ -172,12 +172,21 @@ none_parts true true false None is = (refl, refl, refl, refl)
 none_parts true true false (Some m) is = absurd (cc is)
 
 -- the label sees as many updates of its own replica as stand before it
-seen_own : (t : Tracked) (label : ℕ) → TrackedKept t → label < labels_in t → seen_count t label (row_at t label).replica ≡ (row_at t label).place
+pub seen_own : (t : Tracked) (label : ℕ) → TrackedKept t → label < labels_in t → seen_count t label (row_at t label).replica ≡ (row_at t label).place
 seen_own t label kept there =
     let row = row_at t label in
     let long : length (counts_at t row.counts) ≡ replicas_in t =
     length-take-le (replicas_in t) (drop row.counts t.stored) (omega (arith, length-drop row.counts t.stored, kept.row_counts label there)) in
     get_or-set_same (counts_at t row.counts) row.replica row.place 0 (omega (arith, long, kept.row_replica label there))
+
+-- where nothing is missing, the receiver had all that the label sees
+none_lacked : (t : Tracked) (to label of : ℕ) → TrackedKept t → label < labels_in t → first_missing_in t to label ≡ None → of < replicas_in t
+    → seen_count t label of ≤ had_count t to of
+none_lacked t to label of kept there none below = below_or_not (had_count t to of) (seen_count t label of)
+    (λ lacked.
+    let missing = lacked_missing t to label of kept there below lacked in
+    absurd (cc (missing.1, none_of (is_missing t to label) 0 (labels_in t) (lacked_at t to of) none (omega arith) (omega (arith, missing.0)))))
+    (λ fine. fine)
 
 pub next_where_taken : (t : Tracked) (to label : ℕ) → TrackedKept t → to < replicas_in t → refusal_in t to label ≡ None → IsNext t to label
 next_where_taken t to label kept receiver none =
@@ -194,8 +203,6 @@ next_where_taken t to label kept receiver none =
       update = parts.1;
       receiver = receiver;
       other = λ same. omega (arith, own.0, not_had, kept.had_own to receiver, ap (had_count t to) same, ap (issued_count t) same);
-      place = at_or_else (had_count t to from) place (λ same. same) (λ fewer.
-          let lacked : IsLackedOf t to label from = omega (arith, seen_own t label kept there, not_had, fewer) in
-          let missing = lacked_missing t to label from kept there known lacked in
-          absurd (cc (missing.1, none_of (is_missing t to label) 0 (labels_in t) (lacked_at t to from) parts.3 (omega arith) (omega (arith, missing.0)))));
+      place = omega (arith, seen_own t label kept there, not_had, none_lacked t to label from kept there parts.3 known);
+      all = λ of below. none_lacked t to label of kept there parts.3 below;
     }

@@ -43,6 +43,10 @@ pub record TrackedKept (tracked : Tracked) : Type 0 where
   pub had_issued : (q of : ℕ) → q < replicas_in tracked → of < replicas_in tracked
       → had_count tracked q of ≤ issued_count tracked of
   pub had_own : (q : ℕ) → q < replicas_in tracked → had_count tracked q q ≡ issued_count tracked q
+  -- what a replica had is closed: it had all that an update which it had sees
+  pub closed : (q n of : ℕ) → q < replicas_in tracked → n < labels_in tracked → of < replicas_in tracked
+      → (row_at tracked n).is_update ≡ true → (row_at tracked n).place < had_count tracked q (row_at tracked n).replica
+      → seen_count tracked n of ≤ had_count tracked q of
   -- where a replica's counts are stored, these are its counts, its own apart
   pub stored_there : (q at : ℕ) → q < replicas_in tracked → (replica_at tracked q).stored ≡ Some at
       → at + replicas_in tracked ≤ length tracked.stored

@@ -1,4 +1,4 @@
-ghost use Rattle.std.specs.Prelude.{◌≡◌, ℕ, ◌<◌, IfOk, OnErr, is_none};
+ghost use Rattle.std.specs.Prelude.{◌≡◌, ℕ, ◌<◌, IfOk, OnErr, None, true, is_none};
 ghost use Rattle.ra_visibility.specs.Tracked.{replicas_in, labels_in, replica_at, row_at, had_count, had_in, seen_in, first_missing_in, refusal_in};
 ghost use Rattle.ra_visibility.specs.Least.{lesser_of};
 ghost use Rattle.ra_visibility.specs.Changes.{nothing_in, with_label, with_delivery, without_label, without_delivery};
@@ -129,10 +129,30 @@ impl Tracked {
         if self.sees(replica, label) {
             return Some(Refusal::AlreadySeen);
         }
+        if self.is_next_of_run(replica, label) {
+            return None;
+        }
         match self.first_missing(replica, label) {
             Some(missing) => Some(Refusal::NotCausal(missing)),
             None => None,
         }
+    }
+
+    // Is the label its replica's next there, and does it share its stored counts with the update before it? Then it is
+    // known, with no look at the counts, that nothing is missing.
+    fn is_next_of_run(&self, replica: u8, label: u32) -> bool
+        requires kept { TrackedKept self.now }
+        requires replica { replica < replicas_in self.now }
+        requires label { label < labels_in self.now }
+        ensures { result ≡ true → first_missing_in self.now replica label ≡ None }
+    {
+        let row = self.row(label);
+        let had = self.replica(replica).counts()[row.replica as usize];
+        if had != row.place || had == 0 {
+            return false;
+        }
+        let before = self.replica(row.replica).issued()[had as usize - 1];
+        self.row(before).counts == row.counts
     }
 
     // The least label that this one sees and the replica has not.
@@ -153,6 +173,14 @@ impl Tracked {
             }
         }
         least
+    }
+
+    // What is kept of the label.
+    fn row(&self, label: u32) -> &Row
+        requires { label < labels_in self.now }
+        ensures { result.now ≡ row_at self.now label }
+    {
+        &self.rows[label as usize]
     }
 
     // What is kept of the replica.
