@@ -213,6 +213,9 @@ stands_delivered t first records to label kept next stands =
       updates = stands.updates;
       had = λ q m below. had_delivered t first records to label q m kept stands next (omega (arith, same));
       sees = λ n m below. ap (λ s. is_in s m) (seen_same t to from n) ∙ stands.sees n m below;
+      issuer = stands.issuer;
+      place = stands.place;
+      issued = λ q below. ap length (issued_same t to from q next.receiver) ∙ stands.issued q (omega (arith, same, below));
     }
 
 -- what is kept, with the delivery

@@ -1,10 +1,11 @@
 -- The least label that a delivered one sees and the receiver has not, found replica by replica.
 use Rattle.std.proofs.Common.{◌≡◌, ℕ, zero, suc, ◌+◌, ◌<◌, ◌≤◌, Bool, true, false, length, Option, Some, None, refl, sym, ap, ◌∙◌, subst, ⊎_elim, arith}
-use Rattle.std.specs.Prelude.{◌&&◌, not, nat_lt, drop, option_map, if◌then◌else◌, cond}
+use Rattle.std.specs.Prelude.{[], ◌∷◌, ◌&&◌, not, nat_lt, drop, option_map, cond}
 use Rattle.std.specs.List.{find, range_with_len}
 use Rattle.std.proofs.lemmas.List.{get_or-set_same, length-take-le, length-drop}
 use Rattle.std.proofs.lemmas.Bool.{lt-ltb, le-ltb, ltb-true, ltb-false}
 use Rattle.ra_labels.specs.declared.refusal.Refusal.TheVariants.{UnknownLabel, NotAnUpdate, AlreadySeen, NotCausal}
+use Rattle.ra_labels.specs.Answer.{when, first_of}
 use Rattle.ra_visibility.specs.Tracked.{Tracked, replicas_in, labels_in, row_at, is_update_in, had_count, had_in, seen_count, counts_at, is_missing, first_missing_in, refusal_in}
 use Rattle.ra_visibility.specs.Least.{lesser_of}
 use Rattle.ra_visibility.specs.Kept.{TrackedKept, issued_count, issued_at}
@@ -163,7 +164,7 @@ least_takes t to label end (Some m) known lacks (found, least) =
 
 -- what a delivery that is not refused is
 none_parts : (there update has : Bool) (missing : Option ℕ)
-    → (if not there then Some UnknownLabel else if not update then Some NotAnUpdate else if has then Some AlreadySeen else option_map NotCausal missing) ≡ None
+    → first_of (when (not there) UnknownLabel ∷ when (not update) NotAnUpdate ∷ when has AlreadySeen ∷ option_map NotCausal missing ∷ []) ≡ None
     → (there ≡ true) × (update ≡ true) × (has ≡ false) × (missing ≡ None)
 none_parts false update has missing is = absurd (cc is)
 none_parts true false has missing is = absurd (cc is)

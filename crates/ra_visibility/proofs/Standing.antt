@@ -10,13 +10,14 @@ use Rattle.ra_labels.specs.declared.label.Label.{Label}
 use Rattle.ra_labels.specs.declared.command.Command.TheVariants.{Operate}
 use Rattle.ra_labels.specs.Records.{Records, label_count, label_at, next_label}
 use Rattle.ra_labels.specs.Visibility.{had, sees, is_update, is_update_at}
+use Rattle.ra_visibility.specs.Places.{issuer_of, place_of, updates_of}
 use Rattle.ra_visibility.specs.declared.row.Row.{Row}
 use Rattle.ra_visibility.specs.Seen.{no_row, is_in}
 use Rattle.ra_visibility.specs.Tracked.{Tracked, IsVisibilityOf, replicas_in, labels_in, replica_at, row_at, is_update_in, had_count, had_in, seen_in, sees_in}
 use Rattle.ra_visibility.specs.Changes.{with_label}
 use Rattle.ra_visibility.specs.Kept.{TrackedKept, issued_count}
 use Rattle.ra_visibility.proofs.Tests.{at_or_else, lt_same, in_same, update_there}
-use Rattle.ra_visibility.proofs.Issued.{labels_more, row_new, row_else, count_same, had_there, had_own, had_else, seen_before, seen_new}
+use Rattle.ra_visibility.proofs.Issued.{ones, issued_there, issued_else, labels_more, row_new, row_else, count_same, had_there, had_own, had_else, seen_before, seen_new}
 
 -- no label is in a set whose rows it is past
 past_out : (t : Tracked) (counts : List ℕ) (m : ℕ) → m ≡ labels_in t → is_in (record { rows = t.rows; counts = counts }) m ≡ false
@@ -129,6 +130,43 @@ sees_issued t first by n m records op clock update kept below stands known =
     sees_before t by n m update kept below early ∙ stands.sees n m early
     ∙ sym (ap at (ne_eqb n (label_count records) (λ e. before (e ∙ sym stands.labels)))))
 
+-- whose each label is, and where it stands among the updates of its replica
+issuer_issued : (t : Tracked) (first by n : ℕ) (records : Records) (op : Op) (clock : Option ℕ) (update : Bool) → IsVisibilityOf t first records
+    → n < labels_in (with_label t by update) → (row_at (with_label t by update) n).replica ≡ issuer_of (Operate by op clock ∷ records) n
+issuer_issued t first by n records op clock update stands known =
+    let at : Bool → ℕ = λ b. option_map_or (λ (l : Label). l.replica) (cond b (Some (next_label records by op clock)) (label_at records n)) 0 in
+    at_or_else n (labels_in t)
+    (λ last. ap (λ (r : Row). r.replica) (row_new t by n update last) ∙ sym (ap at (eq-eqb (label_count records) n (sym stands.labels ∙ sym last))))
+    (λ before.
+    ap (λ (r : Row). r.replica) (row_else t by n update before) ∙ stands.issuer n (omega (arith, known, labels_more t by update, before))
+    ∙ sym (ap at (ne_eqb (label_count records) n (λ e. before (sym e ∙ sym stands.labels)))))
+
+place_issued : (t : Tracked) (first by n : ℕ) (records : Records) (op : Op) (clock : Option ℕ) (update : Bool) → by < replicas_in t → IsVisibilityOf t first records
+    → n < labels_in (with_label t by update) → (row_at (with_label t by update) n).place ≡ place_of (Operate by op clock ∷ records) n
+place_issued t first by n records op clock update below stands known =
+    let at : Bool → ℕ = λ b. if b then updates_of records by else place_of records n in
+    at_or_else n (labels_in t)
+    (λ last. ap (λ (r : Row). r.place) (row_new t by n update last) ∙ stands.issued by below ∙ sym (ap at (eq-eqb n (label_count records) (last ∙ stands.labels))))
+    (λ before.
+    ap (λ (r : Row). r.place) (row_else t by n update before) ∙ stands.place n (omega (arith, known, labels_more t by update, before))
+    ∙ sym (ap at (ne_eqb n (label_count records) (λ e. before (e ∙ sym stands.labels)))))
+
+one_more : (update : Bool) (k : ℕ) → k + ones update ≡ (if update then k + 1 else k)
+one_more true k = refl
+one_more false k = omega arith
+
+updates_issued : (t : Tracked) (first by q : ℕ) (records : Records) (op : Op) (clock : Option ℕ) (update : Bool) → by < replicas_in t → IsVisibilityOf t first records
+    → is_update op ≡ update → q < replicas_in t → issued_count (with_label t by update) q ≡ updates_of (Operate by op clock ∷ records) q
+updates_issued t first by q records op clock update below stands kind known =
+    let at : Bool → ℕ = λ b. if b then updates_of records q + 1 else updates_of records q in
+    at_or_else q by
+    (λ same.
+    let this : (by == q && is_update op) ≡ update = ap (λ b. b && is_update op) (eq-eqb by q (sym same)) ∙ kind in
+    issued_there t by q update below same ∙ ap (λ k. k + ones update) (stands.issued q known) ∙ one_more update (updates_of records q) ∙ sym (ap at this))
+    (λ other.
+    let none : (by == q && is_update op) ≡ false = ap (λ b. b && is_update op) (ne_eqb by q (λ e. other (sym e))) in
+    issued_else t by q update other ∙ stands.issued q known ∙ sym (ap at none))
+
 -- the visibility with the operation
 pub stands_issued : (t : Tracked) (first by : ℕ) (records : Records) (op : Op) (clock : Option ℕ) (update : Bool) → TrackedKept t → by < replicas_in t
     → IsVisibilityOf t first records → is_update op ≡ update
@@ -141,4 +179,7 @@ stands_issued t first by records op clock update kept below stands is =
       updates = λ n. update_issued t first by n records op clock update stands is;
       had = λ q n known. had_issued t first by q n records op clock update kept below (omega (arith, count, known)) stands is;
       sees = λ n m known. sees_issued t first by n m records op clock update kept below stands known;
+      issuer = λ n known. issuer_issued t first by n records op clock update stands known;
+      place = λ n known. place_issued t first by n records op clock update below stands known;
+      issued = λ q known. updates_issued t first by q records op clock update below stands is (omega (arith, count, known));
     }

@@ -5,3 +5,5 @@ pub mod Changes
 pub mod Kept
 pub mod Least
 pub mod Tracker
+pub mod Places
+pub mod Refused

@@ -1,10 +1,12 @@
 -- What contracts see of a tracker: who had which update and who sees which, in these words.
-use Rattle.std.specs.Prelude.{◌≡◌, ℕ, ◌<◌, nat_lt, Bool, not, ◌&&◌, List, length, Option, Some, if◌then◌else◌, get_or, take, drop, set, option_map}
+use Rattle.std.specs.Prelude.{◌≡◌, ℕ, ◌<◌, nat_lt, Bool, not, ◌&&◌, List, [], ◌∷◌, length, Option, get_or, take, drop, set, option_map}
 use Rattle.std.specs.List.{find, range_with_len}
 use Rattle.ra_labels.specs.declared.refusal.Refusal.{Refusal}
 use Rattle.ra_labels.specs.declared.refusal.Refusal.TheVariants.{UnknownLabel, NotAnUpdate, AlreadySeen, NotCausal}
 use Rattle.ra_labels.specs.Records.{Records, label_count, replica_count}
 use Rattle.ra_labels.specs.Visibility.{had, sees, is_update_at}
+use Rattle.ra_labels.specs.Answer.{when, first_of}
+use Rattle.ra_visibility.specs.Places.{issuer_of, place_of, updates_of}
 use Rattle.ra_visibility.specs.declared.row.Row.{Row}
 use Rattle.ra_visibility.specs.Replica.{Replica, new_replica}
 use Rattle.ra_visibility.specs.Seen.{Seen, no_row, is_in, count_in}
@@ -68,13 +70,15 @@ is_missing tracked to label m = sees_in tracked label m && not (had_in tracked t
 abbrev pub first_missing_in : Tracked → ℕ → ℕ → Option ℕ
 first_missing_in tracked to label = find (is_missing tracked to label) (range_with_len 0 (labels_in tracked))
 
--- the refusal of a delivery, if there is one
+-- the refusals of a delivery, in their order
 abbrev pub refusal_in : Tracked → ℕ → ℕ → Option Refusal
-refusal_in tracked to label =
-    if not (nat_lt label (labels_in tracked)) then Some UnknownLabel
-    else if not (is_update_in tracked label) then Some NotAnUpdate
-    else if had_in tracked to label then Some AlreadySeen
-    else option_map NotCausal (first_missing_in tracked to label)
+refusal_in tracked to label = first_of (
+    when (not (nat_lt label (labels_in tracked))) UnknownLabel
+    ∷ when (not (is_update_in tracked label)) NotAnUpdate
+    ∷ when (had_in tracked to label) AlreadySeen
+    ∷ option_map NotCausal (first_missing_in tracked to label)
+    ∷ []
+    )
 
 -- this is the visibility of the records, of which so many replicas were there first
 pub record IsVisibilityOf (tracked : Tracked) (first : ℕ) (records : Records) : Type 0 where
@@ -83,3 +87,7 @@ pub record IsVisibilityOf (tracked : Tracked) (first : ℕ) (records : Records) 
   pub updates : (n : ℕ) → is_update_in tracked n ≡ is_update_at records n
   pub had : (replica n : ℕ) → replica < replicas_in tracked → had_in tracked replica n ≡ had records replica n
   pub sees : (n m : ℕ) → n < labels_in tracked → sees_in tracked n m ≡ sees records n m
+  -- whose each label is, and how many updates that one had issued before
+  pub issuer : (n : ℕ) → n < labels_in tracked → (row_at tracked n).replica ≡ issuer_of records n
+  pub place : (n : ℕ) → n < labels_in tracked → (row_at tracked n).place ≡ place_of records n
+  pub issued : (replica : ℕ) → replica < replicas_in tracked → length (replica_at tracked replica).issued ≡ updates_of records replica
