@@ -7,3 +7,5 @@ pub mod Standing
 pub mod Undone
 pub mod Changed
 pub mod Runs
+pub mod Refusing
+pub mod TheLaws

@@ -27,7 +27,7 @@ find_some p a (suc n) k low high passes fails = at_or_else a k
     (λ above. rw (fails a (omega arith) (omega arith)) (find_some p (a + 1) n k (omega arith) (omega arith) passes (λ m l h. fails m (omega arith) h)))
 
 -- none of the numbers passes, where none is found
-none_of : (p : ℕ → Bool) (a n m : ℕ) → find p (range_with_len a n) ≡ None → a ≤ m → m < a + n → p m ≡ false
+pub none_of : (p : ℕ → Bool) (a n m : ℕ) → find p (range_with_len a n) ≡ None → a ≤ m → m < a + n → p m ≡ false
 none_of p a zero m none low high = absurd (omega arith)
 none_of p a (suc n) m none low high = ⊎_elim
     (λ passes. absurd (cc (none, ap (λ b. cond b (Some a) (find p (range_with_len (a + 1) n))) passes)))
@@ -163,7 +163,7 @@ least_takes t to label end (Some m) known lacks (found, least) =
     )
 
 -- what a delivery that is not refused is
-none_parts : (there update has : Bool) (missing : Option ℕ)
+pub none_parts : (there update has : Bool) (missing : Option ℕ)
     → first_of (when (not there) UnknownLabel ∷ when (not update) NotAnUpdate ∷ when has AlreadySeen ∷ option_map NotCausal missing ∷ []) ≡ None
     → (there ≡ true) × (update ≡ true) × (has ≡ false) × (missing ≡ None)
 none_parts false update has missing is = absurd (cc is)

@@ -12,6 +12,7 @@
 
 mod fault;
 mod last_change;
+pub mod laws;
 mod limits;
 mod replica;
 mod row;

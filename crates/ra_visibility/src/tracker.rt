@@ -1,6 +1,6 @@
 ghost use Rattle.std.specs.Prelude.{◌≡◌, ℕ, ◌<◌, ◌∷◌, [], IfOk, IfErr, OnErr, OnOk, IsSome, Option, Some, None, true};
 ghost use Rattle.ra_labels.specs.Records.{Records};
-ghost use Rattle.ra_labels.specs.Visibility.{is_update, is_update_at};
+ghost use Rattle.ra_labels.specs.Visibility.{is_update, IsCausal};
 ghost use Rattle.ra_labels.specs.declared.operation.Op.{Op};
 ghost use Rattle.ra_labels.specs.declared.command.Command.TheVariants.{Operate, Deliver as Delivered};
 ghost use Rattle.ra_labels.specs.declared.refusal.Refusal.{Refusal};
@@ -86,6 +86,8 @@ impl Tracker {
         ensures taken { OnOk result (refusal_in self.old.now replica label ≡ None) }
         ensures stands { OnOk result ((first : ℕ) (records : Records) → IsVisibilityOf self.old.now first records
             → IsVisibilityOf self.new.now first (Delivered replica label ∷ records)) }
+        ensures causal { OnOk result ((first : ℕ) (records : Records) → IsVisibilityOf self.old.now first records
+            → IsCausal records → IsCausal (Delivered replica label ∷ records)) }
         ensures before { OnOk result (self.new.before ≡ Some self.old.now) }
         ensures refused { IfErr result (λ fault. (why : Refusal) × (fault ≡ Refused why)
             × (refusal_in self.old.now replica label ≡ Some why)) }
