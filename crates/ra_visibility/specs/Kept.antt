@@ -27,7 +27,8 @@ pub record TrackedKept (tracked : Tracked) : Type 0 where
   pub few_issued : (q : ℕ) → issued_count tracked q ≤ labels_in tracked
   -- a label's replica is there, and its stored counts are
   pub row_replica : (n : ℕ) → n < labels_in tracked → (row_at tracked n).replica < replicas_in tracked
-  pub row_counts : (n : ℕ) → n < labels_in tracked → (row_at tracked n).counts + replicas_in tracked ≤ length tracked.stored
+  pub row_counts : (n : ℕ) → n < labels_in tracked
+      → (row_at tracked n).counts + replicas_in tracked ≤ length tracked.stored
   -- no label sees more updates of a replica than it issued
   pub row_seen : (n of : ℕ) → n < labels_in tracked → of < replicas_in tracked
       → seen_count tracked n of ≤ issued_count tracked of
@@ -35,17 +36,20 @@ pub record TrackedKept (tracked : Tracked) : Type 0 where
   pub row_issued : (n : ℕ) → n < labels_in tracked → (row_at tracked n).is_update ≡ true
       → ((row_at tracked n).place < issued_count tracked (row_at tracked n).replica)
       × (issued_at tracked (row_at tracked n).replica (row_at tracked n).place ≡ n)
-  pub issued_row : (q p : ℕ) → q < replicas_in tracked → p < issued_count tracked q → IsUpdateOf tracked q p (issued_at tracked q p)
+  pub issued_row : (q p : ℕ) → q < replicas_in tracked → p < issued_count tracked q
+      → IsUpdateOf tracked q p (issued_at tracked q p)
   pub issued_rise : (q p r : ℕ) → q < replicas_in tracked → p < r → r < issued_count tracked q
       → issued_at tracked q p < issued_at tracked q r
   -- a replica has a count for each, no more than was issued there, and its own is that number
-  pub had_length : (q : ℕ) → q < replicas_in tracked → length (replica_at tracked q).counts ≡ replicas_in tracked
+  pub had_length : (q : ℕ) → q < replicas_in tracked
+      → length (replica_at tracked q).counts ≡ replicas_in tracked
   pub had_issued : (q of : ℕ) → q < replicas_in tracked → of < replicas_in tracked
       → had_count tracked q of ≤ issued_count tracked of
   pub had_own : (q : ℕ) → q < replicas_in tracked → had_count tracked q q ≡ issued_count tracked q
   -- what a replica had is closed: it had all that an update which it had sees
   pub closed : (q n of : ℕ) → q < replicas_in tracked → n < labels_in tracked → of < replicas_in tracked
-      → (row_at tracked n).is_update ≡ true → (row_at tracked n).place < had_count tracked q (row_at tracked n).replica
+      → (row_at tracked n).is_update ≡ true
+      → (row_at tracked n).place < had_count tracked q (row_at tracked n).replica
       → seen_count tracked n of ≤ had_count tracked q of
   -- where a replica's counts are stored, these are its counts, its own apart
   pub stored_there : (q at : ℕ) → q < replicas_in tracked → (replica_at tracked q).stored ≡ Some at

@@ -19,5 +19,6 @@ updates_of (_ ∷ before) replica = updates_of before replica
 -- how many updates the label's replica had issued before it
 abbrev pub place_of : Records → ℕ → ℕ
 place_of [] n = 0
-place_of (Operate by op clock ∷ before) n = if n == label_count before then updates_of before by else place_of before n
+place_of (Operate by op clock ∷ before) n =
+    if n == label_count before then updates_of before by else place_of before n
 place_of (_ ∷ before) n = place_of before n

@@ -35,10 +35,16 @@ stored_at replica at = record { counts = replica.counts; issued = replica.issued
 
 -- it got the next update of another
 abbrev pub with_next : Replica → ℕ → Replica
-with_next replica from =
-    record { counts = set replica.counts from (get_or replica.counts from 0 + 1); issued = replica.issued; stored = None }
+with_next replica from = record {
+  counts = set replica.counts from (get_or replica.counts from 0 + 1);
+  issued = replica.issued;
+  stored = None;
+}
 
 -- the last update that it got of another taken back
 abbrev pub without_last : Replica → ℕ → Option ℕ → Replica
-without_last replica from at =
-    record { counts = set replica.counts from (get_or replica.counts from 0 - 1); issued = replica.issued; stored = at }
+without_last replica from at = record {
+  counts = set replica.counts from (get_or replica.counts from 0 - 1);
+  issued = replica.issued;
+  stored = at;
+}

@@ -90,4 +90,5 @@ pub record IsVisibilityOf (tracked : Tracked) (first : ℕ) (records : Records) 
   -- whose each label is, and how many updates that one had issued before
   pub issuer : (n : ℕ) → n < labels_in tracked → (row_at tracked n).replica ≡ issuer_of records n
   pub place : (n : ℕ) → n < labels_in tracked → (row_at tracked n).place ≡ place_of records n
-  pub issued : (replica : ℕ) → replica < replicas_in tracked → length (replica_at tracked replica).issued ≡ updates_of records replica
+  pub issued : (replica : ℕ) → replica < replicas_in tracked
+      → length (replica_at tracked replica).issued ≡ updates_of records replica

@@ -5,6 +5,6 @@ use ra_labels::Refusal;
 pub enum DeliverFault {
     /// It is refused: `UnknownLabel`, `NotAnUpdate`, `AlreadySeen` or `NotCausal`, the first that applies.
     Refused(Refusal),
-    /// A growth was refused for want of memory. No delivery asks for one as yet.
+    /// A growth was refused for want of memory. No delivery asks for one.
     NoMemory,
 }

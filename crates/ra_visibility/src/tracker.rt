@@ -34,7 +34,7 @@ impl Model for Tracker {
 }
 
 impl Tracker {
-    /// A tracker of no records, at this many replicas.
+    /// A tracker of no records, at this many replicas. Costs a row of counts for each of them.
     pub fn new(alloc: Global, replicas: u8) -> Result<Tracker, NoMemory>
         ensures stands { IfOk result (λ tracker. IsVisibilityOf tracker.now replicas []) }
         ensures before { IfOk result (λ tracker. tracker.before ≡ None) }
@@ -46,8 +46,9 @@ impl Tracker {
         })
     }
 
-    /// A label of this replica, an update or not: its number. Costs a row of counts where something was delivered to the
-    /// replica since its last label, and else a constant.
+    /// A label of this replica, an update or not: its number. It is out of memory where a growth is refused, and then
+    /// as before. Costs a row of counts where something was delivered to the replica since its last label, and else a
+    /// constant.
     pub fn issue(&mut self, replica: u8, update: bool) -> Result<u32, NoMemory>
         requires replica { replica < replicas_in self.old.now }
         requires room { labels_in self.old.now < MOST_LABELS }
@@ -80,7 +81,10 @@ impl Tracker {
         self.tracked.vis(label)
     }
 
-    /// The label is delivered to the replica. It takes no memory. Costs a row of counts.
+    /// The label is delivered to the replica. It is refused where there is no such label, where it is not an update,
+    /// where the replica had it, and where the replica lacks a label that it sees, the least of which is named. It
+    /// takes no memory, and never answers `NoMemory`. Costs a row of counts, or a constant where the label is its
+    /// replica's next there, and its replica got nothing since the update before it.
     pub fn deliver(&mut self, replica: u8, label: u32) -> Result<(), DeliverFault>
         requires { replica < replicas_in self.old.now }
         ensures taken { OnOk result (refusal_in self.old.now replica label ≡ None) }
