@@ -1,0 +1,50 @@
+-- What is kept of a replica.
+use Rattle.std.specs.Prelude.{ℕ, ◌+◌, ◌-◌, Bool, List, [], ◌∷◌, ◌++◌, Option, None, length, get_or, set, take, replicate, if◌then◌else◌}
+
+pub record Replica : Type 0 where
+  -- how many updates of each replica it had, its own among them
+  pub counts : List ℕ
+  -- the labels of its own updates, in their order
+  pub issued : List ℕ
+  -- where its counts are stored, if nothing was delivered to it since
+  pub stored : Option ℕ
+
+-- it had nothing, of so many replicas
+abbrev pub new_replica : ℕ → Replica
+new_replica replicas = record { counts = replicate replicas 0; issued = []; stored = None }
+
+-- its next label, an update or not
+abbrev pub with_own : Replica → ℕ → Bool → ℕ → Replica
+with_own replica own update label = record {
+  counts = if update then set replica.counts own (get_or replica.counts own 0 + 1) else replica.counts;
+  issued = if update then replica.issued ++ label ∷ [] else replica.issued;
+  stored = replica.stored;
+}
+
+-- its last own label taken back
+abbrev pub without_own : Replica → ℕ → Bool → Replica
+without_own replica own update = record {
+  counts = if update then set replica.counts own (get_or replica.counts own 0 - 1) else replica.counts;
+  issued = if update then take (length replica.issued - 1) replica.issued else replica.issued;
+  stored = replica.stored;
+}
+
+-- its counts are stored here, or nowhere
+abbrev pub stored_at : Replica → Option ℕ → Replica
+stored_at replica at = record { counts = replica.counts; issued = replica.issued; stored = at }
+
+-- it got the next update of another
+abbrev pub with_next : Replica → ℕ → Replica
+with_next replica from = record {
+  counts = set replica.counts from (get_or replica.counts from 0 + 1);
+  issued = replica.issued;
+  stored = None;
+}
+
+-- the last update that it got of another taken back
+abbrev pub without_last : Replica → ℕ → Option ℕ → Replica
+without_last replica from at = record {
+  counts = set replica.counts from (get_or replica.counts from 0 - 1);
+  issued = replica.issued;
+  stored = at;
+}

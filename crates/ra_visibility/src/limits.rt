@@ -1,0 +1,2 @@
+/// The most labels of a tracker.
+pub const MOST_LABELS: u32 = 1_048_576;

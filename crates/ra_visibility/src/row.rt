@@ -1,0 +1,12 @@
+/// What is kept of a label: 12 bytes.
+#[derive(Clone, Copy, Debug, PartialEq, Eq)]
+pub struct Row {
+    /// The replica that issued it.
+    pub replica: u8,
+    /// Does it change the state?
+    pub is_update: bool,
+    /// How many updates its replica had issued before it.
+    pub place: u32,
+    /// Where the counts of what it sees begin in the table of stored counts, its own replica's apart.
+    pub counts: u32,
+}

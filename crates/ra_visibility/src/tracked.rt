@@ -1,0 +1,248 @@
+ghost use Rattle.std.specs.Prelude.{◌≡◌, ℕ, ◌<◌, IfOk, OnErr, None, true, is_none};
+ghost use Rattle.ra_visibility.specs.Tracked.{replicas_in, labels_in, replica_at, row_at, had_count, had_in, seen_in, first_missing_in, refusal_in};
+ghost use Rattle.ra_visibility.specs.Least.{lesser_of};
+ghost use Rattle.ra_visibility.specs.Changes.{nothing_in, with_label, with_delivery, without_label, without_delivery};
+ghost use Rattle.ra_visibility.specs.Kept.{TrackedKept};
+
+use crate::limits::MOST_LABELS;
+use crate::replica::Replica;
+use crate::row::Row;
+use crate::seen::Seen;
+use ra_labels::{NoMemory, Refusal};
+use std::alloc::Global;
+use std::marker::Model;
+
+/// What replicas had and labels see.
+#[derive(Debug, Drop)]
+pub struct Tracked {
+    replicas: Vec<Replica>,
+    rows: Vec<Row>,
+    /// Rows of counts, one for each replica, one row behind the other.
+    stored: Vec<u32>,
+}
+
+impl Model for Tracked {
+    ghost use Rattle.ra_visibility.specs.Tracked.{Tracked};
+
+    ghost Value = { Tracked };
+
+    ghost view = { λ a. record { replicas = a.replicas.items; rows = a.rows.items; stored = a.stored.items } };
+}
+
+impl Tracked {
+    /// No label, at so many replicas.
+    pub fn new(alloc: Global, replicas: u8) -> Result<Tracked, NoMemory>
+        ensures { IfOk result (λ tracked. tracked ≡ nothing_in replicas) }
+    {
+        let mut members = Vec::with_capacity(alloc, replicas as usize)?;
+        for _ in 0..replicas {
+            members.push(Replica::new(alloc, replicas)?)?;
+        }
+        Ok(Tracked {
+            replicas: members,
+            rows: Vec::new(alloc),
+            stored: Vec::new(alloc),
+        })
+    }
+
+    /// How many labels there are.
+    pub fn labels(&self) -> u32
+        requires { TrackedKept self.now }
+        ensures { result ≡ labels_in self.now }
+    {
+        self.rows.len() as u32
+    }
+
+    /// The next label of the replica: answers whether its counts were stored for it.
+    pub fn issue(&mut self, replica: u8, update: bool) -> Result<bool, NoMemory>
+        requires kept { TrackedKept self.old }
+        requires replica { replica < replicas_in self.old }
+        requires room { labels_in self.old < MOST_LABELS }
+        ensures issued { IfOk result (λ was_stored. self.new ≡ with_label self.old replica update) }
+        ensures stored { IfOk result (λ was_stored. was_stored ≡ is_none (replica_at self.old replica).stored) }
+        ensures same { OnErr result (self.new ≡ self.old) }
+    {
+        let label = self.rows.len() as u32;
+        let end = self.stored.len() as u32;
+        self.rows.reserve(1)?;
+        self.stored.reserve(self.replicas.len())?;
+        let member = &mut self.replicas[replica as usize];
+        let place = member.issued().len() as u32;
+        let stored = member.stored();
+        member.issue(replica, update, label)?;
+        let counts = match stored {
+            Some(at) => at,
+            None => {
+                self.stored.extend_from_slice(member.counts())?;
+                end
+            }
+        };
+        member.store_at(Some(counts));
+        self.rows.push_reserved(Row {
+            replica,
+            is_update: update,
+            place,
+            counts,
+        });
+        Ok(stored.is_none())
+    }
+
+    /// Has the replica the label?
+    pub fn sees(&self, replica: u8, label: u32) -> bool
+        requires kept { TrackedKept self.now }
+        requires replica { replica < replicas_in self.now }
+        ensures { result ≡ had_in self.now replica label }
+    {
+        match self.rows.get(label as usize) {
+            Some(row) => {
+                let counts = self.replica(replica).counts();
+                row.is_update && row.place < counts[row.replica as usize]
+            }
+            None => false,
+        }
+    }
+
+    /// What the label sees.
+    pub fn vis(&self, label: u32) -> Seen<'_>
+        requires kept { TrackedKept self.now }
+        requires label { label < labels_in self.now }
+        ensures { result ≡ seen_in self.now label }
+    {
+        let row = self.rows[label as usize];
+        let start = row.counts as usize;
+        let counts = &self.stored.as_slice()[start..start + self.replicas.len()];
+        Seen::new(self.rows.as_slice(), row.replica, row.place, counts)
+    }
+
+    /// Why the label cannot be delivered to the replica, if so.
+    pub fn refusal(&self, replica: u8, label: u32) -> Option<Refusal>
+        requires kept { TrackedKept self.now }
+        requires replica { replica < replicas_in self.now }
+        ensures { result ≡ refusal_in self.now replica label }
+    {
+        let Some(row) = self.rows.get(label as usize) else {
+            return Some(Refusal::UnknownLabel);
+        };
+        if !row.is_update {
+            return Some(Refusal::NotAnUpdate);
+        }
+        if self.sees(replica, label) {
+            return Some(Refusal::AlreadySeen);
+        }
+        if self.is_next_of_run(replica, label) {
+            return None;
+        }
+        match self.first_missing(replica, label) {
+            Some(missing) => Some(Refusal::NotCausal(missing)),
+            None => None,
+        }
+    }
+
+    // Is the label its replica's next there, and does it share its stored counts with the update before it? Then it is
+    // known, with no look at the counts, that nothing is missing.
+    fn is_next_of_run(&self, replica: u8, label: u32) -> bool
+        requires kept { TrackedKept self.now }
+        requires replica { replica < replicas_in self.now }
+        requires label { label < labels_in self.now }
+        ensures { result ≡ true → first_missing_in self.now replica label ≡ None }
+    {
+        let row = self.row(label);
+        let had = self.replica(replica).counts()[row.replica as usize];
+        if had != row.place || had == 0 {
+            return false;
+        }
+        let before = self.replica(row.replica).issued()[had as usize - 1];
+        self.row(before).counts == row.counts
+    }
+
+    // The least label that this one sees and the replica has not.
+    fn first_missing(&self, replica: u8, label: u32) -> Option<u32>
+        requires kept { TrackedKept self.now }
+        requires replica { replica < replicas_in self.now }
+        requires label { label < labels_in self.now }
+        ensures { result ≡ first_missing_in self.now replica label }
+    {
+        let seen = self.vis(label);
+        let had = self.replica(replica).counts();
+        let mut least: Option<u32> = None;
+        for (from, count) in had.iter().enumerate() {
+            let from = from as u8;
+            if *count < seen.count(from) {
+                let missing = self.replica(from).issued()[*count as usize];
+                least = Some(lesser(least, missing));
+            }
+        }
+        least
+    }
+
+    // What is kept of the label.
+    fn row(&self, label: u32) -> &Row
+        requires { label < labels_in self.now }
+        ensures { result.now ≡ row_at self.now label }
+    {
+        &self.rows[label as usize]
+    }
+
+    // What is kept of the replica.
+    fn replica(&self, replica: u8) -> &Replica
+        requires { replica < replicas_in self.now }
+        ensures { result.now ≡ replica_at self.now replica }
+    {
+        &self.replicas[replica as usize]
+    }
+
+    /// The label is delivered to the replica: answers whose it is, and where the receiver's counts were stored.
+    pub fn deliver(&mut self, replica: u8, label: u32) -> (u8, Option<u32>)
+        requires kept { TrackedKept self.old }
+        requires replica { replica < replicas_in self.old }
+        requires label { label < labels_in self.old }
+        ensures delivered { self.new ≡ with_delivery self.old replica label }
+        ensures from { result.0 ≡ (row_at self.old label).replica }
+        ensures stored { result.1 ≡ (replica_at self.old replica).stored }
+    {
+        let from = self.rows[label as usize].replica;
+        let member = &mut self.replicas[replica as usize];
+        let stored = member.stored();
+        member.get(from);
+        (from, stored)
+    }
+
+    /// Takes the last label back.
+    pub fn take_label_back(&mut self, was_stored: bool)
+        requires kept { TrackedKept self.old }
+        requires some { 0 < labels_in self.old }
+        ensures { self.new ≡ without_label self.old was_stored }
+    {
+        let Some(row) = self.rows.pop() else {
+            return;
+        };
+        let member = &mut self.replicas[row.replica as usize];
+        member.take_issue_back(row.replica, row.is_update);
+        if was_stored {
+            member.store_at(None);
+            self.stored.truncate(row.counts as usize);
+        }
+    }
+
+    /// Takes a delivery back.
+    pub fn take_delivery_back(&mut self, to: u8, from: u8, stored: Option<u32>)
+        requires kept { TrackedKept self.old }
+        requires to { to < replicas_in self.old }
+        requires from { from < replicas_in self.old }
+        requires some { 0 < had_count self.old to from }
+        ensures { self.new ≡ without_delivery self.old to from stored }
+    {
+        let member = &mut self.replicas[to as usize];
+        member.take_delivery_back(from, stored);
+    }
+}
+
+// The lesser of two labels, the first of which may be missing.
+fn lesser(least: Option<u32>, label: u32) -> u32
+    ensures { result ≡ lesser_of least label }
+{
+    match least {
+        Some(other) => other.min(label),
+        None => label,
+    }
+}
