@@ -20,7 +20,8 @@ pub struct TicketLock<M: Journal> {
 impl<M: Journal> TicketLock<M> {
     ghost use Rattle.std.specs.Prelude.{◌≡◌, ◌+◌, length, IfOk, IfErr, IfSome};
     ghost use Rattle.ra_ticket.specs.Faults.{unserved, IsWorn, IsFull, IsBusy};
-    ghost use Rattle.ra_ticket.specs.Passes.{IsPassOf, IsSamePass, IsLogged, KnowsLegal, IsMineAndThen, next_reached, pass_setup, seen, mine};
+    ghost use Rattle.ra_ticket.specs.Passes.{IsPassOf, IsSamePass, IsLogged, KnowsLegal, IsMineAndThen};
+    ghost use Rattle.ra_ticket.specs.Passes.{next_reached, pass_setup, seen, mine};
 
     /// Draws a ticket, waits until it is served, lets the journal answer the command and publishes the answer.
     /// `Worn` comes before a ticket is drawn; after `Full` and `NoMemory` the ticket is served and leaves no entry.
