@@ -13,10 +13,11 @@ use Rattle.ra_ticket.specs.declared.board.Stage.{Stage}
 use Rattle.ra_ticket.specs.declared.board.Stage.TheVariants.{Idle, Waiting, Holding}
 use Rattle.ra_ticket.specs.Log.{Readings, AllBelow, BeginsWith, IsLegal}
 use Rattle.ra_ticket.specs.Mark.{IsMarkOf}
-use Rattle.ra_ticket.specs.Views.{numbers_of, next_of, serving_of, ticket_at, ticket_of, held_at, held_of, setup_of, seen_of}
+use Rattle.ra_ticket.specs.Views.{numbers_of, next_of, serving_of, ticket_at, ticket_of, held_at, held_of, setup_of, seen_of, HasOwn}
 use Rattle.ra_ticket.specs.Rule.{At, SitsAt, NobodyHolds, TurnsKept}
 use Rattle.ra_ticket.proofs.Seats.{each_after, at_after, at_back, at_forth, apart_after}
 use Rattle.ra_ticket.proofs.Logs.{begins_same, begins_trans}
+use Rattle.ra_ticket.proofs.Owns.{own_same}
 
 module _ {M C R S : Type 0} (j : Readings M C R S) (opened : S) where
   abbrev pub Table : Type 0
@@ -76,6 +77,8 @@ module _ {M C R S : Type 0} (j : Readings M C R S) (opened : S) where
     pub legal : IsLegal (j.reply_of opened) front'
     pub told : IsMarkOf j opened front' mark'
     pub begun : BeginsWith front' (seen_of w)
+    pub own : HasOwn w front'
+    pub others_own : (seat : ℕ) (u : View C R S) → seat ≢ id → get_elem? s.views seat ≡ some u → HasOwn u front'
     pub home_set_up : (journal : M) → homes' ≡ some (Some journal) ∷ [] → j.setup journal ≡ opened
 
   module _ (s : Table) (r : Rule s) (id : ℕ) (v w : View C R S) (here : get_elem? s.views id ≡ some v) where
@@ -110,6 +113,7 @@ module _ {M C R S : Type 0} (j : Readings M C R S) (opened : S) where
       told = c.told;
       begun = each_after (λ (x : View C R S). BeginsWith front' (seen_of x)) s.views id w c.begun
           (λ seat u _ at. begins_trans front' r.front (seen_of u) c.grows (r.begun seat u at));
+      own = each_after (λ (x : View C R S). HasOwn x front') s.views id w c.own c.others_own;
       passes_apart = λ a b k l number p q. r.passes_apart a b k l number (sits_back c.numbers a k number p) (sits_back c.numbers b l number q);
       set_up = each_after (λ (x : View C R S). IfSome (setup_of x) (λ y. y ≡ opened)) s.views id w
           (subst (λ (o : Option S). IfSome o (λ y. y ≡ opened)) (sym c.setup) (r.set_up id v here)) (λ seat u _ at. r.set_up seat u at);
@@ -118,10 +122,10 @@ module _ {M C R S : Type 0} (j : Readings M C R S) (opened : S) where
 
     -- a change that leaves the slot, `serving` and the front alone, of which the seat may see more
     pub seeing : (next' : ℕ) → next' < 2 ^ 64 → r.next ≤ next' → (next_of w ≤ next') × (serving_of w ≤ r.serving) → numbers_of w ≡ numbers_of v → held_of w ≡ held_of v
-        → setup_of w ≡ setup_of v → BeginsWith r.front (seen_of w) → ((t : ℕ) → held_of w ≡ Some t → seen_of w ≡ r.front)
+        → setup_of w ≡ setup_of v → BeginsWith r.front (seen_of w) → HasOwn w r.front → ((t : ℕ) → held_of w ≡ Some t → seen_of w ≡ r.front)
         → ((t : ℕ) → ticket_of w ≡ Some t → (r.serving ≤ t) × (t < next')) → ((seat t : ℕ) → ticket_of w ≡ Some t → seat ≢ id → At ticket_of s.views seat t → ⊥)
         → Rule record { words = next' ∷ r.serving ∷ r.mark ∷ r.others; homes = s.homes; views = set s.views id w }
-    seeing next' fits up reached numbers held setup begun front drawn apart = changed next' r.serving r.mark s.homes r.front record {
+    seeing next' fits up reached numbers held setup begun own front drawn apart = changed next' r.serving r.mark s.homes r.front record {
       order = le_trans r.order up;
       fits = fits;
       next_up = up;
@@ -142,6 +146,8 @@ module _ {M C R S : Type 0} (j : Readings M C R S) (opened : S) where
       legal = r.legal;
       told = r.told;
       begun = begun;
+      own = own;
+      others_own = λ seat u _ at. r.own seat u at;
       home_set_up = r.home_set_up;
     }
 
@@ -151,4 +157,4 @@ module _ {M C R S : Type 0} (j : Readings M C R S) (opened : S) where
         → ((t : ℕ) → ticket_of w ≡ Some t → (r.serving ≤ t) × (t < next')) → ((seat t : ℕ) → ticket_of w ≡ Some t → seat ≢ id → At ticket_of s.views seat t → ⊥)
         → Rule record { words = next' ∷ r.serving ∷ r.mark ∷ r.others; homes = s.homes; views = set s.views id w }
     unmoved next' fits up reached numbers held setup seen drawn apart = seeing next' fits up reached numbers held setup
-        (subst (λ (l : Log). BeginsWith r.front l) (sym seen) (r.begun id v here)) (λ t e. seen ∙ r.held id t v here (sym held ∙ e)) drawn apart
+        (subst (λ (l : Log). BeginsWith r.front l) (sym seen) (r.begun id v here)) (own_same v w r.front numbers seen (r.own id v here)) (λ t e. seen ∙ r.held id t v here (sym held ∙ e)) drawn apart

@@ -7,3 +7,4 @@ pub mod Tickets
 pub mod Logs
 pub mod Journals
 pub mod Marks
+pub mod Owns

@@ -13,7 +13,7 @@ use Rattle.ra_ticket.specs.declared.board.View.TheVariants.{Spent, Knows}
 use Rattle.ra_ticket.specs.declared.board.Known.{Known}
 use Rattle.ra_ticket.specs.declared.board.Stage.{Stage}
 use Rattle.ra_ticket.specs.declared.board.Stage.TheVariants.{Idle, Waiting, Holding}
-use Rattle.ra_ticket.specs.Log.{Readings, AllBelow, IsLegal}
+use Rattle.ra_ticket.specs.Log.{Readings, AllBelow, IsLegal, entries_of}
 use Rattle.ra_ticket.specs.Mark.{IsMarkOf}
 use Rattle.ra_ticket.specs.Views.{stage_of, ticket_at, ticket_of, held_at, held_of, setup_of}
 use Rattle.ra_ticket.specs.Rule.{At, NobodyHolds}
@@ -21,6 +21,7 @@ use Rattle.ra_ticket.specs.Steps.{IsAsSeen, HasEntered, IsAhead, IsTold, learned
 use Rattle.ra_ticket.proofs.Seats.{at_after, at_back, at_new}
 use Rattle.ra_ticket.proofs.Logs.{begins_same, legal_push}
 use Rattle.ra_ticket.proofs.Tickets.{below_more}
+use Rattle.ra_ticket.proofs.Owns.{entries_skip}
 use Rattle.std.proofs.lemmas.List.Elements.{All-push}
 use Rattle.ra_ticket.proofs.Changes as changes
 
@@ -79,7 +80,7 @@ module _ {M C R S : Type 0} (j : Readings M C R S) (opened : S) where
 
     glancing : k.stage ≡ Idle → Rule record { words = r.next ∷ r.serving ∷ r.mark ∷ r.others; homes = s.homes; views = set s.views id (publishing k r.front) }
     glancing idle = changes.seeing j opened s r id (Knows k) (publishing k r.front) here r.next r.fits (le_refl r.next) (r.reached id (Knows k) here) refl refl refl
-        (begins_same r.front r.front refl) (λ t e. refl) (λ t e. absurd (no_ticket k idle t e)) (λ seat t e _ _. no_ticket k idle t e)
+        (begins_same r.front r.front refl) (λ a n at. refl) (λ t e. refl) (λ t e. absurd (no_ticket k idle t e)) (λ seat t e _ _. no_ticket k idle t e)
 
     front_told : IsTold j (publishing k r.front) r.mark
     front_told = subst (λ (x : S). IsLegal (j.reply_of x) r.front × IsMarkOf j x r.front r.mark) (sym (r.set_up id (Knows k) here)) (r.legal, r.told)
@@ -97,7 +98,7 @@ module _ {M C R S : Type 0} (j : Readings M C R S) (opened : S) where
       tt,
       changes.unmoved j opened s r id (Knows k) (with_serving k r.serving) here r.next r.fits (le_refl r.next) (low.0, le_refl r.serving) refl refl refl refl (λ u e. r.drawn id u (Knows k, here, e))
           (λ seat u e other a. other (r.tickets_apart seat id u a (Knows k, here, e))),
-      λ u is. let same : t ≡ u = cc in (record { numbers = refl; setup = refl; next = le_refl k.next; serving = low.1 }, begins_same k.seen k.seen refl, (λ e. absurd (ne (e ∙ sym same))), λ _. (is, refl, refl)),
+      λ u is. let same : t ≡ u = cc in (record { numbers = refl; setup = refl; next = le_refl k.next; serving = low.1 }, (begins_same k.seen k.seen refl, λ a n at. refl), (λ e. absurd (ne (e ∙ sym same))), λ _. (is, refl, refl)),
     )
 
     -- the journal is at home, and the seat takes it
@@ -128,6 +129,8 @@ module _ {M C R S : Type 0} (j : Readings M C R S) (opened : S) where
       legal = r.legal;
       told = r.told;
       begun = begins_same r.front r.front refl;
+      own = λ a n at. refl;
+      others_own = λ seat u _ at. r.own seat u at;
       home_set_up = λ other there. let gone = taken in absurd (cc);
     }
       where
@@ -153,7 +156,7 @@ module _ {M C R S : Type 0} (j : Readings M C R S) (opened : S) where
       entering t waits served found.0 found.1 nobody,
       λ u is. let same : t ≡ u = cc in (
         record { numbers = refl; setup = refl; next = le_refl k.next; serving = low.1 },
-        r.begun id (Knows k) here,
+        (r.begun id (Knows k) here, r.own id (Knows k) here),
         (λ _. (ap (λ (n : ℕ). Some (Holding n)) same, (found.0, refl, subst (λ (n : ℕ). HasEntered j (holding k r.serving t r.front) n found.0) same (entered t served found.0 found.1)))),
         λ ne. absurd (ne (sym served ∙ same)),
       ),
@@ -201,6 +204,8 @@ module _ {M C R S : Type 0} (j : Readings M C R S) (opened : S) where
       legal = r.legal;
       told = r.told;
       begun = r.begun id (Knows k) here;
+      own = r.own id (Knows k) here;
+      others_own = λ seat u _ at. r.own seat u at;
       home_set_up = λ other there. let is : journal ≡ other = let b = back in cc in subst (λ (m : M). j.setup m ≡ opened) is (opened_so journal seen.setup);
     }
       where
@@ -270,6 +275,9 @@ module _ {M C R S : Type 0} (j : Readings M C R S) (opened : S) where
       legal = subst (λ (x : S). IsLegal (j.reply_of x) (j.log journal)) (opened_so journal ahead.setup) (legal t journal holds ahead);
       told = subst (λ (x : S). IsMarkOf j x (j.log journal) mark) (opened_so journal ahead.setup) is_mark;
       begun = begins_same (j.log journal) (j.log journal) refl;
+      own = λ a n at. refl;
+      others_own = λ seat u other at a n sits. r.own seat u at a n sits ∙ sym (ap (entries_of n) grown ∙ entries_skip n r.front ahead.last
+          (λ is. other (r.passes_apart seat id a 0 n (u, at, sits) (Knows k, here, ap (λ (l : List ℕ). get_elem? l 0) ahead.its_pass ∙ ap (λ (x : ℕ). some x) is)).0));
       home_set_up = λ other there. let gone = (slot t holds).1 in absurd (cc);
     }
       where
@@ -329,7 +337,7 @@ module _ {M C R S : Type 0} (j : Readings M C R S) (opened : S) where
           record { numbers = refl; setup = refl; next = le_refl k.next; serving = le_refl k.serving },
           refl,
           idle,
-          r.begun id (Knows k) at,
+          (r.begun id (Knows k) at, r.own id (Knows k) at),
           front_told s r id k at c st,
         ),
       )

@@ -1,6 +1,7 @@
 -- Logs of calls, as a journal keeps them.
-use Rattle.std.specs.Prelude.{◌≡◌, ℕ, ◌-◌, ◌<◌, List, [], ◌∷◌, ◌++◌, length, All, Option, option_map, slice_get}
+use Rattle.std.specs.Prelude.{◌≡◌, ℕ, ◌-◌, ◌<◌, List, [], ◌∷◌, ◌++◌, length, All, Option, option_map, slice_get, eqb}
 use Rattle.std.specs.Option.{ForSome}
+use Rattle.std.specs.List.{filter}
 use Rattle.ra_ticket.specs.declared.entry.Entry.{Entry}
 use Rattle.ra_ticket.specs.declared.journal.StepFault.{StepFault}
 use Rattle.ra_ticket.specs.declared.journal.StepFault.TheVariants.{Full, NoMemory}
@@ -33,6 +34,10 @@ module _ {C R : Type 0} where
   -- each entry's ticket is below this one
   abbrev pub AllBelow : ℕ → List (Entry C R) → Type 0
   AllBelow ticket log = All (λ e. e.ticket < ticket) log
+
+  -- the entries of one pass, in the order of the log
+  abbrev pub entries_of : ℕ → List (Entry C R) → List (Entry C R)
+  entries_of number log = filter (λ e. eqb e.pass number) log
 
   -- the log begins with these entries
   abbrev pub BeginsWith : List (Entry C R) → List (Entry C R) → Type 0

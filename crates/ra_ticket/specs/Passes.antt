@@ -5,7 +5,7 @@ use Rattle.ra_ticket.specs.declared.journal.Journal.{Ghosts}
 use Rattle.ra_ticket.specs.declared.lock.TicketLock.{TicketLock}
 use Rattle.ra_ticket.specs.declared.pass.Pass.{Pass}
 use Rattle.ra_ticket.specs.Views.{next_of, serving_of, setup_of, seen_of}
-use Rattle.ra_ticket.specs.Log.{entry, BeginsWith, IsLegal}
+use Rattle.ra_ticket.specs.Log.{entry, entries_of, BeginsWith, IsLegal}
 
 module _ {M C R S : Type 0} {g : Ghosts M C R S} where
   abbrev pub number_of : Pass M C R S g → ℕ
@@ -25,6 +25,10 @@ module _ {M C R S : Type 0} {g : Ghosts M C R S} where
   -- the log as far as the pass has seen it
   abbrev pub seen : Pass M C R S g → List (Entry C R)
   seen p = seen_of p.seat.me.0
+
+  -- the entries of its own calls
+  abbrev pub mine : Pass M C R S g → List (Entry C R)
+  mine p = entries_of (number_of p) (seen p)
 
   -- what it has seen is a legal log under its setup
   abbrev pub KnowsLegal : (S → List (Entry C R) → C → R) → Pass M C R S g → Type 0
@@ -49,3 +53,7 @@ module _ {M C R S : Type 0} {g : Ghosts M C R S} where
     pub ticket : ℕ
     pub begins : BeginsWith before (seen p)
     pub last : seen q ≡ before ++ entry (number_of p) ticket command reply ∷ []
+
+  -- its own calls are those that it had made and then this one
+  abbrev pub IsMineAndThen : Pass M C R S g → Pass M C R S g → C → R → Type 0
+  IsMineAndThen p q command reply = (ticket : ℕ) × (mine q ≡ mine p ++ entry (number_of p) ticket command reply ∷ [])

@@ -7,7 +7,7 @@ use Rattle.ra_ticket.specs.declared.entry.Entry.{Entry}
 use Rattle.ra_ticket.specs.declared.board.View.{View}
 use Rattle.ra_ticket.specs.Log.{Readings, AllBelow, BeginsWith, IsLegal}
 use Rattle.ra_ticket.specs.Mark.{IsMarkOf}
-use Rattle.ra_ticket.specs.Views.{numbers_of, next_of, serving_of, ticket_of, held_of, setup_of, seen_of}
+use Rattle.ra_ticket.specs.Views.{numbers_of, next_of, serving_of, ticket_of, held_of, setup_of, seen_of, HasOwn}
 
 module _ {C R S : Type 0} where
   -- the view at a seat has the value x, by this reading of views
@@ -55,8 +55,9 @@ module _ {M C R S : Type 0} (j : Readings M C R S) (opened : S) where
     pub legal : IsLegal (j.reply_of opened) front
     -- mark
     pub told : IsMarkOf j opened front mark
-    -- knowledge: each seat has seen a beginning of the front
+    -- knowledge: each seat has seen a beginning of the front, and all entries of its own passes
     pub begun : (seat : ℕ) (v : View C R S) → get_elem? s.views seat ≡ some v → BeginsWith front (seen_of v)
+    pub own : (seat : ℕ) (v : View C R S) → get_elem? s.views seat ≡ some v → HasOwn v front
     -- seats: each pass sits in one place
     pub passes_apart : (a b k l number : ℕ) → SitsAt s.views a k number → SitsAt s.views b l number
         → (a ≡ b) × (k ≡ l)

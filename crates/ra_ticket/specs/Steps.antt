@@ -8,7 +8,7 @@ use Rattle.ra_ticket.specs.declared.board.View.{View}
 use Rattle.ra_ticket.specs.declared.board.Stage.TheVariants.{Idle, Waiting, Holding}
 use Rattle.ra_ticket.specs.Log.{Readings, AllBelow, BeginsWith, MayFollow, IsLegal}
 use Rattle.ra_ticket.specs.Mark.{IsMarkOf}
-use Rattle.ra_ticket.specs.Views.{stage_of, numbers_of, next_of, serving_of, setup_of, seen_of}
+use Rattle.ra_ticket.specs.Views.{stage_of, numbers_of, next_of, serving_of, setup_of, seen_of, HasOwn}
 
 module _ {C R S : Type 0} where
   -- the same passes and setup, and no less is known of the words
@@ -21,6 +21,10 @@ module _ {C R S : Type 0} where
   -- and the same entries are seen
   abbrev pub SeesTheSame : View C R S → View C R S → Type 0
   SeesTheSame v w = Stays v w × (seen_of w ≡ seen_of v)
+
+  -- or more are seen, of which none is of its own passes
+  abbrev pub SeesMore : View C R S → View C R S → Type 0
+  SeesMore v w = BeginsWith (seen_of w) (seen_of v) × HasOwn v (seen_of w)
 
 module _ {M C R S : Type 0} (j : Readings M C R S) where
   -- the journal is as the seat has seen it
@@ -64,7 +68,7 @@ module _ {M C R S : Type 0} where
   -- an idle seat sees the front, which is a legal log with this mark
   abbrev pub glanced : Readings M C R S → Step (Option M) → Sat M C R S → ℕ → Sat M C R S → Type 0
   glanced j step m found m' = stage_of m.0 ≡ Some Idle
-      → Stays m.0 m'.0 × (m'.1 ≡ m.1) × (stage_of m'.0 ≡ Some Idle) × BeginsWith (seen_of m'.0) (seen_of m.0)
+      → Stays m.0 m'.0 × (m'.1 ≡ m.1) × (stage_of m'.0 ≡ Some Idle) × SeesMore m.0 m'.0
       × IsTold j m'.0 found
 
   -- an idle seat draws the ticket, where `next` was it
@@ -76,7 +80,7 @@ module _ {M C R S : Type 0} where
   -- a waiting seat takes the journal and sees its log, where its ticket is served
   abbrev pub looked : Readings M C R S → Step (Option M) → Sat M C R S → ℕ → Sat M C R S → Type 0
   looked j step m found m' = (t : ℕ) → stage_of m.0 ≡ Some (Waiting t)
-      → Stays m.0 m'.0 × BeginsWith (seen_of m'.0) (seen_of m.0)
+      → Stays m.0 m'.0 × SeesMore m.0 m'.0
       × (found ≡ t → (stage_of m'.0 ≡ Some (Holding t))
       × ((journal : M) × (m'.1 ≡ (0, Some journal) ∷ m.1) × HasEntered j m'.0 t journal))
       × (found ≢ t → (stage_of m'.0 ≡ Some (Waiting t)) × (m'.1 ≡ m.1) × (seen_of m'.0 ≡ seen_of m.0))

@@ -1,6 +1,9 @@
 -- What a seat at the lock's table knows.
-use Rattle.std.specs.Prelude.{ℕ, List, [], ◌∷◌, Option, Some, None}
+use Rattle.std.specs.Prelude.{◌≡◌, ℕ, List, [], ◌∷◌, Option, Some, None}
 use Rattle.std.specs.List.{range_with_len}
+use mathlib.Core.Option.{some}
+use lib.ListN.{get_elem?}
+use Rattle.ra_ticket.specs.Log.{entries_of}
 use Rattle.ra_ticket.specs.declared.entry.Entry.{Entry}
 use Rattle.ra_ticket.specs.declared.board.Stage.{Stage}
 use Rattle.ra_ticket.specs.declared.board.Stage.TheVariants.{Idle, Waiting, Holding}
@@ -58,6 +61,11 @@ module _ {C R S : Type 0} where
   abbrev pub seen_of : View C R S → List (Entry C R)
   seen_of Spent = []
   seen_of (Knows k) = k.seen
+
+  -- it has seen all entries of its passes that are in this log
+  abbrev pub HasOwn : View C R S → List (Entry C R) → Type 0
+  HasOwn v log = (k number : ℕ) → get_elem? (numbers_of v) k ≡ some number
+      → entries_of number (seen_of v) ≡ entries_of number log
 
   abbrev pub ticket_of : View C R S → Option ℕ
   ticket_of Spent = None

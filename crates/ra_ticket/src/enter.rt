@@ -2,7 +2,7 @@
 ghost use Rattle.std.specs.Prelude.{◌≡◌, [], ◌∷◌, Some, None, MatchBool};
 ghost use Rattle.ra_ticket.specs.Log.{readings, BeginsWith};
 ghost use Rattle.ra_ticket.specs.Steps.{IsSeated, IsSameSeat, Carries, HasEntered};
-ghost use Rattle.ra_ticket.specs.Views.{stage_of, seen_of};
+ghost use Rattle.ra_ticket.specs.Views.{stage_of, seen_of, HasOwn};
 ghost use Rattle.ra_ticket.specs.declared.board.Stage.TheVariants.{Waiting, Holding};
 
 use crate::backoff::Backoff;
@@ -23,6 +23,7 @@ fn look<M: Journal>(board: &Board<M>, seat: &mut LockSeat<M>, ticket: u64) -> bo
     ensures seen { MatchBool result
         (BeginsWith (seen_of seat.new.me.0) (seen_of seat.old.me.0))
         (seen_of seat.new.me.0 ≡ seen_of seat.old.me.0) }
+    ensures own { HasOwn seat.old.me.0 (seen_of seat.new.me.0) }
 {
     board.load::<Look<M>>(seat, SERVING) == ticket
 }
@@ -52,6 +53,7 @@ pub(crate) fn enter<M: Journal, R: Wait>(
     ensures holds { (stage_of seat.new.me.0 ≡ Some (Holding ticket)) × (seat.new.me.1 ≡ (0, None) ∷ []) }
     ensures entered { HasEntered (readings M.setup M.log M.reply_of M.fault_of) seat.new.me.0 ticket result }
     ensures begins { BeginsWith (seen_of seat.new.me.0) (seen_of seat.old.me.0) }
+    ensures own { HasOwn seat.old.me.0 (seen_of seat.new.me.0) }
 {
     let mut backoff = Backoff::new();
     for _ in rt.forever() {

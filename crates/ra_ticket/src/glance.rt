@@ -2,7 +2,7 @@
 ghost use Rattle.std.specs.Prelude.{◌≡◌, Some};
 ghost use Rattle.ra_ticket.specs.Log.{readings, BeginsWith};
 ghost use Rattle.ra_ticket.specs.Steps.{IsSeated, IsSameSeat, IsTold};
-ghost use Rattle.ra_ticket.specs.Views.{stage_of, seen_of};
+ghost use Rattle.ra_ticket.specs.Views.{stage_of, seen_of, HasOwn};
 ghost use Rattle.ra_ticket.specs.declared.board.Stage.TheVariants.{Idle};
 
 use crate::board::{Board, LockSeat, MARK};
@@ -29,6 +29,7 @@ fn look_at_mark<M: Journal>(board: &Board<M>, seat: &mut LockSeat<M>) -> u64
     ensures slot { seat.new.me.1 ≡ seat.old.me.1 }
     ensures idle { stage_of seat.new.me.0 ≡ Some Idle }
     ensures begins { BeginsWith (seen_of seat.new.me.0) (seen_of seat.old.me.0) }
+    ensures own { HasOwn seat.old.me.0 (seen_of seat.new.me.0) }
     ensures told { IsTold (readings M.setup M.log M.reply_of M.fault_of) seat.new.me.0 result }
 {
     board.load::<LookAtMark<M>>(seat, MARK)
@@ -36,15 +37,16 @@ fn look_at_mark<M: Journal>(board: &Board<M>, seat: &mut LockSeat<M>) -> u64
 
 impl<M: Journal> TicketLock<M> {
     ghost use Rattle.std.specs.Prelude.{◌≡◌, length, IfSome};
-    ghost use Rattle.ra_ticket.specs.Passes.{IsPassOf, IsSamePass, KnowsLegal, pass_setup, seen};
+    ghost use Rattle.ra_ticket.specs.Passes.{IsPassOf, IsSamePass, KnowsLegal, pass_setup, seen, mine};
 
     /// How many entries the log has and its fault, at a point during this call. The log is one that the pass has then
-    /// seen, so it begins with all that the pass had seen before. It waits for nobody, needs no memory and always
-    /// answers. It costs one atomic load.
+    /// seen, so it begins with all that the pass had seen before, and it has all of the pass's own calls. It waits for
+    /// nobody, needs no memory and always answers. It costs one atomic load.
     pub fn glance(&self, pass: &mut Pass<M>) -> Glance
         requires own { IsPassOf self.now pass.old }
         ensures pass { IsSamePass pass.old pass.new }
         ensures legal { KnowsLegal M.reply_of pass.new }
+        ensures mine { mine pass.new ≡ mine pass.old }
         ensures calls { result.calls ≡ length (seen pass.new) }
         ensures fault { IfSome (pass_setup pass.new) (λ s. result.fault ≡ M.fault_of s (seen pass.new)) }
     {

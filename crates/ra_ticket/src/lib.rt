@@ -3,14 +3,15 @@
 //!
 //! The crate's contract is that of `TicketLock::submit` and `TicketLock::glance`, for any `Journal`. A pass has seen a
 //! log, at first none, and each reply adds to it: what the pass has seen then is a legal log under the setup of the
-//! journal that was put in, it begins with what the pass had seen before, and it ends with this call. After `Full` it
-//! has as many entries as the setup allows. A fault hands the command back and logs nothing. A glance answers how many
-//! entries such a log has and what its fault is, and the pass has then seen it; it waits for nobody.
+//! journal that was put in, it begins with what the pass had seen before, and it ends with this call. The pass's own
+//! entries in it are those that it had seen before and this one: each of its calls is there once, in its order. After
+//! `Full` it has as many entries as the setup allows. A fault hands the command back and logs nothing. A glance answers
+//! how many entries such a log has and what its fault is, and the pass has then seen it; it waits for nobody.
 //!
 //! Behind it stands the rule of the lock (`specs/Rule`), which each step on the table keeps: no two calls hold one
 //! ticket, the journal is out of its slot with one call at most, the one whose ticket is served, and there is one legal
-//! log, the front, of which each pass has seen a beginning and which the word `mark` tells. Only the holder of the
-//! journal makes it longer, by one entry, with its store of `mark`.
+//! log, the front, of which each pass has seen a beginning with all its own entries, and which the word `mark` tells.
+//! Only the holder of the journal makes it longer, by one entry, with its store of `mark`.
 //! That anyone is ever served is not said.
 #![tactic(auto)]
 

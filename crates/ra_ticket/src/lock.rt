@@ -20,7 +20,8 @@ pub struct TicketLock<M: Journal> {
 impl<M: Journal> TicketLock<M> {
     ghost use Rattle.std.specs.Prelude.{◌≡◌, ◌+◌, length, IfOk, IfErr, IfSome};
     ghost use Rattle.ra_ticket.specs.Faults.{unserved, IsWorn, IsFull, IsBusy};
-    ghost use Rattle.ra_ticket.specs.Passes.{IsPassOf, IsSamePass, IsLogged, KnowsLegal, next_reached, pass_setup, seen};
+    ghost use Rattle.ra_ticket.specs.Passes.{IsPassOf, IsSamePass, IsLogged, KnowsLegal, IsMineAndThen};
+    ghost use Rattle.ra_ticket.specs.Passes.{next_reached, pass_setup, seen, mine};
 
     /// Draws a ticket, waits until it is served, lets the journal answer the command and publishes the answer.
     /// `Worn` comes before a ticket is drawn; after `Full` and `NoMemory` the ticket is served and leaves no entry.
@@ -44,6 +45,8 @@ impl<M: Journal> TicketLock<M> {
         ensures legal { IfOk result (λ _. KnowsLegal M.reply_of pass.new) }
         ensures legal_still { KnowsLegal M.reply_of pass.old → KnowsLegal M.reply_of pass.new }
         ensures logged { IfOk result (λ r. IsLogged pass.old pass.new command r) }
+        ensures mine { IfOk result (λ r. IsMineAndThen pass.old pass.new command r) }
+        ensures mine_still { IfErr result (λ _. mine pass.new ≡ mine pass.old) }
         ensures handed_back { IfErr result (λ f. unserved f ≡ command) }
         ensures worn_at_the_end { IfErr result (λ f. IsWorn f → next_reached pass.new ≡ GREATEST_TICKET + 1) }
         ensures worn_unchanged { IfErr result (λ f. IsWorn f → seen pass.new ≡ seen pass.old) }
