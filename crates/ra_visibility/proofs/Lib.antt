@@ -1,11 +1,11 @@
 pub mod Tests
 pub mod Delivered
 pub mod Missing
+pub mod Runs
 pub mod Issued
 pub mod Grown
 pub mod Standing
 pub mod Undone
 pub mod Changed
-pub mod Runs
 pub mod Refusing
 pub mod TheLaws

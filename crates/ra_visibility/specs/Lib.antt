@@ -1,9 +1,9 @@
 pub mod Replica
 pub mod Seen
+pub mod Places
 pub mod Tracked
+pub mod Refused
+pub mod Least
 pub mod Changes
 pub mod Kept
-pub mod Least
 pub mod Tracker
-pub mod Places
-pub mod Refused
