@@ -1,5 +1,5 @@
 -- One seat goes from one view to another, and the words go up: what the rule of the lock asks of that.
-use Rattle.std.proofs.Common.{◌≡◌, ◌≢◌, ℕ, ◌+◌, ◌^◌, ◌<◌, ◌≤◌, List, [], ◌∷◌, set, Option, Some, IfSome, refl, sym, ap, ◌∙◌, subst, ⊎_elim, le_refl, le_trans, arith}
+use Rattle.std.proofs.Common.{◌≡◌, ◌≢◌, ℕ, ◌+◌, ◌^◌, ◌<◌, ◌≤◌, List, [], ◌∷◌, set, Option, Some, refl, sym, ap, ◌∙◌, subst, ⊎_elim, le_refl, le_trans, arith}
 use mathlib.Core.Option.{none, some, some-injective}
 use mathlib.Core.Option as maybe
 use lib.ListN.{get_elem?}
@@ -7,16 +7,16 @@ use Rattle.atomic_table.specs.Table.{State}
 use Rattle.atomic_table.proofs.Lists.{at_set}
 use Rattle.ra_ticket.specs.declared.entry.Entry.{Entry}
 use Rattle.ra_ticket.specs.declared.board.View.{View}
-use Rattle.ra_ticket.specs.declared.board.View.TheVariants.{Spent, Knows}
+use Rattle.ra_ticket.specs.declared.board.View.TheVariants.{Spent, Knows, Met}
 use Rattle.ra_ticket.specs.declared.board.Known.{Known}
 use Rattle.ra_ticket.specs.declared.board.Stage.{Stage}
 use Rattle.ra_ticket.specs.declared.board.Stage.TheVariants.{Idle, Waiting, Holding}
 use Rattle.ra_ticket.specs.Log.{Readings, AllBelow, BeginsWith, IsLegal}
 use Rattle.ra_ticket.specs.Mark.{IsMarkOf}
-use Rattle.ra_ticket.specs.Views.{numbers_of, next_of, serving_of, ticket_at, ticket_of, held_at, held_of, setup_of, seen_of, HasOwn}
+use Rattle.ra_ticket.specs.Views.{numbers_of, next_of, serving_of, ticket_at, ticket_of, held_at, held_of, seen_of, HasBegun, HasOwn, IsSetUp}
 use Rattle.ra_ticket.specs.Rule.{At, SitsAt, NobodyHolds, TurnsKept}
 use Rattle.ra_ticket.proofs.Seats.{each_after, at_after, at_back, at_forth, apart_after}
-use Rattle.ra_ticket.proofs.Logs.{begins_same, begins_trans}
+use Rattle.ra_ticket.proofs.Logs.{begins_same, begun_more}
 use Rattle.ra_ticket.proofs.Owns.{own_same}
 
 module _ {M C R S : Type 0} (j : Readings M C R S) (opened : S) where
@@ -35,6 +35,7 @@ module _ {M C R S : Type 0} (j : Readings M C R S) (opened : S) where
   -- who holds has a ticket
   held_ticket : (v : View C R S) (t : ℕ) → held_of v ≡ Some t → ticket_of v ≡ Some t
   held_ticket Spent t e = absurd (cc)
+  held_ticket (Met k l) t e = absurd (cc)
   held_ticket (Knows k) t e = go k.stage e
     where
       go : (st : Stage) → held_at st ≡ Some t → ticket_at st ≡ Some t
@@ -63,7 +64,7 @@ module _ {M C R S : Type 0} (j : Readings M C R S) (opened : S) where
     pub serving_up : r.serving ≤ serving'
     pub reached : (next_of w ≤ next') × (serving_of w ≤ serving')
     pub numbers : numbers_of w ≡ numbers_of v
-    pub setup : setup_of w ≡ setup_of v
+    pub set_up : IsSetUp opened w
     pub others_drawn : (seat t : ℕ) → seat ≢ id → At ticket_of s.views seat t → serving' ≤ t
     pub drawn : (t : ℕ) → ticket_of w ≡ Some t → (serving' ≤ t) × (t < next')
     pub apart : (seat t : ℕ) → ticket_of w ≡ Some t → seat ≢ id → At ticket_of s.views seat t → ⊥
@@ -76,7 +77,7 @@ module _ {M C R S : Type 0} (j : Readings M C R S) (opened : S) where
     pub served : AllBelow (serving' + 1) front'
     pub legal : IsLegal (j.reply_of opened) front'
     pub told : IsMarkOf j opened front' mark'
-    pub begun : BeginsWith front' (seen_of w)
+    pub begun : HasBegun w front'
     pub own : HasOwn w front'
     pub others_own : (seat : ℕ) (u : View C R S) → seat ≢ id → get_elem? s.views seat ≡ some u → HasOwn u front'
     pub home_set_up : (journal : M) → homes' ≡ some (Some journal) ∷ [] → j.setup journal ≡ opened
@@ -111,28 +112,26 @@ module _ {M C R S : Type 0} (j : Readings M C R S) (opened : S) where
       served = c.served;
       legal = c.legal;
       told = c.told;
-      begun = each_after (λ (x : View C R S). BeginsWith front' (seen_of x)) s.views id w c.begun
-          (λ seat u _ at. begins_trans front' r.front (seen_of u) c.grows (r.begun seat u at));
+      begun = each_after (λ (x : View C R S). HasBegun x front') s.views id w c.begun (λ seat u _ at. begun_more u r.front front' c.grows (r.begun seat u at));
       own = each_after (λ (x : View C R S). HasOwn x front') s.views id w c.own c.others_own;
       passes_apart = λ a b k l number p q. r.passes_apart a b k l number (sits_back c.numbers a k number p) (sits_back c.numbers b l number q);
-      set_up = each_after (λ (x : View C R S). IfSome (setup_of x) (λ y. y ≡ opened)) s.views id w
-          (subst (λ (o : Option S). IfSome o (λ y. y ≡ opened)) (sym c.setup) (r.set_up id v here)) (λ seat u _ at. r.set_up seat u at);
+      set_up = each_after (IsSetUp opened) s.views id w c.set_up (λ seat u _ at. r.set_up seat u at);
       home_set_up = c.home_set_up;
     }
 
     -- a change that leaves the slot, `serving` and the front alone, of which the seat may see more
     pub seeing : (next' : ℕ) → next' < 2 ^ 64 → r.next ≤ next' → (next_of w ≤ next') × (serving_of w ≤ r.serving) → numbers_of w ≡ numbers_of v → held_of w ≡ held_of v
-        → setup_of w ≡ setup_of v → BeginsWith r.front (seen_of w) → HasOwn w r.front → ((t : ℕ) → held_of w ≡ Some t → seen_of w ≡ r.front)
+        → IsSetUp opened w → HasBegun w r.front → HasOwn w r.front → ((t : ℕ) → held_of w ≡ Some t → seen_of w ≡ r.front)
         → ((t : ℕ) → ticket_of w ≡ Some t → (r.serving ≤ t) × (t < next')) → ((seat t : ℕ) → ticket_of w ≡ Some t → seat ≢ id → At ticket_of s.views seat t → ⊥)
         → Rule record { words = next' ∷ r.serving ∷ r.mark ∷ r.others; homes = s.homes; views = set s.views id w }
-    seeing next' fits up reached numbers held setup begun own front drawn apart = changed next' r.serving r.mark s.homes r.front record {
+    seeing next' fits up reached numbers held set_up begun own front drawn apart = changed next' r.serving r.mark s.homes r.front record {
       order = le_trans r.order up;
       fits = fits;
       next_up = up;
       serving_up = le_refl r.serving;
       reached = reached;
       numbers = numbers;
-      setup = setup;
+      set_up = set_up;
       others_drawn = λ seat t _ a. (r.drawn seat t a).0;
       drawn = drawn;
       apart = apart;
@@ -151,10 +150,11 @@ module _ {M C R S : Type 0} (j : Readings M C R S) (opened : S) where
       home_set_up = r.home_set_up;
     }
 
-    -- the same, where the seat sees what it saw before
-    pub unmoved : (next' : ℕ) → next' < 2 ^ 64 → r.next ≤ next' → (next_of w ≤ next') × (serving_of w ≤ r.serving) → numbers_of w ≡ numbers_of v → held_of w ≡ held_of v
-        → setup_of w ≡ setup_of v → seen_of w ≡ seen_of v
-        → ((t : ℕ) → ticket_of w ≡ Some t → (r.serving ≤ t) × (t < next')) → ((seat t : ℕ) → ticket_of w ≡ Some t → seat ≢ id → At ticket_of s.views seat t → ⊥)
-        → Rule record { words = next' ∷ r.serving ∷ r.mark ∷ r.others; homes = s.homes; views = set s.views id w }
-    unmoved next' fits up reached numbers held setup seen drawn apart = seeing next' fits up reached numbers held setup
-        (subst (λ (l : Log). BeginsWith r.front l) (sym seen) (r.begun id v here)) (own_same v w r.front numbers seen (r.own id v here)) (λ t e. seen ∙ r.held id t v here (sym held ∙ e)) drawn apart
+  -- the same, where the seat sees what it saw before
+  module _ (s : Table) (r : Rule s) (id : ℕ) (k k' : Known C R S) (here : get_elem? s.views id ≡ some (Knows k)) where
+    pub unmoved : (next' : ℕ) → next' < 2 ^ 64 → r.next ≤ next' → (k'.next ≤ next') × (k'.serving ≤ r.serving) → k'.numbers ≡ k.numbers → held_at k'.stage ≡ held_at k.stage
+        → k'.setup ≡ k.setup → k'.seen ≡ k.seen
+        → ((t : ℕ) → ticket_at k'.stage ≡ Some t → (r.serving ≤ t) × (t < next')) → ((seat t : ℕ) → ticket_at k'.stage ≡ Some t → seat ≢ id → At ticket_of s.views seat t → ⊥)
+        → Rule record { words = next' ∷ r.serving ∷ r.mark ∷ r.others; homes = s.homes; views = set s.views id (Knows k') }
+    unmoved next' fits up reached numbers held setup seen drawn apart = seeing s r id (Knows k) (Knows k') here next' fits up reached numbers held (setup ∙ r.set_up id (Knows k) here)
+        (subst (λ (l : Log). BeginsWith r.front l) (sym seen) (r.begun id (Knows k) here)) (own_same k k' r.front numbers seen (r.own id (Knows k) here)) (λ t e. seen ∙ r.held id t (Knows k) here (sym held ∙ e)) drawn apart

@@ -9,12 +9,12 @@ use Rattle.atomic_table.proofs.Lists.{at_set, at_longer, set_else}
 use Rattle.std.specs.List.{range_with_len}
 use Rattle.ra_ticket.specs.declared.entry.Entry.{Entry}
 use Rattle.ra_ticket.specs.declared.board.View.{View}
-use Rattle.ra_ticket.specs.declared.board.View.TheVariants.{Spent, Knows}
+use Rattle.ra_ticket.specs.declared.board.View.TheVariants.{Spent, Knows, Met}
 use Rattle.ra_ticket.specs.declared.board.Known.{Known}
 use Rattle.ra_ticket.specs.declared.board.Stage.TheVariants.{Idle}
 use Rattle.ra_ticket.specs.Log.{Readings, AllBelow, BeginsWith}
 use Rattle.ra_ticket.specs.Mark.{IsMarkOf}
-use Rattle.ra_ticket.specs.Views.{stage_of, numbers_of, next_of, serving_of, ticket_at, ticket_of, held_at, held_of, setup_of, seen_of, HasOwn, starting, first_only, others_only, first_pass, other_passes}
+use Rattle.ra_ticket.specs.Views.{stage_of, numbers_of, next_of, serving_of, ticket_at, ticket_of, held_at, held_of, setup_of, seen_of, HasBegun, HasOwn, IsSetUp, starting, first_only, others_only, first_pass, other_passes}
 use Rattle.ra_ticket.specs.Rule.{At, SitsAt, TurnsKept}
 use Rattle.ra_ticket.proofs.Seats.{inside}
 use Rattle.ra_ticket.proofs.Logs.{begins_same}
@@ -72,9 +72,9 @@ module _ {M C R S : Type 0} (j : Readings M C R S) (opened : S) where
     served = All-nil (λ (e : Entry C R). e.ticket < first + 1);
     legal = tt;
     told = subst (λ (l : List (Entry C R)). IsMarkOf j opened l mark) empty (subst (λ (x : S). IsMarkOf j x (j.log journal) mark) so is_mark);
-    begun = λ seat u e. subst (λ (x : View C R S). BeginsWith [] (seen_of x)) (only v u seat e).1 (begins_same {C = C} {R = R} [] [] refl);
+    begun = λ seat u e. subst (λ (x : View C R S). HasBegun x []) (only v u seat e).1 (begins_same {C = C} {R = R} [] [] refl);
     own = λ seat u e. subst (λ (x : View C R S). HasOwn x []) (only v u seat e).1 (λ k n at. refl);
-    set_up = λ seat u e. subst (λ (x : View C R S). IfSome (setup_of x) (λ y. y ≡ opened)) (only v u seat e).1 refl;
+    set_up = λ seat u e. subst (IsSetUp opened) (only v u seat e).1 refl;
     home_set_up = λ other at. let is : journal ≡ other = cc in subst (λ (m : M). j.setup m ≡ opened) is so;
     passes_apart = λ a b j k number p q. (
       (only v p.0 a p.1).0 ∙ sym (only v q.0 b q.1).0,
@@ -157,18 +157,19 @@ module _ {M C R S : Type 0} (j : Readings M C R S) (opened : S) where
       served = r.served;
       legal = r.legal;
       told = r.told;
-      begun = let b = r.begun id (Knows k) here in each_cut (λ (z : View C R S). BeginsWith r.front (seen_of z)) b b r.begun;
+      begun = let b = r.begun id (Knows k) here in each_cut (λ (z : View C R S). HasBegun z r.front) b b r.begun;
       own = each_cut (λ (z : View C R S). HasOwn z r.front) (λ i n at. r.own id (Knows k) here (suc i) n (at_others_only k.numbers i n at))
           (λ i n at. r.own id (Knows k) here 0 n (at_first_only k.numbers i n at).1) r.own;
       passes_apart = λ a b i j number p q. let x = was a i number p in let y = was b j number q in
           told_apart a b i j x.0 y.0 x.1 y.1 (inside s.views id (Knows k) here) (r.passes_apart x.0 y.0 x.1 y.1 number x.2 y.2) x.3 y.3;
-      set_up = let b = r.set_up id (Knows k) here in each_cut (λ (z : View C R S). IfSome (setup_of z) (λ y. y ≡ opened)) b b r.set_up;
+      set_up = let b = r.set_up id (Knows k) here in each_cut (IsSetUp opened) b b r.set_up;
       home_set_up = r.home_set_up;
     }
 
   -- an idle seat is cut in two
   pub splits : (id : ℕ) (v : View C R S) → stage_of v ≡ Some Idle → Splits Rule id v (other_passes v) (first_pass v)
   splits id Spent idle s r at = absurd (cc)
+  splits id (Met k l) idle s r at = absurd (cc)
   splits id (Knows k) idle s r at = let is : k.stage ≡ Idle = cc in splits_here s r id k at is
 
 -- what an idle seat with numbers from k on is cut into
@@ -188,6 +189,7 @@ pub record AreCut {C R S : Type 0} (v : View C R S) (k n : ℕ) : Type 0 where
 
 pub are_cut : {C R S : Type 0} (v : View C R S) (k n : ℕ) → stage_of v ≡ Some Idle → numbers_of v ≡ range_with_len k (suc n) → AreCut v k n
 are_cut Spent k n idle numbers = absurd (cc)
+are_cut (Met w u) k n idle numbers = absurd (cc)
 are_cut (Knows w) k n idle numbers = record {
   idle = idle;
   numbers = ap others_only numbers;

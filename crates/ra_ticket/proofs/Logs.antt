@@ -3,9 +3,10 @@ use Rattle.std.proofs.Common.{◌≡◌, ℕ, List, [], ◌∷◌, ◌++◌, Opt
 use Rattle.std.proofs.lemmas.List.{append-nil, append_assoc}
 use Rattle.ra_ticket.specs.declared.entry.Entry.{Entry}
 use Rattle.ra_ticket.specs.declared.board.View.{View}
+use Rattle.ra_ticket.specs.declared.board.View.TheVariants.{Spent, Knows, Met}
 use Rattle.ra_ticket.specs.Log.{Readings, entry, BeginsWith, MayFollow, IsLegalAfter, IsLegal}
 use Rattle.ra_ticket.specs.Steps.{HasEntered, IsAhead}
-use Rattle.ra_ticket.specs.Views.{numbers_of, seen_of}
+use Rattle.ra_ticket.specs.Views.{numbers_of, seen_of, HasBegun}
 use Rattle.ra_ticket.proofs.Tickets.{above_last}
 
 module _ {C R : Type 0} where
@@ -15,6 +16,12 @@ module _ {C R : Type 0} where
   pub begins_trans : (xs ys zs : List (Entry C R)) → BeginsWith xs ys → BeginsWith ys zs → BeginsWith xs zs
   begins_trans xs ys zs p q =
       (q.0 ++ p.0, p.1 ∙ (ap (λ (l : List (Entry C R)). l ++ p.0) q.1 ∙ append_assoc zs q.0 p.0))
+
+  -- what a seat has seen of a log it has seen of a longer one
+  pub begun_more : {S : Type 0} (v : View C R S) (log more : List (Entry C R)) → BeginsWith more log → HasBegun v log → HasBegun v more
+  begun_more Spent log more grows begun = tt
+  begun_more (Knows k) log more grows begun = begins_trans more log k.seen grows begun
+  begun_more (Met k l) log more grows begun = (begins_trans more log k.seen grows begun.0, begins_trans more log l.seen grows begun.1)
 
   module _ (answer : List (Entry C R) → C → R) where
     legal_after : (before log : List (Entry C R)) (e : Entry C R) → IsLegalAfter answer before log

@@ -1,7 +1,7 @@
 -- What is read off the mark of a log.
 use Rattle.std.proofs.Common.{◌≡◌, ℕ, ◌^◌, ◌<◌, length, Option, Some, None, IfSome, arith}
 use Rattle.ra_ticket.specs.declared.board.View.{View}
-use Rattle.ra_ticket.specs.declared.board.View.TheVariants.{Spent, Knows}
+use Rattle.ra_ticket.specs.declared.board.View.TheVariants.{Spent, Knows, Met}
 use Rattle.ra_ticket.specs.declared.board.Stage.TheVariants.{Idle}
 use Rattle.ra_ticket.specs.Log.{Readings}
 use Rattle.ra_ticket.specs.Mark.{mark_of, IsNumbered}
@@ -23,6 +23,7 @@ module _ {M C R S : Type 0} (j : Readings M C R S) (v : View C R S) (mark calls 
     where
       go : (u : View C R S) → stage_of u ≡ Some Idle → IsTold j u mark → calls ≡ length (seen_of u)
       go Spent idle told = absurd (cc)
+      go (Met k l) idle told = absurd (cc)
       go (Knows k) idle told = (off (length k.seen) (j.fault_of k.setup k.seen) (numbered (j.fault_of k.setup k.seen) (length k.seen) told.1.below told.1.short) told.1.marked).0
 
   -- and the fault is that of what it has seen
@@ -31,4 +32,5 @@ module _ {M C R S : Type 0} (j : Readings M C R S) (v : View C R S) (mark calls 
     where
       go : (u : View C R S) → IsTold j u mark → IfSome (setup_of u) (λ s. fault ≡ j.fault_of s (seen_of u))
       go Spent told = tt
+      go (Met k l) told = tt
       go (Knows k) told = (off (length k.seen) (j.fault_of k.setup k.seen) (numbered (j.fault_of k.setup k.seen) (length k.seen) told.1.below told.1.short) told.1.marked).1

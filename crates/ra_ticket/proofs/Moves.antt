@@ -9,19 +9,19 @@ use Rattle.atomic_table.specs.Table.{Step, Act, keeps, takes, gives, Valid, home
 use Rattle.atomic_table.proofs.Lists.{exchanged}
 use Rattle.ra_ticket.specs.declared.entry.Entry.{Entry}
 use Rattle.ra_ticket.specs.declared.board.View.{View}
-use Rattle.ra_ticket.specs.declared.board.View.TheVariants.{Spent, Knows}
+use Rattle.ra_ticket.specs.declared.board.View.TheVariants.{Spent, Knows, Met}
 use Rattle.ra_ticket.specs.declared.board.Known.{Known}
 use Rattle.ra_ticket.specs.declared.board.Stage.{Stage}
 use Rattle.ra_ticket.specs.declared.board.Stage.TheVariants.{Idle, Waiting, Holding}
-use Rattle.ra_ticket.specs.Log.{Readings, AllBelow, IsLegal, entries_of}
+use Rattle.ra_ticket.specs.Log.{Readings, AllBelow, IsLegal}
 use Rattle.ra_ticket.specs.Mark.{IsMarkOf}
-use Rattle.ra_ticket.specs.Views.{stage_of, ticket_at, ticket_of, held_at, held_of, setup_of}
+use Rattle.ra_ticket.specs.Views.{stage_of, ticket_at, ticket_of, held_at, held_of, setup_of, HasOwn}
 use Rattle.ra_ticket.specs.Rule.{At, NobodyHolds}
 use Rattle.ra_ticket.specs.Steps.{IsAsSeen, HasEntered, IsAhead, IsTold, learned, learned_serving, glanced, drew, looked, published, released}
 use Rattle.ra_ticket.proofs.Seats.{at_after, at_back, at_new}
 use Rattle.ra_ticket.proofs.Logs.{begins_same, legal_push}
 use Rattle.ra_ticket.proofs.Tickets.{below_more}
-use Rattle.ra_ticket.proofs.Owns.{entries_skip}
+use Rattle.ra_ticket.proofs.Owns.{own_skip}
 use Rattle.std.proofs.lemmas.List.Elements.{All-push}
 use Rattle.ra_ticket.proofs.Changes as changes
 
@@ -33,14 +33,14 @@ module _ {C R S : Type 0} where
   no_ticket k idle t e = let none_there = ap ticket_at idle in cc
 
   -- the views that steps lead to
-  abbrev with_next : Known C R S → ℕ → View C R S
-  with_next k n = Knows (record k { next = n })
+  abbrev with_next : Known C R S → ℕ → Known C R S
+  with_next k n = record k { next = n }
 
-  abbrev with_serving : Known C R S → ℕ → View C R S
-  with_serving k n = Knows (record k { serving = n })
+  abbrev with_serving : Known C R S → ℕ → Known C R S
+  with_serving k n = record k { serving = n }
 
-  abbrev waiting : Known C R S → ℕ → View C R S
-  waiting k t = Knows (record k { next = t + 1; stage = Waiting t })
+  abbrev waiting : Known C R S → ℕ → Known C R S
+  waiting k t = record k { next = t + 1; stage = Waiting t }
 
   abbrev holding : Known C R S → ℕ → ℕ → List (Entry C R) → View C R S
   holding k n t log = Knows (record k { serving = n; stage = Holding t; seen = log })
@@ -70,33 +70,33 @@ module _ {M C R S : Type 0} (j : Readings M C R S) (opened : S) where
   Goes s id c words then = (w : View C R S) × (a : Act (Option M)) × Valid s.homes c a × Rule record { words = words; homes = homes_after s.homes c a; views = set s.views id w } × then (w, carried_after c a)
 
   module _ (s : changes.Table j opened) (r : Rule s) (id : ℕ) (k : Known C R S) (here : get_elem? s.views id ≡ some (Knows k)) (c : Slots) (st : Step (Option M)) where
-    learning : k.stage ≡ Idle → Rule record { words = r.next ∷ r.serving ∷ r.mark ∷ r.others; homes = s.homes; views = set s.views id (with_next k r.next) }
-    learning idle = changes.unmoved j opened s r id (Knows k) (with_next k r.next) here r.next r.fits (le_refl r.next) (le_refl r.next, (r.reached id (Knows k) here).1) refl refl refl refl
+    learning : k.stage ≡ Idle → Rule record { words = r.next ∷ r.serving ∷ r.mark ∷ r.others; homes = s.homes; views = set s.views id (Knows (with_next k r.next)) }
+    learning idle = changes.unmoved j opened s r id k (with_next k r.next) here r.next r.fits (le_refl r.next) (le_refl r.next, (r.reached id (Knows k) here).1) refl refl refl refl
         (λ t e. absurd (no_ticket k idle t e)) (λ seat t e _ _. no_ticket k idle t e)
 
-    learning_serving : k.stage ≡ Idle → Rule record { words = r.next ∷ r.serving ∷ r.mark ∷ r.others; homes = s.homes; views = set s.views id (with_serving k r.serving) }
-    learning_serving idle = changes.unmoved j opened s r id (Knows k) (with_serving k r.serving) here r.next r.fits (le_refl r.next) ((r.reached id (Knows k) here).0, le_refl r.serving) refl refl refl refl
+    learning_serving : k.stage ≡ Idle → Rule record { words = r.next ∷ r.serving ∷ r.mark ∷ r.others; homes = s.homes; views = set s.views id (Knows (with_serving k r.serving)) }
+    learning_serving idle = changes.unmoved j opened s r id k (with_serving k r.serving) here r.next r.fits (le_refl r.next) ((r.reached id (Knows k) here).0, le_refl r.serving) refl refl refl refl
         (λ t e. absurd (no_ticket k idle t e)) (λ seat t e _ _. no_ticket k idle t e)
 
     glancing : k.stage ≡ Idle → Rule record { words = r.next ∷ r.serving ∷ r.mark ∷ r.others; homes = s.homes; views = set s.views id (publishing k r.front) }
-    glancing idle = changes.seeing j opened s r id (Knows k) (publishing k r.front) here r.next r.fits (le_refl r.next) (r.reached id (Knows k) here) refl refl refl
+    glancing idle = changes.seeing j opened s r id (Knows k) (publishing k r.front) here r.next r.fits (le_refl r.next) (r.reached id (Knows k) here) refl refl (r.set_up id (Knows k) here)
         (begins_same r.front r.front refl) (λ a n at. refl) (λ t e. refl) (λ t e. absurd (no_ticket k idle t e)) (λ seat t e _ _. no_ticket k idle t e)
 
     front_told : IsTold j (publishing k r.front) r.mark
     front_told = subst (λ (x : S). IsLegal (j.reply_of x) r.front × IsMarkOf j x r.front r.mark) (sym (r.set_up id (Knows k) here)) (r.legal, r.told)
 
-    drawing : (t : ℕ) → k.stage ≡ Idle → r.next ≡ t → t + 1 < 2 ^ 64 → Rule record { words = (t + 1) ∷ r.serving ∷ r.mark ∷ r.others; homes = s.homes; views = set s.views id (waiting k t) }
-    drawing t idle e room = changes.unmoved j opened s r id (Knows k) (waiting k t) here (t + 1) room (omega arith) (le_refl (t + 1), (r.reached id (Knows k) here).1) refl
+    drawing : (t : ℕ) → k.stage ≡ Idle → r.next ≡ t → t + 1 < 2 ^ 64 → Rule record { words = (t + 1) ∷ r.serving ∷ r.mark ∷ r.others; homes = s.homes; views = set s.views id (Knows (waiting k t)) }
+    drawing t idle e room = changes.unmoved j opened s r id k (waiting k t) here (t + 1) room (omega arith) (le_refl (t + 1), (r.reached id (Knows k) here).1) refl
         (sym (ap held_at idle)) refl refl
         (λ u same. let is : t ≡ u = cc in (let o = r.order in omega arith, omega arith))
         (λ seat u same other a. let is : t ≡ u = cc in let b = r.drawn seat u a in omega arith)
 
     waits_on : (t : ℕ) → k.stage ≡ Waiting t → r.serving ≢ t → Goes s id c (r.next ∷ r.serving ∷ r.mark ∷ r.others) (looked j st (Knows k, c) r.serving)
     waits_on t waits ne = let low = r.reached id (Knows k) here in (
-      with_serving k r.serving,
+      Knows (with_serving k r.serving),
       keeps,
       tt,
-      changes.unmoved j opened s r id (Knows k) (with_serving k r.serving) here r.next r.fits (le_refl r.next) (low.0, le_refl r.serving) refl refl refl refl (λ u e. r.drawn id u (Knows k, here, e))
+      changes.unmoved j opened s r id k (with_serving k r.serving) here r.next r.fits (le_refl r.next) (low.0, le_refl r.serving) refl refl refl refl (λ u e. r.drawn id u (Knows k, here, e))
           (λ seat u e other a. other (r.tickets_apart seat id u a (Knows k, here, e))),
       λ u is. let same : t ≡ u = cc in (record { numbers = refl; setup = refl; next = le_refl k.next; serving = low.1 }, (begins_same k.seen k.seen refl, λ a n at. refl), (λ e. absurd (ne (e ∙ sym same))), λ _. (is, refl, refl)),
     )
@@ -111,7 +111,7 @@ module _ {M C R S : Type 0} (j : Readings M C R S) (opened : S) where
       serving_up = le_refl r.serving;
       reached = ((r.reached id (Knows k) here).0, le_refl r.serving);
       numbers = refl;
-      setup = refl;
+      set_up = r.set_up id (Knows k) here;
       others_drawn = λ seat u _ a. (r.drawn seat u a).0;
       drawn = λ u e. let is : t ≡ u = cc in r.drawn id u (Knows k, here, ap ticket_at waits ∙ ap (λ (n : ℕ). Some n) is);
       apart = λ seat u e other a. let is : t ≡ u = cc in other (r.tickets_apart seat id u a (Knows k, here, ap ticket_at waits ∙ ap (λ (n : ℕ). Some n) is));
@@ -188,7 +188,7 @@ module _ {M C R S : Type 0} (j : Readings M C R S) (opened : S) where
       serving_up = let e = served in omega arith;
       reached = ((r.reached id (Knows k) here).0, le_refl (t + 1));
       numbers = refl;
-      setup = refl;
+      set_up = r.set_up id (Knows k) here;
       others_drawn = λ seat u other a. let b = (r.drawn seat u a).0 in let e = served in
           let ne : u ≢ t = λ is. other (r.tickets_apart seat id t (subst (At ticket_of s.views seat) is a) (mine t holds)) in omega arith;
       drawn = λ u e. absurd (cc);
@@ -261,7 +261,7 @@ module _ {M C R S : Type 0} (j : Readings M C R S) (opened : S) where
       serving_up = le_refl r.serving;
       reached = r.reached id (Knows k) here;
       numbers = refl;
-      setup = refl;
+      set_up = r.set_up id (Knows k) here;
       others_drawn = λ seat u _ a. (r.drawn seat u a).0;
       drawn = λ u e. r.drawn id u (Knows k, here, e);
       apart = λ seat u e other a. other (r.tickets_apart seat id u a (Knows k, here, e));
@@ -276,8 +276,8 @@ module _ {M C R S : Type 0} (j : Readings M C R S) (opened : S) where
       told = subst (λ (x : S). IsMarkOf j x (j.log journal) mark) (opened_so journal ahead.setup) is_mark;
       begun = begins_same (j.log journal) (j.log journal) refl;
       own = λ a n at. refl;
-      others_own = λ seat u other at a n sits. r.own seat u at a n sits ∙ sym (ap (entries_of n) grown ∙ entries_skip n r.front ahead.last
-          (λ is. other (r.passes_apart seat id a 0 n (u, at, sits) (Knows k, here, ap (λ (l : List ℕ). get_elem? l 0) ahead.its_pass ∙ ap (λ (x : ℕ). some x) is)).0));
+      others_own = λ seat u other at. subst (HasOwn u) (sym grown) (own_skip u r.front ahead.last
+          (λ a sits. other (r.passes_apart seat id a 0 ahead.last.pass (u, at, sits) (Knows k, here, ap (λ (l : List ℕ). get_elem? l 0) ahead.its_pass)).0) (r.own seat u at));
       home_set_up = λ other there. let gone = (slot t holds).1 in absurd (cc);
     }
       where
@@ -303,9 +303,10 @@ module _ {M C R S : Type 0} (j : Readings M C R S) (opened : S) where
   -- an idle seat learns `next`
   pub learns : (slots id : ℕ) (v : View C R S) (c : Slots) (st : Step (Option M)) → stage_of v ≡ Some Idle → Allows Rule slots id (v, c) 0 (λ n. n) (learned st (v, c))
   learns slots id Spent c st idle s r deep at fits = absurd (cc)
+  learns slots id (Met k l) c st idle s r deep at fits = absurd (cc)
   learns slots id (Knows k) c st idle s r deep at fits =
       subst (λ (ws : List ℕ). Goes s id c (set ws 0 (get_or ws 0 0)) (learned st (Knows k, c) (get_or ws 0 0))) (sym r.words) (
-        with_next k r.next,
+        Knows (with_next k r.next),
         keeps,
         tt,
         learning s r id k at c st (stage_is k Idle idle),
@@ -315,9 +316,10 @@ module _ {M C R S : Type 0} (j : Readings M C R S) (opened : S) where
   -- an idle seat learns `serving`
   pub learns_serving : (slots id : ℕ) (v : View C R S) (c : Slots) (st : Step (Option M)) → stage_of v ≡ Some Idle → Allows Rule slots id (v, c) 1 (λ n. n) (learned_serving st (v, c))
   learns_serving slots id Spent c st idle s r deep at fits = absurd (cc)
+  learns_serving slots id (Met k l) c st idle s r deep at fits = absurd (cc)
   learns_serving slots id (Knows k) c st idle s r deep at fits =
       subst (λ (ws : List ℕ). Goes s id c (set ws 1 (get_or ws 1 0)) (learned_serving st (Knows k, c) (get_or ws 1 0))) (sym r.words) (
-        with_serving k r.serving,
+        Knows (with_serving k r.serving),
         keeps,
         tt,
         learning_serving s r id k at c st (stage_is k Idle idle),
@@ -327,6 +329,7 @@ module _ {M C R S : Type 0} (j : Readings M C R S) (opened : S) where
   -- an idle seat looks at `mark`, and sees the front
   pub glances : (slots id : ℕ) (v : View C R S) (c : Slots) (st : Step (Option M)) → stage_of v ≡ Some Idle → Allows Rule slots id (v, c) 2 (λ n. n) (glanced j st (v, c))
   glances slots id Spent c st idle s r deep at fits = absurd (cc)
+  glances slots id (Met k l) c st idle s r deep at fits = absurd (cc)
   glances slots id (Knows k) c st idle s r deep at fits =
       subst (λ (ws : List ℕ). Goes s id c (set ws 2 (get_or ws 2 0)) (glanced j st (Knows k, c) (get_or ws 2 0))) (sym r.words) (
         publishing k r.front,
@@ -346,18 +349,19 @@ module _ {M C R S : Type 0} (j : Readings M C R S) (opened : S) where
   pub draws : (slots id : ℕ) (v : View C R S) (c : Slots) (t : ℕ) (st : Step (Option M)) → st.first ≡ t → t + 1 < 2 ^ 64 → stage_of v ≡ Some Idle
       → Allows Rule slots id (v, c) 0 (λ n. either (eqb n t) (t + 1) n) (drew st (v, c))
   draws slots id Spent c t st asked room idle s r deep at fits = absurd (cc)
+  draws slots id (Met k l) c t st asked room idle s r deep at fits = absurd (cc)
   draws slots id (Knows k) c t st asked room idle s r deep at fits = let low = r.reached id (Knows k) at in
       subst (λ (ws : List ℕ). Goes s id c (set ws 0 (either (eqb (get_or ws 0 0) t) (t + 1) (get_or ws 0 0))) (drew st (Knows k, c) (get_or ws 0 0))) (sym r.words)
       (exchanged r.next t (t + 1) (λ (n : ℕ). Goes s id c (n ∷ r.serving ∷ r.mark ∷ r.others) (drew st (Knows k, c) r.next))
       (λ e. (
-        waiting k t,
+        Knows (waiting k t),
         keeps,
         tt,
         drawing s r id k at c st t (stage_is k Idle idle) e room,
         λ _. ((record { numbers = refl; setup = refl; next = let l : k.next ≤ r.next = low.0 in omega arith; serving = le_refl k.serving }, refl), refl, (λ _. ap (λ (n : ℕ). Some (Waiting n)) (sym asked)), λ other. absurd (other (e ∙ sym asked))),
       ))
       (λ ne. (
-        with_next k r.next,
+        Knows (with_next k r.next),
         keeps,
         tt,
         learning s r id k at c st (stage_is k Idle idle),
@@ -367,6 +371,7 @@ module _ {M C R S : Type 0} (j : Readings M C R S) (opened : S) where
   -- a waiting seat looks at `serving`, and takes the journal where its ticket is served
   pub looks : (slots id : ℕ) (v : View C R S) (c : Slots) (t : ℕ) (st : Step (Option M)) → stage_of v ≡ Some (Waiting t) → Allows Rule slots id (v, c) 1 (λ n. n) (looked j st (v, c))
   looks slots id Spent c t st waits s r deep at fits = absurd (cc)
+  looks slots id (Met k l) c t st waits s r deep at fits = absurd (cc)
   looks slots id (Knows k) c t st waits s r deep at fits =
       subst (λ (ws : List ℕ). Goes s id c (set ws 1 (get_or ws 1 0)) (looked j st (Knows k, c) (get_or ws 1 0))) (sym r.words)
       (dite (ℕ_discrete t r.serving) (λ e. enters s r id k at c st t (stage_is k (Waiting t) waits) e) (λ ne. waits_on s r id k at c st t (stage_is k (Waiting t) waits) (λ e. ne (sym e))))
@@ -375,6 +380,7 @@ module _ {M C R S : Type 0} (j : Readings M C R S) (opened : S) where
   pub releases : (slots id : ℕ) (v : View C R S) (journal : M) (t : ℕ) (st : Step (Option M)) → stage_of v ≡ Some (Holding t) → IsAsSeen j v journal
       → Allows Rule slots id (v, (0, Some journal) ∷ []) 1 (λ n. (n + 1) % 2 ^ 64) (released st (v, (0, Some journal) ∷ []))
   releases slots id Spent journal t st holds seen s r deep at fits = absurd (cc)
+  releases slots id (Met k l) journal t st holds seen s r deep at fits = absurd (cc)
   releases slots id (Knows k) journal t st holds seen s r deep at fits =
       subst (λ (ws : List ℕ). Goes s id ((0, Some journal) ∷ []) (set ws 1 ((get_or ws 1 0 + 1) % 2 ^ 64)) (released st (Knows k, (0, Some journal) ∷ []) (get_or ws 1 0))) (sym r.words)
       (leaves s r id k at [] st t journal (stage_is k (Holding t) holds) seen)
@@ -384,6 +390,7 @@ module _ {M C R S : Type 0} (j : Readings M C R S) (opened : S) where
       → IsMarkOf j (j.setup journal) (j.log journal) mark
       → Allows Rule slots id (v, (0, Some journal) ∷ []) 2 (λ _. mark) (λ _. published j st (v, (0, Some journal) ∷ []) mark)
   publishes slots id Spent journal t mark st holds ahead is_mark s r deep at fits = absurd (cc)
+  publishes slots id (Met k l) journal t mark st holds ahead is_mark s r deep at fits = absurd (cc)
   publishes slots id (Knows k) journal t mark st holds ahead is_mark s r deep at fits =
       subst (λ (ws : List ℕ). Goes s id ((0, Some journal) ∷ []) (set ws 2 mark) (published j st (Knows k, (0, Some journal) ∷ []) mark)) (sym r.words)
       (publishes_here s r id k at [] st t mark journal (stage_is k (Holding t) holds) ahead is_mark)

@@ -1,13 +1,18 @@
 -- The entries of a seat's own passes.
-use Rattle.std.proofs.Common.{◌≡◌, ◌≢◌, ℕ, List, [], ◌∷◌, ◌++◌, Bool, cond, eqb, Result, Ok, Err, IfOk, IfErr, refl, sym, ap, ◌∙◌, subst}
+use Rattle.std.proofs.Common.{◌≡◌, ◌≢◌, ℕ, suc, List, [], ◌∷◌, ◌++◌, Bool, cond, eqb, Some, Result, Ok, Err, IfOk, IfErr, refl, sym, ap, ◌∙◌, subst}
+use mathlib.Core.Option.{some}
 use lib.ListN.{get_elem?}
 use Rattle.std.proofs.lemmas.List.{append-nil}
 use Rattle.std.proofs.lemmas.List.Elements.{filter-append}
 use Rattle.std.proofs.lemmas.Bool.{eq-eqb, ne_eqb}
 use Rattle.ra_ticket.specs.declared.entry.Entry.{Entry}
+use Rattle.atomic_table.proofs.Lists.{at_longer}
+use Rattle.ra_ticket.specs.declared.board.Known.{Known}
+use Rattle.ra_ticket.specs.declared.board.Stage.{Stage}
 use Rattle.ra_ticket.specs.declared.board.View.{View}
+use Rattle.ra_ticket.specs.declared.board.View.TheVariants.{Spent, Knows, Met}
 use Rattle.ra_ticket.specs.Log.{entry, entries_of}
-use Rattle.ra_ticket.specs.Views.{numbers_of, seen_of, HasOwn}
+use Rattle.ra_ticket.specs.Views.{stage_of, numbers_of, seen_of, HasOwn, SeesOwn}
 
 module _ {C R : Type 0} where
   -- one more entry of another pass, and one of this pass
@@ -27,13 +32,31 @@ module _ {C R : Type 0} where
   own_push n t c r old before new own last = ap (entries_of n) last ∙ (entries_keep n before (entry n t c r) refl
       ∙ ap (λ (l : List (Entry C R)). l ++ entry n t c r ∷ []) (sym own))
 
-module _ {C R S : Type 0} (v w : View C R S) (log : List (Entry C R)) where
-  pub own_same : numbers_of w ≡ numbers_of v → seen_of w ≡ seen_of v → HasOwn v log → HasOwn w log
-  own_same numbers seen own k n at = ap (entries_of n) seen ∙ own k n (ap (λ (l : List ℕ). get_elem? l k) (sym numbers) ∙ at)
+at_behind : (l m : List ℕ) (i n : ℕ) → get_elem? m i ≡ some n → (k : ℕ) × (get_elem? (l ++ m) k ≡ some n)
+at_behind [] m i n at = (i, at)
+at_behind (x ∷ xs) m i n at = let behind = at_behind xs m i n at in (suc behind.0, behind.1)
 
--- a seat of one pass alone
-pub own_alone : {C R S : Type 0} (v : View C R S) (log : List (Entry C R)) (n : ℕ) → numbers_of v ≡ n ∷ [] → HasOwn v log → entries_of n (seen_of v) ≡ entries_of n log
-own_alone v log n alone own = own 0 n (ap (λ (l : List ℕ). get_elem? l 0) alone)
+module _ {C R S : Type 0} where
+  pub own_same : (k k' : Known C R S) (log : List (Entry C R)) → k'.numbers ≡ k.numbers → k'.seen ≡ k.seen → SeesOwn k log → SeesOwn k' log
+  own_same k k' log numbers seen own i n at = ap (entries_of n) seen ∙ own i n (ap (λ (l : List ℕ). get_elem? l i) (sym numbers) ∙ at)
+
+  -- a seat of one pass alone
+  pub own_alone : (v : View C R S) (log : List (Entry C R)) (n : ℕ) (st : Stage) → stage_of v ≡ Some st → numbers_of v ≡ n ∷ [] → HasOwn v log → entries_of n (seen_of v) ≡ entries_of n log
+  own_alone Spent log n st there alone own = absurd (cc)
+  own_alone (Knows k) log n st there alone own = own 0 n (ap (λ (l : List ℕ). get_elem? l 0) alone)
+  own_alone (Met k l) log n st there alone own = absurd (cc)
+
+  -- the entry of a pass that sits elsewhere is added
+  sees_skip : (k : Known C R S) (log : List (Entry C R)) (e : Entry C R) → ((i : ℕ) → get_elem? k.numbers i ≡ some e.pass → ⊥) → SeesOwn k log → SeesOwn k (log ++ e ∷ [])
+  sees_skip k log e elsewhere own i n at = own i n at ∙ sym (entries_skip n log e (λ is. elsewhere i (at ∙ ap (λ (x : ℕ). some x) (sym is))))
+
+  pub own_skip : (v : View C R S) (log : List (Entry C R)) (e : Entry C R) → ((i : ℕ) → get_elem? (numbers_of v) i ≡ some e.pass → ⊥) → HasOwn v log → HasOwn v (log ++ e ∷ [])
+  own_skip Spent log e elsewhere own = tt
+  own_skip (Knows k) log e elsewhere own = sees_skip k log e elsewhere own
+  own_skip (Met k l) log e elsewhere own = (
+    sees_skip k log e (λ i at. elsewhere i (at_longer k.numbers l.numbers i e.pass at)) own.0,
+    sees_skip l log e (λ i at. let behind = at_behind k.numbers l.numbers i e.pass at in elsewhere behind.0 behind.1) own.1,
+  )
 
 -- a call whose pass had seen all its entries when it entered
 module _ {C R F : Type 0} (n n' : ℕ) (same : n' ≡ n) (c : C) (old before new : List (Entry C R)) (own : entries_of n old ≡ entries_of n before) (o : Result R F) where

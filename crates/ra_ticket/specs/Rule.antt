@@ -1,13 +1,13 @@
 -- The rule of the lock, which holds between any two steps.
-use Rattle.std.specs.Prelude.{◌≡◌, ℕ, ◌+◌, ◌^◌, ◌<◌, ◌≤◌, List, [], ◌∷◌, Option, Some, IfSome}
+use Rattle.std.specs.Prelude.{◌≡◌, ℕ, ◌+◌, ◌^◌, ◌<◌, ◌≤◌, List, [], ◌∷◌, Option, Some}
 use mathlib.Core.Option.{some, none}
 use lib.ListN.{get_elem?}
 use Rattle.atomic_table.specs.Table.{State}
 use Rattle.ra_ticket.specs.declared.entry.Entry.{Entry}
 use Rattle.ra_ticket.specs.declared.board.View.{View}
-use Rattle.ra_ticket.specs.Log.{Readings, AllBelow, BeginsWith, IsLegal}
+use Rattle.ra_ticket.specs.Log.{Readings, AllBelow, IsLegal}
 use Rattle.ra_ticket.specs.Mark.{IsMarkOf}
-use Rattle.ra_ticket.specs.Views.{numbers_of, next_of, serving_of, ticket_of, held_of, setup_of, seen_of, HasOwn}
+use Rattle.ra_ticket.specs.Views.{numbers_of, next_of, serving_of, ticket_of, held_of, seen_of, HasBegun, HasOwn, IsSetUp}
 
 module _ {C R S : Type 0} where
   -- the view at a seat has the value x, by this reading of views
@@ -56,12 +56,11 @@ module _ {M C R S : Type 0} (j : Readings M C R S) (opened : S) where
     -- mark
     pub told : IsMarkOf j opened front mark
     -- knowledge: each seat has seen a beginning of the front, and all entries of its own passes
-    pub begun : (seat : ℕ) (v : View C R S) → get_elem? s.views seat ≡ some v → BeginsWith front (seen_of v)
+    pub begun : (seat : ℕ) (v : View C R S) → get_elem? s.views seat ≡ some v → HasBegun v front
     pub own : (seat : ℕ) (v : View C R S) → get_elem? s.views seat ≡ some v → HasOwn v front
     -- seats: each pass sits in one place
     pub passes_apart : (a b k l number : ℕ) → SitsAt s.views a k number → SitsAt s.views b l number
         → (a ≡ b) × (k ≡ l)
     -- each seat has the setup of the opening, and so has the journal at home
-    pub set_up : (seat : ℕ) (v : View C R S) → get_elem? s.views seat ≡ some v
-        → IfSome (setup_of v) (λ x. x ≡ opened)
+    pub set_up : (seat : ℕ) (v : View C R S) → get_elem? s.views seat ≡ some v → IsSetUp opened v
     pub home_set_up : (journal : M) → s.homes ≡ some (Some journal) ∷ [] → j.setup journal ≡ opened

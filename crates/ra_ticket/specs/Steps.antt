@@ -4,11 +4,13 @@ use Rattle.atomic_table.specs.Table.{Me, Step, rest}
 use Rattle.atomic_table.specs.Seated.{TableId}
 use Rattle.atomic_table.specs.declared.shared.Seat.{Seat}
 use Rattle.ra_ticket.specs.declared.entry.Entry.{Entry}
+use Rattle.ra_ticket.specs.declared.board.Known.{Known}
 use Rattle.ra_ticket.specs.declared.board.View.{View}
+use Rattle.ra_ticket.specs.declared.board.View.TheVariants.{Met}
 use Rattle.ra_ticket.specs.declared.board.Stage.TheVariants.{Idle, Waiting, Holding}
 use Rattle.ra_ticket.specs.Log.{Readings, AllBelow, BeginsWith, MayFollow, IsLegal}
 use Rattle.ra_ticket.specs.Mark.{IsMarkOf}
-use Rattle.ra_ticket.specs.Views.{stage_of, numbers_of, next_of, serving_of, setup_of, seen_of, HasOwn}
+use Rattle.ra_ticket.specs.Views.{stage_of, numbers_of, next_of, serving_of, setup_of, seen_of, HasOwn, SeesOwn}
 
 module _ {C R S : Type 0} where
   -- the same passes and setup, and no less is known of the words
@@ -25,6 +27,14 @@ module _ {C R S : Type 0} where
   -- or more are seen, of which none is of its own passes
   abbrev pub SeesMore : View C R S → View C R S → Type 0
   SeesMore v w = BeginsWith (seen_of w) (seen_of v) × HasOwn v (seen_of w)
+
+  -- no less is known than this, and all that its own passes entered was seen before
+  pub record KnowsNoLess (k : Known C R S) (w : View C R S) : Type 0 where
+    pub setup : setup_of w ≡ Some k.setup
+    pub next : k.next ≤ next_of w
+    pub serving : k.serving ≤ serving_of w
+    pub begins : BeginsWith (seen_of w) k.seen
+    pub own : SeesOwn k (seen_of w)
 
 module _ {M C R S : Type 0} (j : Readings M C R S) where
   -- the journal is as the seat has seen it
@@ -71,11 +81,26 @@ module _ {M C R S : Type 0} where
       → Stays m.0 m'.0 × (m'.1 ≡ m.1) × (stage_of m'.0 ≡ Some Idle) × SeesMore m.0 m'.0
       × IsTold j m'.0 found
 
+  -- two idle seats that met see the front, which is a legal log with this mark
+  abbrev pub looked_together : Readings M C R S → Step (Option M) → Sat M C R S → ℕ → Sat M C R S → Type 0
+  looked_together j step m found m' = (k l : Known C R S) → m.0 ≡ Met k l
+      → (numbers_of m'.0 ≡ k.numbers ++ l.numbers) × (m'.1 ≡ m.1) × (stage_of m'.0 ≡ Some Idle)
+      × KnowsNoLess k m'.0 × KnowsNoLess l m'.0 × IsTold j m'.0 found
+
   -- an idle seat draws the ticket, where `next` was it
   abbrev pub drew : Step (Option M) → Sat M C R S → ℕ → Sat M C R S → Type 0
   drew step m found m' = stage_of m.0 ≡ Some Idle → SeesTheSame m.0 m'.0 × (m'.1 ≡ m.1)
       × (found ≡ step.first → stage_of m'.0 ≡ Some (Waiting step.first))
       × (found ≢ step.first → (stage_of m'.0 ≡ Some Idle) × (next_of m'.0 ≡ found))
+
+  -- an idle seat draws the ticket that it has seen served, where `next` was it, and takes the journal and sees its log
+  abbrev pub drew_served : Readings M C R S → Step (Option M) → Sat M C R S → ℕ → Sat M C R S → Type 0
+  drew_served j step m found m' = stage_of m.0 ≡ Some Idle → serving_of m.0 ≡ step.first
+      → Stays m.0 m'.0 × SeesMore m.0 m'.0
+      × (found ≡ step.first → (stage_of m'.0 ≡ Some (Holding step.first))
+      × ((journal : M) × (m'.1 ≡ (0, Some journal) ∷ m.1) × HasEntered j m'.0 step.first journal))
+      × (found ≢ step.first → (stage_of m'.0 ≡ Some Idle) × (m'.1 ≡ m.1) × (seen_of m'.0 ≡ seen_of m.0)
+      × (serving_of m'.0 ≡ step.first) × (next_of m'.0 ≡ found) × (step.first < found))
 
   -- a waiting seat takes the journal and sees its log, where its ticket is served
   abbrev pub looked : Readings M C R S → Step (Option M) → Sat M C R S → ℕ → Sat M C R S → Type 0

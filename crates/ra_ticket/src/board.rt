@@ -54,6 +54,8 @@ pub enum View<C, R, S> {
     Spent,
     /// It knows this.
     Knows(Known<C, R, S>),
+    /// It has taken in another seat, and knows what each of the two knew, until it looks at the log.
+    Met(Known<C, R, S>, Known<C, R, S>),
 }
 
 /// What the table is told when it is made.

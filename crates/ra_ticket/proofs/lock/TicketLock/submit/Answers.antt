@@ -1,6 +1,7 @@
 use Rattle.std.proofs.Common.{rules, ◌≡◌, subst, sym, ap, ◌∙◌}
 use Rattle.ra_ticket.specs.Log.{entries_of}
 use Rattle.ra_ticket.specs.Steps.{HoldsPublished}
+use Rattle.ra_ticket.specs.declared.board.Stage.TheVariants.{Waiting}
 use Rattle.ra_ticket.specs.Views.{seen_of}
 use Rattle.ra_ticket.proofs.Journals.{of_journal}
 use Rattle.ra_ticket.proofs.Logs.{is_ahead}
@@ -30,7 +31,7 @@ release-requires-clause-holds g c κs within = elim c.match-step.branch [
 pub returns-clause-mine : goal.returns-clause-mine
 returns-clause-mine g c = let old = c.args.pass.now in let drawn = c.draw_ticket.new.seat.me.0 in let entered = c.enter-journal.new.seat.me.0 in
     let own : entries_of old.number (seen_of old.seat.me.0) ≡ entries_of old.number (seen_of entered) =
-    ap (entries_of old.number) (sym c.draw_ticket.ensures.seen) ∙ own_alone drawn (seen_of entered) old.number (c.draw_ticket.ensures.seat.2.numbers ∙ old.numbered) c.enter-journal.ensures.own in
+    ap (entries_of old.number) (sym c.draw_ticket.ensures.seen) ∙ own_alone drawn (seen_of entered) old.number (Waiting c.in-Some.ticket) (search rules) (c.draw_ticket.ensures.seat.2.numbers ∙ old.numbered) c.enter-journal.ensures.own in
     elim c.match-step.branch [
       | in-Ok w ↦ after_reply old.number _ (search rules) c.args.command (seen_of old.seat.me.0) (seen_of entered) (seen_of c.release.new.seat.me.0) own c.match-step.outcome
           c.in-Some.ticket w.in-Ok.reply (search rules) (search rules)
@@ -40,7 +41,7 @@ returns-clause-mine g c = let old = c.args.pass.now in let drawn = c.draw_ticket
 pub returns-clause-mine_still : goal.returns-clause-mine_still
 returns-clause-mine_still g c = let old = c.args.pass.now in let drawn = c.draw_ticket.new.seat.me.0 in let entered = c.enter-journal.new.seat.me.0 in
     let own : entries_of old.number (seen_of old.seat.me.0) ≡ entries_of old.number (seen_of entered) =
-    ap (entries_of old.number) (sym c.draw_ticket.ensures.seen) ∙ own_alone drawn (seen_of entered) old.number (c.draw_ticket.ensures.seat.2.numbers ∙ old.numbered) c.enter-journal.ensures.own in
+    ap (entries_of old.number) (sym c.draw_ticket.ensures.seen) ∙ own_alone drawn (seen_of entered) old.number (Waiting c.in-Some.ticket) (search rules) (c.draw_ticket.ensures.seat.2.numbers ∙ old.numbered) c.enter-journal.ensures.own in
     elim c.match-step.branch [
       | in-Ok w ↦ no_fault _ c.match-step.outcome _ w.outcome-is
       | in-Err w ↦ after_fault old.number _ (search rules) c.args.command (seen_of old.seat.me.0) (seen_of entered) (seen_of c.release.new.seat.me.0) own c.match-step.outcome (search rules)
