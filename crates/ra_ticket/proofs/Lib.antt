@@ -2,6 +2,8 @@ pub mod Seats
 pub mod Changes
 pub mod Moves
 pub mod Cuts
+pub mod Meetings
+pub mod Parting
 pub mod Pushes
 pub mod Tickets
 pub mod Logs

@@ -66,7 +66,7 @@ module _ {M C R S : Type 0} (j : Readings M C R S) (opened : S) where
   carries_one a b e = let same : Some a ≡ Some b = ap (carried_first (Some a)) e in cc
 
   -- a step on the word i, which becomes n, has a view and an act that keep the rule, and tells `then`
-  abbrev Goes : changes.Table j opened → ℕ → Slots → List ℕ → (View C R S × Slots → Type 0) → Type 0
+  abbrev pub Goes : changes.Table j opened → ℕ → Slots → List ℕ → (View C R S × Slots → Type 0) → Type 0
   Goes s id c words then = (w : View C R S) × (a : Act (Option M)) × Valid s.homes c a × Rule record { words = words; homes = homes_after s.homes c a; views = set s.views id w } × then (w, carried_after c a)
 
   module _ (s : changes.Table j opened) (r : Rule s) (id : ℕ) (k : Known C R S) (here : get_elem? s.views id ≡ some (Knows k)) (c : Slots) (st : Step (Option M)) where

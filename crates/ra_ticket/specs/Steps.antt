@@ -8,7 +8,7 @@ use Rattle.ra_ticket.specs.declared.board.Known.{Known}
 use Rattle.ra_ticket.specs.declared.board.View.{View}
 use Rattle.ra_ticket.specs.declared.board.View.TheVariants.{Met}
 use Rattle.ra_ticket.specs.declared.board.Stage.TheVariants.{Idle, Waiting, Holding}
-use Rattle.ra_ticket.specs.Log.{Readings, AllBelow, BeginsWith, MayFollow, IsLegal}
+use Rattle.ra_ticket.specs.Log.{Readings, AllBelow, entries_of, BeginsWith, MayFollow, IsLegal}
 use Rattle.ra_ticket.specs.Mark.{IsMarkOf}
 use Rattle.ra_ticket.specs.Views.{stage_of, numbers_of, next_of, serving_of, setup_of, seen_of, HasOwn, SeesOwn}
 
@@ -35,6 +35,16 @@ module _ {C R S : Type 0} where
     pub serving : k.serving ≤ serving_of w
     pub begins : BeginsWith (seen_of w) k.seen
     pub own : SeesOwn k (seen_of w)
+
+  -- a seat of this one pass went on: it is idle and knows no less, and has not entered anything
+  pub record GoesOn (v w : View C R S) (number : ℕ) : Type 0 where
+    pub idle : stage_of w ≡ Some Idle
+    pub numbers : numbers_of w ≡ number ∷ []
+    pub next : next_of v ≤ next_of w
+    pub serving : serving_of v ≤ serving_of w
+    pub setup : setup_of w ≡ setup_of v
+    pub begins : BeginsWith (seen_of w) (seen_of v)
+    pub mine : entries_of number (seen_of w) ≡ entries_of number (seen_of v)
 
 module _ {M C R S : Type 0} (j : Readings M C R S) where
   -- the journal is as the seat has seen it

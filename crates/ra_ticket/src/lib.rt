@@ -26,6 +26,7 @@ mod glance;
 mod journal;
 mod lock;
 mod mark;
+mod meet;
 mod open;
 mod pass;
 mod plays;

@@ -21,8 +21,8 @@ use std::snapshot::Snapshot;
 /// The most passes that a lock may have.
 pub const MOST_PASSES: u8 = 64;
 
-// Splits a seat: the first pass gets a seat of its own.
-fn split_first<M: Journal>(board: &Board<M>, rest: &mut LockSeat<M>) -> LockSeat<M>
+/// Splits a seat: the first pass gets a seat of its own.
+pub(crate) fn split_first<M: Journal>(board: &Board<M>, rest: &mut LockSeat<M>) -> LockSeat<M>
     requires table { IsSeated rest.old.table_id board.now.table_id }
     requires idle { stage_of rest.old.me.0 ≡ Some Idle }
     ensures table { (rest.new.table_id ≡ rest.old.table_id) × (result.table_id ≡ rest.old.table_id) }

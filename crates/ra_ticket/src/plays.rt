@@ -1,11 +1,13 @@
 //! What each step on the table tells.
 ghost use Rattle.ra_ticket.specs.Log.{readings};
-ghost use Rattle.ra_ticket.specs.Steps.{learned, learned_serving, glanced, drew, looked, published, released};
-ghost use Rattle.ra_ticket.specs.Views.{first_pass, other_passes};
+ghost use Rattle.ra_ticket.specs.Steps.{learned, learned_serving, glanced, looked_together, drew};
+ghost use Rattle.ra_ticket.specs.Steps.{drew_served, looked, published, released};
+ghost use Rattle.ra_ticket.specs.Views.{first_pass, other_passes, met};
+ghost use Rattle.ra_ticket.specs.declared.board.View.TheVariants.{Spent};
 
 use crate::board::{JournalView, View};
 use crate::journal::Journal;
-use atomic_table::{Play, Split};
+use atomic_table::{Join, Play, Split};
 use std::marker::PhantomData;
 
 /// A load of `next`.
@@ -31,11 +33,29 @@ impl<M: Journal> Play<Option<M>, JournalView<M>> for LookAtMark<M> {
     ghost then = { glanced (readings M.setup M.log M.reply_of M.fault_of) };
 }
 
+/// A load of `mark` by a seat that has taken in another.
+pub(crate) struct LookTogether<M> {
+    journal: PhantomData<M>,
+}
+
+impl<M: Journal> Play<Option<M>, JournalView<M>> for LookTogether<M> {
+    ghost then = { looked_together (readings M.setup M.log M.reply_of M.fault_of) };
+}
+
 /// A compare-exchange of `next`.
 pub(crate) struct Draw;
 
 impl<M, C, R, S> Play<Option<M>, View<C, R, S>> for Draw {
     ghost then = { drew };
+}
+
+/// A compare-exchange of `next` by a seat that has seen the ticket served.
+pub(crate) struct DrawServed<M> {
+    journal: PhantomData<M>,
+}
+
+impl<M: Journal> Play<Option<M>, JournalView<M>> for DrawServed<M> {
+    ghost then = { drew_served (readings M.setup M.log M.reply_of M.fault_of) };
 }
 
 /// A load of `serving`.
@@ -70,4 +90,13 @@ impl<C, R, S> Split<View<C, R, S>> for CutFirst {
     ghost left = { other_passes };
 
     ghost right = { first_pass };
+}
+
+/// A seat takes in another one.
+pub(crate) struct Meet;
+
+impl<C, R, S> Join<View<C, R, S>> for Meet {
+    ghost both = { met };
+
+    ghost spent = { Spent };
 }

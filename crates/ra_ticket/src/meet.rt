@@ -1,0 +1,96 @@
+//! How two passes tell each other what they know.
+ghost use Rattle.std.specs.Prelude.{◌≡◌, ℕ, [], ◌∷◌, ◌++◌, Some};
+ghost use Rattle.ra_ticket.specs.Log.{readings};
+ghost use Rattle.ra_ticket.specs.Steps.{IsSeated, IsTold, KnowsNoLess, GoesOn};
+ghost use Rattle.ra_ticket.specs.Views.{stage_of, numbers_of, seen_of, met};
+ghost use Rattle.ra_ticket.specs.declared.board.Known.{Known};
+ghost use Rattle.ra_ticket.specs.declared.board.Stage.TheVariants.{Idle};
+ghost use Rattle.ra_ticket.specs.declared.board.View.TheVariants.{Met};
+
+use crate::board::{Board, LockSeat, MARK};
+use crate::journal::Journal;
+use crate::lock::TicketLock;
+use crate::mark::read;
+use crate::open::split_first;
+use crate::pass::Pass;
+use crate::plays::{LookTogether, Meet};
+
+// Joins two seats of one pass each: the first takes in the second.
+fn join<M: Journal>(board: &Board<M>, seat: &mut LockSeat<M>, other: LockSeat<M>)
+    requires tables { IsSeated seat.old.table_id board.now.table_id × IsSeated other.table_id board.now.table_id }
+    requires idle { (stage_of seat.old.me.0 ≡ Some Idle) × (stage_of other.me.0 ≡ Some Idle) }
+    requires slots { other.me.1 ≡ [] }
+    ensures table { seat.new.table_id ≡ seat.old.table_id }
+    ensures met { seat.new.me ≡ (met seat.old.me.0 other.me.0, seat.old.me.1) }
+{
+    board.join_seat::<Meet>(seat, other);
+}
+
+// A load of `mark` by a seat that has taken in another: it has then seen the log that it tells.
+fn look_together<M: Journal>(board: &Board<M>, seat: &mut LockSeat<M>) -> u64
+    requires table { IsSeated seat.old.table_id board.now.table_id }
+    requires both { (k l : Known M.Command M.Reply M.Setup) × (seat.old.me.0 ≡ Met k l) }
+    ensures table { seat.new.table_id ≡ seat.old.table_id }
+    ensures slot { seat.new.me.1 ≡ seat.old.me.1 }
+    ensures idle { stage_of seat.new.me.0 ≡ Some Idle }
+    ensures told { IsTold (readings M.setup M.log M.reply_of M.fault_of) seat.new.me.0 result }
+    ensures no_less { (k l : Known M.Command M.Reply M.Setup) → seat.old.me.0 ≡ Met k l
+        → (numbers_of seat.new.me.0 ≡ k.numbers ++ l.numbers) × KnowsNoLess k seat.new.me.0
+        × KnowsNoLess l seat.new.me.0 }
+{
+    board.load::<LookTogether<M>>(seat, MARK)
+}
+
+// Joins the seats of two passes, looks at `mark` and cuts the seat again: the first pass's seat, and what was found.
+fn look_and_part<M: Journal>(board: &Board<M>, seat: &mut LockSeat<M>, other: LockSeat<M>) -> (LockSeat<M>, u64)
+    requires tables { IsSeated seat.old.table_id board.now.table_id × IsSeated other.table_id board.now.table_id }
+    requires idle { (stage_of seat.old.me.0 ≡ Some Idle) × (stage_of other.me.0 ≡ Some Idle) }
+    requires slots { (seat.old.me.1 ≡ []) × (other.me.1 ≡ []) }
+    ensures tables { (result.0.table_id ≡ seat.old.table_id) × (seat.new.table_id ≡ seat.old.table_id) }
+    ensures slots { (result.0.me.1 ≡ []) × (seat.new.me.1 ≡ []) }
+    ensures parted { (n m : ℕ) → numbers_of seat.old.me.0 ≡ n ∷ [] → numbers_of other.me.0 ≡ m ∷ []
+        → GoesOn seat.old.me.0 result.0.me.0 n × GoesOn other.me.0 seat.new.me.0 m }
+    ensures one_log { seen_of seat.new.me.0 ≡ seen_of result.0.me.0 }
+    ensures told { IsTold (readings M.setup M.log M.reply_of M.fault_of) result.0.me.0 result.1
+        × IsTold (readings M.setup M.log M.reply_of M.fault_of) seat.new.me.0 result.1 }
+{
+    join(board, seat, other);
+    let mark = look_together(board, seat);
+    let first = split_first(board, seat);
+    (first, mark)
+}
+
+impl<M: Journal> TicketLock<M> {
+    ghost use Rattle.std.specs.Prelude.{◌≡◌, length};
+    ghost use Rattle.ra_ticket.specs.Passes.{IsPassOf, IsSamePass, KnowsLegal, seen, mine};
+
+    /// Two passes tell each other what they know: both come back, in the order in which they were given, and have then
+    /// seen one log, at a point during this call. It begins with all that either had seen before, and it has all calls
+    /// of both. The number answered is how many entries it has. It waits for nobody, needs no memory and always
+    /// answers. It costs three atomic loads.
+    pub fn meet(&self, first: Pass<M>, second: Pass<M>) -> (Pass<M>, Pass<M>, u32)
+        requires own { IsPassOf self.now first × IsPassOf self.now second }
+        ensures first { IsSamePass first result.0 }
+        ensures second { IsSamePass second result.1 }
+        ensures mine_first { mine result.0 ≡ mine first }
+        ensures mine_second { mine result.1 ≡ mine second }
+        ensures one_log { seen result.1 ≡ seen result.0 }
+        ensures legal { KnowsLegal M.reply_of result.0 × KnowsLegal M.reply_of result.1 }
+        ensures calls { result.2 ≡ length (seen result.0) }
+    {
+        let board = &self.table.shared;
+        let Pass { number, mut seat } = first;
+        let Pass {
+            number: other_number,
+            seat: other,
+        } = second;
+        let (own, mark) = look_and_part(board, &mut seat, other);
+        let (calls, _) = read(mark);
+        let first = Pass { number, seat: own };
+        let second = Pass {
+            number: other_number,
+            seat,
+        };
+        (first, second, calls)
+    }
+}
