@@ -56,6 +56,10 @@ module _ {M C R S : Type 0} (j : Readings M C R S) (opened : S) where
       let held : held_at k.stage ≡ Some u = ap held_of me ∙ a.2 in
       let none_held = ap held_at waits in cc
 
+  -- nobody holds where no ticket is out
+  pub nobody_out : (s : Table) (r : Rule s) → r.next ≡ r.serving → NobodyHolds s.views
+  nobody_out s r same seat u a = let b = r.drawn seat u (a.0, a.1, held_ticket a.0 u a.2) in omega arith
+
   -- the seat id goes from v to w, the words to next', serving' and mark', the slots to homes' and the front to front'
   pub record Change (s : Table) (r : Rule s) (id : ℕ) (v w : View C R S) (next' serving' mark' : ℕ) (homes' : Homes) (front' : Log) : Type 0 where
     pub order : serving' ≤ next'

@@ -1,5 +1,5 @@
 -- Each step on a word keeps the rule of the lock, and tells what it says.
-use Rattle.std.proofs.Common.{◌≡◌, ◌≢◌, ℕ, ◌+◌, ◌%◌, ◌^◌, ◌<◌, ◌≤◌, eqb, List, [], ◌∷◌, ◌++◌, get_or, set, Option, Some, refl, sym, ap, ◌∙◌, subst, ⊎_elim, le_refl, mod-eq_of_lt, arith}
+use Rattle.std.proofs.Common.{◌≡◌, ◌≢◌, ℕ, ◌+◌, ◌%◌, ◌^◌, ◌<◌, ◌≤◌, eqb, List, [], ◌∷◌, ◌++◌, get_or, set, Option, Some, refl, sym, ap, ◌∙◌, subst, ⊎_elim, le_refl, le_trans, mod-eq_of_lt, arith}
 use mathlib.Core.Logic.{dite}
 use mathlib.Core.Option.{none, some}
 use lib.ListN.{get_elem?}
@@ -15,9 +15,9 @@ use Rattle.ra_ticket.specs.declared.board.Stage.{Stage}
 use Rattle.ra_ticket.specs.declared.board.Stage.TheVariants.{Idle, Waiting, Holding}
 use Rattle.ra_ticket.specs.Log.{Readings, AllBelow, IsLegal}
 use Rattle.ra_ticket.specs.Mark.{IsMarkOf}
-use Rattle.ra_ticket.specs.Views.{stage_of, ticket_at, ticket_of, held_at, held_of, setup_of, HasOwn}
+use Rattle.ra_ticket.specs.Views.{stage_of, ticket_at, ticket_of, held_at, held_of, serving_of, setup_of, HasOwn}
 use Rattle.ra_ticket.specs.Rule.{At, NobodyHolds}
-use Rattle.ra_ticket.specs.Steps.{IsAsSeen, HasEntered, IsAhead, IsTold, learned, learned_serving, glanced, drew, looked, published, released}
+use Rattle.ra_ticket.specs.Steps.{IsAsSeen, HasEntered, IsAhead, IsTold, learned, learned_serving, glanced, drew, drew_served, looked, published, released}
 use Rattle.ra_ticket.proofs.Seats.{at_after, at_back, at_new}
 use Rattle.ra_ticket.proofs.Logs.{begins_same, legal_push}
 use Rattle.ra_ticket.proofs.Tickets.{below_more}
@@ -42,8 +42,8 @@ module _ {C R S : Type 0} where
   abbrev waiting : Known C R S → ℕ → Known C R S
   waiting k t = record k { next = t + 1; stage = Waiting t }
 
-  abbrev holding : Known C R S → ℕ → ℕ → List (Entry C R) → View C R S
-  holding k n t log = Knows (record k { serving = n; stage = Holding t; seen = log })
+  abbrev holding : Known C R S → ℕ → ℕ → ℕ → List (Entry C R) → View C R S
+  holding k n m t log = Knows (record k { next = n; serving = m; stage = Holding t; seen = log })
 
   abbrev publishing : Known C R S → List (Entry C R) → View C R S
   publishing k log = Knows (record k { seen = log })
@@ -101,26 +101,27 @@ module _ {M C R S : Type 0} (j : Readings M C R S) (opened : S) where
       λ u is. let same : t ≡ u = cc in (record { numbers = refl; setup = refl; next = le_refl k.next; serving = low.1 }, (begins_same k.seen k.seen refl, λ a n at. refl), (λ e. absurd (ne (e ∙ sym same))), λ _. (is, refl, refl)),
     )
 
-    -- the journal is at home, and the seat takes it
-    entering : (t : ℕ) → k.stage ≡ Waiting t → t ≡ r.serving → (journal : M) → s.homes ≡ some (Some journal) ∷ [] → NobodyHolds s.views
-        → Rule record { words = r.next ∷ r.serving ∷ r.mark ∷ r.others; homes = set s.homes 0 none; views = set s.views id (holding k r.serving t r.front) }
-    entering t waits served journal home nobody = changes.changed j opened s r id (Knows k) (holding k r.serving t r.front) here r.next r.serving r.mark (set s.homes 0 none) r.front record {
-      order = r.order;
-      fits = r.fits;
-      next_up = le_refl r.next;
+    -- the journal is at home, and the seat takes it by the ticket that is served
+    taking : (n next' t : ℕ) → next' < 2 ^ 64 → r.next ≤ next' → n ≤ next' → t ≡ r.serving → t < next' → ((seat : ℕ) → seat ≢ id → At ticket_of s.views seat t → ⊥)
+        → (journal : M) → s.homes ≡ some (Some journal) ∷ [] → NobodyHolds s.views
+        → Rule record { words = next' ∷ r.serving ∷ r.mark ∷ r.others; homes = set s.homes 0 none; views = set s.views id (holding k n r.serving t r.front) }
+    taking n next' t fits up low served below alone journal home nobody = changes.changed j opened s r id (Knows k) (holding k n r.serving t r.front) here next' r.serving r.mark (set s.homes 0 none) r.front record {
+      order = le_trans r.order up;
+      fits = fits;
+      next_up = up;
       serving_up = le_refl r.serving;
-      reached = ((r.reached id (Knows k) here).0, le_refl r.serving);
+      reached = (low, le_refl r.serving);
       numbers = refl;
       set_up = r.set_up id (Knows k) here;
       others_drawn = λ seat u _ a. (r.drawn seat u a).0;
-      drawn = λ u e. let is : t ≡ u = cc in r.drawn id u (Knows k, here, ap ticket_at waits ∙ ap (λ (n : ℕ). Some n) is);
-      apart = λ seat u e other a. let is : t ≡ u = cc in other (r.tickets_apart seat id u a (Knows k, here, ap ticket_at waits ∙ ap (λ (n : ℕ). Some n) is));
+      drawn = λ u e. let is : t ≡ u = cc in (omega arith, omega arith);
+      apart = λ seat u e other a. let is : t ≡ u = cc in alone seat other (subst (At ticket_of s.views seat) (sym is) a);
       out = λ seat u a. (
-        ⊎_elim (λ (h : (seat ≡ id) × (held_of (holding k r.serving t r.front) ≡ Some u)). let e = h.1 in let is : t ≡ u = cc in sym is ∙ served)
-            (λ (h : (seat ≢ id) × At held_of s.views seat u). absurd (nobody seat u h.1)) (at_after held_of s.views id (Knows k) (holding k r.serving t r.front) here seat u a),
+        ⊎_elim (λ (h : (seat ≡ id) × (held_of (holding k n r.serving t r.front) ≡ Some u)). let e = h.1 in let is : t ≡ u = cc in sym is ∙ served)
+            (λ (h : (seat ≢ id) × At held_of s.views seat u). absurd (nobody seat u h.1)) (at_after held_of s.views id (Knows k) (holding k n r.serving t r.front) here seat u a),
         taken,
       );
-      home = λ none_holds. absurd (none_holds id t (at_new held_of s.views id (Knows k) (holding k r.serving t r.front) here t refl));
+      home = λ none_holds. absurd (none_holds id t (at_new held_of s.views id (Knows k) (holding k n r.serving t r.front) here t refl));
       grows = begins_same r.front r.front refl;
       others_held = λ seat u v _ at e. absurd (nobody seat u (v, at, e));
       held = λ u e. refl;
@@ -138,8 +139,8 @@ module _ {M C R S : Type 0} (j : Readings M C R S) (opened : S) where
         taken = ap (λ (hs : changes.Homes j opened). set hs 0 none) home
 
     -- what the seat then knows of it
-    entered : (t : ℕ) → t ≡ r.serving → (journal : M) → s.homes ≡ some (Some journal) ∷ [] → HasEntered j (holding k r.serving t r.front) t journal
-    entered t served journal home = record {
+    entered : (n t : ℕ) → t ≡ r.serving → (journal : M) → s.homes ≡ some (Some journal) ∷ [] → HasEntered j (holding k n r.serving t r.front) t journal
+    entered n t served journal home = record {
       as_seen = record { setup = ap (λ (x : S). Some x) same_setup; log = (r.rests journal home).0 };
       below = subst (λ (n : ℕ). AllBelow n r.front) (sym served) (r.rests journal home).1;
       legal = subst (λ (x : S). IsLegal (j.reply_of x) r.front) (sym (r.home_set_up journal home)) r.legal;
@@ -150,17 +151,43 @@ module _ {M C R S : Type 0} (j : Readings M C R S) (opened : S) where
 
     enters : (t : ℕ) → k.stage ≡ Waiting t → t ≡ r.serving → Goes s id c (r.next ∷ r.serving ∷ r.mark ∷ r.others) (looked j st (Knows k, c) r.serving)
     enters t waits served = let low = r.reached id (Knows k) here in let nobody = changes.nobody_holds j opened s r id t k here waits served in let found = r.home nobody in (
-      holding k r.serving t r.front,
+      holding k k.next r.serving t r.front,
       takes 0 (Some found.0),
       ap (λ (hs : changes.Homes j opened). get_elem? hs 0) found.1,
-      entering t waits served found.0 found.1 nobody,
+      taking k.next r.next t r.fits (le_refl r.next) low.0 served (r.drawn id t (Knows k, here, ap ticket_at waits)).1
+          (λ seat other a. other (r.tickets_apart seat id t a (Knows k, here, ap ticket_at waits))) found.0 found.1 nobody,
       λ u is. let same : t ≡ u = cc in (
         record { numbers = refl; setup = refl; next = le_refl k.next; serving = low.1 },
         (r.begun id (Knows k) here, r.own id (Knows k) here),
-        (λ _. (ap (λ (n : ℕ). Some (Holding n)) same, (found.0, refl, subst (λ (n : ℕ). HasEntered j (holding k r.serving t r.front) n found.0) same (entered t served found.0 found.1)))),
+        (λ _. (ap (λ (n : ℕ). Some (Holding n)) same, (found.0, refl, subst (λ (n : ℕ). HasEntered j (holding k k.next r.serving t r.front) n found.0) same (entered k.next t served found.0 found.1)))),
         λ ne. absurd (ne (sym served ∙ same)),
       ),
     )
+
+    -- an idle seat that has seen its ticket served, and finds `next` there, enters with it
+    enters_at_once : (t : ℕ) → k.stage ≡ Idle → k.serving ≡ t → r.next ≡ t → t + 1 < 2 ^ 64 → st.first ≡ t
+        → Goes s id c ((t + 1) ∷ r.serving ∷ r.mark ∷ r.others) (drew_served j st (Knows k, c) r.next)
+    enters_at_once t idle seen at_next room asked = let nobody = changes.nobody_out j opened s r (at_next ∙ served) in let found = r.home nobody in (
+      holding k (t + 1) r.serving t r.front,
+      takes 0 (Some found.0),
+      ap (λ (hs : changes.Homes j opened). get_elem? hs 0) found.1,
+      taking (t + 1) (t + 1) t room (omega arith) (le_refl (t + 1)) served (omega arith) (λ seat _ a. let b = (r.drawn seat t a).1 in omega arith) found.0 found.1 nobody,
+      λ _ _. (
+        record { numbers = refl; setup = refl; next = above; serving = low.1 },
+        (r.begun id (Knows k) here, r.own id (Knows k) here),
+        (λ _. (ap (λ (n : ℕ). Some (Holding n)) (sym asked), (found.0, refl, subst (λ (n : ℕ). HasEntered j (holding k (t + 1) r.serving t r.front) n found.0) (sym asked) (entered (t + 1) t served found.0 found.1)))),
+        λ ne. absurd (ne (at_next ∙ sym asked)),
+      ),
+    )
+      where
+        low : (k.next ≤ r.next) × (k.serving ≤ r.serving)
+        low = r.reached id (Knows k) here
+
+        served : t ≡ r.serving
+        served = let a = low.1 in let b = r.order in omega arith
+
+        above : k.next ≤ t + 1
+        above = let a = low.0 in omega arith
 
     -- what a seat that holds knows of the table
     mine : (t : ℕ) → k.stage ≡ Holding t → At ticket_of s.views id t
@@ -310,7 +337,7 @@ module _ {M C R S : Type 0} (j : Readings M C R S) (opened : S) where
         keeps,
         tt,
         learning s r id k at c st (stage_is k Idle idle),
-        λ _. ((record { numbers = refl; setup = refl; next = (r.reached id (Knows k) at).0; serving = le_refl k.serving }, refl), refl, idle, refl),
+        λ _. ((record { numbers = refl; setup = refl; next = (r.reached id (Knows k) at).0; serving = le_refl k.serving }, refl), refl, idle, refl, le_trans (r.reached id (Knows k) at).1 r.order),
       )
 
   -- an idle seat learns `serving`
@@ -366,6 +393,28 @@ module _ {M C R S : Type 0} (j : Readings M C R S) (opened : S) where
         tt,
         learning s r id k at c st (stage_is k Idle idle),
         λ _. ((record { numbers = refl; setup = refl; next = low.0; serving = le_refl k.serving }, refl), refl, (λ e. absurd (ne (e ∙ asked))), λ _. (idle, refl)),
+      )))
+
+  -- an idle seat that has seen the ticket t served draws it and takes the journal
+  pub draws_served : (slots id : ℕ) (v : View C R S) (c : Slots) (t : ℕ) (st : Step (Option M)) → st.first ≡ t → t + 1 < 2 ^ 64 → stage_of v ≡ Some Idle → serving_of v ≡ t
+      → Allows Rule slots id (v, c) 0 (λ n. either (eqb n t) (t + 1) n) (drew_served j st (v, c))
+  draws_served slots id Spent c t st asked room idle seen s r deep at fits = absurd (cc)
+  draws_served slots id (Met k l) c t st asked room idle seen s r deep at fits = absurd (cc)
+  draws_served slots id (Knows k) c t st asked room idle seen s r deep at fits = let low = r.reached id (Knows k) at in
+      subst (λ (ws : List ℕ). Goes s id c (set ws 0 (either (eqb (get_or ws 0 0) t) (t + 1) (get_or ws 0 0))) (drew_served j st (Knows k, c) (get_or ws 0 0))) (sym r.words)
+      (exchanged r.next t (t + 1) (λ (n : ℕ). Goes s id c (n ∷ r.serving ∷ r.mark ∷ r.others) (drew_served j st (Knows k, c) r.next))
+      (λ e. enters_at_once s r id k at c st t (stage_is k Idle idle) seen e room asked)
+      (λ ne. (
+        Knows (with_next k r.next),
+        keeps,
+        tt,
+        learning s r id k at c st (stage_is k Idle idle),
+        λ _ _. (
+          record { numbers = refl; setup = refl; next = low.0; serving = le_refl k.serving },
+          (begins_same k.seen k.seen refl, λ a n sits. refl),
+          (λ e. absurd (ne (e ∙ asked))),
+          λ _. (idle, refl, refl, seen ∙ sym asked, refl, let a : k.serving ≤ r.serving = low.1 in let b = r.order in omega arith),
+        ),
       )))
 
   -- a waiting seat looks at `serving`, and takes the journal where its ticket is served

@@ -1,6 +1,8 @@
 -- What callers see of a lock and its passes.
-use Rattle.std.specs.Prelude.{◌≡◌, ℕ, ◌≤◌, List, [], ◌∷◌, ◌++◌, Option, IfSome}
+use Rattle.std.specs.Prelude.{◌≡◌, ℕ, ◌<◌, ◌≤◌, List, [], ◌∷◌, ◌++◌, Option, IfSome}
 use Rattle.ra_ticket.specs.declared.entry.Entry.{Entry}
+use Rattle.ra_ticket.specs.declared.fault.CallFault.{CallFault}
+use Rattle.ra_ticket.specs.declared.fault.CallFault.TheVariants.{Worn, Full, NoMemory, Busy}
 use Rattle.ra_ticket.specs.declared.journal.Journal.{Ghosts}
 use Rattle.ra_ticket.specs.declared.lock.TicketLock.{TicketLock}
 use Rattle.ra_ticket.specs.declared.pass.Pass.{Pass}
@@ -57,3 +59,9 @@ module _ {M C R S : Type 0} {g : Ghosts M C R S} where
   -- its own calls are those that it had made and then this one
   abbrev pub IsMineAndThen : Pass M C R S g → Pass M C R S g → C → R → Type 0
   IsMineAndThen p q command reply = (ticket : ℕ) × (mine q ≡ mine p ++ entry (number_of p) ticket command reply ∷ [])
+
+  -- what a call found busy: `serving` was at one number and `next`, above it, at the other
+  abbrev pub IsFoundBusy : Pass M C R S g → CallFault C → Type 0
+  IsFoundBusy q (Busy at found command) =
+      (at < found) × (serving_reached q ≡ at) × (next_reached q ≡ found)
+  IsFoundBusy q _ = ⊥

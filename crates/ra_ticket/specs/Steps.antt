@@ -36,7 +36,11 @@ module _ {C R S : Type 0} where
     pub begins : BeginsWith (seen_of w) k.seen
     pub own : SeesOwn k (seen_of w)
 
-  -- a seat of this one pass went on: it is idle and knows no less, and has not entered anything
+  -- of the one pass that sits there the same entries are seen
+  abbrev pub KeepsOwn : View C R S → View C R S → Type 0
+  KeepsOwn v w = (number : ℕ) → numbers_of v ≡ number ∷ [] → entries_of number (seen_of w) ≡ entries_of number (seen_of v)
+
+  -- a seat of this one pass went on: it is idle, knows no less, and no entry of its own is new
   pub record GoesOn (v w : View C R S) (number : ℕ) : Type 0 where
     pub idle : stage_of w ≡ Some Idle
     pub numbers : numbers_of w ≡ number ∷ []
@@ -79,6 +83,7 @@ module _ {M C R S : Type 0} where
   abbrev pub learned : Step (Option M) → Sat M C R S → ℕ → Sat M C R S → Type 0
   learned step m found m' = stage_of m.0 ≡ Some Idle
       → SeesTheSame m.0 m'.0 × (m'.1 ≡ m.1) × (stage_of m'.0 ≡ Some Idle) × (next_of m'.0 ≡ found)
+      × (serving_of m.0 ≤ found)
 
   -- an idle seat learns `serving`
   abbrev pub learned_serving : Step (Option M) → Sat M C R S → ℕ → Sat M C R S → Type 0
@@ -160,3 +165,12 @@ module _ {M C R S : Type 0} (j : Readings M C R S) where
   MayPublish s mark = (ticket : ℕ) × (stage_of s.me.0 ≡ Some (Holding ticket))
       × ((journal : M) × (s.me.1 ≡ (0, Some journal) ∷ []) × IsAhead j s.me.0 ticket journal
       × IsMarkOf j (j.setup journal) (j.log journal) mark)
+
+  -- the seat has entered with this ticket, and this journal is out of its slot, which is empty. It has seen the log
+  -- of the journal, which begins with what it had seen before and has no new entry of its own pass
+  pub record HasTaken (s t : Seat (Option M) (View C R S)) (ticket : ℕ) (journal : M) : Type 0 where
+    pub holds : stage_of t.me.0 ≡ Some (Holding ticket)
+    pub slot : t.me.1 ≡ (0, None) ∷ []
+    pub entered : HasEntered j t.me.0 ticket journal
+    pub begins : BeginsWith (seen_of t.me.0) (seen_of s.me.0)
+    pub own : KeepsOwn s.me.0 t.me.0

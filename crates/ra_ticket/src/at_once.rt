@@ -1,20 +1,22 @@
-//! How a pass draws a ticket that is served at once.
-ghost use Rattle.std.specs.Prelude.{◌≡◌, Some, IfSome, IfNone};
-ghost use Rattle.ra_ticket.specs.Steps.{IsSeated, IsSameSeat};
-ghost use Rattle.ra_ticket.specs.Views.{stage_of, serving_of, seen_of};
-ghost use Rattle.ra_ticket.specs.declared.board.Stage.TheVariants.{Idle, Waiting};
+//! How a pass enters with a ticket that is served at once.
+ghost use Rattle.std.specs.Prelude.{◌≡◌, ◌≢◌, ◌≤◌, ◌<◌, [], Some, IfSome, IfNone, IfOk, IfErr};
+ghost use Rattle.ra_ticket.specs.Log.{readings, BeginsWith};
+ghost use Rattle.ra_ticket.specs.Steps.{IsSeated, IsSameSeat, Carries, HasTaken, KeepsOwn};
+ghost use Rattle.ra_ticket.specs.Views.{stage_of, next_of, serving_of, seen_of};
+ghost use Rattle.ra_ticket.specs.declared.board.Stage.TheVariants.{Idle, Holding};
 
 use crate::backoff::Backoff;
-use crate::board::{Board, LockSeat, SERVING};
-use crate::draw::{GREATEST_TICKET, learn_next, try_draw};
+use crate::board::{Board, LockSeat, NEXT, SERVING};
+use crate::draw::{GREATEST_TICKET, learn_next};
+use crate::enter::take_out;
 use crate::journal::Journal;
-use crate::plays::LearnServing;
+use crate::plays::{DrawServed, LearnServing};
 
 // How often a call tries for a ticket that is served at once, before it draws one to wait with.
 const TRIES_AT_ONCE: u32 = 64;
 
-// A load of `serving`: a number that it has reached.
-fn learn_serving<M: Journal>(board: &Board<M>, seat: &mut LockSeat<M>) -> u64
+/// A load of `serving`: a number that it has reached.
+pub(crate) fn learn_serving<M: Journal>(board: &Board<M>, seat: &mut LockSeat<M>) -> u64
     requires table { IsSeated seat.old.table_id board.now.table_id }
     requires idle { stage_of seat.old.me.0 ≡ Some Idle }
     ensures seat { IsSameSeat seat.old seat.new }
@@ -26,26 +28,71 @@ fn learn_serving<M: Journal>(board: &Board<M>, seat: &mut LockSeat<M>) -> u64
     board.load::<LearnServing>(seat, SERVING)
 }
 
-/// Draws a ticket where `next` is found equal to `serving`, so that it is served already. Between two tries it spins,
-/// then yields, with no ticket drawn. A lock whose tickets are all drawn ends the tries.
-pub(crate) fn draw_served<M: Journal>(board: &Board<M>, seat: &mut LockSeat<M>) -> Option<u64>
+// A compare-exchange of `next`, to draw a ticket that the seat has seen served: the number found, which is the ticket
+// where it was drawn. Then the seat has the slot with the journal.
+fn try_draw_served<M: Journal>(board: &Board<M>, seat: &mut LockSeat<M>, ticket: u64) -> u64
     requires table { IsSeated seat.old.table_id board.now.table_id }
-    requires idle { stage_of seat.old.me.0 ≡ Some Idle }
+    requires idle { (stage_of seat.old.me.0 ≡ Some Idle) × (seat.old.me.1 ≡ []) }
+    requires served { serving_of seat.old.me.0 ≡ ticket }
+    requires room { ticket ≤ GREATEST_TICKET }
     ensures seat { IsSameSeat seat.old seat.new }
-    ensures slot { seat.new.me.1 ≡ seat.old.me.1 }
-    ensures seen { seen_of seat.new.me.0 ≡ seen_of seat.old.me.0 }
-    ensures drawn { IfSome result (λ ticket. stage_of seat.new.me.0 ≡ Some (Waiting ticket)) }
-    ensures else_idle { IfNone result (stage_of seat.new.me.0 ≡ Some Idle) }
+    ensures seen { BeginsWith (seen_of seat.new.me.0) (seen_of seat.old.me.0) }
+    ensures own { KeepsOwn seat.old.me.0 seat.new.me.0 }
+    ensures drawn { result ≡ ticket → (stage_of seat.new.me.0 ≡ Some (Holding ticket))
+        × Carries (readings M.setup M.log M.reply_of M.fault_of) seat.new ticket }
+    ensures missed { result ≢ ticket → (stage_of seat.new.me.0 ≡ Some Idle) × (seat.new.me.1 ≡ [])
+        × (seen_of seat.new.me.0 ≡ seen_of seat.old.me.0) × (serving_of seat.new.me.0 ≡ ticket)
+        × (next_of seat.new.me.0 ≡ result) × (ticket < result) }
+{
+    board.compare_exchange::<DrawServed<M>>(seat, NEXT, ticket, ticket + 1)
+}
+
+/// Enters with a ticket that the seat has seen served, in one step, where `next` is found equal to it; else what `next`
+/// was, which is above it.
+pub(crate) fn enter_served<M: Journal>(
+    board: &Board<M>,
+    seat: &mut LockSeat<M>,
+    ticket: u64,
+) -> Result<M, u64>
+    requires table { IsSeated seat.old.table_id board.now.table_id }
+    requires idle { (stage_of seat.old.me.0 ≡ Some Idle) × (seat.old.me.1 ≡ []) }
+    requires served { serving_of seat.old.me.0 ≡ ticket }
+    requires room { ticket ≤ GREATEST_TICKET }
+    ensures seat { IsSameSeat seat.old seat.new }
+    ensures entered { IfOk result (HasTaken (readings M.setup M.log M.reply_of M.fault_of) seat.old seat.new ticket) }
+    ensures missed { IfErr result (λ found. (stage_of seat.new.me.0 ≡ Some Idle) × (seat.new.me.1 ≡ [])
+        × (seen_of seat.new.me.0 ≡ seen_of seat.old.me.0) × (serving_of seat.new.me.0 ≡ ticket)
+        × (next_of seat.new.me.0 ≡ found) × (ticket < found)) }
+{
+    let found = try_draw_served(board, seat, ticket);
+    if found == ticket {
+        Ok(take_out(board, seat))
+    } else {
+        Err(found)
+    }
+}
+
+/// Enters with a ticket that is served at once, where within some tries `next` is found equal to `serving`: the ticket
+/// and the journal. Between two tries it spins, then yields, with no ticket drawn. A lock whose tickets are all drawn
+/// ends the tries.
+pub(crate) fn enter_at_once<M: Journal>(board: &Board<M>, seat: &mut LockSeat<M>) -> Option<(u64, M)>
+    requires table { IsSeated seat.old.table_id board.now.table_id }
+    requires idle { (stage_of seat.old.me.0 ≡ Some Idle) × (seat.old.me.1 ≡ []) }
+    ensures seat { IsSameSeat seat.old seat.new }
+    ensures entered { IfSome result
+        (λ r. HasTaken (readings M.setup M.log M.reply_of M.fault_of) seat.old seat.new r.0 r.1) }
+    ensures else_idle { IfNone result ((stage_of seat.new.me.0 ≡ Some Idle) × (seat.new.me.1 ≡ [])
+        × (seen_of seat.new.me.0 ≡ seen_of seat.old.me.0)) }
 {
     let mut backoff = Backoff::new();
     for _ in 0..TRIES_AT_ONCE {
-        let serving = learn_serving(board, seat);
         let next = learn_next(board, seat);
         if next > GREATEST_TICKET {
             return None;
         }
-        if next == serving && try_draw(board, seat, next) == next {
-            return Some(next);
+        let serving = learn_serving(board, seat);
+        if next == serving && let Ok(journal) = enter_served(board, seat, serving) {
+            return Some((serving, journal));
         }
         backoff.wait();
     }

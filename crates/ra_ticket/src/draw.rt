@@ -1,10 +1,9 @@
 //! How a pass draws a ticket.
 ghost use Rattle.std.specs.Prelude.{◌≡◌, ◌≢◌, ◌+◌, ◌≤◌, Some, IfSome, IfNone};
 ghost use Rattle.ra_ticket.specs.Steps.{IsSeated, IsSameSeat};
-ghost use Rattle.ra_ticket.specs.Views.{stage_of, next_of, seen_of};
+ghost use Rattle.ra_ticket.specs.Views.{stage_of, next_of, serving_of, seen_of};
 ghost use Rattle.ra_ticket.specs.declared.board.Stage.TheVariants.{Idle, Waiting};
 
-use crate::at_once::draw_served;
 use crate::board::{Board, LockSeat, NEXT};
 use crate::journal::Journal;
 use crate::plays::{Draw, Learn};
@@ -13,7 +12,7 @@ use std::sync::Wait;
 /// The last ticket that can be drawn. After that all are, and `next` stays one above it.
 pub const GREATEST_TICKET: u64 = 18_446_744_073_709_551_614;
 
-/// A load of `next`: a number that it has reached.
+/// A load of `next`: a number that it has reached, and which is not below what `serving` has.
 pub(crate) fn learn_next<M: Journal>(board: &Board<M>, seat: &mut LockSeat<M>) -> u64
     requires table { IsSeated seat.old.table_id board.now.table_id }
     requires idle { stage_of seat.old.me.0 ≡ Some Idle }
@@ -22,6 +21,7 @@ pub(crate) fn learn_next<M: Journal>(board: &Board<M>, seat: &mut LockSeat<M>) -
     ensures seen { seen_of seat.new.me.0 ≡ seen_of seat.old.me.0 }
     ensures idle { stage_of seat.new.me.0 ≡ Some Idle }
     ensures learned { next_of seat.new.me.0 ≡ result }
+    ensures served { serving_of seat.old.me.0 ≤ result }
 {
     board.load::<Learn>(seat, NEXT)
 }
@@ -40,9 +40,8 @@ pub(crate) fn try_draw<M: Journal>(board: &Board<M>, seat: &mut LockSeat<M>, tic
     board.compare_exchange::<Draw>(seat, NEXT, ticket, ticket + 1)
 }
 
-/// Draws a ticket that is served at once, or else the next ticket, or answers that all are drawn. For the next ticket
-/// it tries again where another pass drew the one that it had found, so it costs one atomic step more for each pass
-/// that draws at the same time.
+/// Draws the next ticket, or answers that all are drawn. It tries again where another pass drew the one that it had
+/// found, so it costs one atomic step more for each pass that draws at the same time.
 pub(crate) fn draw_ticket<M: Journal, R: Wait>(
     rt: &R,
     board: &Board<M>,
@@ -57,9 +56,6 @@ pub(crate) fn draw_ticket<M: Journal, R: Wait>(
     ensures worn { IfNone result
         ((stage_of seat.new.me.0 ≡ Some Idle) × (next_of seat.new.me.0 ≡ GREATEST_TICKET + 1)) }
 {
-    if let Some(served) = draw_served(board, seat) {
-        return Some(served);
-    }
     let mut ticket = learn_next(board, seat);
     for _ in rt.forever() {
         if ticket > GREATEST_TICKET {

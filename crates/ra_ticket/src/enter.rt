@@ -1,12 +1,14 @@
 //! How a pass waits for its turn and takes the journal.
-ghost use Rattle.std.specs.Prelude.{◌≡◌, [], ◌∷◌, Some, None, MatchBool};
+ghost use Rattle.std.specs.Prelude.{◌≡◌, ◌+◌, [], ◌∷◌, Some, None, IfSome, IfNone, MatchBool};
 ghost use Rattle.ra_ticket.specs.Log.{readings, BeginsWith};
-ghost use Rattle.ra_ticket.specs.Steps.{IsSeated, IsSameSeat, Carries, HasEntered};
-ghost use Rattle.ra_ticket.specs.Views.{stage_of, seen_of, HasOwn};
-ghost use Rattle.ra_ticket.specs.declared.board.Stage.TheVariants.{Waiting, Holding};
+ghost use Rattle.ra_ticket.specs.Steps.{IsSeated, IsSameSeat, Carries, HasTaken, KeepsOwn};
+ghost use Rattle.ra_ticket.specs.Views.{stage_of, next_of, seen_of};
+ghost use Rattle.ra_ticket.specs.declared.board.Stage.TheVariants.{Idle, Waiting, Holding};
 
+use crate::at_once::enter_at_once;
 use crate::backoff::Backoff;
 use crate::board::{Board, JOURNAL, LockSeat, SERVING};
+use crate::draw::{GREATEST_TICKET, draw_ticket};
 use crate::journal::Journal;
 use crate::plays::Look;
 use std::sync::Wait;
@@ -23,13 +25,13 @@ fn look<M: Journal>(board: &Board<M>, seat: &mut LockSeat<M>, ticket: u64) -> bo
     ensures seen { MatchBool result
         (BeginsWith (seen_of seat.new.me.0) (seen_of seat.old.me.0))
         (seen_of seat.new.me.0 ≡ seen_of seat.old.me.0) }
-    ensures own { HasOwn seat.old.me.0 (seen_of seat.new.me.0) }
+    ensures own { KeepsOwn seat.old.me.0 seat.new.me.0 }
 {
     board.load::<Look<M>>(seat, SERVING) == ticket
 }
 
-// Takes the journal out of the slot that the seat has.
-fn take_out<M: Journal>(board: &Board<M>, seat: &mut LockSeat<M>) -> M
+/// Takes the journal out of the slot that the seat has.
+pub(crate) fn take_out<M: Journal>(board: &Board<M>, seat: &mut LockSeat<M>) -> M
     requires table { IsSeated seat.old.table_id board.now.table_id }
     requires full { (journal : M) × (seat.old.me.1 ≡ (0, Some journal) ∷ []) }
     ensures journal { seat.old.me.1 ≡ (0, Some result) ∷ [] }
@@ -39,9 +41,9 @@ fn take_out<M: Journal>(board: &Board<M>, seat: &mut LockSeat<M>) -> M
     board.exchange(seat, JOURNAL, None).unwrap()
 }
 
-/// Waits until the ticket is served, and takes the journal. It looks at `serving` after each wait, and each wait is
-/// longer, until it yields the processor.
-pub(crate) fn enter<M: Journal, R: Wait>(
+// Waits until the ticket is served, and takes the journal. It looks at `serving` after each wait, and each wait is
+// longer, until it yields the processor.
+fn enter<M: Journal, R: Wait>(
     rt: &R,
     board: &Board<M>,
     seat: &mut LockSeat<M>,
@@ -50,10 +52,7 @@ pub(crate) fn enter<M: Journal, R: Wait>(
     requires table { IsSeated seat.old.table_id board.now.table_id }
     requires waits { (stage_of seat.old.me.0 ≡ Some (Waiting ticket)) × (seat.old.me.1 ≡ []) }
     ensures seat { IsSameSeat seat.old seat.new }
-    ensures holds { (stage_of seat.new.me.0 ≡ Some (Holding ticket)) × (seat.new.me.1 ≡ (0, None) ∷ []) }
-    ensures entered { HasEntered (readings M.setup M.log M.reply_of M.fault_of) seat.new.me.0 ticket result }
-    ensures begins { BeginsWith (seen_of seat.new.me.0) (seen_of seat.old.me.0) }
-    ensures own { HasOwn seat.old.me.0 (seen_of seat.new.me.0) }
+    ensures entered { HasTaken (readings M.setup M.log M.reply_of M.fault_of) seat.old seat.new ticket result }
 {
     let mut backoff = Backoff::new();
     for _ in rt.forever() {
@@ -63,4 +62,26 @@ pub(crate) fn enter<M: Journal, R: Wait>(
         backoff.wait();
     }
     unreachable!()
+}
+
+/// Enters with a ticket that is served at once, or else draws the next one and waits until it is served: the ticket and
+/// the journal. None where all tickets are drawn.
+pub(crate) fn take_turn<M: Journal, R: Wait>(
+    rt: &R,
+    board: &Board<M>,
+    seat: &mut LockSeat<M>,
+) -> Option<(u64, M)>
+    requires table { IsSeated seat.old.table_id board.now.table_id }
+    requires idle { (stage_of seat.old.me.0 ≡ Some Idle) × (seat.old.me.1 ≡ []) }
+    ensures seat { IsSameSeat seat.old seat.new }
+    ensures entered { IfSome result
+        (λ r. HasTaken (readings M.setup M.log M.reply_of M.fault_of) seat.old seat.new r.0 r.1) }
+    ensures worn { IfNone result ((stage_of seat.new.me.0 ≡ Some Idle) × (seat.new.me.1 ≡ [])
+        × (seen_of seat.new.me.0 ≡ seen_of seat.old.me.0) × (next_of seat.new.me.0 ≡ GREATEST_TICKET + 1)) }
+{
+    if let Some(entered) = enter_at_once(board, seat) {
+        return Some(entered);
+    }
+    let ticket = draw_ticket(rt, board, seat)?;
+    Some((ticket, enter(rt, board, seat, ticket)))
 }

@@ -31,6 +31,7 @@ mod open;
 mod pass;
 mod plays;
 mod release;
+mod serve;
 #[cfg(test)]
 mod tests;
 

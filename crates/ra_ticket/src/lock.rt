@@ -1,13 +1,14 @@
 //! The lock, and a call on it.
 ghost use Rattle.std.specs.Prelude.{◌≡◌};
 
+use crate::at_once::{enter_served, learn_serving};
 use crate::board::LockTable;
-use crate::draw::{GREATEST_TICKET, draw_ticket};
-use crate::enter::enter;
+use crate::draw::{GREATEST_TICKET, learn_next};
+use crate::enter::take_turn;
 use crate::fault::CallFault;
 use crate::journal::Journal;
 use crate::pass::Pass;
-use crate::release::{publish, put_back, release};
+use crate::serve::serve;
 use std::sync::Wait;
 
 /// A journal that passes take turns at, in the order of the tickets that they draw.
@@ -18,10 +19,10 @@ pub struct TicketLock<M: Journal> {
 }
 
 impl<M: Journal> TicketLock<M> {
-    ghost use Rattle.std.specs.Prelude.{◌≡◌, ◌+◌, length, IfOk, IfErr, IfSome};
+    ghost use Rattle.std.specs.Prelude.{◌≡◌, ◌+◌, ◌≤◌, ◌⊎◌, length, IfOk, IfErr, IfSome};
     ghost use Rattle.ra_ticket.specs.Faults.{unserved, IsWorn, IsFull, IsBusy};
     ghost use Rattle.ra_ticket.specs.Passes.{IsPassOf, IsSamePass, IsLogged, KnowsLegal, IsMineAndThen};
-    ghost use Rattle.ra_ticket.specs.Passes.{next_reached, pass_setup, seen, mine};
+    ghost use Rattle.ra_ticket.specs.Passes.{next_reached, pass_setup, seen, mine, IsFoundBusy};
 
     /// Draws a ticket, waits until it is served, lets the journal answer the command and publishes the answer.
     /// `Worn` comes before a ticket is drawn; after `Full` and `NoMemory` the ticket is served and leaves no entry.
@@ -55,21 +56,49 @@ impl<M: Journal> TicketLock<M> {
         ensures never_busy { IfErr result (λ f. ¬ (IsBusy f)) }
     {
         let board = &self.table.shared;
-        let Some(ticket) = draw_ticket(rt, board, &mut pass.seat) else {
+        match take_turn(rt, board, &mut pass.seat) {
+            Some((ticket, journal)) => serve(board, &mut pass.seat, pass.number, ticket, journal, command),
+            None => Err(CallFault::Worn(command)),
+        }
+    }
+
+    /// Makes the call at once, where no other one is under way, and else answers `Busy` or, where all tickets are drawn,
+    /// `Worn`. It waits for nobody. After `Full` and `NoMemory` its ticket is served and leaves no entry, and after
+    /// `Worn` and `Busy` it has drawn none.
+    ///
+    /// It costs one atomic load, one compare-exchange and, where it enters, the journal's step, two more atomic steps
+    /// and two copies of the journal's own bytes.
+    pub fn try_submit(
+        &self,
+        pass: &mut Pass<M>,
+        command: M::Command,
+    ) -> Result<M::Reply, CallFault<M::Command>>
+        requires own { IsPassOf self.now pass.old }
+        ensures pass { IsSamePass pass.old pass.new }
+        ensures legal { IfOk result (λ _. KnowsLegal M.reply_of pass.new) }
+        ensures legal_still { KnowsLegal M.reply_of pass.old → KnowsLegal M.reply_of pass.new }
+        ensures logged { IfOk result (λ r. IsLogged pass.old pass.new command r) }
+        ensures mine { IfOk result (λ r. IsMineAndThen pass.old pass.new command r) }
+        ensures mine_still { IfErr result (λ _. mine pass.new ≡ mine pass.old) }
+        ensures handed_back { IfErr result (λ f. unserved f ≡ command) }
+        ensures worn_at_the_end { IfErr result (λ f. IsWorn f → next_reached pass.new ≡ GREATEST_TICKET + 1) }
+        ensures full_at_the_limit { IfErr result (λ f. IsFull f
+            → IfSome (pass_setup pass.new) (λ s. length (seen pass.new) ≡ M.limit_of s)) }
+        ensures busy_found { IfErr result (λ f. IsBusy f → IsFoundBusy pass.new f) }
+        ensures busy_below_the_end { IfErr result (λ f. IsBusy f → next_reached pass.new ≤ GREATEST_TICKET) }
+        ensures not_drawn_unchanged { IfErr result (λ f. IsWorn f ⊎ IsBusy f → seen pass.new ≡ seen pass.old) }
+    {
+        let board = &self.table.shared;
+        let at = learn_serving(board, &mut pass.seat);
+        if at > GREATEST_TICKET {
+            // All tickets are served, so `next` is at its end too.
+            learn_next(board, &mut pass.seat);
             return Err(CallFault::Worn(command));
-        };
-        let mut journal = enter(rt, board, &mut pass.seat, ticket);
-        let outcome = match journal.step(pass.number, ticket, command) {
-            Ok(reply) => {
-                publish(board, &mut pass.seat, journal);
-                Ok(reply)
-            }
-            Err(fault) => {
-                put_back(board, &mut pass.seat, journal);
-                Err(CallFault::from(fault))
-            }
-        };
-        release(board, &mut pass.seat);
-        outcome
+        }
+        match enter_served(board, &mut pass.seat, at) {
+            Ok(journal) => serve(board, &mut pass.seat, pass.number, at, journal, command),
+            Err(found) if found > GREATEST_TICKET => Err(CallFault::Worn(command)),
+            Err(found) => Err(CallFault::Busy { at, found, command }),
+        }
     }
 }
