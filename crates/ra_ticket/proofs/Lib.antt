@@ -2,6 +2,7 @@ pub mod Seats
 pub mod Changes
 pub mod Moves
 pub mod Cuts
+pub mod Closings
 pub mod Meetings
 pub mod Parting
 pub mod Pushes

@@ -18,6 +18,7 @@
 mod at_once;
 mod backoff;
 mod board;
+mod close;
 mod draw;
 mod enter;
 mod entry;
@@ -35,6 +36,7 @@ mod serve;
 #[cfg(test)]
 mod tests;
 
+pub use close::Unsettled;
 pub use draw::GREATEST_TICKET;
 pub use entry::Entry;
 pub use fault::{CallFault, OpenFault};
