@@ -20,6 +20,13 @@ pub enum WordsFault {
 }
 
 impl From<io::Error> for WordsFault {
+    ghost use Rattle.std.specs.Prelude.{◌≡◌, ◌↔◌};
+    ghost use Rattle.std.specs.IoError.{error_kind};
+    ghost use Rattle.std.specs.declared.io.ErrorKind.TheVariants.{OutOfMemory};
+    ghost use Rattle.ra_monitor_cli.specs.declared.run.WordsFault.TheVariants.{NoMemory};
+
+    ghost from_gives = { λ error fault. (fault ≡ NoMemory) ↔ (error_kind error ≡ OutOfMemory) };
+
     fn from(error: io::Error) -> WordsFault {
         match error.kind() {
             ErrorKind::OutOfMemory => WordsFault::NoMemory,
@@ -29,6 +36,11 @@ impl From<io::Error> for WordsFault {
 }
 
 impl From<AllocError> for WordsFault {
+    ghost use Rattle.std.specs.Prelude.{◌≡◌};
+    ghost use Rattle.ra_monitor_cli.specs.declared.run.WordsFault.TheVariants.{NoMemory};
+
+    ghost from_gives = { λ _ fault. fault ≡ NoMemory };
+
     fn from(_refused: AllocError) -> WordsFault {
         WordsFault::NoMemory
     }

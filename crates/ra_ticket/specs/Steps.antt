@@ -10,7 +10,7 @@ use Rattle.ra_ticket.specs.declared.board.View.TheVariants.{Met}
 use Rattle.ra_ticket.specs.declared.board.Stage.TheVariants.{Idle, Waiting, Holding}
 use Rattle.ra_ticket.specs.Log.{Readings, AllBelow, entries_of, BeginsWith, MayFollow, IsLegal}
 use Rattle.ra_ticket.specs.Mark.{IsMarkOf}
-use Rattle.ra_ticket.specs.Views.{stage_of, numbers_of, next_of, serving_of, setup_of, seen_of, HasBegun, HasOwn, SeesOwn, IsSetUp}
+use Rattle.ra_ticket.specs.Views.{stage_of, numbers_of, next_of, serving_of, setup_of, seen_of, HasOwn, SeesOwn}
 
 module _ {C R S : Type 0} where
   -- the same passes and setup, and no less is known of the words
@@ -175,11 +175,12 @@ module _ {M C R S : Type 0} (j : Readings M C R S) where
     pub begins : BeginsWith (seen_of t.me.0) (seen_of s.me.0)
     pub own : KeepsOwn s.me.0 t.me.0
 
-  -- the lock was taken apart by a seat with this view: these are the words and what its slot has. Where each ticket
+  -- the lock was taken apart by an idle seat with this view: these are the words and what its slot has. Where each ticket
   -- that was drawn is served, that is a journal with the setup and all that the seat had seen
   pub record IsLeft (v : View C R S) (next serving : ℕ) (slot : Option M) : Type 0 where
     pub order : serving ≤ next
     pub next_reached : next_of v ≤ next
     pub serving_reached : serving_of v ≤ serving
-    pub settled : next ≡ serving → (journal : M) × (slot ≡ Some journal) × HasBegun v (j.log journal)
-        × HasOwn v (j.log journal) × IsSetUp (j.setup journal) v × IsLegal (j.reply_of (j.setup journal)) (j.log journal)
+    pub settled : next ≡ serving → (journal : M) × (slot ≡ Some journal) × BeginsWith (j.log journal) (seen_of v)
+        × ((number : ℕ) → numbers_of v ≡ number ∷ [] → entries_of number (j.log journal) ≡ entries_of number (seen_of v))
+        × (setup_of v ≡ Some (j.setup journal)) × IsLegal (j.reply_of (j.setup journal)) (j.log journal)

@@ -2,6 +2,8 @@
 ghost use Rattle.std.specs.Prelude.{◌≡◌, Some, Option};
 ghost use Rattle.ra_ticket.specs.Log.{readings};
 ghost use Rattle.ra_ticket.specs.Steps.{IsLeft};
+ghost use Rattle.ra_ticket.specs.Views.{stage_of};
+ghost use Rattle.ra_ticket.specs.declared.board.Stage.TheVariants.{Idle};
 
 use crate::board::{JOURNAL, LockSeat, LockTable, NEXT, SERVING};
 use crate::journal::Journal;
@@ -20,6 +22,7 @@ pub struct Unsettled {
 // What a table has when it is taken apart: the words `next` and `serving`, and what the slot of the journal has.
 fn take_apart<M: Journal>(table: LockTable<M>, seat: LockSeat<M>) -> (u64, u64, Option<M>)
     requires table { seat.table_id ≡ table.shared.table_id }
+    requires idle { stage_of seat.me.0 ≡ Some Idle }
     requires sized { (table.shared.table_id.words ≡ 3) × (table.shared.table_id.slots ≡ 1) }
     ensures { IsLeft (readings M.setup M.log M.reply_of M.fault_of) seat.me.0 result.0 result.1 result.2 }
 {

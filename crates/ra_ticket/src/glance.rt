@@ -21,8 +21,8 @@ pub struct Glance {
     pub fault: Option<u32>,
 }
 
-// A load of `mark`: the seat has then seen the log that it tells.
-fn look_at_mark<M: Journal>(board: &Board<M>, seat: &mut LockSeat<M>) -> u64
+/// A load of `mark`: the seat has then seen the log that it tells.
+pub(crate) fn look_at_mark<M: Journal>(board: &Board<M>, seat: &mut LockSeat<M>) -> u64
     requires table { IsSeated seat.old.table_id board.now.table_id }
     requires idle { stage_of seat.old.me.0 ≡ Some Idle }
     ensures seat { IsSameSeat seat.old seat.new }
