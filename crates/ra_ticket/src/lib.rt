@@ -33,8 +33,6 @@ mod pass;
 mod plays;
 mod release;
 mod serve;
-#[cfg(test)]
-mod tests;
 
 pub use close::Unsettled;
 pub use draw::GREATEST_TICKET;

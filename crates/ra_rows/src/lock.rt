@@ -5,7 +5,7 @@ ghost use Rattle.ra_ticket.specs.Passes.{IsPassOf, IsSamePass};
 mod tally;
 mod threads;
 
-use crate::{
+use ra_ticket::{
     CallFault, GREATEST_TICKET, Glance, Journal, MOST_ENTRIES, MOST_PASSES, OpenFault, Pass,
     StepFault, TicketLock,
 };

@@ -2,7 +2,7 @@
 ghost use Rattle.std.specs.Prelude.{◌≡◌, ◌<◌, ◌≤◌, ◌+◌, ◌%◌, ◌^◌, [], length, sum_by, None};
 ghost use Rattle.ra_ticket.specs.declared.journal.TheConstants.{MOST_ENTRIES};
 
-use crate::{Entry, Journal, MOST_ENTRIES, StepFault};
+use ra_ticket::{Entry, Journal, MOST_ENTRIES, StepFault};
 use std::alloc::Global;
 use std::sync::Arc;
 use std::sync::atomic::{AtomicU64, Ordering};

@@ -3,7 +3,7 @@ ghost use Rattle.std.specs.Prelude.{All};
 ghost use Rattle.ra_ticket.specs.Passes.{IsPassOf};
 
 use super::tally::Tally;
-use crate::{Pass, TicketLock};
+use ra_ticket::{Pass, TicketLock};
 use std::alloc::{AllocError, Global};
 use std::sync::Wait;
 use std::sync::atomic::{AtomicUsize, Ordering};
