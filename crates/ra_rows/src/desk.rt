@@ -1,9 +1,10 @@
 //! A monitor behind the ticket lock.
 
 use crate::commands::{Say, command_of, counter_of};
-use ra_labels::Reply;
+use crate::lock::threads::last_pass;
+use ra_labels::{Cause, Reply};
 use ra_monitor::Desk;
-use ra_ticket::{CallFault, TicketLock};
+use ra_ticket::{CallFault, GREATEST_TICKET, Glance, TicketLock};
 use std::process::Abort;
 use std::test::Fail;
 
@@ -23,5 +24,97 @@ fn a_desk_answers_as_the_monitor(rt: HostRuntime) -> Result<(), Fail> {
         };
         assert_eq!(rt; desk.submit(&rt, &mut pass, command_of(say)), want);
     }
+    Ok(())
+}
+
+#[test]
+fn one_pass_fills_a_desk_at_once(rt: HostRuntime) -> Result<(), Fail> {
+    let monitor = counter_of(&rt, rt.alloc(), 3, 2);
+    let Ok((desk, mut passes)) = TicketLock::open(rt.alloc(), monitor, 1, 0) else {
+        panic!(rt; "no desk");
+    };
+    let mut pass = passes.pop().ok_or("a pass")?;
+    let verdict = command_of(Say::Verdict);
+    assert_eq!(rt; desk.try_submit(&mut pass, verdict), Ok(Reply::Yes(0)));
+    let verdict = command_of(Say::Verdict);
+    assert_eq!(rt; desk.try_submit(&mut pass, verdict), Ok(Reply::Yes(0)));
+    let full = Err(CallFault::Full(command_of(Say::Verdict)));
+    assert_eq!(rt; desk.try_submit(&mut pass, command_of(Say::Verdict)), full);
+    Ok(())
+}
+
+// The third pass never calls, so only a look can tell it and the first one of the second one's calls.
+#[test]
+fn passes_that_meet_see_what_neither_had_seen(rt: HostRuntime) -> Result<(), Fail> {
+    let monitor = counter_of(&rt, rt.alloc(), 3, 100);
+    let Ok((desk, mut passes)) = TicketLock::open(rt.alloc(), monitor, 3, 0) else {
+        panic!(rt; "no desk");
+    };
+    let third = last_pass(&desk, &mut passes).ok_or("a pass")?;
+    let mut second = last_pass(&desk, &mut passes).ok_or("a pass")?;
+    let mut first = last_pass(&desk, &mut passes).ok_or("a pass")?;
+    let increment = command_of(Say::Inc(0));
+    assert_eq!(rt; desk.submit(&rt, &mut first, increment), Ok(Reply::Ok(0)));
+    let one = Glance {
+        calls: 1,
+        fault: None,
+    };
+    assert_eq!(rt; desk.glance(&mut first), one);
+    let delivery = command_of(Say::Got(1, 0));
+    assert_eq!(rt; desk.try_submit(&mut second, delivery), Ok(Reply::Got(0)));
+    let read = command_of(Say::Read(1, 1));
+    assert_eq!(rt; desk.try_submit(&mut second, read), Ok(Reply::Ok(1)));
+    let (first, third, calls) = desk.meet(first, third);
+    assert_eq!(rt; calls, 3);
+    assert_eq!(rt; (first.number(), third.number()), (0, 2));
+    let Ok(monitor) = desk.close(third) else {
+        panic!(rt; "not settled");
+    };
+    assert_eq!(rt; monitor.log().len(), 3);
+    Ok(())
+}
+
+#[test]
+fn a_desk_is_worn_after_the_greatest_ticket(rt: HostRuntime) -> Result<(), Fail> {
+    let monitor = counter_of(&rt, rt.alloc(), 3, 100);
+    let Ok((desk, mut passes)) = TicketLock::open(rt.alloc(), monitor, 3, GREATEST_TICKET) else {
+        panic!(rt; "no desk");
+    };
+    let mut pass = passes.pop().ok_or("a pass")?;
+    let verdict = command_of(Say::Verdict);
+    assert_eq!(rt; desk.submit(&rt, &mut pass, verdict), Ok(Reply::Yes(0)));
+    let worn = Err(CallFault::Worn(command_of(Say::Verdict)));
+    assert_eq!(rt; desk.submit(&rt, &mut pass, command_of(Say::Verdict)), worn);
+    let worn = Err(CallFault::Worn(command_of(Say::Verdict)));
+    assert_eq!(rt; desk.try_submit(&mut pass, command_of(Say::Verdict)), worn);
+    let one = Glance {
+        calls: 1,
+        fault: None,
+    };
+    assert_eq!(rt; desk.glance(&mut pass), one);
+    Ok(())
+}
+
+#[test]
+fn a_glance_tells_the_label_of_a_fault(rt: HostRuntime) -> Result<(), Fail> {
+    let monitor = counter_of(&rt, rt.alloc(), 2, 100);
+    let Ok((desk, mut passes)) = TicketLock::open(rt.alloc(), monitor, 2, 7) else {
+        panic!(rt; "no desk");
+    };
+    let mut other = passes.pop().ok_or("a pass")?;
+    let mut pass = passes.pop().ok_or("a pass")?;
+    let increment = command_of(Say::Inc(0));
+    assert_eq!(rt; desk.submit(&rt, &mut pass, increment), Ok(Reply::Ok(0)));
+    let no = Reply::No {
+        label: 1,
+        cause: Cause::Query,
+    };
+    let read = command_of(Say::Read(1, 1));
+    assert_eq!(rt; desk.submit(&rt, &mut pass, read), Ok(no));
+    let fault = Glance {
+        calls: 2,
+        fault: Some(1),
+    };
+    assert_eq!(rt; desk.glance(&mut other), fault);
     Ok(())
 }

@@ -2,19 +2,23 @@
 ghost use Rattle.std.specs.Prelude.{◌≡◌, ◌<◌, ◌≤◌, [], IfOk};
 ghost use Rattle.ra_ticket.specs.Passes.{IsPassOf, IsSamePass};
 
+mod gate;
+mod random;
 mod tally;
-mod threads;
+pub mod threads;
 
+use gate::{Gate, lowered};
 use ra_ticket::{
     CallFault, GREATEST_TICKET, Glance, Journal, MOST_ENTRIES, MOST_PASSES, OpenFault, Pass,
     StepFault, TicketLock,
 };
+use random::{Played, played_by_threads};
 use std::alloc::{AllocError, Global};
 use std::sync::atomic::{AtomicU64, Ordering};
 use std::sync::{Arc, Wait};
 use std::test::Fail;
 use tally::Tally;
-use threads::{counted, replies, replies_of_threads};
+use threads::{Found, call_and_look_on, counted, last_pass, replies, replies_of_threads};
 
 fn is_shared<T: Send + Sync>(_value: &T) {}
 
@@ -215,5 +219,52 @@ fn the_journal_is_dropped_once(rt: HostRuntime) -> Result<(), Fail> {
             "{count} passes, {calls} calls"
         );
     }
+    Ok(())
+}
+
+#[test]
+fn a_call_under_way_keeps_others_out_and_lets_them_glance(rt: HostRuntime) -> Result<(), Fail> {
+    let inside = lowered(rt.alloc())?;
+    let go_on = lowered(rt.alloc())?;
+    let gate = Gate {
+        inside: Arc::try_clone(&inside)?,
+        go_on: Arc::try_clone(&go_on)?,
+    };
+    let tally = tally_of(rt.alloc(), 9)?.behind(gate);
+    let (lock, mut passes) = TicketLock::open(rt.alloc(), tally, 2, 10)?;
+    let other = last_pass(&lock, &mut passes).ok_or("a pass")?;
+    let pass = last_pass(&lock, &mut passes).ok_or("a pass")?;
+    let (reply, found, calls) = call_and_look_on(&rt, &lock, pass, other, &inside, &go_on);
+    let busy = CallFault::Busy {
+        at: 10,
+        found: 11,
+        command: 7,
+    };
+    let meanwhile = Found {
+        call: Err(busy),
+        calls: 0,
+    };
+    assert_eq!(rt; (reply, found, calls), (Ok(5), Some(meanwhile), 1));
+    Ok(())
+}
+
+// Sixty-three passes on eight threads make calls, try, glance and meet, and a further pass closes the lock.
+#[test]
+fn each_pass_has_its_calls_once_and_in_order(rt: HostRuntime) -> Result<(), Fail> {
+    let tally = tally_of(rt.alloc(), MOST_ENTRIES)?;
+    let (lock, mut passes) = TicketLock::open(rt.alloc(), tally, MOST_PASSES, 0)?;
+    let last = last_pass(&lock, &mut passes).ok_or("a pass")?;
+    let played = played_by_threads(&rt, rt.alloc(), &lock, passes, 8, 12_500)?;
+    let Ok(tally) = lock.close(last) else {
+        panic!(rt; "not settled");
+    };
+    let mut logged = 0;
+    for Played { pass, replies } in &played {
+        let replies_there = tally.replies_to(rt.alloc(), *pass)?;
+        assert_eq!(rt; replies.as_slice(), replies_there.as_slice(), "pass {pass}");
+        logged += replies.len();
+    }
+    assert_eq!(rt; tally.calls() as usize, logged);
+    assert!(rt; logged > 20_000, "{logged} calls");
     Ok(())
 }

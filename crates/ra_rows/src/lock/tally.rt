@@ -2,8 +2,9 @@
 ghost use Rattle.std.specs.Prelude.{◌≡◌, ◌<◌, ◌≤◌, ◌+◌, ◌%◌, ◌^◌, [], length, sum_by, None};
 ghost use Rattle.ra_ticket.specs.declared.journal.TheConstants.{MOST_ENTRIES};
 
+use super::gate::Gate;
 use ra_ticket::{Entry, Journal, MOST_ENTRIES, StepFault};
-use std::alloc::Global;
+use std::alloc::{AllocError, Global};
 use std::sync::Arc;
 use std::sync::atomic::{AtomicU64, Ordering};
 
@@ -14,6 +15,7 @@ pub struct Tally {
     total: u32,
     log: Vec<Entry<u32, u32>>,
     drops: Arc<AtomicU64, Global>,
+    gate: Option<Gate>,
     ghost in_range: { (0 < limit) × (limit ≤ MOST_ENTRIES) },
     ghost within: { length log.items ≤ limit },
     ghost totals: { total ≡ sum_by (λ e. e.command) log.items % 2 ^ 32 },
@@ -30,7 +32,40 @@ impl Tally {
             total: 0,
             log: Vec::new(alloc),
             drops,
+            gate: None,
         }
+    }
+
+    /// The same, and each step goes through the gate before it answers.
+    pub fn behind(self, gate: Gate) -> Tally
+        requires { self.log.items ≡ [] }
+        ensures { result.log.items ≡ [] }
+    {
+        let Self {
+            limit,
+            total,
+            log,
+            drops,
+            gate: _,
+        } = self;
+        Tally {
+            limit,
+            total,
+            log,
+            drops,
+            gate: Some(gate),
+        }
+    }
+
+    /// The replies to this pass, in order.
+    pub fn replies_to(&self, alloc: Global, pass: u8) -> Result<Vec<u32>, AllocError> {
+        let mut replies = Vec::new(alloc);
+        for entry in &self.log {
+            if entry.pass == pass {
+                replies.push(entry.reply)?;
+            }
+        }
+        Ok(replies)
     }
 }
 
@@ -41,6 +76,7 @@ impl Drop for Tally {
             total: _,
             log: _,
             drops,
+            gate: _,
         } = self;
         drops.fetch_add(1, Ordering::SeqCst);
     }
@@ -82,6 +118,9 @@ impl Journal for Tally {
     fn step(&mut self, pass: u8, ticket: u64, command: u32) -> Result<u32, StepFault<u32>> {
         if self.log.len() == self.limit as usize {
             return Err(StepFault::Full(command));
+        }
+        if let Some(gate) = &self.gate {
+            gate.pass();
         }
         let reply = self.total.wrapping_add(command);
         let entry = Entry {

@@ -1,12 +1,13 @@
 //! Calls from several threads. They are written for `Tally`: the check does not cover the generic form.
-ghost use Rattle.std.specs.Prelude.{All};
+ghost use Rattle.std.specs.Prelude.{All, IfSome};
 ghost use Rattle.ra_ticket.specs.Passes.{IsPassOf};
 
+use super::gate::{is_raised_in_time, raise};
 use super::tally::Tally;
-use ra_ticket::{Pass, TicketLock};
+use ra_ticket::{CallFault, Journal, Pass, TicketLock};
 use std::alloc::{AllocError, Global};
 use std::sync::Wait;
-use std::sync::atomic::{AtomicUsize, Ordering};
+use std::sync::atomic::{AtomicU64, AtomicUsize, Ordering};
 use std::thread;
 use std::thread::Threads;
 
@@ -22,6 +23,69 @@ fn start_together(started: &AtomicUsize, count: usize) {
         }
         thread::yield_now();
     }
+}
+
+/// The last of the passes, which leaves them.
+pub fn last_pass<M: Journal>(lock: &TicketLock<M>, passes: &mut Vec<Pass<M>>) -> Option<Pass<M>>
+    requires { All (IsPassOf lock.now) passes.old.items }
+    ensures others { All (IsPassOf lock.now) passes.new.items }
+    ensures last { IfSome result (IsPassOf lock.now) }
+{
+    passes.pop()
+}
+
+/// What a pass finds while another one's call is under way.
+#[derive(Debug, PartialEq, Eq, Drop)]
+pub struct Found {
+    pub call: Result<u32, CallFault<u32>>,
+    pub calls: u32,
+}
+
+// Once `inside` is raised, the pass tries a call and glances, and raises `go_on`.
+fn look_on(
+    lock: &TicketLock<Tally>,
+    pass: &mut Pass<Tally>,
+    inside: &AtomicU64,
+    go_on: &AtomicU64,
+) -> Option<Found>
+    requires { IsPassOf lock.now pass.old }
+    ensures { IsPassOf lock.now pass.new }
+{
+    if !is_raised_in_time(inside) {
+        return None;
+    }
+    let call = lock.try_submit(pass, 7);
+    let calls = lock.glance(pass).calls;
+    raise(go_on);
+    Some(Found { call, calls })
+}
+
+/// One pass calls, and another one looks on meanwhile, and glances once more when the call is over.
+pub fn call_and_look_on<R: Threads + Wait + Sync>(
+    rt: &R,
+    lock: &TicketLock<Tally>,
+    mut pass: Pass<Tally>,
+    mut other: Pass<Tally>,
+    inside: &AtomicU64,
+    go_on: &AtomicU64,
+) -> (Result<u32, CallFault<u32>>, Option<Found>, u32)
+    requires { IsPassOf lock.now pass × IsPassOf lock.now other }
+{
+    let (reply, (mut other, found)) = thread::join(
+        rt,
+        move || -> Result<u32, CallFault<u32>>
+            requires { IsPassOf lock.now pass }
+        { lock.submit(rt, &mut pass, 5) },
+        move || -> (Pass<Tally>, Option<Found>)
+            requires { IsPassOf lock.now other }
+            ensures { IsPassOf lock.entry.now result.0 }
+        {
+            let found = look_on(lock, &mut other, inside, go_on);
+            (other, found)
+        },
+    );
+    let calls = lock.glance(&mut other).calls;
+    (reply, found, calls)
 }
 
 /// The replies to calls that each add one, as far as they were answered.

@@ -1,0 +1,52 @@
+//! A gate that a step goes through: it tells that it stands there, and waits until it may go on.
+
+use std::alloc::{AllocError, Global};
+use std::hint;
+use std::sync::Arc;
+use std::sync::atomic::{AtomicU64, Ordering};
+
+// How often one side looks for the other, in turns of `LOOKS` loads.
+const MOST_TURNS: u32 = 1_000_000;
+
+const LOOKS: u32 = 64;
+
+/// A flag that threads share.
+pub type Flag = Arc<AtomicU64, Global>;
+
+/// A flag that is not raised.
+pub fn lowered(alloc: Global) -> Result<Flag, AllocError> {
+    Ok(Arc::new(alloc, AtomicU64::new(0))?)
+}
+
+/// Raises the flag.
+pub fn raise(flag: &AtomicU64) {
+    flag.fetch_add(1, Ordering::SeqCst);
+}
+
+/// Waits until the flag is raised, or for so long that nobody will: whether it was.
+pub fn is_raised_in_time(flag: &AtomicU64) -> bool {
+    for _ in 0..MOST_TURNS {
+        for _ in 0..LOOKS {
+            if flag.load(Ordering::SeqCst) > 0 {
+                return true;
+            }
+        }
+        hint::spin_loop();
+    }
+    false
+}
+
+/// It is open once `go_on` is raised.
+#[derive(Debug, Drop)]
+pub struct Gate {
+    pub inside: Flag,
+    pub go_on: Flag,
+}
+
+impl Gate {
+    /// Goes through: raises `inside` and waits for `go_on`.
+    pub fn pass(&self) {
+        raise(&self.inside);
+        is_raised_in_time(&self.go_on);
+    }
+}
