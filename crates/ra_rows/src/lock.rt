@@ -262,7 +262,7 @@ fn each_pass_has_its_calls_once_and_in_order(rt: HostRuntime) -> Result<(), Fail
     for Played { pass, replies } in &played {
         let replies_there = tally.replies_to(rt.alloc(), *pass)?;
         assert_eq!(rt; replies.as_slice(), replies_there.as_slice(), "pass {pass}");
-        logged += replies.len();
+        logged = replies.len().wrapping_add(logged);
     }
     assert_eq!(rt; tally.calls() as usize, logged);
     assert!(rt; logged > 20_000, "{logged} calls");

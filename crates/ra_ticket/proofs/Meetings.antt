@@ -91,32 +91,32 @@ module _ {M C R S : Type 0} (j : Readings M C R S) (opened : S) where
     pub joins_here : Rule record { words = s.words; homes = s.homes; views = joined }
     joins_here = let no_ticket : ticket_at k.stage ≡ None = ap ticket_at idle in let not_held : held_at k.stage ≡ None = ap held_at idle in
         let low = r.reached id (Knows k) here in let low_too = r.reached other (Knows l) there in record {
-      next = r.next;
-      serving = r.serving;
-      mark = r.mark;
-      others = r.others;
-      words = r.words;
-      order = r.order;
-      fits = r.fits;
-      reached = each_joined (λ (z : View C R S). (next_of z ≤ r.next) × (serving_of z ≤ r.serving)) (omega arith, omega arith)
-          (let a : k.next ≤ r.next = low.0 in let b : l.next ≤ r.next = low_too.0 in let c : k.serving ≤ r.serving = low.1 in let d : l.serving ≤ r.serving = low_too.1 in (omega arith, omega arith)) r.reached;
-      drawn = λ seat t a. r.drawn seat t (back ticket_of refl refl seat t a);
-      tickets_apart = λ a b t p q. r.tickets_apart a b t (back ticket_of refl refl a t p) (back ticket_of refl refl b t q);
-      out = λ seat t a. r.out seat t (back held_of refl refl seat t a);
-      home = λ nobody. r.home (λ seat t a. nobody seat t (forth held_of (ap held_at idle) (ap held_at idle_too) seat t a));
-      front = r.front;
-      held = λ seat t u at. each_joined (λ (z : View C R S). held_of z ≡ Some t → seen_of z ≡ r.front) (λ e. absurd (cc)) (λ e. absurd (cc)) (λ a x x_there. r.held a t x x_there) seat u at;
-      rests = r.rests;
-      served = r.served;
-      legal = r.legal;
-      told = r.told;
-      begun = each_joined (λ (z : View C R S). HasBegun z r.front) tt (r.begun id (Knows k) here, r.begun other (Knows l) there) r.begun;
-      own = each_joined (λ (z : View C R S). HasOwn z r.front) tt (r.own id (Knows k) here, r.own other (Knows l) there) r.own;
-      passes_apart = λ a b i m number p q. let x = was a i number p in let y = was b m number q in
-          told_apart a b i m x.0 y.0 x.1 y.1 (r.passes_apart x.0 y.0 x.1 y.1 number x.2 y.2) x.3 y.3;
-      set_up = each_joined (IsSetUp opened) tt (r.set_up id (Knows k) here, r.set_up other (Knows l) there) r.set_up;
-      home_set_up = r.home_set_up;
-    }
+          next = r.next;
+          serving = r.serving;
+          mark = r.mark;
+          others = r.others;
+          words = r.words;
+          order = r.order;
+          fits = r.fits;
+          reached = each_joined (λ (z : View C R S). (next_of z ≤ r.next) × (serving_of z ≤ r.serving)) (omega arith, omega arith)
+              (let a : k.next ≤ r.next = low.0 in let b : l.next ≤ r.next = low_too.0 in let c : k.serving ≤ r.serving = low.1 in let d : l.serving ≤ r.serving = low_too.1 in (omega arith, omega arith)) r.reached;
+          drawn = λ seat t a. r.drawn seat t (back ticket_of refl refl seat t a);
+          tickets_apart = λ a b t p q. r.tickets_apart a b t (back ticket_of refl refl a t p) (back ticket_of refl refl b t q);
+          out = λ seat t a. r.out seat t (back held_of refl refl seat t a);
+          home = λ nobody. r.home (λ seat t a. nobody seat t (forth held_of (ap held_at idle) (ap held_at idle_too) seat t a));
+          front = r.front;
+          held = λ seat t u at. each_joined (λ (z : View C R S). held_of z ≡ Some t → seen_of z ≡ r.front) (λ e. absurd (cc)) (λ e. absurd (cc)) (λ a x x_there. r.held a t x x_there) seat u at;
+          rests = r.rests;
+          served = r.served;
+          legal = r.legal;
+          told = r.told;
+          begun = each_joined (λ (z : View C R S). HasBegun z r.front) tt (r.begun id (Knows k) here, r.begun other (Knows l) there) r.begun;
+          own = each_joined (λ (z : View C R S). HasOwn z r.front) tt (r.own id (Knows k) here, r.own other (Knows l) there) r.own;
+          passes_apart = λ a b i m number p q. let x = was a i number p in let y = was b m number q in
+              told_apart a b i m x.0 y.0 x.1 y.1 (r.passes_apart x.0 y.0 x.1 y.1 number x.2 y.2) x.3 y.3;
+          set_up = each_joined (IsSetUp opened) tt (r.set_up id (Knows k) here, r.set_up other (Knows l) there) r.set_up;
+          home_set_up = r.home_set_up;
+        }
 
   -- an idle seat takes in another one
   pub joins : (id : ℕ) (v : View C R S) (other : ℕ) (w : View C R S) → stage_of v ≡ Some Idle → stage_of w ≡ Some Idle → Joins Rule id v other w (met v w) Spent
@@ -143,13 +143,13 @@ module _ {M C R S : Type 0} (j : Readings M C R S) (opened : S) where
         λ a b are. let a_is : k ≡ a = ap (first_of a) are in let b_is : l ≡ b = ap (second_of a) are in
             let n = ap (λ (x : Known C R S). x.next) a_is in let m = ap (λ (x : Known C R S). x.next) b_is in
             let p = ap (λ (x : Known C R S). x.serving) a_is in let q = ap (λ (x : Known C R S). x.serving) b_is in (
-          ap (λ (x : Known C R S). x.numbers ++ l.numbers) a_is ∙ ap (λ (x : Known C R S). a.numbers ++ x.numbers) b_is,
-          refl,
-          refl,
-          record { setup = ap (λ (x : Known C R S). Some x.setup) a_is; next = omega arith; serving = omega arith; begins = subst (λ (x : Known C R S). HasBegun (Knows x) r.front) a_is begun.0; own = subst (λ (x : Known C R S). HasOwn (Knows x) r.front) a_is own.0 },
-          record { setup = ap (λ (x : S). Some x) (so.0 ∙ sym so.1) ∙ ap (λ (x : Known C R S). Some x.setup) b_is; next = omega arith; serving = omega arith; begins = subst (λ (x : Known C R S). HasBegun (Knows x) r.front) b_is begun.1; own = subst (λ (x : Known C R S). HasOwn (Knows x) r.front) b_is own.1 },
-          subst (λ (x : S). IsLegal (j.reply_of x) r.front × IsMarkOf j x r.front r.mark) (sym so.0) (r.legal, r.told),
-        ),
+              ap (λ (x : Known C R S). x.numbers ++ l.numbers) a_is ∙ ap (λ (x : Known C R S). a.numbers ++ x.numbers) b_is,
+              refl,
+              refl,
+              record { setup = ap (λ (x : Known C R S). Some x.setup) a_is; next = omega arith; serving = omega arith; begins = subst (λ (x : Known C R S). HasBegun (Knows x) r.front) a_is begun.0; own = subst (λ (x : Known C R S). HasOwn (Knows x) r.front) a_is own.0 },
+              record { setup = ap (λ (x : S). Some x) (so.0 ∙ sym so.1) ∙ ap (λ (x : Known C R S). Some x.setup) b_is; next = omega arith; serving = omega arith; begins = subst (λ (x : Known C R S). HasBegun (Knows x) r.front) b_is begun.1; own = subst (λ (x : Known C R S). HasOwn (Knows x) r.front) b_is own.1 },
+              subst (λ (x : S). IsLegal (j.reply_of x) r.front × IsMarkOf j x r.front r.mark) (sym so.0) (r.legal, r.told),
+            ),
       ))
     where
       here : get_elem? s.views id ≡ some (Met k l)

@@ -20,6 +20,10 @@ module _ {C : Type 0} where
   IsFull (Full command) = Unit {0}
   IsFull _ = ⊥
 
+  abbrev pub IsNoMemory : CallFault C → Type 0
+  IsNoMemory (NoMemory command) = Unit {0}
+  IsNoMemory _ = ⊥
+
   abbrev pub IsBusy : CallFault C → Type 0
   IsBusy (Busy at found command) = Unit {0}
   IsBusy _ = ⊥

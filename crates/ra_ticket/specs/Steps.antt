@@ -38,7 +38,8 @@ module _ {C R S : Type 0} where
 
   -- of the one pass that sits there the same entries are seen
   abbrev pub KeepsOwn : View C R S → View C R S → Type 0
-  KeepsOwn v w = (number : ℕ) → numbers_of v ≡ number ∷ [] → entries_of number (seen_of w) ≡ entries_of number (seen_of v)
+  KeepsOwn v w = (number : ℕ) → numbers_of v ≡ number ∷ []
+      → entries_of number (seen_of w) ≡ entries_of number (seen_of v)
 
   -- a seat of this one pass went on: it is idle, knows no less, and no entry of its own is new
   pub record GoesOn (v w : View C R S) (number : ℕ) : Type 0 where
@@ -108,7 +109,7 @@ module _ {M C R S : Type 0} where
       × (found ≡ step.first → stage_of m'.0 ≡ Some (Waiting step.first))
       × (found ≢ step.first → (stage_of m'.0 ≡ Some Idle) × (next_of m'.0 ≡ found))
 
-  -- an idle seat draws the ticket that it has seen served, where `next` was it, and takes the journal and sees its log
+  -- an idle seat draws the ticket that it has seen served, where `next` was it, takes the journal and sees its log
   abbrev pub drew_served : Readings M C R S → Step (Option M) → Sat M C R S → ℕ → Sat M C R S → Type 0
   drew_served j step m found m' = stage_of m.0 ≡ Some Idle → serving_of m.0 ≡ step.first
       → Stays m.0 m'.0 × SeesMore m.0 m'.0
@@ -175,12 +176,13 @@ module _ {M C R S : Type 0} (j : Readings M C R S) where
     pub begins : BeginsWith (seen_of t.me.0) (seen_of s.me.0)
     pub own : KeepsOwn s.me.0 t.me.0
 
-  -- the lock was taken apart by an idle seat with this view: these are the words and what its slot has. Where each ticket
-  -- that was drawn is served, that is a journal with the setup and all that the seat had seen
+  -- the lock was taken apart by an idle seat with this view: these are the words and what its slot has. Where each
+  -- ticket that was drawn is served, that is a journal with the setup and all that the seat had seen
   pub record IsLeft (v : View C R S) (next serving : ℕ) (slot : Option M) : Type 0 where
     pub order : serving ≤ next
     pub next_reached : next_of v ≤ next
     pub serving_reached : serving_of v ≤ serving
     pub settled : next ≡ serving → (journal : M) × (slot ≡ Some journal) × BeginsWith (j.log journal) (seen_of v)
-        × ((number : ℕ) → numbers_of v ≡ number ∷ [] → entries_of number (j.log journal) ≡ entries_of number (seen_of v))
+        × ((number : ℕ) → numbers_of v ≡ number ∷ []
+        → entries_of number (j.log journal) ≡ entries_of number (seen_of v))
         × (setup_of v ≡ Some (j.setup journal)) × IsLegal (j.reply_of (j.setup journal)) (j.log journal)

@@ -75,7 +75,10 @@ pub(crate) fn enter_served<M: Journal>(
 /// Enters with a ticket that is served at once, where within some tries `next` is found equal to `serving`: the ticket
 /// and the journal. Between two tries it spins, then yields, with no ticket drawn. A lock whose tickets are all drawn
 /// ends the tries.
-pub(crate) fn enter_at_once<M: Journal>(board: &Board<M>, seat: &mut LockSeat<M>) -> Option<(u64, M)>
+pub(crate) fn enter_at_once<M: Journal>(
+    board: &Board<M>,
+    seat: &mut LockSeat<M>,
+) -> Option<(u64, M)>
     requires table { IsSeated seat.old.table_id board.now.table_id }
     requires idle { (stage_of seat.old.me.0 ≡ Some Idle) × (seat.old.me.1 ≡ []) }
     ensures seat { IsSameSeat seat.old seat.new }
@@ -91,7 +94,9 @@ pub(crate) fn enter_at_once<M: Journal>(board: &Board<M>, seat: &mut LockSeat<M>
             return None;
         }
         let serving = learn_serving(board, seat);
-        if next == serving && let Ok(journal) = enter_served(board, seat, serving) {
+        if next == serving
+            && let Ok(journal) = enter_served(board, seat, serving)
+        {
             return Some((serving, journal));
         }
         backoff.wait();

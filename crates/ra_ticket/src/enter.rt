@@ -43,12 +43,7 @@ pub(crate) fn take_out<M: Journal>(board: &Board<M>, seat: &mut LockSeat<M>) -> 
 
 // Waits until the ticket is served, and takes the journal. It looks at `serving` after each wait, and each wait is
 // longer, until it yields the processor.
-fn enter<M: Journal, R: Wait>(
-    rt: &R,
-    board: &Board<M>,
-    seat: &mut LockSeat<M>,
-    ticket: u64,
-) -> M
+fn enter<M: Journal, R: Wait>(rt: &R, board: &Board<M>, seat: &mut LockSeat<M>, ticket: u64) -> M
     requires table { IsSeated seat.old.table_id board.now.table_id }
     requires waits { (stage_of seat.old.me.0 ≡ Some (Waiting ticket)) × (seat.old.me.1 ≡ []) }
     ensures seat { IsSameSeat seat.old seat.new }

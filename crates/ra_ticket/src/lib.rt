@@ -1,12 +1,14 @@
 //! A ticket lock over a journal: threads that hold passes take turns at one object, in the order of the tickets that
 //! they draw.
 //!
-//! The crate's contract is that of `TicketLock::submit` and `TicketLock::glance`, for any `Journal`. A pass has seen a
-//! log, at first none, and each reply adds to it: what the pass has seen then is a legal log under the setup of the
-//! journal that was put in, it begins with what the pass had seen before, and it ends with this call. The pass's own
-//! entries in it are those that it had seen before and this one: each of its calls is there once, in its order. After
-//! `Full` it has as many entries as the setup allows. A fault hands the command back and logs nothing. A glance answers
-//! how many entries such a log has and what its fault is, and the pass has then seen it; it waits for nobody.
+//! The crate's contract is that of the calls of `TicketLock`, for any `Journal`. A pass has seen a log, at first none,
+//! and each reply adds to it: what the pass has seen then is a legal log under the setup of the journal that was put
+//! in, it begins with what the pass had seen before, and it ends with this call. The pass's own entries in it are those
+//! that it had seen before and this one: each of its calls is there once, in its order. `submit` may wait for that;
+//! `try_submit` answers `Busy` instead. After `Full` the log has as many entries as the setup allows. A fault hands the
+//! command back and logs nothing. `glance` answers how many entries such a log has and what its fault is, and the pass
+//! has then seen it. `meet` has two passes see one such log, which begins with what each had seen. `close` gives the
+//! journal back, with such a log.
 //!
 //! Behind it stands the rule of the lock (`specs/Rule`), which each step on the table keeps: no two calls hold one
 //! ticket, the journal is out of its slot with one call at most, the one whose ticket is served, and there is one legal

@@ -19,8 +19,8 @@ pub struct TicketLock<M: Journal> {
 }
 
 impl<M: Journal> TicketLock<M> {
-    ghost use Rattle.std.specs.Prelude.{◌≡◌, ◌+◌, ◌≤◌, ◌⊎◌, length, IfOk, IfErr, IfSome};
-    ghost use Rattle.ra_ticket.specs.Faults.{unserved, IsWorn, IsFull, IsBusy};
+    ghost use Rattle.std.specs.Prelude.{◌≡◌, ◌≢◌, ◌+◌, ◌≤◌, ◌⊎◌, length, IfOk, IfErr, IfSome};
+    ghost use Rattle.ra_ticket.specs.Faults.{unserved, IsWorn, IsFull, IsNoMemory, IsBusy};
     ghost use Rattle.ra_ticket.specs.Passes.{IsPassOf, IsSamePass, IsLogged, KnowsLegal, IsMineAndThen};
     ghost use Rattle.ra_ticket.specs.Passes.{next_reached, pass_setup, seen, mine, IsFoundBusy};
 
@@ -53,18 +53,27 @@ impl<M: Journal> TicketLock<M> {
         ensures worn_unchanged { IfErr result (λ f. IsWorn f → seen pass.new ≡ seen pass.old) }
         ensures full_at_the_limit { IfErr result (λ f. IsFull f
             → IfSome (pass_setup pass.new) (λ s. length (seen pass.new) ≡ M.limit_of s)) }
+        ensures no_memory_below_the_limit { IfErr result (λ f. IsNoMemory f
+            → IfSome (pass_setup pass.new) (λ s. length (seen pass.new) ≢ M.limit_of s)) }
         ensures never_busy { IfErr result (λ f. ¬ (IsBusy f)) }
     {
         let board = &self.table.shared;
         match take_turn(rt, board, &mut pass.seat) {
-            Some((ticket, journal)) => serve(board, &mut pass.seat, pass.number, ticket, journal, command),
+            Some((ticket, journal)) => serve(
+                board,
+                &mut pass.seat,
+                pass.number,
+                ticket,
+                journal,
+                command,
+            ),
             None => Err(CallFault::Worn(command)),
         }
     }
 
-    /// Makes the call at once, where no other one is under way, and else answers `Busy` or, where all tickets are drawn,
-    /// `Worn`. It waits for nobody. After `Full` and `NoMemory` its ticket is served and leaves no entry, and after
-    /// `Worn` and `Busy` it has drawn none.
+    /// Makes the call at once, where no other one is under way, and else answers `Busy` or, where all tickets are
+    /// drawn, `Worn`. It waits for nobody. After `Full` and `NoMemory` its ticket is served and leaves no entry, and
+    /// after `Worn` and `Busy` it has drawn none.
     ///
     /// It costs one atomic load, one compare-exchange and, where it enters, the journal's step, two more atomic steps
     /// and two copies of the journal's own bytes.
@@ -84,6 +93,8 @@ impl<M: Journal> TicketLock<M> {
         ensures worn_at_the_end { IfErr result (λ f. IsWorn f → next_reached pass.new ≡ GREATEST_TICKET + 1) }
         ensures full_at_the_limit { IfErr result (λ f. IsFull f
             → IfSome (pass_setup pass.new) (λ s. length (seen pass.new) ≡ M.limit_of s)) }
+        ensures no_memory_below_the_limit { IfErr result (λ f. IsNoMemory f
+            → IfSome (pass_setup pass.new) (λ s. length (seen pass.new) ≢ M.limit_of s)) }
         ensures busy_found { IfErr result (λ f. IsBusy f → IsFoundBusy pass.new f) }
         ensures busy_below_the_end { IfErr result (λ f. IsBusy f → next_reached pass.new ≤ GREATEST_TICKET) }
         ensures not_drawn_unchanged { IfErr result (λ f. IsWorn f ⊎ IsBusy f → seen pass.new ≡ seen pass.old) }

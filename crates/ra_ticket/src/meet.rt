@@ -42,7 +42,11 @@ fn look_together<M: Journal>(board: &Board<M>, seat: &mut LockSeat<M>) -> u64
 }
 
 // Joins the seats of two passes, looks at `mark` and cuts the seat again: the first pass's seat, and what was found.
-fn look_and_part<M: Journal>(board: &Board<M>, seat: &mut LockSeat<M>, other: LockSeat<M>) -> (LockSeat<M>, u64)
+fn look_and_part<M: Journal>(
+    board: &Board<M>,
+    seat: &mut LockSeat<M>,
+    other: LockSeat<M>,
+) -> (LockSeat<M>, u64)
     requires tables { IsSeated seat.old.table_id board.now.table_id × IsSeated other.table_id board.now.table_id }
     requires idle { (stage_of seat.old.me.0 ≡ Some Idle) × (stage_of other.me.0 ≡ Some Idle) }
     requires slots { (seat.old.me.1 ≡ []) × (other.me.1 ≡ []) }

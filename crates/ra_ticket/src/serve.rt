@@ -1,6 +1,6 @@
 //! What a pass does while it has the journal.
-ghost use Rattle.std.specs.Prelude.{◌≡◌, [], ◌∷◌, ◌++◌, length, Some, None, IfOk, IfErr, IfSome};
-ghost use Rattle.ra_ticket.specs.Faults.{unserved, IsWorn, IsFull, IsBusy};
+ghost use Rattle.std.specs.Prelude.{◌≡◌, ◌≢◌, [], ◌∷◌, ◌++◌, length, Some, None, IfOk, IfErr, IfSome};
+ghost use Rattle.ra_ticket.specs.Faults.{unserved, IsWorn, IsFull, IsNoMemory, IsBusy};
 ghost use Rattle.ra_ticket.specs.Log.{readings, entry, IsLegal};
 ghost use Rattle.ra_ticket.specs.Steps.{IsSeated, IsSameSeat, HasEntered};
 ghost use Rattle.ra_ticket.specs.Views.{stage_of, numbers_of, setup_of, seen_of};
@@ -34,6 +34,8 @@ pub(crate) fn serve<M: Journal>(
     ensures handed_back { IfErr result (λ f. unserved f ≡ command) }
     ensures full { IfErr result (λ f. IsFull f
         → IfSome (setup_of seat.new.me.0) (λ s. length (seen_of seat.new.me.0) ≡ M.limit_of s)) }
+    ensures not_full { IfErr result (λ f. IsNoMemory f
+        → IfSome (setup_of seat.new.me.0) (λ s. length (seen_of seat.new.me.0) ≢ M.limit_of s)) }
     ensures drawn { IfErr result (λ f. (¬ (IsWorn f)) × (¬ (IsBusy f))) }
 {
     let outcome = match journal.step(number, ticket, command) {
