@@ -4,6 +4,7 @@ pub mod Places
 pub mod Tracked
 pub mod Refused
 pub mod Least
+pub mod Order
 pub mod Changes
 pub mod Kept
 pub mod Tracker
