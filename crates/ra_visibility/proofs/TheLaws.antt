@@ -11,7 +11,7 @@ use Rattle.ra_labels.specs.NamedOrder.{named_labels}
 use Rattle.ra_labels.specs.Visibility.{had, sees, is_update_at}
 use Rattle.ra_visibility.specs.Seen.{count_in}
 use Rattle.ra_visibility.specs.Tracked.{Tracked, IsVisibilityOf, replicas_in, labels_in, row_at, had_count, seen_in}
-use Rattle.ra_visibility.specs.Places.{issuer_of, place_of}
+use Rattle.ra_labels.specs.Places.{issuer_of, place_of}
 use Rattle.ra_visibility.specs.declared.order.Place.{Place}
 use Rattle.ra_visibility.specs.Order.{IsSeenBy, IsPlaceOf}
 use Rattle.ra_visibility.proofs.Inserting.{at_its_place}

@@ -1,8 +1,6 @@
 pub mod Replica
 pub mod Seen
-pub mod Places
 pub mod Tracked
-pub mod Refused
 pub mod Least
 pub mod Order
 pub mod Changes

@@ -10,7 +10,7 @@ use Rattle.ra_labels.specs.Visibility.{sees, is_update_at, IsCausal}
 use Rattle.ra_labels.specs.NamedOrder.{lowest_rank, rank_of, named_labels}
 use Rattle.ra_labels.specs.Answer.{misfit_of}
 use Rattle.ra_visibility.specs.declared.order.Place.{Place}
-use Rattle.ra_visibility.specs.Places.{issuer_of, place_of}
+use Rattle.ra_labels.specs.Places.{issuer_of, place_of}
 use Rattle.ra_visibility.specs.Seen.{Seen, is_in, count_in}
 
 -- the numbers of the labels, in the named order

@@ -12,8 +12,8 @@ ghost use Rattle.ra_visibility.specs.declared.order.Place.{Place};
 ghost use Rattle.ra_visibility.specs.Order.{IsSeenBy, IsPlaceOf, EachFitted};
 ghost use Rattle.ra_visibility.specs.Seen.{count_in};
 ghost use Rattle.ra_visibility.specs.Tracked.{Tracked, IsVisibilityOf, replicas_in, labels_in, had_count, seen_in, refusal_in};
-ghost use Rattle.ra_visibility.specs.Places.{issuer_of, place_of};
-ghost use Rattle.ra_visibility.specs.Refused.{refusal_at};
+ghost use Rattle.ra_labels.specs.Places.{issuer_of, place_of};
+ghost use Rattle.ra_labels.specs.Answer.{refusal_at};
 
 /// A delivery to a replica that is there is refused as the records say.
 pub fn refused_as_the_records_say()
