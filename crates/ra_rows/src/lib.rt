@@ -12,3 +12,5 @@ mod first_calls;
 mod histories;
 #[cfg(test)]
 mod limits;
+#[cfg(test)]
+mod visibility;
