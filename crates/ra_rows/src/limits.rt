@@ -67,10 +67,7 @@ fn thousands_of_labels_are_taken(rt: HostRuntime) -> Result<(), Fail> {
         reply_to(&rt, &mut monitor, Say::Got(2, 4_999)),
         Reply::Refused(Refusal::NotCausal(1))
     );
-    assert_eq!(rt;
-        reply_to(&rt, &mut monitor, Say::Got(2, 1)),
-        Reply::Got(1)
-    );
+    assert_eq!(rt; reply_to(&rt, &mut monitor, Say::Got(2, 1)), Reply::Got(1));
     assert_eq!(rt;
         reply_to(&rt, &mut monitor, Say::Read(2, 1)),
         Reply::Ok(5_000)
