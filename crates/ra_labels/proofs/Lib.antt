@@ -9,4 +9,7 @@ pub mod Places
 pub mod Unique
 pub mod Counting
 pub mod Exactly
+pub mod Updates
+pub mod FirstUpdates
+pub mod Missing
 pub mod TheLaws

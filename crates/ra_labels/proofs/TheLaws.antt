@@ -1,24 +1,26 @@
 -- The laws of the definitions, under the names of the functions whose clauses they are: of a law with several clauses,
 -- LAW-CLAUSE. The crates above cite these, and no other file of this folder.
-use Rattle.std.proofs.Common.{◌≡◌, ℕ, ◌<◌, true, Some, None, ap, refl}
+use Rattle.std.proofs.Common.{◌≡◌, ℕ, ◌<◌, true, List, [], Some, None, ap, refl}
 use Rattle.std.specs.Prelude.{◌↔◌, flat_map, reverse}
 use Rattle.ra_labels.specs.declared.kind.Kind.{Kind}
 use Rattle.ra_labels.specs.declared.kind.Kind.TheVariants.{Counter}
 use Rattle.ra_labels.specs.declared.operation.Op.{Op}
 use Rattle.ra_labels.specs.declared.label.Stamp.{Stamp}
 use Rattle.ra_labels.specs.contracts.label.StampOrd.TheImpl as derived
+use Rattle.ra_labels.specs.declared.command.Command.{Command}
 use Rattle.ra_labels.specs.declared.command.Command.TheVariants.{Deliver, Verdict}
 use Rattle.ra_labels.specs.declared.reply.Fault.{Fault}
 use Rattle.ra_labels.specs.Records.{Records, label_count, next_label, replica_count, records_to, labels_of}
-use Rattle.ra_labels.specs.Visibility.{is_update_at, sees}
+use Rattle.ra_labels.specs.Visibility.{is_update_at, sees, IsCausal}
 use Rattle.ra_labels.specs.Rewriting.{parts_of}
 use Rattle.ra_labels.specs.NamedOrder.{stamp_cmp, named_sequence}
 use Rattle.ra_labels.specs.Fault.{Holds, cause_of, fault_of}
-use Rattle.ra_labels.specs.Answer.{misfit_of, refusal_of}
+use Rattle.ra_labels.specs.Answer.{misfit_of, refusal_of, records_after_all}
 use Rattle.ra_labels.specs.Laws.{IsLeastFault}
 use Rattle.ra_labels.proofs.Seen.{sees_earlier}
 use Rattle.ra_labels.proofs.Holding.{holds_from_no_cause, no_cause_from_holds, each_label_holds, no_fault_from_labels, fault_is_least, only_least_fault}
 use Rattle.ra_labels.proofs.Order.{named_labels-by_number}
+use Rattle.ra_labels.proofs.Missing.{records_after_all-causal}
 -- laws::specification
 pub use Rattle.ra_labels.proofs.Counting.{state_after-nil as no_update_leaves_the_start, state_after-push as one_more_update_is_one_more_step, counter_within as a_counter_goes_no_further_than_its_updates}
 pub use Rattle.ra_labels.proofs.Exactly.{answers-count as a_count_is_answered_where_it_is_the_number}
@@ -27,6 +29,10 @@ pub use Rattle.ra_labels.proofs.Numbers.{label_at-operation as an_operation_is_f
 -- laws::visibility
 pub use Rattle.ra_labels.proofs.Exactly.{had-exactly as had_what_was_issued_or_delivered, sees-exactly as sees_what_its_replica_had}
 pub use Rattle.ra_labels.proofs.Seen.{sees-append as sees_the_same_later, is_update_at-append as is_the_same_later, had_update as had_updates-updates, is_update_at-below as had_updates-there, had-append as had_is_kept, causal-exactly as causal_where_each_delivery_is, had_closed as causal_records_leave_nothing_out-had, sees_through as causal_records_leave_nothing_out-sees}
+pub use Rattle.ra_labels.proofs.Missing.{least_missing as first_missing_is_the_least-some, none_missing as first_missing_is_the_least-none}
+-- laws::counts
+pub use Rattle.ra_labels.proofs.Updates.{issuer_of-operation as an_operation_has_its_place-issuer, place_of-operation as an_operation_has_its_place-place, updates_of-counted as an_operation_has_its_place-count, place-below as each_place_has_its_update-below, place-there as each_place_has_its_update-there, place-only as each_place_has_its_update-only}
+pub use Rattle.ra_labels.proofs.FirstUpdates.{had-first as first_updates_of_each_replica-had, sees-first as first_updates_of_each_replica-sees}
 -- laws::sequence
 pub use Rattle.ra_labels.proofs.Numbers.{numbers_of_labels as labels_are_numbered_in_turn, label_there as each_number_has_its_label-there, no_label_there as each_number_has_its_label-none}
 pub use Rattle.ra_labels.proofs.Unique.{label_found as each_number_has_its_label-found, named_labels-only as the_order_is_pinned}
@@ -39,6 +45,7 @@ pub use Rattle.ra_labels.proofs.Standing.{must_precede-irreflexive as no_part_pr
 pub use Rattle.ra_labels.proofs.Holding.{cause-order as the_cause_is_the_first_that_fails-order, cause-update as the_cause_is_the_first_that_fails-update, cause-query as the_cause_is_the_first_that_fails-query, holds_from_no_fault as no_fault_holds, fault_stays as a_fault_stays, no_fault_before as records_before_fault_have_none-none, all_before_fault as records_before_fault_have_none-all, count_before as records_before_fault_have_none-count, before_fault-prefix as records_before_fault_are_the_longest-prefix, before_fault-longest as records_before_fault_are_the_longest-longest}
 -- laws::answer
 pub use Rattle.ra_labels.proofs.Answering.{reply_says as what_a_reply_says, ok_is_evidence as ok_and_yes_are_evidence-ok, yes_is_evidence as ok_and_yes_are_evidence-yes, no_at_fault as no_exactly_at_a_fault, answer_of-fault as no_ever_after_a_fault-reply, records_after-fault as no_ever_after_a_fault-records, answers_to-append as answers_in_turn-replies, records_after_all-append as answers_in_turn-records, misfit_refuses as misfits_are_refused-operation}
+pub use Rattle.ra_labels.proofs.Missing.{not_causal-exactly as not_causal_where_a_seen_label_is_missing, delivered-exactly as delivered_where_causal, records_after-causal as answers_keep_records_causal-one}
 
 pub no_command_adds_a_replica : (first : ℕ) (records : Records) → replica_count first records ≡ first
 no_command_adds_a_replica first records = refl
@@ -77,3 +84,6 @@ no_fault_where_each_label_holds kind records = (each_label_holds kind records, n
 
 pub fault_is_the_least : (kind : Kind) (records : Records) (fault : Fault) → (fault_of kind records ≡ Some fault) ↔ IsLeastFault kind records fault
 fault_is_the_least kind records fault = (fault_is_least kind records fault, only_least_fault kind records fault)
+
+pub answers_keep_records_causal-all : (kind : Kind) (replicas : ℕ) (commands : List Command) → IsCausal (records_after_all kind replicas [] commands)
+answers_keep_records_causal-all kind replicas commands = records_after_all-causal kind replicas [] commands tt

@@ -1,5 +1,5 @@
 -- The refusals, and the one-thread monitor's answer.
-use Rattle.std.specs.Prelude.{ℕ, nat_lt, Bool, false, not, ◌&&◌, ◌||◌, List, [], ◌∷◌, Option, Some, None, is_some, if◌then◌else◌}
+use Rattle.std.specs.Prelude.{ℕ, nat_lt, Bool, false, not, ◌&&◌, ◌||◌, List, [], ◌∷◌, Option, Some, None, option_map, is_some, if◌then◌else◌}
 use Rattle.std.specs.Option.{option_or, option_map_or}
 use Rattle.ra_labels.specs.declared.kind.Kind.{Kind}
 use Rattle.ra_labels.specs.declared.operation.Op.{Op}
@@ -7,12 +7,12 @@ use Rattle.ra_labels.specs.declared.operation.Op.TheVariants.{Inc, Dec, Count}
 use Rattle.ra_labels.specs.declared.command.Command.{Command}
 use Rattle.ra_labels.specs.declared.command.Command.TheVariants.{Operate, Deliver, Verdict}
 use Rattle.ra_labels.specs.declared.refusal.Refusal.{Refusal}
-use Rattle.ra_labels.specs.declared.refusal.Refusal.TheVariants.{UnknownReplica, StampUnwanted, UnknownLabel, NotAnUpdate, AlreadySeen}
+use Rattle.ra_labels.specs.declared.refusal.Refusal.TheVariants.{UnknownReplica, StampUnwanted, UnknownLabel, NotAnUpdate, AlreadySeen, NotCausal}
 use Rattle.ra_labels.specs.declared.reply.Reply.{Reply}
 use Rattle.ra_labels.specs.declared.reply.Reply.TheVariants as reply
 use Rattle.ra_labels.specs.declared.reply.Fault.{Fault}
 use Rattle.ra_labels.specs.Records.{Records, label_count, replica_count}
-use Rattle.ra_labels.specs.Visibility.{had, is_update_at}
+use Rattle.ra_labels.specs.Visibility.{had, is_update_at, first_missing}
 use Rattle.ra_labels.specs.Fault.{fault_of}
 
 -- the refusal, where its sentence is true
@@ -40,15 +40,20 @@ abbrev pub refusal_of_operation : Kind → ℕ → Records → Command → ℕ �
 refusal_of_operation kind replicas records command by =
     first_of (when (not (nat_lt by (replica_count replicas records))) UnknownReplica ∷ misfit_of kind command ∷ [])
 
--- the refusals of a delivery, in their order
-abbrev pub refusal_of_delivery : ℕ → Records → ℕ → ℕ → Option Refusal
-refusal_of_delivery replicas records to label = first_of (
-    when (not (nat_lt to (replica_count replicas records))) UnknownReplica
-    ∷ when (not (nat_lt label (label_count records))) UnknownLabel
+-- the refusals of a delivery to a replica that is there, in their order
+abbrev pub refusal_at : Records → ℕ → ℕ → Option Refusal
+refusal_at records to label = first_of (
+    when (not (nat_lt label (label_count records))) UnknownLabel
     ∷ when (not (is_update_at records label)) NotAnUpdate
     ∷ when (had records to label) AlreadySeen
+    ∷ option_map NotCausal (first_missing records to label)
     ∷ []
     )
+
+-- the refusals of a delivery, in their order
+abbrev pub refusal_of_delivery : ℕ → Records → ℕ → ℕ → Option Refusal
+refusal_of_delivery replicas records to label =
+    first_of (when (not (nat_lt to (replica_count replicas records))) UnknownReplica ∷ refusal_at records to label ∷ [])
 
 -- the first refusal whose sentence is true of the command after these records
 abbrev pub refusal_of : Kind → ℕ → Records → Command → Option Refusal

@@ -1,5 +1,5 @@
 -- Words of the laws above the definitions.
-use Rattle.std.specs.Prelude.{◌≡◌, ℕ, zero, suc, ◌<◌, ◌⊎◌, Bool, true, false, List, [], ◌∷◌, ◌++◌, Contains, Option, Some, None}
+use Rattle.std.specs.Prelude.{◌≡◌, ℕ, zero, suc, ◌<◌, ◌≤◌, ◌⊎◌, nat_lt, Bool, true, false, List, [], ◌∷◌, ◌++◌, Contains, Option, Some, None}
 use Rattle.ra_labels.specs.declared.kind.Kind.{Kind}
 use Rattle.ra_labels.specs.declared.operation.Op.{Op}
 use Rattle.ra_labels.specs.declared.operation.Update.{Update}
@@ -13,6 +13,7 @@ use Rattle.ra_labels.specs.declared.reply.Reply.TheVariants as reply
 use Rattle.ra_labels.specs.Specification.{State, answers, state_after}
 use Rattle.ra_labels.specs.Records.{Records, label_count, records_to}
 use Rattle.ra_labels.specs.Visibility.{is_update, is_update_at, had, sees}
+use Rattle.ra_labels.specs.Places.{issuer_of, updates_of, place_of}
 use Rattle.ra_labels.specs.Rewriting.{Part, Does, Asks, QueryHalf, UpdateHalf}
 use Rattle.ra_labels.specs.Linearization.{visible_updates}
 use Rattle.ra_labels.specs.Fault.{Holds, cause_of, fault_of, fault_at}
@@ -44,6 +45,26 @@ WasIssuedHaving records n m =
 abbrev pub IsCausalDelivery : Records → ℕ → ℕ → Type 0
 IsCausalDelivery before replica n =
     (had before replica n ≡ false) × ((m : ℕ) → sees before n m ≡ true → had before replica m ≡ true)
+
+-- label n is an update that is new to the replica
+abbrev pub IsNewUpdate : Records → ℕ → ℕ → Type 0
+IsNewUpdate records replica n = (is_update_at records n ≡ true) × (had records replica n ≡ false)
+
+-- label n sees label m, the replica lacks it, and had each label before m that n sees
+pub record IsLeastMissing (records : Records) (replica n m : ℕ) : Type 0 where
+  pub seen : sees records n m ≡ true
+  pub missing : had records replica m ≡ false
+  pub least : (k : ℕ) → k < m → sees records n k ≡ true → had records replica k ≡ true
+
+-- label n is an update that the replica issued
+abbrev pub IsUpdateOf : Records → ℕ → ℕ → Type 0
+IsUpdateOf records replica n = (is_update_at records n ≡ true) × (issuer_of records n ≡ replica)
+
+-- of the replica's updates, the labels that pass the test are the first, as many as the count says
+abbrev pub AreFirstUpdates : Records → ℕ → ℕ → (ℕ → Bool) → Type 0
+AreFirstUpdates records replica count test =
+    (count ≤ updates_of records replica)
+    × ((n : ℕ) → IsUpdateOf records replica n → test n ≡ nat_lt (place_of records n) count)
 
 -- p is an update, and q's label sees p's
 abbrev pub IsUpdateSeenBy : Records → Part → Part → Type 0

@@ -1,6 +1,7 @@
 pub mod Specification
 pub mod Records
 pub mod Visibility
+pub mod Places
 pub mod Rewriting
 pub mod Linearization
 pub mod NamedOrder

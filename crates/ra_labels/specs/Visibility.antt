@@ -1,6 +1,7 @@
 -- What a replica had, what a label sees, and when records are causal.
-use Rattle.std.specs.Prelude.{◌≡◌, ℕ, ◌==◌, Bool, true, false, ◌&&◌, ◌||◌, [], ◌∷◌, if◌then◌else◌}
+use Rattle.std.specs.Prelude.{◌≡◌, ℕ, ◌==◌, Bool, true, false, not, ◌&&◌, ◌||◌, [], ◌∷◌, Option, if◌then◌else◌}
 use Rattle.std.specs.Option.{option_map_or}
+use Rattle.std.specs.List.{find, range_with_len}
 use Rattle.ra_labels.specs.declared.operation.Op.{Op}
 use Rattle.ra_labels.specs.declared.operation.Op.TheVariants.{Inc, Dec, Count}
 use Rattle.ra_labels.specs.declared.command.Command.TheVariants.{Operate, Deliver}
@@ -37,3 +38,11 @@ IsCausal [] = Unit {0}
 IsCausal (Deliver to label ∷ before) =
     (had before to label ≡ false) × ((m : ℕ) → sees before label m ≡ true → had before to m ≡ true) × IsCausal before
 IsCausal (_ ∷ before) = IsCausal before
+
+-- does label n see label m, and the replica lack it?
+abbrev pub lacks : Records → ℕ → ℕ → ℕ → Bool
+lacks records replica n m = sees records n m && not (had records replica m)
+
+-- the least label that label n sees and the replica lacks
+abbrev pub first_missing : Records → ℕ → ℕ → Option ℕ
+first_missing records replica n = find (lacks records replica n) (range_with_len 0 (label_count records))

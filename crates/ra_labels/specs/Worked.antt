@@ -34,10 +34,18 @@ the_read = record {
   act = Asks (query.Count (pos 1));
 }
 
--- `a inc`; `b got 0`; `b inc`; `c got 1`; `c read 1`: c has b's increment before a's, which b had
+-- `a inc`; `b got 0`; `b inc`; `c got 1`; `c got 0`; `c got 1`; `c read 2`: b's increment comes to c before a's, which
+-- b had
 abbrev pub delivered_out_of_causal_order : List Command
 delivered_out_of_causal_order =
-    Operate 0 Inc None ∷ Deliver 1 0 ∷ Operate 1 Inc None ∷ Deliver 2 1 ∷ Operate 2 (Count (pos 1)) None ∷ []
+    Operate 0 Inc None ∷ Deliver 1 0 ∷ Operate 1 Inc None ∷ Deliver 2 1 ∷ Deliver 2 0 ∷ Deliver 2 1
+    ∷ Operate 2 (Count (pos 2)) None ∷ []
+
+-- `a inc`; `b inc`; `a got 1`; `a inc`; `c got 2`; `c got 0`; `c got 2`; `c got 1`; `c got 2`
+abbrev pub two_are_missing : List Command
+two_are_missing =
+    Operate 0 Inc None ∷ Operate 1 Inc None ∷ Deliver 0 1 ∷ Operate 0 Inc None
+    ∷ Deliver 2 2 ∷ Deliver 2 0 ∷ Deliver 2 2 ∷ Deliver 2 1 ∷ Deliver 2 2 ∷ []
 
 -- `a inc`; `b got 0`; `c read 0`; `b read 1`
 abbrev pub delivered_to_one : List Command
@@ -96,8 +104,8 @@ stamped_and_unknown = Operate 0 Inc (Some 3) ∷ Operate 2 Inc None ∷ []
 abbrev pub each_refusal : List Command
 each_refusal =
     Operate 2 Inc (Some 3) ∷ Operate 0 Inc (Some 0) ∷ Deliver 2 0 ∷ Deliver 1 0
-    ∷ Operate 0 Inc None ∷ Operate 1 (Count (pos 0)) None
-    ∷ Deliver 1 1 ∷ Deliver 0 0 ∷ Deliver 1 0 ∷ Deliver 1 0 ∷ Deliver 1 2 ∷ Verdict ∷ []
+    ∷ Operate 0 Inc None ∷ Operate 0 (Count (pos 1)) None ∷ Operate 0 Inc None
+    ∷ Deliver 1 1 ∷ Deliver 0 0 ∷ Deliver 1 2 ∷ Deliver 1 0 ∷ Deliver 1 0 ∷ Deliver 1 2 ∷ Deliver 1 3 ∷ Verdict ∷ []
 
 -- the answers of a counter of three replicas, from the beginning
 abbrev pub answers_of_three : List Command → List Reply

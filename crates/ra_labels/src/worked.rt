@@ -8,7 +8,7 @@ ghost use Rattle.ra_labels.specs.declared.refusal.Refusal.TheVariants as refusal
 ghost use Rattle.ra_labels.specs.Linearization.{must_precede, extends_visibility};
 ghost use Rattle.ra_labels.specs.NamedOrder.{named_sequence};
 ghost use Rattle.ra_labels.specs.Fault.{fault_of, fault_at};
-ghost use Rattle.ra_labels.specs.Worked.{answers_of_three, records_of_three, seen_by, answers_of_two, delivered_and_read, delivered_out_of_causal_order, delivered_to_one, two_reads, read_numbered, the_query_half, the_update_half, the_increment, the_read, nothing_was_delivered, only_verdicts, nothing_to_count, each_counts_what_it_had, stamped_and_unknown, each_refusal};
+ghost use Rattle.ra_labels.specs.Worked.{answers_of_three, records_of_three, seen_by, answers_of_two, delivered_and_read, delivered_out_of_causal_order, two_are_missing, delivered_to_one, two_reads, read_numbered, the_query_half, the_update_half, the_increment, the_read, nothing_was_delivered, only_verdicts, nothing_to_count, each_counts_what_it_had, stamped_and_unknown, each_refusal};
 
 /// An increment that was delivered is counted.
 pub fn delivered_and_read_holds()
@@ -17,10 +17,18 @@ pub fn delivered_and_read_holds()
     ensures fault { fault_of Counter (records_of_three delivered_and_read) ≡ None }
 {}
 
-/// An update may be delivered before those that it saw: the reader counts what was delivered to it.
-pub fn delivered_out_of_causal_order_holds()
+/// An update is not delivered before those that it saw.
+pub fn delivered_out_of_causal_order_is_refused()
     ensures { answers_of_three delivered_out_of_causal_order
-        ≡ reply.Ok 0 ∷ reply.Got 0 ∷ reply.Ok 1 ∷ reply.Got 1 ∷ reply.Ok 2 ∷ [] }
+        ≡ reply.Ok 0 ∷ reply.Got 0 ∷ reply.Ok 1 ∷ reply.Refused (refusal.NotCausal 0) ∷ reply.Got 0 ∷ reply.Got 1
+        ∷ reply.Ok 2 ∷ [] }
+{}
+
+/// Where several are missing, the least is named.
+pub fn two_are_missing_and_the_least_is_named()
+    ensures { answers_of_three two_are_missing
+        ≡ reply.Ok 0 ∷ reply.Ok 1 ∷ reply.Got 1 ∷ reply.Ok 2 ∷ reply.Refused (refusal.NotCausal 0) ∷ reply.Got 0
+        ∷ reply.Refused (refusal.NotCausal 1) ∷ reply.Got 1 ∷ reply.Got 2 ∷ [] }
 {}
 
 /// What is delivered to one replica is not delivered to another.
@@ -85,7 +93,7 @@ pub fn each_refusal_in_its_order()
     ensures { answers_of_two each_refusal
         ≡ reply.Refused refusal.UnknownReplica ∷ reply.Refused refusal.StampUnwanted
         ∷ reply.Refused refusal.UnknownReplica ∷ reply.Refused refusal.UnknownLabel
-        ∷ reply.Ok 0 ∷ reply.Ok 1 ∷ reply.Refused refusal.NotAnUpdate
-        ∷ reply.Refused refusal.AlreadySeen ∷ reply.Got 0 ∷ reply.Refused refusal.AlreadySeen
-        ∷ reply.Refused refusal.UnknownLabel ∷ reply.Yes 2 ∷ [] }
+        ∷ reply.Ok 0 ∷ reply.Ok 1 ∷ reply.Ok 2 ∷ reply.Refused refusal.NotAnUpdate
+        ∷ reply.Refused refusal.AlreadySeen ∷ reply.Refused (refusal.NotCausal 0) ∷ reply.Got 0
+        ∷ reply.Refused refusal.AlreadySeen ∷ reply.Got 2 ∷ reply.Refused refusal.UnknownLabel ∷ reply.Yes 3 ∷ [] }
 {}

@@ -1,9 +1,9 @@
 -- The fold of the updates of labels, label by label.
 use Rattle.std.proofs.Common.{◌≡◌, ℕ, ◌+◌, ◌<◌, pos, neg_ℤ, ◌+ℤ◌, ◌-ℤ◌, ◌≤ℤ◌, Bool, true, false, cond, List, [], ◌∷◌, ◌++◌, map, length, get_or, take, Option, Some, None, refl, sym, ap, ◌∙◌, arith}
 use Rattle.std.specs.Prelude.{filter, filter_map, flat_map, fold, option_and_then, IfSome}
-use Rattle.std.specs.List.{cons_option}
+use Rattle.std.specs.List.{cons_option, slice_get}
 use Rattle.std.proofs.lemmas.Int.{ints}
-use Rattle.std.proofs.lemmas.List.{append-nil, map-append, take_more}
+use Rattle.std.proofs.lemmas.List.{append-nil, take_more}
 use Rattle.std.proofs.lemmas.List.Elements.{filter-append, filter_map-append}
 use Rattle.std.proofs.lemmas.Grind.{flat_map-append}
 use Rattle.ra_labels.specs.declared.kind.Kind.{Kind}
@@ -13,9 +13,7 @@ use Rattle.ra_labels.specs.declared.operation.Update.TheVariants.{Inc, Dec}
 use Rattle.ra_labels.specs.Specification.{State, Number, start_of, step_of, state_after}
 use Rattle.ra_labels.specs.Rewriting.{Half, Act, Part, acts_of, part_of, parts_of, update_of, updates_of}
 use Rattle.ra_seqspec.specs.Range.{IsInRange}
-use Rattle.ra_monitor.specs.declared.accepted.Accepted.{Accepted}
-use Rattle.ra_monitor.specs.History.{bare}
-use Rattle.ra_monitor.specs.Fold.{updates_in, updates_within}
+use Rattle.ra_monitor.specs.Fold.{updates_in, labels_at, updates_within}
 
 -- a counter's number is at most n from 0
 abbrev pub IsWithin : ℕ → State → Type 0
@@ -77,40 +75,76 @@ pub fold_both : (us vs : List Update) (s : Option State) → fold advance s (us 
 fold_both [] vs s = refl
 fold_both (u ∷ us) vs s = fold_both us vs (advance s u)
 
--- the labels up to one more
-pub bare_more : (labels : List Accepted) (i : ℕ) (a : Accepted) → i < length labels → a ≡ get_or labels i a
-    → bare (take (i + 1) labels) ≡ bare (take i labels) ++ a.label ∷ []
-bare_more labels i a l e =
-    ap bare (take_more labels i a l ∙ ap (λ (x : Accepted). take i labels ++ x ∷ []) (sym e))
-    ∙ map-append (λ (x : Accepted). x.label) (take i labels) (a ∷ [])
+-- the label at a number, as a list
+abbrev pub found_at : List Label → ℕ → List Label
+found_at labels n = labels_at labels (n ∷ [])
+
+-- the labels at the numbers up to one more
+pub labels_at-more : (labels : List Label) (numbers : List ℕ) (i : ℕ) → i < length numbers
+    → labels_at labels (take (i + 1) numbers) ≡ labels_at labels (take i numbers) ++ found_at labels (get_or numbers i 0)
+labels_at-more labels numbers i l =
+    ap (labels_at labels) (take_more numbers i 0 l) ∙ filter_map-append (slice_get labels) (take i numbers) (get_or numbers i 0 ∷ [])
+
+pub one_found : (labels : List Label) (numbers : List ℕ) (i : ℕ) (l : Label) → i < length numbers → slice_get labels (get_or numbers i 0) ≡ Some l
+    → labels_at labels (take (i + 1) numbers) ≡ labels_at labels (take i numbers) ++ l ∷ []
+one_found labels numbers i l below found =
+    labels_at-more labels numbers i below ∙ ap (λ (o : Option Label). labels_at labels (take i numbers) ++ cons_option o []) found
+
+-- a number without a label adds none
+pub none_found : (labels : List Label) (numbers : List ℕ) (i : ℕ) → i < length numbers → slice_get labels (get_or numbers i 0) ≡ None
+    → labels_at labels (take (i + 1) numbers) ≡ labels_at labels (take i numbers)
+none_found labels numbers i below found =
+    labels_at-more labels numbers i below
+    ∙ ap (λ (o : Option Label). labels_at labels (take i numbers) ++ cons_option o []) found
+    ∙ append-nil (labels_at labels (take i numbers))
 
 -- the state after one label more
-pub state_more : (kind : Kind) (test : ℕ → Bool) (labels : List Accepted) (i : ℕ) (a : Accepted) (b : Bool)
-    → i < length labels → a ≡ get_or labels i a → test a.label.number ≡ b
-    → state_after kind (updates_within test (bare (take (i + 1) labels)))
-    ≡ fold advance (state_after kind (updates_within test (bare (take i labels)))) (cond b (updates_in a.label.op) [])
-state_more kind test labels i a b l is e =
-    ap (λ ls. state_after kind (updates_within test ls)) (bare_more labels i a l is)
-    ∙ ap (state_after kind) (updates_within-append test (bare (take i labels)) a.label b e)
-    ∙ fold_both (updates_within test (bare (take i labels))) (cond b (updates_in a.label.op) []) (Some (start_of kind))
+pub state_more : (kind : Kind) (test : ℕ → Bool) (labels : List Label) (numbers : List ℕ) (i : ℕ) (l : Label) (b : Bool)
+    → i < length numbers → slice_get labels (get_or numbers i 0) ≡ Some l → test l.number ≡ b
+    → state_after kind (updates_within test (labels_at labels (take (i + 1) numbers)))
+    ≡ fold advance (state_after kind (updates_within test (labels_at labels (take i numbers)))) (cond b (updates_in l.op) [])
+state_more kind test labels numbers i l b below found e =
+    ap (λ ls. state_after kind (updates_within test ls)) (one_found labels numbers i l below found)
+    ∙ ap (state_after kind) (updates_within-append test (labels_at labels (take i numbers)) l b e)
+    ∙ fold_both (updates_within test (labels_at labels (take i numbers))) (cond b (updates_in l.op) []) (Some (start_of kind))
 
--- a label that does nothing leaves the state
-pub kept_without : (kind : Kind) (test : ℕ → Bool) (labels : List Accepted) (i : ℕ) (a : Accepted) (s : State)
-    → i < length labels → a ≡ get_or labels i a → test a.label.number ≡ true → [] ≡ updates_in a.label.op → IsWithin i s
-    → state_after kind (updates_within test (bare (take i labels))) ≡ Some s
-    → IsWithin (i + 1) s × (state_after kind (updates_within test (bare (take (i + 1) labels))) ≡ Some s)
-kept_without kind test labels i a s l is e none within so_far =
-    (within_more i s within, state_more kind test labels i a true l is e ∙ ap (fold advance (state_after kind (updates_within test (bare (take i labels))))) (sym none) ∙ so_far)
+-- what the fold keeps: the state after the labels so far
+abbrev pub IsSoFar : Kind → (ℕ → Bool) → List Label → List ℕ → ℕ → State → Type 0
+IsSoFar kind test labels numbers i s =
+    IsWithin i s × (state_after kind (updates_within test (labels_at labels (take i numbers))) ≡ Some s)
+
+pub kept_past : (kind : Kind) (test : ℕ → Bool) (labels : List Label) (numbers : List ℕ) (i : ℕ) (s : State)
+    → i < length numbers → slice_get labels (get_or numbers i 0) ≡ None → IsSoFar kind test labels numbers i s
+    → IsSoFar kind test labels numbers (i + 1) s
+kept_past kind test labels numbers i s below found kept =
+    (within_more i s kept.0, ap (λ ls. state_after kind (updates_within test ls)) (none_found labels numbers i below found) ∙ kept.1)
+
+-- a label that is not let through leaves the state
+pub kept_hidden : (kind : Kind) (test : ℕ → Bool) (labels : List Label) (numbers : List ℕ) (i : ℕ) (l : Label) (s : State)
+    → i < length numbers → slice_get labels (get_or numbers i 0) ≡ Some l → test l.number ≡ false → IsSoFar kind test labels numbers i s
+    → IsSoFar kind test labels numbers (i + 1) s
+kept_hidden kind test labels numbers i l s below found hidden kept =
+    (within_more i s kept.0, state_more kind test labels numbers i l false below found hidden ∙ kept.1)
+
+-- and so does one that does nothing
+pub kept_without : (kind : Kind) (test : ℕ → Bool) (labels : List Label) (numbers : List ℕ) (i : ℕ) (l : Label) (s : State)
+    → i < length numbers → slice_get labels (get_or numbers i 0) ≡ Some l → test l.number ≡ true → [] ≡ updates_in l.op
+    → IsSoFar kind test labels numbers i s → IsSoFar kind test labels numbers (i + 1) s
+kept_without kind test labels numbers i l s below found seen none kept = (
+  within_more i s kept.0,
+  state_more kind test labels numbers i l true below found seen
+      ∙ ap (fold advance (state_after kind (updates_within test (labels_at labels (take i numbers))))) (sym none)
+      ∙ kept.1,
+)
 
 -- a label that makes an update makes its step
-pub kept_by_update : (kind : Kind) (test : ℕ → Bool) (labels : List Accepted) (i : ℕ) (a : Accepted) (s t : State) (u : Update)
-    → i < length labels → a ≡ get_or labels i a → test a.label.number ≡ true → u ∷ [] ≡ updates_in a.label.op → step_of s u ≡ Some t → IsWithin i s
-    → state_after kind (updates_within test (bare (take i labels))) ≡ Some s
-    → IsWithin (i + 1) t × (state_after kind (updates_within test (bare (take (i + 1) labels))) ≡ Some t)
-kept_by_update kind test labels i a s t u l is e one step within so_far = (
-  step_within i s t u within step,
-  state_more kind test labels i a true l is e
-      ∙ ap (fold advance (state_after kind (updates_within test (bare (take i labels))))) (sym one)
-      ∙ ap (λ o. advance o u) so_far
+pub kept_by_update : (kind : Kind) (test : ℕ → Bool) (labels : List Label) (numbers : List ℕ) (i : ℕ) (l : Label) (s t : State) (u : Update)
+    → i < length numbers → slice_get labels (get_or numbers i 0) ≡ Some l → test l.number ≡ true → u ∷ [] ≡ updates_in l.op → step_of s u ≡ Some t
+    → IsSoFar kind test labels numbers i s → IsSoFar kind test labels numbers (i + 1) t
+kept_by_update kind test labels numbers i l s t u below found seen one step kept = (
+  step_within i s t u kept.0 step,
+  state_more kind test labels numbers i l true below found seen
+      ∙ ap (fold advance (state_after kind (updates_within test (labels_at labels (take i numbers))))) (sym one)
+      ∙ ap (λ o. advance o u) kept.1
       ∙ step,
 )

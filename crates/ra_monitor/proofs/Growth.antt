@@ -1,175 +1,228 @@
 -- What a history stands for after one record more.
-use Rattle.std.proofs.Common.{◌≡◌, ℕ, zero, suc, ◌+◌, ◌<◌, Bool, true, false, List, [], ◌∷◌, ◌++◌, length, get_or, take, reverse, Option, Some, None, refl, sym, ap, ◌∙◌, subst, ⊎_elim, arith, length-append}
-use mathlib.Core.List.{reverse-cons}
-use Rattle.std.specs.Prelude.{◌==◌, not, ◌&&◌, ◌||◌, option_map, vec_len, MatchBool, nat_lt}
+use Rattle.std.proofs.Common.{◌≡◌, ℕ, zero, suc, ◌<◌, ◌≤◌, Bool, false, List, [], ◌∷◌, ◌++◌, map, length, get_or, take, drop, reverse, Option, Some, None, refl, sym, ap, ◌∙◌, arith}
+use Rattle.std.specs.Prelude.{◌&&◌, option_map, cond, is_none, vec_len}
 use Rattle.std.specs.Option.{option_or, option_map_or}
-use Rattle.std.proofs.lemmas.List.{map-append, take-append-le, take_all}
-use Rattle.std.proofs.lemmas.Bool.{eqb-true, cases_lt, eq-eqb, ne_eqb, not-false}
-use Rattle.std.proofs.Math.Bool.{and-true, and-false}
+use Rattle.std.specs.List.{insert}
+use mathlib.Core.List.{reverse-cons}
+use Rattle.std.proofs.lemmas.List.{map-append, length-map}
+use Rattle.std.proofs.lemmas.List.Sorted.{length_permutation}
+use Rattle.std.proofs.Math.Seq.{get_or-append_seam}
+use Rattle.ra_labels.specs.declared.kind.Kind.{Kind}
 use Rattle.ra_labels.specs.declared.operation.Op.{Op}
-use Rattle.ra_labels.specs.declared.command.Command.TheVariants.{Operate, Deliver}
-use Rattle.ra_labels.specs.declared.refusal.Refusal.{Refusal}
-use Rattle.ra_labels.specs.declared.refusal.Refusal.TheVariants.{UnknownReplica, UnknownLabel, NotAnUpdate, AlreadySeen}
+use Rattle.ra_labels.specs.declared.label.Label.{Label}
+use Rattle.ra_labels.specs.declared.command.Command.TheVariants.{Operate, Deliver, Verdict}
 use Rattle.ra_labels.specs.declared.reply.Cause.{Cause}
-use Rattle.ra_labels.specs.declared.reply.Fault.{Fault}
-use Rattle.ra_labels.specs.declared.reply.Reply.{Reply}
+use Rattle.ra_labels.specs.declared.reply.Cause.TheVariants as cause
 use Rattle.ra_labels.specs.declared.reply.Reply.TheVariants.{Ok}
-use Rattle.ra_labels.specs.Records.{Records, label_count, label_at, labels_of, next_label}
-use Rattle.ra_labels.specs.Visibility.{had, sees, is_update, is_update_at}
-use Rattle.ra_labels.specs.Fault.{fault_of, fault_at, cause_of}
-use Rattle.ra_labels.specs.Answer.{when, refusal_of_delivery, no_at}
+use Rattle.ra_labels.specs.Records.{Records, label_count, labels_of, next_label}
+use Rattle.ra_labels.specs.Visibility.{IsCausal}
+use Rattle.ra_labels.specs.Linearization.{extends_visibility}
+use Rattle.ra_labels.specs.NamedOrder.{named_labels, named_sequence}
+use Rattle.ra_labels.specs.Fault.{fault_of, fault_at, cause_of, records_before_fault}
+use Rattle.ra_labels.specs.Answer.{no_at, misfit_of, answer_to_accepted}
+use Rattle.ra_labels.proofs.TheLaws.{no_fault_holds, records_before_fault_have_none-all, records_before_fault_are_the_longest-prefix, named_labels_are_sorted-same}
+use Rattle.ra_visibility.specs.declared.order.Place.{Place}
+use Rattle.ra_visibility.specs.Seen.{Seen}
+use Rattle.ra_visibility.specs.Tracked.{IsVisibilityOf, seen_in}
+use Rattle.ra_visibility.specs.Order.{ComesNext, IsPlaceOf, numbers_in}
+use Rattle.ra_visibility.proofs.TheLaws.{what_a_label_sees, a_label_comes_to_its_place-inserted, visibility_is_extended_where_a_label_fits}
 use Rattle.ra_monitor.specs.declared.setup.Setup.{Setup}
-use Rattle.ra_monitor.specs.declared.accepted.Accepted.{Accepted}
 use Rattle.ra_monitor.specs.declared.history.History.{History}
-use Rattle.ra_monitor.specs.declared.seen.Seen.{Seen}
-use Rattle.ra_monitor.specs.declared.had.Had.{Had}
-use Rattle.ra_monitor.specs.Seen.{has_in}
-use Rattle.ra_monitor.specs.Had.{AddsHad, SameHad}
-use Rattle.ra_monitor.specs.History.{AreLabelsOf, StandsFor}
+use Rattle.ra_monitor.specs.Order.{listed_in, IsOrderOf, lists_named, keeps_delivered}
+use Rattle.ra_monitor.specs.History.{StandsFor, HasNewest}
+use Rattle.ra_monitor.proofs.Named.{labels_counted, counted_in_turn}
 
--- an element of a list with one more at the end
-get_or-front : {A : Type 0} (xs : List A) (y d : A) (n : ℕ) → n < length xs → get_or (xs ++ y ∷ []) n d ≡ get_or xs n d
-get_or-front [] y d n l = absurd (omega arith)
-get_or-front (x ∷ xs) y d zero l = refl
-get_or-front (x ∷ xs) y d (suc n) l = get_or-front xs y d n (omega arith)
+-- where nothing failed, the records before the fault are all
+pub none_lost : (kind : Kind) (records : Records) → fault_of kind records ≡ None → records_before_fault kind records ≡ records
+none_lost kind records none = records_before_fault_have_none-all kind records none
 
-get_or-end : {A : Type 0} (xs : List A) (y d : A) (n : ℕ) → n ≡ length xs → get_or (xs ++ y ∷ []) n d ≡ y
-get_or-end [] y d n e = rw e refl
-get_or-end (x ∷ xs) y d zero e = absurd (omega arith)
-get_or-end (x ∷ xs) y d (suc n) e = get_or-end xs y d n (omega arith)
+-- the newest label stands behind the others
+pub labels_more : (records : Records) (by : ℕ) (op : Op) (clock : Option ℕ)
+    → reverse (labels_of (Operate by op clock ∷ records)) ≡ reverse (labels_of records) ++ next_label records by op clock ∷ []
+labels_more records by op clock = reverse-cons (next_label records by op clock) (labels_of records)
 
--- where the second test implies the third, the third says nothing more
-and_given : (a b c : Bool) → (b ≡ true → c ≡ true) → ((a && b) && c) ≡ (a && b)
-and_given true true c h = h refl
-and_given true false c h = refl
-and_given false b c h = refl
+newest_label : (labels : List Label) (records : Records) (by : ℕ) (op : Op) (clock : Option ℕ) (n : ℕ) (d : Label)
+    → labels ≡ reverse (labels_of (Operate by op clock ∷ records)) → n ≡ label_count records → get_or labels n d ≡ next_label records by op clock
+newest_label labels records by op clock n d in_turn is =
+    let label = next_label records by op clock in
+    let older = reverse (labels_of records) in
+    ap (λ (ls : List Label). get_or ls n d) (in_turn ∙ labels_more records by op clock)
+    ∙ ap (λ (k : ℕ). get_or (older ++ label ∷ []) k d) (is ∙ sym (counted_in_turn records))
+    ∙ get_or-append_seam older label [] d
 
--- what holds at each index, and of one more at the end
-at_each : (P : ℕ → Accepted → Type 0) (labels : List Accepted) (a : Accepted)
-    → ((n : ℕ) (d : Accepted) → n < length labels → P n (get_or labels n d)) → P (length labels) a
-    → (n : ℕ) (d : Accepted) → n < length (labels ++ a ∷ []) → P n (get_or (labels ++ a ∷ []) n d)
-at_each P labels a front end n d l = ⊎_elim
-    (λ lower. subst (P n) (sym (get_or-front labels a d n lower)) (front n d lower))
-    (λ above.
-    let e : n ≡ length labels = omega (arith, length-append labels (a ∷ [])) in
-    subst (P n) (sym (get_or-end labels a d n e)) (subst (λ k. P k a) (sym e) end))
-    (cases_lt n (length labels))
-
--- the labels with one more
-pub labels_grow : (labels : List Accepted) (records : Records) (a : Accepted) (by : ℕ) (op : Op) (clock : Option ℕ) → AreLabelsOf labels records
-    → a.label ≡ next_label records by op clock → ((m : ℕ) → has_in a.seen m ≡ had records by m)
-    → AreLabelsOf (labels ++ a ∷ []) (Operate by op clock ∷ records)
-labels_grow labels records a by op clock are is sees_had = record {
-  count = length-append labels (a ∷ []) ∙ ap (λ n. n + 1) are.count;
-  in_order = map-append (λ (x : Accepted). x.label) labels (a ∷ []) ∙ ap (λ ls. ls ++ a.label ∷ []) are.in_order ∙ ap (λ l. reverse (labels_of records) ++ l ∷ []) is ∙ sym (reverse-cons (next_label records by op clock) (labels_of records));
-  numbered = at_each (λ n x. x.label.number ≡ n) labels a are.numbered (ap (λ l. l.number) is ∙ sym are.count);
-  at = at_each (λ n x. label_at (Operate by op clock ∷ records) n ≡ Some x.label) labels a
-      (λ n d lower.
-      let other : (label_count records == n) ≡ false = ne_eqb (label_count records) n (λ e. absurd (omega (arith, are.count, e, lower))) in
-      rw other (are.at n d lower))
-      (let this : (label_count records == length labels) ≡ true = eq-eqb (label_count records) (length labels) (sym are.count) in
-      rw this (ap Some (sym is)));
-  seen = λ n m d l. at_each (λ k x. has_in x.seen m ≡ sees (Operate by op clock ∷ records) k m) labels a
-      (λ k d lower.
-      let other : (k == label_count records) ≡ false = ne_eqb k (label_count records) (λ e. absurd (omega (arith, are.count, e, lower))) in
-      rw other (are.seen k m d lower))
-      (let this : (length labels == label_count records) ≡ true = eq-eqb (length labels) (label_count records) are.count in
-      rw this (sees_had m))
-      n d l;
+-- the newest label comes to the order
+pub comes_next : (history : History) (setup : Setup) (records : Records) (by : ℕ) (op : Op) (clock : Option ℕ) (label : Label) (seen : Seen) (n : ℕ)
+    → HasNewest history setup records by op clock → label ≡ get_or history.labels.items n label → n ≡ label_count records
+    → seen ≡ seen_in history.tracker.now n → ComesNext setup.kind setup.replicas records by op clock label seen
+comes_next history setup records by op clock label seen n newest at is sees = record {
+  causal = newest.causal;
+  replica = newest.replica;
+  fits = newest.fits;
+  next = at ∙ newest_label history.labels.items records by op clock n label newest.labels is;
+  sees = rw (sees, is) (what_a_label_sees history.tracker.now setup.replicas (Operate by op clock ∷ records) (label_count records) newest.tracker (omega (arith, newest.tracker.labels)));
 }
 
--- a refusal that does not apply
-when_none : (b : Bool) (refusal : Refusal) (later : Option Refusal) → option_or (when b refusal) later ≡ None → (b ≡ false) × (later ≡ None)
-when_none true refusal later none = absurd (cc none)
-when_none false refusal later none = (refl, none)
+map-take : {A B : Type 0} (f : A → B) (n : ℕ) (xs : List A) → map f (take n xs) ≡ take n (map f xs)
+map-take f zero xs = refl
+map-take f (suc n) [] = refl
+map-take f (suc n) (x ∷ xs) = ap (λ ys. f x ∷ ys) (map-take f n xs)
 
--- a delivery that is not refused is one of an update
-pub delivers_update : (replicas : ℕ) (records : Records) (to label : ℕ) → refusal_of_delivery replicas records to label ≡ None → is_update_at records label ≡ true
-delivers_update replicas records to label none =
-    let seen_before = option_or (when (had records to label) AlreadySeen) None in
-    let no_update = option_or (when (not (is_update_at records label)) NotAnUpdate) seen_before in
-    let not_there = option_or (when (not (nat_lt label (label_count records))) UnknownLabel) no_update in
-    let known = when_none (not (nat_lt to replicas)) UnknownReplica not_there none in
-    let there = when_none (not (nat_lt label (label_count records))) UnknownLabel no_update known.1 in
-    let update = when_none (not (is_update_at records label)) NotAnUpdate seen_before there.1 in
-    not-false (is_update_at records label) update.0
+map-drop : {A B : Type 0} (f : A → B) (n : ℕ) (xs : List A) → map f (drop n xs) ≡ drop n (map f xs)
+map-drop f zero xs = refl
+map-drop f (suc n) [] = refl
+map-drop f (suc n) (x ∷ xs) = map-drop f n xs
 
--- the history with room made, or an element taken back
-pub stands_same : (old new : History) (setup : Setup) (records : Records) → StandsFor old setup records
-    → new.labels.items ≡ old.labels.items → new.fault ≡ old.fault → SameHad old.had new.had → StandsFor new setup records
-stands_same old new setup records stands labels fault same = record {
-  labels = subst (λ (l : List Accepted). AreLabelsOf l records) (sym labels) stands.labels;
-  replicas = same.count ∙ stands.replicas;
-  had = λ r m d below. same.same r m d (omega (arith, stands.replicas)) ∙ stands.had r m d below;
-  fault = fault ∙ stands.fault;
-}
+map-insert : {A B : Type 0} (f : A → B) (xs : List A) (n : ℕ) (x : A) → map f (insert xs n x) ≡ insert (map f xs) n (f x)
+map-insert f xs n x =
+    map-append f (take n xs) (x ∷ drop n xs) ∙ ap (λ ys. ys ++ f x ∷ map f (drop n xs)) (map-take f n xs) ∙ ap (λ ys. take n (map f xs) ++ f x ∷ ys) (map-drop f n xs)
 
--- the history after a delivery
-pub stands_delivered : (old new : History) (setup : Setup) (records : Records) (to label : ℕ) → StandsFor old setup records → is_update_at records label ≡ true
-    → new.labels.items ≡ old.labels.items → new.fault ≡ old.fault → AddsHad old.had new.had to label
-    → StandsFor new setup (Deliver to label ∷ records)
-stands_delivered old new setup records to label stands update labels fault adds = record {
-  labels = subst (λ (l : List Accepted). AreLabelsOf l (Deliver to label ∷ records)) (sym labels) (record { count = stands.labels.count; in_order = stands.labels.in_order; numbered = stands.labels.numbered; at = stands.labels.at; seen = stands.labels.seen });
-  replicas = adds.count ∙ stands.replicas;
-  had = λ r m d below.
-      let add = adds.adds r m d (omega (arith, stands.replicas)) in
-      let given = and_given (to == r) (m == label) (is_update_at records m) (λ here. ap (is_update_at records) (eqb-true m label here) ∙ update) in
-      add ∙ ap (λ b. (to == r && m == label) || b) (stands.had r m d below) ∙ ap (λ b. b || had records r m) (sym given);
-  fault = fault ∙ stands.fault;
-}
+-- the numbers in the named order, with the newest label at its place
+pub numbers_more : (kind : Kind) (records : Records) (by : ℕ) (op : Op) (clock : Option ℕ) (place : Place) (n : ℕ)
+    → IsPlaceOf kind records by op clock place → n ≡ label_count records
+    → insert (numbers_in kind records) place.at n ≡ numbers_in kind (Operate by op clock ∷ records)
+numbers_more kind records by op clock place n is same =
+    let number : Label → ℕ = λ label. label.number in
+    ap (insert (numbers_in kind records) place.at) same
+    ∙ sym (map-insert number (named_labels kind records) place.at (next_label records by op clock))
+    ∙ ap (map number) (sym (a_label_comes_to_its_place-inserted kind records by op clock place is))
 
--- what replicas had after an operation
-had_accepted : (old new : Had) (records : Records) (replicas by : ℕ) (op : Op) (clock : Option ℕ) (is_so : Bool) → is_update op ≡ is_so
-    → vec_len old.sets ≡ replicas
-    → ((r m : ℕ) (d : Seen) → r < replicas → has_in (get_or old.sets.items r d) m ≡ had records r m)
-    → MatchBool is_so (AddsHad old new by (label_count records)) (new ≡ old)
-    → (r m : ℕ) (d : Seen) → r < replicas → has_in (get_or new.sets.items r d) m ≡ had (Operate by op clock ∷ records) r m
-had_accepted old new records replicas by op clock true is count same adds r m d below =
-    adds.adds r m d (omega (arith, count))
-    ∙ ap (λ b. (by == r && m == label_count records) || b) (same r m d below)
-    ∙ ap (λ b. b || had records r m) (sym (ap (λ b. (by == r && m == label_count records) && b) is ∙ and-true (by == r && m == label_count records)))
-had_accepted old new records replicas by op clock false is count same stays r m d below =
-    ap (λ (h : Had). has_in (get_or h.sets.items r d) m) stays
-    ∙ same r m d below
-    ∙ ap (λ b. b || had records r m) (sym (ap (λ b. (by == r && m == label_count records) && b) is ∙ and-false (by == r && m == label_count records)))
+-- where nothing failed, the order extends visibility exactly where the newest label fits
+pub extends_where_it_fits : (kind : Kind) (records : Records) (by : ℕ) (op : Op) (clock : Option ℕ) (place : Place) (fits : Bool)
+    → fault_of kind records ≡ None → IsPlaceOf kind records by op clock place → place.fits ≡ fits
+    → extends_visibility (Operate by op clock ∷ records) (named_sequence kind (Operate by op clock ∷ records)) ≡ fits
+extends_where_it_fits kind records by op clock place fits none is said =
+    visibility_is_extended_where_a_label_fits kind records by op clock place is
+    ∙ ap (λ b. b && place.fits) (no_fault_holds kind records none).visibility
+    ∙ said
 
-count_accepted : (old new : Had) (by label : ℕ) (is_so : Bool) → MatchBool is_so (AddsHad old new by label) (new ≡ old) → vec_len new.sets ≡ vec_len old.sets
-count_accepted old new by label true adds = adds.count
-count_accepted old new by label false stays = ap (λ (h : Had). vec_len h.sets) stays
+pub order_fails : (kind : Kind) (records : Records) → extends_visibility records (named_sequence kind records) ≡ false → cause_of kind records ≡ Some cause.Order
+order_fails kind records fails = rw fails refl
 
--- the history after an operation
-pub stands_accepted : (old new : History) (setup : Setup) (records : Records) (by : ℕ) (op : Op) (clock : Option ℕ) (why : Option Cause)
-    → StandsFor old setup records → fault_of setup.kind records ≡ None
-    → AreLabelsOf new.labels.items (Operate by op clock ∷ records)
-    → why ≡ cause_of setup.kind (Operate by op clock ∷ records)
-    → new.fault ≡ option_map (fault_at (label_count records)) why
-    → MatchBool (is_update op) (AddsHad old.had new.had by (label_count records)) (new.had ≡ old.had)
+-- the fault with the newest label
+pub fault_with : (kind : Kind) (records : Records) (by : ℕ) (op : Op) (clock : Option ℕ) (why : Option Cause)
+    → fault_of kind records ≡ None → why ≡ cause_of kind (Operate by op clock ∷ records)
+    → fault_of kind (Operate by op clock ∷ records) ≡ option_map (fault_at (label_count records)) why
+fault_with kind records by op clock why none because =
+    ap (λ o. option_or o (option_map (fault_at (label_count records)) (cause_of kind (Operate by op clock ∷ records)))) none
+    ∙ ap (option_map (fault_at (label_count records))) (sym because)
+
+-- with a newest label that fails, the records before the fault stay
+before_failed : (kind : Kind) (records : Records) (by : ℕ) (op : Op) (clock : Option ℕ) (why : Cause)
+    → fault_of kind records ≡ None → Some why ≡ cause_of kind (Operate by op clock ∷ records)
+    → records_before_fault kind (Operate by op clock ∷ records) ≡ records
+before_failed kind records by op clock why none because =
+    ap (λ o. cond (is_none o) (Operate by op clock ∷ records) (records_before_fault kind records)) (fault_with kind records by op clock (Some why) none because)
+    ∙ none_lost kind records none
+
+-- the newest label is taken into the order
+pub stands_taken : (old new : History) (setup : Setup) (records : Records) (by : ℕ) (op : Op) (clock : Option ℕ)
+    → HasNewest old setup records by op clock → None ≡ cause_of setup.kind (Operate by op clock ∷ records)
+    → IsOrderOf new.order setup.kind setup.replicas (Operate by op clock ∷ records)
+    → new.labels ≡ old.labels → new.tracker ≡ old.tracker → new.fault ≡ old.fault
     → StandsFor new setup (Operate by op clock ∷ records)
-stands_accepted old new setup records by op clock why stands none labels because fault changes = record {
-  labels = labels;
-  replicas = count_accepted old.had new.had by (label_count records) (is_update op) changes ∙ stands.replicas;
-  had = had_accepted old.had new.had records setup.replicas by op clock (is_update op) refl stands.replicas stands.had changes;
-  fault =
-      fault ∙ ap (option_map (fault_at (label_count records))) because
-      ∙ sym (ap (λ o. option_or o (option_map (fault_at (label_count records)) (cause_of setup.kind (Operate by op clock ∷ records)))) none);
+stands_taken old new setup records by op clock newest because order labels tracker fault =
+    let now = Operate by op clock ∷ records in
+    let none : fault_of setup.kind now ≡ None = fault_with setup.kind records by op clock None newest.none because in
+    record {
+      tracker = rw tracker newest.tracker;
+      causal = newest.causal;
+      labels = ap (λ ls. ls.items) labels ∙ newest.labels;
+      order = rw (none_lost setup.kind now none) order;
+      fault = fault ∙ newest.fault ∙ newest.none ∙ sym none;
+    }
+
+-- or it fails
+pub stands_failed : (old new : History) (setup : Setup) (records : Records) (by : ℕ) (op : Op) (clock : Option ℕ) (why : Cause) (n : ℕ)
+    → HasNewest old setup records by op clock → Some why ≡ cause_of setup.kind (Operate by op clock ∷ records) → n ≡ label_count records
+    → new.order ≡ old.order → new.labels ≡ old.labels → new.tracker ≡ old.tracker → new.fault ≡ Some (fault_at n why)
+    → StandsFor new setup (Operate by op clock ∷ records)
+stands_failed old new setup records by op clock why n newest because is order labels tracker fault = record {
+  tracker = rw tracker newest.tracker;
+  causal = newest.causal;
+  labels = ap (λ ls. ls.items) labels ∙ newest.labels;
+  order = rw (before_failed setup.kind records by op clock why newest.none because, order) newest.order;
+  fault = fault ∙ ap (λ (k : ℕ). Some (fault_at k why)) is ∙ sym (fault_with setup.kind records by op clock (Some why) newest.none because);
 }
 
 mapped : (n : ℕ) (why : Option Cause) → option_map_or (λ w. no_at (fault_at n w)) why (Ok n) ≡ option_map_or no_at (option_map (fault_at n) why) (Ok n)
 mapped n None = refl
 mapped n (Some why) = refl
 
--- the reply to an operation that is not refused
-pub reply_accepted : (reply : Reply) (n count : ℕ) (earlier : Option Fault) (why at : Option Cause)
-    → reply ≡ option_map_or (λ w. no_at (fault_at n w)) why (Ok n) → n ≡ count → earlier ≡ None → why ≡ at
-    → reply ≡ option_map_or no_at (option_or earlier (option_map (fault_at count) at)) (Ok count)
-reply_accepted reply n count earlier why at is same none because =
-    is
-    ∙ ap (λ (k : ℕ). option_map_or (λ w. no_at (fault_at k w)) why (Ok k)) same
-    ∙ ap (λ (w : Option Cause). option_map_or (λ w'. no_at (fault_at count w')) w (Ok count)) because
-    ∙ mapped count at
-    ∙ sym (ap (λ (o : Option Fault). option_map_or no_at (option_or o (option_map (fault_at count) at)) (Ok count)) none)
+-- the reply to the newest label
+pub reply_to : (kind : Kind) (records : Records) (by : ℕ) (op : Op) (clock : Option ℕ) (why : Option Cause) (n : ℕ)
+    → fault_of kind records ≡ None → why ≡ cause_of kind (Operate by op clock ∷ records) → n ≡ label_count records
+    → option_map_or (λ w. no_at (fault_at n w)) why (Ok n) ≡ answer_to_accepted kind records (Operate by op clock)
+reply_to kind records by op clock why n none because is =
+    ap (λ (k : ℕ). option_map_or (λ w. no_at (fault_at k w)) why (Ok k)) is
+    ∙ mapped (label_count records) why
+    ∙ sym (ap (λ o. option_map_or no_at o (Ok (label_count records))) (fault_with kind records by op clock why none because))
 
--- an element that was pushed is taken back
-pub pushed_and_popped : {A : Type 0} (xs ys zs : List A) (x : A) (n : ℕ) → ys ≡ xs ++ x ∷ [] → zs ≡ take n ys → n ≡ length xs → zs ≡ xs
-pushed_and_popped xs ys zs x n pushed popped e =
-    popped ∙ ap (take n) pushed ∙ take-append-le n xs (x ∷ []) (omega (arith, e)) ∙ take_all n xs (omega (arith, e))
+-- the history after a delivery
+pub stands_delivered : (old new : History) (setup : Setup) (records : Records) (to label : ℕ)
+    → StandsFor old setup records → fault_of setup.kind records ≡ None
+    → IsVisibilityOf new.tracker.now setup.replicas (Deliver to label ∷ records) → IsCausal (Deliver to label ∷ records)
+    → new.labels ≡ old.labels → new.order ≡ old.order → new.fault ≡ old.fault
+    → StandsFor new setup (Deliver to label ∷ records)
+stands_delivered old new setup records to label stands none tracker causal labels order fault = record {
+  tracker = tracker;
+  causal = causal;
+  labels = ap (λ ls. ls.items) labels ∙ stands.labels;
+  order = rw (none_lost setup.kind (Deliver to label ∷ records) none, order)
+      (keeps_delivered old.order setup.kind setup.replicas records to label (rw (none_lost setup.kind records none) at stands.order));
+  fault = fault ∙ stands.fault;
+}
+
+-- the history with the newest label
+pub newest_stands : (old new : History) (setup : Setup) (records : Records) (by : ℕ) (op : Op) (clock : Option ℕ) (label : Label)
+    → StandsFor old setup records → fault_of setup.kind records ≡ None
+    → IsVisibilityOf new.tracker.now setup.replicas (Operate by op clock ∷ records)
+    → label ≡ next_label records by op clock → new.labels.items ≡ old.labels.items ++ label ∷ []
+    → IsOrderOf new.order setup.kind setup.replicas (records_before_fault setup.kind records) → new.fault ≡ old.fault
+    → by < setup.replicas → misfit_of setup.kind (Operate by op clock) ≡ None
+    → HasNewest new setup records by op clock
+newest_stands old new setup records by op clock label stands none tracker is labels order fault known fits = record {
+  tracker = tracker;
+  causal = stands.causal;
+  labels = labels ∙ ap (λ ls. ls ++ label ∷ []) stands.labels ∙ ap (λ l. reverse (labels_of records) ++ l ∷ []) is ∙ sym (labels_more records by op clock);
+  order = rw (none_lost setup.kind records none) at order;
+  fault = fault ∙ stands.fault;
+  none = none;
+  replica = known;
+  fits = fits;
+}
+
+-- the history with a label taken back, or room made
+pub stands_same : (old new : History) (setup : Setup) (records : Records) → StandsFor old setup records
+    → new.tracker.now ≡ old.tracker.now → new.labels.items ≡ old.labels.items
+    → IsOrderOf new.order setup.kind setup.replicas (records_before_fault setup.kind records) → new.fault ≡ old.fault
+    → StandsFor new setup records
+stands_same old new setup records stands tracker labels order fault = record {
+  tracker = rw tracker stands.tracker;
+  causal = stands.causal;
+  labels = labels ∙ stands.labels;
+  order = order;
+  fault = fault ∙ stands.fault;
+}
+
+-- there are as many labels as the records say
+pub labels_known : (history : History) (setup : Setup) (records : Records) → StandsFor history setup records → vec_len history.labels ≡ label_count records
+labels_known history setup records stands = omega (arith, history.labels.ok.0, ap length stands.labels, counted_in_turn records)
+
+fewer_before : (later records : Records) → label_count records ≤ label_count (later ++ records)
+fewer_before [] records = omega arith
+fewer_before (Operate by op clock ∷ later) records = omega (arith, fewer_before later records)
+fewer_before (Deliver to label ∷ later) records = fewer_before later records
+fewer_before (Verdict ∷ later) records = fewer_before later records
+
+-- and no more stand in the order
+pub listed_known : (history : History) (setup : Setup) (records : Records) → StandsFor history setup records → length (listed_in history.order) ≤ vec_len history.labels
+listed_known history setup records stands =
+    let before = records_before_fault setup.kind records in
+    let prefix = records_before_fault_are_the_longest-prefix setup.kind records in
+    let named = named_labels setup.kind before in
+    let listed : length (listed_in history.order) ≡ label_count before =
+    ap length (lists_named history.order setup.kind setup.replicas before stands.order)
+    ∙ length-map named (λ (label : Label). label.number)
+    ∙ length_permutation (labels_of before) named (named_labels_are_sorted-same setup.kind before)
+    ∙ labels_counted before in
+    omega (arith, listed, labels_known history setup records stands, ap label_count prefix.1, fewer_before prefix.0 before)

@@ -1,8 +1,8 @@
+pub mod Finding
 pub mod Folding
-pub mod Execution
+pub mod Named
 pub mod Queries
 pub mod Growth
 pub mod Legal
 pub mod Keeping
-pub mod BeforeFault
 pub mod LogLaws

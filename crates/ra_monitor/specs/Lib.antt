@@ -3,7 +3,7 @@ pub mod Monitor
 pub mod Limits
 pub mod Kept
 pub mod Sequence
-pub mod Seen
-pub mod Had
+pub mod Order
 pub mod History
+pub mod Parts
 pub mod Fold

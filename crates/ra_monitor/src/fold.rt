@@ -1,38 +1,44 @@
-ghost use Rattle.std.specs.Prelude.{◌≡◌, ◌≤◌, length, IfOk};
+ghost use Rattle.std.specs.Prelude.{◌≡◌, ◌≤◌, ℕ, true, length, reverse, IfOk};
 ghost use Rattle.ra_labels.specs.Specification.{state_after, is_answered_after};
-ghost use Rattle.ra_labels.specs.Records.{Records};
+ghost use Rattle.ra_labels.specs.Records.{Records, labels_of};
+ghost use Rattle.ra_labels.specs.Linearization.{extends_visibility};
+ghost use Rattle.ra_labels.specs.NamedOrder.{named_sequence};
 ghost use Rattle.ra_labels.specs.Fault.{cause_of};
-ghost use Rattle.ra_monitor.specs.History.{bare, AreLabelsOf};
-ghost use Rattle.ra_monitor.specs.Seen.{has_in};
-ghost use Rattle.ra_monitor.specs.Fold.{updates_within, includes};
+ghost use Rattle.ra_visibility.specs.Seen.{is_in};
+ghost use Rattle.ra_visibility.specs.Tracked.{labels_in, IsVisibilityOf};
+ghost use Rattle.ra_visibility.specs.Order.{numbers_in};
+ghost use Rattle.ra_monitor.specs.Fold.{labels_at, updates_within, includes};
 
-use crate::accepted::Accepted;
-use crate::limits::MOST_ENTRIES;
-use crate::rewriting::{query_in, update_in};
+use crate::rewriting::parts;
 use crate::scope::Scope;
-use crate::seen::Seen;
-use ra_labels::{Cause, Kind, NoMemory, Query};
+use ra_labels::{Cause, Kind, Label, NoMemory, Query};
 use ra_seqspec::State;
+use ra_ticket::MOST_ENTRIES;
+use ra_visibility::{Seen, Tracker};
 use std::alloc::Global;
 
-// The state after the updates of these labels, in their order, of those in the scope; none where they are not
-// admitted. Costs a step a label.
+// The state after the updates of the labels with these numbers, in their order, of those in the scope; none where
+// they are not admitted. Costs a step a label.
 fn state_after(
     alloc: Global,
     kind: Kind,
-    labels: &[Accepted],
+    labels: &[Label],
+    numbers: &[u32],
     scope: Scope<'_>,
 ) -> Result<Option<State>, NoMemory>
-    requires { length labels.now ≤ MOST_ENTRIES }
+    requires { length numbers.now ≤ MOST_ENTRIES }
     ensures { IfOk result (λ state.
-        state ≡ state_after kind (updates_within (includes scope.entry) (bare labels.now))) }
+        state ≡ state_after kind (updates_within (includes scope.entry) (labels_at labels.now numbers.now))) }
 {
     let mut state = State::new(alloc, kind)?;
-    for accepted in labels {
-        if !scope.includes(accepted.label.number) {
+    for number in numbers {
+        let Some(label) = labels.get(*number as usize) else {
+            continue;
+        };
+        if !scope.includes(label.number) {
             continue;
         }
-        if let Some(update) = update_in(&accepted.label.op) {
+        if let Some(update) = parts(label)?.into_update() {
             if !state.apply(&update)? {
                 return Ok(None);
             }
@@ -45,33 +51,47 @@ fn state_after(
 fn is_answered(
     alloc: Global,
     kind: Kind,
-    labels: &[Accepted],
-    seen: &Seen,
+    labels: &[Label],
+    numbers: &[u32],
+    seen: &Seen<'_>,
     query: &Query,
 ) -> Result<bool, NoMemory>
-    requires { length labels.now ≤ MOST_ENTRIES }
-    ensures { IfOk result (λ is_so.
-        is_so ≡ is_answered_after kind (updates_within (has_in seen.now) (bare labels.now)) query.now) }
+    requires { length numbers.now ≤ MOST_ENTRIES }
+    ensures { IfOk result (λ is_so. is_so
+        ≡ is_answered_after kind (updates_within (is_in seen.now) (labels_at labels.now numbers.now)) query.now) }
 {
-    match state_after(alloc, kind, labels, Scope::Only(seen))? {
+    match state_after(alloc, kind, labels, numbers, Scope::Only(seen))? {
         Some(state) => Ok(state.admits(query)),
         None => Ok(false),
     }
 }
 
-/// The first condition that the labels fail in order of execution, if any. Each query is folded from the first
-/// state: costs a step for each query and label.
-pub fn cause_of(alloc: Global, kind: Kind, labels: &[Accepted]) -> Result<Option<Cause>, NoMemory>
-    requires { length labels.now ≤ MOST_ENTRIES }
-    ensures { (records : Records) → AreLabelsOf labels.now records
+/// The first condition that the labels fail in this order, if any, where it extends visibility. Each query is folded
+/// from the first state: costs a step for each query and label.
+pub fn cause_of(
+    alloc: Global,
+    kind: Kind,
+    labels: &[Label],
+    numbers: &[u32],
+    tracker: &Tracker,
+) -> Result<Option<Cause>, NoMemory>
+    requires few { length numbers.now ≤ MOST_ENTRIES }
+    requires tracked { labels_in tracker.now.now ≡ length labels.now }
+    ensures { (first : ℕ) (records : Records) → IsVisibilityOf tracker.now.now first records
+        → labels.now ≡ reverse (labels_of records) → numbers.now ≡ numbers_in kind records
+        → extends_visibility records (named_sequence kind records) ≡ true
         → IfOk result (λ cause. cause ≡ cause_of kind records) }
 {
-    if state_after(alloc, kind, labels, Scope::All)?.is_none() {
+    if state_after(alloc, kind, labels, numbers, Scope::All)?.is_none() {
         return Ok(Some(Cause::Update));
     }
-    for accepted in labels {
-        if let Some(query) = query_in(&accepted.label.op) {
-            if !is_answered(alloc, kind, labels, &accepted.seen, &query)? {
+    for number in numbers {
+        let Some(label) = labels.get(*number as usize) else {
+            continue;
+        };
+        if let Some(query) = parts(label)?.into_query() {
+            let seen = tracker.vis(*number);
+            if !is_answered(alloc, kind, labels, numbers, &seen, &query)? {
                 return Ok(Some(Cause::Query));
             }
         }

@@ -1,32 +1,37 @@
-ghost use Rattle.std.specs.Prelude.{◌≡◌, ℕ, ◌+◌, ◌<◌, ◌≤◌, ◌∷◌, [], IfOk, OnErr, OnOk, None, true, MatchBool, option_map, vec_len, get_or, reverse};
-ghost use Rattle.std.specs.Option.{option_map_or};
-ghost use Rattle.ra_labels.specs.Records.{Records, labels_of};
-ghost use Rattle.ra_labels.specs.Visibility.{is_update, is_update_at};
-ghost use Rattle.ra_labels.specs.Fault.{fault_of, fault_at, records_before_fault};
-ghost use Rattle.ra_labels.specs.Answer.{no_at, answer_of, answer_to_accepted, records_after};
-ghost use Rattle.ra_monitor.specs.Seen.{has_in};
-ghost use Rattle.ra_monitor.specs.Had.{SameHad, AddsHad, HasRoom};
-ghost use Rattle.ra_monitor.specs.History.{bare, StandsFor, stamp_of};
-ghost use Rattle.ra_monitor.specs.declared.seen.Seen.{Seen};
+ghost use Rattle.std.specs.Prelude.{◌≡◌, ℕ, ◌+◌, ◌<◌, ◌≤◌, ◌∷◌, [], length, map, IfOk, OnErr, OnOk, Option, None, vec_len, if◌then◌else◌, is_some};
+ghost use Rattle.std.specs.Option.{option_or, option_map_or};
+ghost use Rattle.ra_labels.specs.declared.operation.Op.{Op};
+ghost use Rattle.ra_labels.specs.Records.{Records, label_count, next_label};
+ghost use Rattle.ra_labels.specs.NamedOrder.{named_sequence};
+ghost use Rattle.ra_labels.specs.Fault.{fault_of, cause_of, records_before_fault};
+ghost use Rattle.ra_labels.specs.Answer.{no_at, misfit_of, refusal_of, refusal_at, answer_of, answer_to_accepted, records_after};
+ghost use Rattle.ra_visibility.specs.Order.{IsPlaceOf};
+ghost use Rattle.ra_visibility.specs.Tracked.{labels_in, replicas_in};
+ghost use Rattle.ra_monitor.specs.Order.{listed_in, room_in, IsOrderOf};
+ghost use Rattle.ra_monitor.specs.Sequence.{ref_of};
+ghost use Rattle.ra_monitor.specs.History.{IsAtReplica, StandsFor, HasNewest, refusal_left};
 ghost use Rattle.ra_monitor.specs.declared.setup.Setup.{Setup};
 
-use crate::accepted::Accepted;
 use crate::fold::cause_of;
-use crate::had::Had;
-use crate::limits::MOST_ENTRIES;
-use crate::refusing::refusal_of;
-use crate::rewriting::update_in;
+use crate::order::Order;
+use crate::part_ref::PartRef;
+use crate::rewriting::parts;
+use crate::sequence::part_refs;
 use crate::setup::Setup;
-use ra_labels::{Cause, Command, Fault, Label, NoMemory, Op, Reply, Stamp};
+use ra_labels::{Cause, Command, Fault, Label, NoMemory, Op, Refusal, Reply, Stamp, fits};
+use ra_ticket::MOST_ENTRIES;
+use ra_visibility::{DeliverFault, NamedOrder, Place, Tracker};
 use std::alloc::Global;
 
 /// The accepted commands, as what they amount to.
 #[derive(Debug, Drop)]
 pub struct History {
     /// The labels, the oldest first.
-    pub labels: Vec<Accepted>,
-    /// What each replica had.
-    pub had: Had,
+    pub labels: Vec<Label>,
+    /// What each replica had, and what each label sees.
+    pub tracker: Tracker,
+    /// Where the labels before the fault stand.
+    pub order: Order,
     /// The first label at which the named order failed.
     pub fault: Option<Fault>,
 }
@@ -36,32 +41,31 @@ impl History {
     pub fn new(alloc: Global, setup: &Setup) -> Result<History, NoMemory>
         ensures { IfOk result (λ history. StandsFor history setup.now []) }
     {
-        let had = Had::new(alloc, setup.replicas)?;
+        let tracker = Tracker::new(alloc, setup.replicas)?;
         Ok(History {
             labels: Vec::new(alloc),
-            had,
+            tracker,
+            order: Order::of(setup.kind),
             fault: None,
         })
     }
 
-    /// The labels before the fault, or all of them where there is none.
-    pub fn before_fault(&self) -> &[Accepted]
-        ensures { (setup : Setup) (records : Records) → StandsFor self.now setup records
-            → bare result.now ≡ reverse (labels_of (records_before_fault setup.kind records)) }
+    /// All parts in the named order, of the labels before the fault. Costs as much as there are labels.
+    pub fn sequence(&self) -> Result<Vec<PartRef>, NoMemory>
+        ensures { (setup : Setup) (records : Records) → StandsFor self.now setup records → IfOk result (λ parts.
+            parts.items ≡ map ref_of (named_sequence setup.kind (records_before_fault setup.kind records))) }
     {
-        match self.fault {
-            None => self.labels.as_slice(),
-            Some(fault) => {
-                let end = self.labels.len().min(fault.label as usize);
-                &self.labels.as_slice()[..end]
-            }
-        }
+        let alloc = *self.labels.allocator();
+        let numbers = self.order.numbers(alloc)?;
+        part_refs(alloc, self.labels.as_slice(), numbers.as_slice())
     }
 
     /// Takes a command and answers it as the one-thread monitor. After `NoMemory` the records are as before.
-    /// Costs a step for each query and label where the command is an operation, and a look-up otherwise.
+    /// Costs a step for each query and label where the command is an operation, and else what the tracker asks.
     pub fn take(&mut self, setup: &Setup, command: &Command) -> Result<Reply, NoMemory>
-        requires replicas { vec_len self.old.had.sets ≡ setup.now.replicas }
+        requires replicas { replicas_in self.old.tracker.now ≡ setup.now.replicas }
+        requires labels { labels_in self.old.tracker.now ≡ vec_len self.old.labels }
+        requires listed { length (listed_in self.old.order) ≤ vec_len self.old.labels }
         requires room { vec_len self.old.labels < MOST_ENTRIES }
         ensures taken { (records : Records) → StandsFor self.old setup.now records → IfOk result (λ reply.
             (reply ≡ answer_of setup.now.kind setup.now.replicas records command.now)
@@ -74,7 +78,7 @@ impl History {
         if let Some(fault) = self.fault {
             return Ok(no_at(fault));
         }
-        if let Some(refusal) = refusal_of(self, setup, command) {
+        if let Some(refusal) = self.refusal_of(setup, command) {
             return Ok(Reply::Refused(refusal));
         }
         match command {
@@ -84,23 +88,45 @@ impl History {
         }
     }
 
-    // Takes a delivery that is not refused.
-    fn deliver(&mut self, replica: u8, label: u32) -> Result<Reply, NoMemory>
-        requires { replica < vec_len self.old.had.sets }
-        ensures reply { IfOk result (λ reply. reply ≡ Reply.Got label) }
-        ensures taken { (setup : Setup) (records : Records) → StandsFor self.old setup records
-            → is_update_at records label ≡ true
-            → OnOk result (StandsFor self.new setup (Command.Deliver replica label ∷ records)) }
-        ensures err { (setup : Setup) (records : Records) → StandsFor self.old setup records
-            → OnErr result (StandsFor self.new setup records) }
-        ensures labels { self.new.labels ≡ self.old.labels }
+    // The first refusal that the command deserves, if any, but for those of a delivery to a replica that is there: the
+    // tracker tells them.
+    fn refusal_of(&self, setup: &Setup, command: &Command) -> Option<Refusal>
+        ensures first { (records : Records) → refusal_of setup.now.kind setup.now.replicas records command.now
+            ≡ option_or result (refusal_left records command.now) }
+        ensures known { result ≡ None → IsAtReplica setup.now.replicas command.now }
+        ensures fits { result ≡ None → misfit_of setup.now.kind command.now ≡ None }
     {
-        self.had.make_room(replica, label)?;
-        self.had.put(replica, label);
-        Ok(Reply::Got(label))
+        match command {
+            Command::Operate { replica, .. } | Command::Deliver { replica, .. } => {
+                if *replica >= setup.replicas {
+                    return Some(Refusal::UnknownReplica);
+                }
+            }
+            Command::Verdict => {}
+        }
+        fits(setup.kind, command)
     }
 
-    // Takes an operation that is not refused.
+    // Takes a delivery to a replica that is there, or refuses it.
+    fn deliver(&mut self, replica: u8, label: u32) -> Result<Reply, NoMemory>
+        requires { replica < replicas_in self.old.tracker.now }
+        ensures taken { (setup : Setup) (records : Records) → StandsFor self.old setup records
+            → fault_of setup.kind records ≡ None → IfOk result (λ reply.
+            (reply ≡ option_map_or Reply.Refused (refusal_at records replica label) (Reply.Got label))
+            × StandsFor self.new setup (if is_some (refusal_at records replica label) then records
+            else Command.Deliver replica label ∷ records)) }
+        ensures labels { self.new.labels ≡ self.old.labels }
+        ensures same { OnErr result (self.new ≡ self.old) }
+    {
+        match self.tracker.deliver(replica, label) {
+            Ok(()) => Ok(Reply::Got(label)),
+            Err(DeliverFault::Refused(refusal)) => Ok(Reply::Refused(refusal)),
+            Err(DeliverFault::NoMemory) => Err(NoMemory),
+        }
+    }
+
+    // Takes an operation that is not refused. All that can be refused is asked for first; what the answer takes
+    // besides is refused when the tracker and the labels have the operation, and is taken back.
     fn accept(
         &mut self,
         setup: &Setup,
@@ -108,10 +134,13 @@ impl History {
         op: &Op,
         clock: Option<u32>,
     ) -> Result<Reply, NoMemory>
-        requires replica { replica < vec_len self.old.had.sets }
+        requires replica { replica < replicas_in self.old.tracker.now }
+        requires labels { labels_in self.old.tracker.now ≡ vec_len self.old.labels }
+        requires listed { length (listed_in self.old.order) ≤ vec_len self.old.labels }
         requires room { vec_len self.old.labels < MOST_ENTRIES }
         ensures taken { (records : Records) → StandsFor self.old setup.now records
-            → fault_of setup.now.kind records ≡ None → IfOk result (λ reply.
+            → fault_of setup.now.kind records ≡ None
+            → misfit_of setup.now.kind (Command.Operate replica op.now clock) ≡ None → IfOk result (λ reply.
             (reply ≡ answer_to_accepted setup.now.kind records (Command.Operate replica op.now clock))
             × StandsFor self.new setup.now (Command.Operate replica op.now clock ∷ records)) }
         ensures err { (records : Records) → StandsFor self.old setup.now records
@@ -119,69 +148,121 @@ impl History {
         ensures one { OnOk result (vec_len self.new.labels ≡ vec_len self.old.labels + 1) }
         ensures kept { OnErr result (vec_len self.new.labels ≡ vec_len self.old.labels) }
     {
-        let number = self.labels.len() as u32;
-        self.had.make_room(replica, number)?;
-        let accepted = self.label(number, replica, op, clock)?;
-        self.labels.push(accepted)?;
-        let alloc = *self.labels.allocator();
-        match cause_of(alloc, setup.kind, self.labels.as_slice()) {
-            Ok(cause) => Ok(self.settle(number, replica, op, cause)),
+        let label = label_of(self.labels.len() as u32, replica, op, clock)?;
+        let is_update = parts(&label)?.has_update();
+        self.labels.reserve(1)?;
+        self.order.spare()?;
+        self.tracker.issue(replica, is_update)?;
+        self.labels.push_reserved(label);
+        match self.answer(setup) {
+            Ok(reply) => Ok(reply),
             Err(NoMemory) => {
                 self.labels.pop();
+                self.tracker.withdraw();
                 Err(NoMemory)
             }
         }
     }
 
-    // The next label, with what its replica had.
-    fn label(
-        &self,
-        number: u32,
-        replica: u8,
-        op: &Op,
-        clock: Option<u32>,
-    ) -> Result<Accepted, NoMemory>
-        requires { replica < vec_len self.now.had.sets }
-        ensures label { IfOk result (λ accepted. accepted.label
-            ≡ record { number = number; replica = replica; op = op.now; stamp = stamp_of replica clock }) }
-        ensures seen { IfOk result (λ accepted. (m : ℕ) (d : Seen)
-            → has_in accepted.seen m ≡ has_in (get_or self.now.had.sets.items replica d) m) }
+    // Answers the newest label, and takes it into the order where all holds.
+    fn answer(&mut self, setup: &Setup) -> Result<Reply, NoMemory>
+        requires newest { 0 < vec_len self.old.labels }
+        requires few { vec_len self.old.labels ≤ MOST_ENTRIES }
+        requires labels { labels_in self.old.tracker.now ≡ vec_len self.old.labels }
+        requires listed { length (listed_in self.old.order) < vec_len self.old.labels }
+        requires room { 0 < room_in self.old.order }
+        ensures answered { (records : Records) (by : ℕ) (op : Op) (clock : Option ℕ)
+            → HasNewest self.old setup.now records by op clock → IfOk result (λ reply.
+            (reply ≡ answer_to_accepted setup.now.kind records (Command.Operate by op clock))
+            × StandsFor self.new setup.now (Command.Operate by op clock ∷ records)) }
+        ensures labels { self.new.labels ≡ self.old.labels }
+        ensures same { OnErr result (self.new ≡ self.old) }
     {
-        let seen = self.had.at(replica).copy()?;
-        let op = op.clone()?;
-        let stamp = clock.map(|clock| Stamp { clock, replica });
-        let label = Label {
-            number,
-            replica,
-            op,
-            stamp,
-        };
-        Ok(Accepted { label, seen })
+        let number = self.labels.len() as u32 - 1;
+        let place = self.place_of(number);
+        match self.cause_at(setup, number, place)? {
+            None => {
+                self.put(number, place);
+                Ok(Reply::Ok(number))
+            }
+            Some(cause) => {
+                let fault = Fault {
+                    label: number,
+                    cause,
+                };
+                self.fault = Some(fault);
+                Ok(no_at(fault))
+            }
+        }
     }
 
-    // Keeps what the newest label amounts to, and answers it.
-    fn settle(&mut self, number: u32, replica: u8, op: &Op, cause: Option<Cause>) -> Reply
-        requires replica { replica < vec_len self.old.had.sets }
-        requires room { HasRoom self.old.had replica number }
-        ensures reply { result ≡ option_map_or (λ why. no_at (fault_at number why)) cause (Reply.Ok number) }
-        ensures labels { self.new.labels ≡ self.old.labels }
-        ensures fault { self.new.fault ≡ option_map (fault_at number) cause }
-        ensures had { MatchBool (is_update op.now)
-            (AddsHad self.old.had self.new.had replica number)
-            (self.new.had ≡ self.old.had) }
+    // Where the newest label stands.
+    fn place_of(&self, newest: u32) -> Place
+        requires there { newest < vec_len self.now.labels }
+        requires labels { labels_in self.now.tracker.now ≡ vec_len self.now.labels }
+        ensures { (setup : Setup) (records : Records) (by : ℕ) (op : Op) (clock : Option ℕ)
+            → HasNewest self.now setup records by op clock → newest ≡ label_count records
+            → IsPlaceOf setup.kind records by op clock result }
     {
-        if update_in(op).is_some() {
-            self.had.put(replica, number);
-        }
-        self.fault = cause.map(|cause| Fault {
-            label: number,
-            cause,
-        });
-        match self.fault {
-            None => Reply::Ok(number),
-            Some(fault) => no_at(fault),
-        }
+        let seen = self.tracker.vis(newest);
+        self.order.place(&self.labels[newest as usize], &seen)
     }
+
+    // Takes the newest label into the order, at its place.
+    fn put(&mut self, newest: u32, place: Place)
+        requires there { newest < vec_len self.old.labels }
+        requires labels { labels_in self.old.tracker.now ≡ vec_len self.old.labels }
+        requires few { length (listed_in self.old.order) < MOST_ENTRIES }
+        requires room { 0 < room_in self.old.order }
+        ensures order { (setup : Setup) (records : Records) (by : ℕ) (op : Op) (clock : Option ℕ)
+            → HasNewest self.old setup records by op clock → newest ≡ label_count records
+            → IsPlaceOf setup.kind records by op clock place
+            → IsOrderOf self.new.order setup.kind setup.replicas (Command.Operate by op clock ∷ records) }
+        ensures same { self.new ≡ record self.old { order = self.new.order } }
+    {
+        let seen = self.tracker.vis(newest);
+        let label = &self.labels[newest as usize];
+        self.order.put(label, &seen, place);
+    }
+
+    // The first condition that fails with the newest label at this place, if any.
+    fn cause_at(&self, setup: &Setup, newest: u32, place: Place) -> Result<Option<Cause>, NoMemory>
+        requires few { length (listed_in self.now.order) < MOST_ENTRIES }
+        requires labels { labels_in self.now.tracker.now ≡ vec_len self.now.labels }
+        ensures { (records : Records) (by : ℕ) (op : Op) (clock : Option ℕ)
+            → HasNewest self.now setup.now records by op clock
+            → newest ≡ label_count records
+            → IsPlaceOf setup.now.kind records by op clock place
+            → IfOk result (λ cause. cause ≡ cause_of setup.now.kind (Command.Operate by op clock ∷ records)) }
+    {
+        if !place.fits {
+            return Ok(Some(Cause::Order));
+        }
+        let alloc = *self.labels.allocator();
+        let numbers = self.order.numbers_with(alloc, newest, place.at)?;
+        cause_of(
+            alloc,
+            setup.kind,
+            self.labels.as_slice(),
+            numbers.as_slice(),
+            &self.tracker,
+        )
+    }
+}
+
+// The label with this number that the operation becomes.
+fn label_of(number: u32, replica: u8, op: &Op, clock: Option<u32>) -> Result<Label, NoMemory>
+    ensures { (records : Records) → number ≡ label_count records
+        → IfOk result (λ label. label ≡ next_label records replica op.now clock) }
+{
+    let op = op.clone()?;
+    let stamp = clock.map(|clock| Stamp { clock, replica });
+    Ok(Label {
+        number,
+        replica,
+        op,
+        stamp,
+    })
 }
 
 // The reply that tells of a fault.

@@ -5,29 +5,31 @@
 //! says (`ra_labels/specs/Answer`), after the records of its log, and appends that entry. Every monitor's log is
 //! legal, and a yes in it implies an RA-linearization of the records up to there. A monitor is a journal of the ticket
 //! lock; a `Desk` is one behind that lock, and `laws` says what its replies are.
+//!
+//! Its history is taken apart as the definitions are: what replicas had and labels see is a `Tracker`'s to say
+//! (`ra_visibility`), where labels stand the order's that the kind names (`order`). What a label is rewritten into is
+//! asked in one place (`rewriting`), and queries are folded afresh (`fold`).
 #![tactic(auto)]
 
-mod accepted;
 mod desk;
 mod faults;
 mod fold;
-mod had;
 mod history;
 pub mod laws;
 mod limits;
 mod monitor;
+mod order;
+mod part;
 mod part_ref;
-mod refusing;
 mod report;
 mod rewriting;
 mod scope;
-mod seen;
 mod sequence;
 mod setup;
 
 pub use desk::Desk;
 pub use faults::NewFault;
-pub use limits::{MOST_ENTRIES, MOST_REPLICAS};
+pub use limits::MOST_REPLICAS;
 pub use monitor::Monitor;
 pub use part_ref::{Half, PartRef};
 pub use report::Report;

@@ -10,13 +10,12 @@ ghost use Rattle.ra_monitor.specs.Replies.{is_yes, is_refused};
 
 use crate::faults::NewFault;
 use crate::history::History;
-use crate::limits::{MOST_ENTRIES, MOST_REPLICAS};
+use crate::limits::MOST_REPLICAS;
 use crate::part_ref::PartRef;
 use crate::report::Report;
-use crate::sequence::part_refs;
 use crate::setup::Setup;
 use ra_labels::{Command, Kind, NoMemory, Reply};
-use ra_ticket::{Entry, Journal, StepFault};
+use ra_ticket::{Entry, Journal, MOST_ENTRIES, StepFault};
 use std::alloc::Global;
 use std::marker::Model;
 
@@ -91,7 +90,7 @@ impl Monitor {
         ensures linearizes { let records = records_before_fault_in self.now.setup self.now.log in OnOk result
             (IsRaLinearization self.now.setup.kind records (named_sequence self.now.setup.kind records)) }
     {
-        part_refs(*self.log.allocator(), self.history.before_fault())
+        self.history.sequence()
     }
 
     /// What the log amounts to. It takes no memory and always answers.

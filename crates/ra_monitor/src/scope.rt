@@ -1,7 +1,7 @@
 ghost use Rattle.std.specs.Prelude.{◌≡◌};
 ghost use Rattle.ra_monitor.specs.Fold.{includes};
 
-use crate::seen::Seen;
+use ra_visibility::Seen;
 
 /// Which labels' updates are folded.
 #[derive(Clone, Copy, Debug)]
@@ -9,7 +9,7 @@ pub enum Scope<'a> {
     /// All of them.
     All,
     /// Those that are seen.
-    Only(&'a Seen),
+    Only(&'a Seen<'a>),
 }
 
 impl Scope<'_> {

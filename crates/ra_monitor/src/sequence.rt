@@ -1,23 +1,44 @@
-ghost use Rattle.std.specs.Prelude.{◌≡◌, map, flat_map, IfOk};
+ghost use Rattle.std.specs.Prelude.{◌≡◌, ◌++◌, ◌∷◌, [], map, flat_map, IfOk, OnOk};
 ghost use Rattle.ra_labels.specs.Rewriting.{parts_of};
-ghost use Rattle.ra_monitor.specs.History.{bare};
+ghost use Rattle.ra_monitor.specs.Fold.{labels_at};
 ghost use Rattle.ra_monitor.specs.Sequence.{ref_of};
 
-use crate::accepted::Accepted;
+use crate::part::Parts;
 use crate::part_ref::{Half, PartRef};
-use ra_labels::NoMemory;
+use crate::rewriting::parts;
+use ra_labels::{Label, NoMemory};
 use std::alloc::Global;
 
-/// The parts of these labels, in their order: of a counter each label is one.
-pub fn part_refs(alloc: Global, labels: &[Accepted]) -> Result<Vec<PartRef>, NoMemory>
-    ensures { IfOk result (λ parts. parts.items ≡ map ref_of (flat_map parts_of (bare labels.now))) }
+/// The parts of the labels with these numbers, in their order.
+pub fn part_refs(alloc: Global, labels: &[Label], numbers: &[u32]) -> Result<Vec<PartRef>, NoMemory>
+    ensures { IfOk result (λ refs. refs.items ≡ map ref_of (flat_map parts_of (labels_at labels.now numbers.now))) }
 {
-    let mut parts = Vec::with_capacity(alloc, labels.len())?;
-    for accepted in labels {
-        parts.push(PartRef {
-            label: accepted.label.number,
-            half: Half::Whole,
-        })?;
+    let mut refs = Vec::with_capacity(alloc, numbers.len())?;
+    for number in numbers {
+        if let Some(label) = labels.get(*number as usize) {
+            push_parts(&mut refs, label)?;
+        }
     }
-    Ok(parts)
+    Ok(refs)
+}
+
+// Puts the label's parts at the end.
+fn push_parts(refs: &mut Vec<PartRef>, label: &Label) -> Result<(), NoMemory>
+    ensures { OnOk result (refs.new.items ≡ refs.old.items ++ map ref_of (parts_of label.now)) }
+{
+    match parts(label)? {
+        Parts::One(_) => push_part(refs, label.number, Half::Whole)?,
+        Parts::Two(..) => {
+            push_part(refs, label.number, Half::QueryHalf)?;
+            push_part(refs, label.number, Half::UpdateHalf)?;
+        }
+    }
+    Ok(())
+}
+
+fn push_part(refs: &mut Vec<PartRef>, label: u32, half: Half) -> Result<(), NoMemory>
+    ensures { OnOk result (refs.new.items ≡ refs.old.items ++ record { label = label; half = half } ∷ []) }
+{
+    refs.push(PartRef { label, half })?;
+    Ok(())
 }

@@ -24,7 +24,7 @@ const NO_AT_ONE: Reply = Reply::No {
     cause: Cause::Query,
 };
 
-const COUNTERS: [Row; 7] = [
+const COUNTERS: [Row; 9] = [
     Row {
         name: "everything was delivered",
         steps: &[
@@ -116,6 +116,40 @@ const COUNTERS: [Row; 7] = [
         refused: 7,
         fault: None,
         sequence: 2,
+    },
+    Row {
+        name: "an update came before one that it saw",
+        steps: &[
+            (Say::Inc(0), Reply::Ok(0)),
+            (Say::Got(1, 0), Reply::Got(0)),
+            (Say::Inc(1), Reply::Ok(1)),
+            (Say::Got(2, 1), Reply::Refused(Refusal::NotCausal(0))),
+            (Say::Got(2, 0), Reply::Got(0)),
+            (Say::Got(2, 1), Reply::Got(1)),
+            (Say::Read(2, 2), Reply::Ok(2)),
+        ],
+        labels: 3,
+        refused: 1,
+        fault: None,
+        sequence: 3,
+    },
+    Row {
+        name: "of two missing labels the least is named",
+        steps: &[
+            (Say::Inc(0), Reply::Ok(0)),
+            (Say::Inc(1), Reply::Ok(1)),
+            (Say::Got(0, 1), Reply::Got(1)),
+            (Say::Inc(0), Reply::Ok(2)),
+            (Say::Got(2, 2), Reply::Refused(Refusal::NotCausal(0))),
+            (Say::Got(2, 0), Reply::Got(0)),
+            (Say::Got(2, 2), Reply::Refused(Refusal::NotCausal(1))),
+            (Say::Got(2, 1), Reply::Got(1)),
+            (Say::Got(2, 2), Reply::Got(2)),
+        ],
+        labels: 3,
+        refused: 2,
+        fault: None,
+        sequence: 3,
     },
     Row {
         name: "two decrements",

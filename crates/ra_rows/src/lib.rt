@@ -14,3 +14,5 @@ mod histories;
 mod limits;
 #[cfg(test)]
 mod lock;
+#[cfg(test)]
+mod visibility;

@@ -2,7 +2,7 @@
 
 use crate::commands::{Say, command_of, counter_of, reply_to, step_by};
 use crate::histories::stands_in_turn;
-use ra_labels::{Kind, Reply};
+use ra_labels::{Kind, Refusal, Reply};
 use ra_monitor::{Monitor, NewFault};
 use ra_ticket::{Journal, StepFault};
 use std::process::Abort;
@@ -65,8 +65,9 @@ fn thousands_of_labels_are_taken(rt: HostRuntime) -> Result<(), Fail> {
     }
     assert_eq!(rt;
         reply_to(&rt, &mut monitor, Say::Got(2, 4_999)),
-        Reply::Got(4_999)
+        Reply::Refused(Refusal::NotCausal(1))
     );
+    assert_eq!(rt; reply_to(&rt, &mut monitor, Say::Got(2, 1)), Reply::Got(1));
     assert_eq!(rt;
         reply_to(&rt, &mut monitor, Say::Read(2, 1)),
         Reply::Ok(5_000)

@@ -8,4 +8,8 @@ pub mod Standing
 pub mod Undone
 pub mod Changed
 pub mod Refusing
+pub mod Inserting
+pub mod Extending
+pub mod Fitting
+pub mod Growing
 pub mod TheLaws

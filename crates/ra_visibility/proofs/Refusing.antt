@@ -7,10 +7,9 @@ use Rattle.ra_labels.specs.declared.command.Command.TheVariants.{Deliver}
 use Rattle.ra_labels.specs.declared.refusal.Refusal.{Refusal}
 use Rattle.ra_labels.specs.declared.refusal.Refusal.TheVariants.{UnknownLabel, NotAnUpdate, AlreadySeen, NotCausal}
 use Rattle.ra_labels.specs.Records.{Records, label_count}
-use Rattle.ra_labels.specs.Visibility.{sees, is_update_at, IsCausal}
-use Rattle.ra_labels.specs.Answer.{when, first_of}
+use Rattle.ra_labels.specs.Visibility.{sees, is_update_at, IsCausal, lacks, first_missing}
+use Rattle.ra_labels.specs.Answer.{when, first_of, refusal_at}
 use Rattle.ra_visibility.specs.Tracked.{Tracked, IsVisibilityOf, replicas_in, labels_in, row_at, is_update_in, had_in, sees_in, seen_count, is_missing, first_missing_in, refusal_in}
-use Rattle.ra_visibility.specs.Refused.{lacks, first_missing, refusal_at}
 use Rattle.ra_visibility.proofs.Tests.{update_there}
 use Rattle.ra_visibility.proofs.Missing.{none_of, none_parts}
 

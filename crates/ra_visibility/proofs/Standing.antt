@@ -10,7 +10,7 @@ use Rattle.ra_labels.specs.declared.label.Label.{Label}
 use Rattle.ra_labels.specs.declared.command.Command.TheVariants.{Operate}
 use Rattle.ra_labels.specs.Records.{Records, label_count, label_at, next_label}
 use Rattle.ra_labels.specs.Visibility.{had, sees, is_update, is_update_at}
-use Rattle.ra_visibility.specs.Places.{issuer_of, place_of, updates_of}
+use Rattle.ra_labels.specs.Places.{issuer_of, place_of, updates_of}
 use Rattle.ra_visibility.specs.declared.row.Row.{Row}
 use Rattle.ra_visibility.specs.Seen.{no_row, is_in}
 use Rattle.ra_visibility.specs.Tracked.{Tracked, IsVisibilityOf, replicas_in, labels_in, replica_at, row_at, is_update_in, had_count, had_in, seen_in, sees_in}

@@ -1,9 +1,8 @@
 pub mod Replica
 pub mod Seen
-pub mod Places
 pub mod Tracked
-pub mod Refused
 pub mod Least
+pub mod Order
 pub mod Changes
 pub mod Kept
 pub mod Tracker

@@ -6,7 +6,7 @@ use Rattle.ra_labels.specs.declared.refusal.Refusal.TheVariants.{UnknownLabel, N
 use Rattle.ra_labels.specs.Records.{Records, label_count, replica_count}
 use Rattle.ra_labels.specs.Visibility.{had, sees, is_update_at}
 use Rattle.ra_labels.specs.Answer.{when, first_of}
-use Rattle.ra_visibility.specs.Places.{issuer_of, place_of, updates_of}
+use Rattle.ra_labels.specs.Places.{issuer_of, place_of, updates_of}
 use Rattle.ra_visibility.specs.declared.row.Row.{Row}
 use Rattle.ra_visibility.specs.Replica.{Replica, new_replica}
 use Rattle.ra_visibility.specs.Seen.{Seen, no_row, is_in, count_in}

@@ -1,12 +1,19 @@
 //! Laws of the words that the contracts use, which the layers above cite.
-ghost use Rattle.std.specs.Prelude.{◌≡◌, ℕ, ◌<◌, ◌&&◌, ◌∷◌, None, nat_lt};
-ghost use Rattle.ra_labels.specs.declared.command.Command.TheVariants.{Deliver};
-ghost use Rattle.ra_labels.specs.Records.{Records};
+ghost use Rattle.std.specs.Prelude.{◌≡◌, ℕ, ◌<◌, ◌≤◌, ◌&&◌, ◌∷◌, length, true, Option, None, nat_lt};
+ghost use Rattle.std.specs.List.{insert};
+ghost use Rattle.ra_labels.specs.declared.kind.Kind.{Kind};
+ghost use Rattle.ra_labels.specs.declared.operation.Op.{Op};
+ghost use Rattle.ra_labels.specs.declared.command.Command.TheVariants.{Operate, Deliver};
+ghost use Rattle.ra_labels.specs.Records.{Records, next_label};
 ghost use Rattle.ra_labels.specs.Visibility.{had, sees, is_update_at, IsCausal};
+ghost use Rattle.ra_labels.specs.Linearization.{extends_visibility};
+ghost use Rattle.ra_labels.specs.NamedOrder.{named_labels, named_sequence};
+ghost use Rattle.ra_visibility.specs.declared.order.Place.{Place};
+ghost use Rattle.ra_visibility.specs.Order.{IsSeenBy, IsPlaceOf, EachFitted};
 ghost use Rattle.ra_visibility.specs.Seen.{count_in};
 ghost use Rattle.ra_visibility.specs.Tracked.{Tracked, IsVisibilityOf, replicas_in, labels_in, had_count, seen_in, refusal_in};
-ghost use Rattle.ra_visibility.specs.Places.{issuer_of, place_of};
-ghost use Rattle.ra_visibility.specs.Refused.{refusal_at};
+ghost use Rattle.ra_labels.specs.Places.{issuer_of, place_of};
+ghost use Rattle.ra_labels.specs.Answer.{refusal_at};
 
 /// A delivery to a replica that is there is refused as the records say.
 pub fn refused_as_the_records_say()
@@ -32,4 +39,42 @@ pub fn first_updates_of_each_replica()
         → IsVisibilityOf tracked first records → replica < replicas_in tracked → m < labels_in tracked
         → had records replica m ≡ (is_update_at records m
         && nat_lt (place_of records m) (had_count tracked replica (issuer_of records m))) }
+{}
+
+/// What `vis` gives is what the label sees, as the orders ask for it.
+pub fn what_a_label_sees()
+    ensures { (tracked : Tracked) (first : ℕ) (records : Records) (n : ℕ)
+        → IsVisibilityOf tracked first records → n < labels_in tracked → IsSeenBy records n (seen_in tracked n) }
+{}
+
+/// With a new label the named order is the one before, and the label at its place.
+pub fn a_label_comes_to_its_place()
+    ensures among { (kind : Kind) (records : Records) (by : ℕ) (op : Op) (clock : Option ℕ) (place : Place)
+        → IsPlaceOf kind records by op clock place → place.at ≤ length (named_labels kind records) }
+    ensures inserted { (kind : Kind) (records : Records) (by : ℕ) (op : Op) (clock : Option ℕ) (place : Place)
+        → IsPlaceOf kind records by op clock place → named_labels kind (Operate by op clock ∷ records)
+        ≡ insert (named_labels kind records) place.at (next_label records by op clock) }
+{}
+
+/// With a new label the named sequence extends visibility exactly where it did before and the label fits.
+pub fn visibility_is_extended_where_a_label_fits()
+    ensures { (kind : Kind) (records : Records) (by : ℕ) (op : Op) (clock : Option ℕ) (place : Place)
+        → IsPlaceOf kind records by op clock place
+        → extends_visibility (Operate by op clock ∷ records) (named_sequence kind (Operate by op clock ∷ records))
+        ≡ (extends_visibility records (named_sequence kind records) && place.fits) }
+{}
+
+/// Where each label fitted when it came, the named sequence extends visibility.
+pub fn visibility_is_extended_where_each_label_fitted()
+    ensures { (kind : Kind) (records : Records) → EachFitted kind records
+        → extends_visibility records (named_sequence kind records) ≡ true }
+{}
+
+/// A delivery leaves the named order, and whether its sequence extends visibility.
+pub fn deliveries_leave_the_order()
+    ensures order { (kind : Kind) (records : Records) (to label : ℕ)
+        → named_labels kind (Deliver to label ∷ records) ≡ named_labels kind records }
+    ensures visibility { (kind : Kind) (records : Records) (to label : ℕ)
+        → extends_visibility (Deliver to label ∷ records) (named_sequence kind (Deliver to label ∷ records))
+        ≡ extends_visibility records (named_sequence kind records) }
 {}

@@ -6,14 +6,18 @@
 //!
 //! The one contract for the layers above: in the words of `specs/Tracked`, a `Tracker` stands for the visibility of
 //! records. `issue` and `deliver` add a record, `withdraw` takes the last one back, a delivery is refused exactly where
-//! the definitions refuse it (`specs/Refused`), so that records stay causal, and `sees` and `vis` answer as the
+//! the definitions refuse it (`ra_labels/specs/Answer`), so that records stay causal, and `sees` and `vis` answer as the
 //! definitions do (`ra_labels/specs/Visibility`). `laws` has what the words say of the records.
+//!
+//! Where labels stand in the named order of their kind is a `NamedOrder`'s to say, in the words of `specs/Order`. The
+//! orders themselves are crates of their own.
 #![tactic(auto)]
 
 mod fault;
 mod last_change;
 pub mod laws;
 mod limits;
+mod order;
 mod replica;
 mod row;
 mod seen;
@@ -22,5 +26,6 @@ mod tracker;
 
 pub use fault::DeliverFault;
 pub use limits::MOST_LABELS;
+pub use order::{NamedOrder, Place};
 pub use seen::Seen;
 pub use tracker::Tracker;

@@ -1,4 +1,4 @@
-ghost use Rattle.std.specs.Prelude.{◌≡◌, ℕ, ◌<◌, ◌∷◌, [], IfOk, IfErr, OnErr, OnOk, IsSome, Option, Some, None, true};
+ghost use Rattle.std.specs.Prelude.{◌≡◌, ℕ, ◌+◌, ◌<◌, ◌∷◌, [], IfOk, IfErr, OnErr, OnOk, IsSome, Option, Some, None, true};
 ghost use Rattle.ra_labels.specs.Records.{Records};
 ghost use Rattle.ra_labels.specs.Visibility.{is_update, IsCausal};
 ghost use Rattle.ra_labels.specs.declared.operation.Op.{Op};
@@ -38,6 +38,8 @@ impl Tracker {
     pub fn new(alloc: Global, replicas: u8) -> Result<Tracker, NoMemory>
         ensures stands { IfOk result (λ tracker. IsVisibilityOf tracker.now replicas []) }
         ensures before { IfOk result (λ tracker. tracker.before ≡ None) }
+        ensures replicas { IfOk result (λ tracker. replicas_in tracker.now ≡ replicas) }
+        ensures labels { IfOk result (λ tracker. labels_in tracker.now ≡ 0) }
     {
         let tracked = Tracked::new(alloc, replicas)?;
         Ok(Tracker {
@@ -57,6 +59,8 @@ impl Tracker {
             → IsVisibilityOf self.old.now first records → is_update op ≡ update
             → IsVisibilityOf self.new.now first (Operate replica op clock ∷ records)) }
         ensures before { OnOk result (self.new.before ≡ Some self.old.now) }
+        ensures labels { OnOk result (labels_in self.new.now ≡ labels_in self.old.now + 1) }
+        ensures replicas { replicas_in self.new.now ≡ replicas_in self.old.now }
         ensures same { OnErr result (self.new ≡ self.old) }
     {
         let label = self.tracked.labels();
@@ -95,6 +99,8 @@ impl Tracker {
         ensures before { OnOk result (self.new.before ≡ Some self.old.now) }
         ensures refused { IfErr result (λ fault. (why : Refusal) × (fault ≡ Refused why)
             × (refusal_in self.old.now replica label ≡ Some why)) }
+        ensures labels { labels_in self.new.now ≡ labels_in self.old.now }
+        ensures replicas { replicas_in self.new.now ≡ replicas_in self.old.now }
         ensures same { OnErr result (self.new ≡ self.old) }
     {
         if let Some(refusal) = self.tracked.refusal(replica, label) {
@@ -114,6 +120,7 @@ impl Tracker {
         requires { IsSome self.old.before }
         ensures now { Some self.new.now ≡ self.old.before }
         ensures before { self.new.before ≡ None }
+        ensures replicas { replicas_in self.new.now ≡ replicas_in self.old.now }
     {
         match self.last {
             LastChange::Nothing => {}

@@ -1,18 +1,20 @@
 //! The refusals and the answers.
-ghost use Rattle.std.specs.Prelude.{◌≡◌, ◌↔◌, ℕ, ◌<◌, List, ◌++◌, Option, Some, None};
+ghost use Rattle.std.specs.Prelude.{◌≡◌, ◌↔◌, ℕ, ◌<◌, true, List, [], ◌++◌, Option, Some, None};
 ghost use Rattle.ra_labels.specs.declared.kind.Kind.{Kind};
 ghost use Rattle.ra_labels.specs.declared.operation.Op.{Op};
 ghost use Rattle.ra_labels.specs.declared.command.Command.{Command};
 ghost use Rattle.ra_labels.specs.declared.command.Command.TheVariants.{Operate, Deliver, Verdict};
 ghost use Rattle.ra_labels.specs.declared.refusal.Refusal.{Refusal};
+ghost use Rattle.ra_labels.specs.declared.refusal.Refusal.TheVariants.{NotCausal};
 ghost use Rattle.ra_labels.specs.declared.reply.Fault.{Fault};
 ghost use Rattle.ra_labels.specs.declared.reply.Reply.TheVariants as reply;
 ghost use Rattle.ra_labels.specs.Records.{Records};
+ghost use Rattle.ra_labels.specs.Visibility.{is_update_at, IsCausal};
 ghost use Rattle.ra_labels.specs.Rewriting.{Part};
 ghost use Rattle.ra_labels.specs.Linearization.{IsRaLinearization};
 ghost use Rattle.ra_labels.specs.Fault.{fault_of};
-ghost use Rattle.ra_labels.specs.Answer.{no_at, misfit_of, refusal_of, answer_of, records_after, answers_to, records_after_all};
-ghost use Rattle.ra_labels.specs.Laws.{ReplySays};
+ghost use Rattle.ra_labels.specs.Answer.{no_at, misfit_of, refusal_of, refusal_of_delivery, answer_of, records_after, answers_to, records_after_all};
+ghost use Rattle.ra_labels.specs.Laws.{ReplySays, IsCausalDelivery, IsNewUpdate, IsLeastMissing};
 
 /// What each reply says of the records that the command meets, and of those that it leaves.
 pub fn what_a_reply_says()
@@ -65,4 +67,26 @@ pub fn misfits_are_refused()
     ensures delivery { (kind : Kind) (to label : ℕ) → misfit_of kind (Deliver to label) ≡ None }
     ensures verdict { (kind : Kind) (replicas : ℕ) (records : Records)
         → refusal_of kind replicas records Verdict ≡ None }
+{}
+
+/// A delivery is refused as not causal exactly where the replica is there, the label is an update that is new to it, and
+/// the label sees one that it lacks; the least such is named.
+pub fn not_causal_where_a_seen_label_is_missing()
+    ensures { (replicas : ℕ) (records : Records) (to label n : ℕ)
+        → (refusal_of_delivery replicas records to label ≡ Some (NotCausal n))
+        ↔ ((to < replicas) × IsNewUpdate records to label × IsLeastMissing records to label n) }
+{}
+
+/// A delivery is not refused exactly where the replica is there, the label is an update, and the delivery is causal.
+pub fn delivered_where_causal()
+    ensures { (replicas : ℕ) (records : Records) (to label : ℕ) → (refusal_of_delivery replicas records to label ≡ None)
+        ↔ ((to < replicas) × (is_update_at records label ≡ true) × IsCausalDelivery records to label) }
+{}
+
+/// Answers keep records causal, and so the records that commands leave are, from none on.
+pub fn answers_keep_records_causal()
+    ensures one { (kind : Kind) (replicas : ℕ) (records : Records) (command : Command) → IsCausal records
+        → IsCausal (records_after kind replicas records command) }
+    ensures all { (kind : Kind) (replicas : ℕ) (commands : List Command)
+        → IsCausal (records_after_all kind replicas [] commands) }
 {}

@@ -1,9 +1,9 @@
 //! What a label sees, and what a replica had.
-ghost use Rattle.std.specs.Prelude.{◌≡◌, ◌↔◌, ◌⊎◌, ℕ, ◌<◌, ◌∷◌, ◌++◌, true};
+ghost use Rattle.std.specs.Prelude.{◌≡◌, ◌↔◌, ◌⊎◌, ℕ, ◌<◌, ◌∷◌, ◌++◌, true, Some, None};
 ghost use Rattle.ra_labels.specs.declared.command.Command.TheVariants.{Deliver};
 ghost use Rattle.ra_labels.specs.Records.{Records, label_count};
-ghost use Rattle.ra_labels.specs.Visibility.{had, is_update_at, sees, IsCausal};
-ghost use Rattle.ra_labels.specs.Laws.{WasIssuedAt, WasDeliveredTo, WasIssuedHaving, IsCausalDelivery};
+ghost use Rattle.ra_labels.specs.Visibility.{had, is_update_at, sees, first_missing, IsCausal};
+ghost use Rattle.ra_labels.specs.Laws.{WasIssuedAt, WasDeliveredTo, WasIssuedHaving, IsCausalDelivery, IsLeastMissing};
 
 /// What a replica had is what it issued, where that is an update, and what was delivered to it.
 pub fn had_what_was_issued_or_delivered()
@@ -62,4 +62,13 @@ pub fn causal_records_leave_nothing_out()
         → sees records m k ≡ true → had records replica k ≡ true }
     ensures sees { (records : Records) → IsCausal records → (n m k : ℕ) → sees records n m ≡ true
         → sees records m k ≡ true → sees records n k ≡ true }
+{}
+
+/// Of the labels that a label sees, the first that a replica lacks is the least such; there is none where it had them
+/// all.
+pub fn first_missing_is_the_least()
+    ensures some { (records : Records) (replica n m : ℕ) → (first_missing records replica n ≡ Some m)
+        ↔ IsLeastMissing records replica n m }
+    ensures none { (records : Records) (replica n : ℕ) → (first_missing records replica n ≡ None)
+        ↔ ((m : ℕ) → sees records n m ≡ true → had records replica m ≡ true) }
 {}

@@ -1,47 +1,75 @@
-use Rattle.std.proofs.Common.{◌≡◌, ℕ, ◌<◌, ◌∷◌, List, ◌∙◌, refl, sym, ap, subst, arith}
-use Rattle.std.specs.Prelude.{option_map, MatchBool}
+use Rattle.std.proofs.Common.{◌≡◌, ℕ, ◌<◌, List, [], ◌∷◌, ◌++◌, length, take, Some, Ok, Err, refl, sym, ap, ◌∙◌, arith}
+use Rattle.std.specs.Prelude.{Result, OnErr, is_some, vec_len}
+use Rattle.std.specs.List.{list_any}
+use Rattle.std.proofs.lemmas.List.{take-append-le, take_all}
 use Rattle.ra_labels.specs.declared.label.Label.{Label}
-use Rattle.ra_labels.specs.declared.command.Command.TheVariants.{Operate}
 use Rattle.ra_labels.specs.Records.{label_count, next_label}
-use Rattle.ra_labels.specs.Visibility.{had, is_update}
-use Rattle.ra_labels.specs.Fault.{fault_of, fault_at, cause_of}
-use Rattle.ra_monitor.specs.declared.accepted.Accepted.{Accepted}
+use Rattle.ra_labels.specs.Visibility.{is_update}
+use Rattle.ra_labels.specs.Rewriting.{Half, Act, acts_of, update_of}
+use Rattle.ra_labels.specs.Fault.{records_before_fault}
+use Rattle.ra_labels.proofs.TheLaws.{update_where_a_part_is_one}
+use Rattle.ra_visibility.specs.Tracked.{Tracked}
 use Rattle.ra_monitor.specs.declared.history.History.{History}
-use Rattle.ra_monitor.specs.Seen.{has_in}
-use Rattle.ra_monitor.specs.Had.{AddsHad}
-use Rattle.ra_monitor.specs.History.{AreLabelsOf, stamp_of}
-use Rattle.ra_monitor.proofs.Growth.{stands_same, stands_accepted, labels_grow, reply_accepted, pushed_and_popped}
+use Rattle.ra_monitor.proofs.Growth.{stands_same, newest_stands}
 use Rattle.ra_monitor.proofs.history.History.accept.Goals as goal
 
-pub returns-in-Ok-clause-taken : goal.returns-in-Ok-clause-taken
-returns-in-Ok-clause-taken c = λ records stands none.
-    let old = c.args.self.now in
+-- a fact holds after an error too
+on_err : {T E P : Type 0} (r : Result T E) → P → OnErr r P
+on_err (Ok x) p = tt
+on_err (Err e) p = p
+
+pub returns-in_err-spare-clause-err : goal.returns-in_err-spare-clause-err
+returns-in_err-spare-clause-err c = λ records stands.
     let setup = c.args.setup.now in
+    on_err c.from_residual-in_err-spare.result (stands_same c.args.self.now _ setup records stands refl c.in_ok-reserve.ensures.items
+    (c.spare.ensures.stands setup.kind setup.replicas (records_before_fault setup.kind records) stands.order) refl)
+
+pub returns-in_err-issue-clause-err : goal.returns-in_err-issue-clause-err
+returns-in_err-issue-clause-err c = λ records stands.
+    let setup = c.args.setup.now in
+    on_err c.from_residual-in_err-issue.result (stands_same c.args.self.now _ setup records stands (ap (λ t. t.now) c.in_err-issue.ensures.same) c.in_ok-reserve.ensures.items
+    (c.spare.ensures.stands setup.kind setup.replicas (records_before_fault setup.kind records) stands.order) refl)
+
+pub returns-in-Ok-clause-taken : goal.returns-in-Ok-clause-taken
+returns-in-Ok-clause-taken c = λ records stands none fits.
+    let setup = c.args.setup.now in
+    let self = c.args.self.now in
     let by = c.args.replica in
     let op = c.args.op.now in
     let clock = c.args.clock in
-    let taken = Operate by op clock ∷ records in
-    let accepted = c.in_ok-accepted.accepted in
-    let roomy : History = record { labels = old.labels; had = c.make_room.new.self; fault = old.fault } in
-    let roomy_stands = stands_same old roomy setup records stands refl refl c.in_ok-make_room.ensures.same in
-    let numbered : c.len-number.result ≡ label_count records = omega (arith, c.len-number.ensures, stands.labels.count, old.labels.ok.0) in
-    let labelled : ℕ → Label = λ n. record { number = n; replica = by; op = op; stamp = stamp_of by clock } in
-    let is : accepted.label ≡ next_label records by op clock = c.in_ok-accepted.ensures.label ∙ ap labelled numbered in
-    let known : by < setup.replicas = omega (arith, c.requires.replica, stands.replicas) in
-    let sees_had : (m : ℕ) → has_in accepted.seen m ≡ had records by m =
-    λ m. c.in_ok-accepted.ensures.seen m accepted.seen ∙ roomy_stands.had by m accepted.seen known in
-    let grown : AreLabelsOf c.push.new.self.items taken =
-    subst (λ (l : List Accepted). AreLabelsOf l taken) (sym c.in_ok-push.ensures.items) (labels_grow old.labels.items records accepted by op clock stands.labels is sees_had) in
-    let because = c.in-Ok.ensures taken (subst (λ (l : List Accepted). AreLabelsOf l taken) (sym c.as_slice.ensures.value) grown) in
-    let labels = subst (λ (l : List Accepted). AreLabelsOf l taken) (sym (ap (λ v. v.items) c.settle.ensures.labels)) grown in
-    let fault = c.settle.ensures.fault ∙ ap (λ (n : ℕ). option_map (fault_at n) c.in-Ok.cause) numbered in
-    let changes = subst (λ (n : ℕ). MatchBool (is_update op) (AddsHad roomy.had c.settle.new.self.had by n) (c.settle.new.self.had ≡ roomy.had)) numbered c.settle.ensures.had in (
-      reply_accepted c.settle.result c.len-number.result (label_count records) (fault_of setup.kind records) c.in-Ok.cause (cause_of setup.kind taken) c.settle.ensures.reply numbered none because,
-      stands_accepted roomy c.settle.new.self setup records by op clock c.in-Ok.cause roomy_stands none labels because fault changes,
-    )
+    let label = c.in_ok-label.label in
+    let numbered : c.len.result ≡ label_count records = omega (arith, c.len.ensures, c.requires.labels, stands.tracker.labels) in
+    let is : label ≡ next_label records by op clock = c.in_ok-label.ensures records numbered in
+    let acts = c.in_ok-parts.ensures ∙ ap (λ l. acts_of l.op) is in
+    let update : is_update op ≡ c.has_update-is_update.result =
+    update_where_a_part_is_one op ∙ sym (c.has_update-is_update.ensures ∙ ap (list_any (λ (act : Half × Act). is_some (update_of act.1))) acts) in
+    let known : by < setup.replicas = omega (arith, c.requires.replica, stands.tracker.replicas) in
+    c.in-Ok.ensures.answered records by op clock (newest_stands self _ setup records by op clock label stands none
+    (c.in_ok-issue.ensures.stands setup.replicas records op clock stands.tracker update) is
+    (c.push_reserved.ensures.items ∙ ap (λ (ls : List Label). ls ++ label ∷ []) c.in_ok-reserve.ensures.items)
+    (c.spare.ensures.stands setup.kind setup.replicas (records_before_fault setup.kind records) stands.order) refl known fits)
+
+-- an element that was pushed is taken back
+pushed_and_popped : (xs ys zs : List Label) (x : Label) (n : ℕ) → ys ≡ xs ++ x ∷ [] → zs ≡ take n ys → n ≡ length xs → zs ≡ xs
+pushed_and_popped xs ys zs x n pushed popped e =
+    popped ∙ ap (take n) pushed ∙ take-append-le n xs (x ∷ []) (omega (arith, e)) ∙ take_all n xs (omega (arith, e))
+
+same_tracked : (t u : Tracked) → Some t ≡ Some u → t ≡ u
+same_tracked t u e = cc
 
 pub returns-in-Err-clause-err : goal.returns-in-Err-clause-err
 returns-in-Err-clause-err c = λ records stands.
-    let back = pushed_and_popped c.args.self.now.labels.items c.push.new.self.items c.pop.new.self.items c.in_ok-accepted.accepted _ c.in_ok-push.ensures.items c.pop.ensures.rest
-    (omega (arith, c.in_ok-push.ensures.len, c.args.self.now.labels.ok.0)) in
-    stands_same c.args.self.now (record { labels = c.pop.new.self; had = c.make_room.new.self; fault = c.args.self.now.fault }) c.args.setup.now records stands back refl c.in_ok-make_room.ensures.same
+    let setup = c.args.setup.now in
+    let self = c.args.self.now in
+    let kept : History = record { labels = c.push_reserved.new.self; tracker = c.issue.new.self; order = c.spare.new.self; fault = self.fault } in
+    let same : c.answer.new.self ≡ kept = c.in-Err.ensures.same in
+    let tracker : c.withdraw.new.self.now ≡ self.tracker.now =
+    same_tracked c.withdraw.new.self.now self.tracker.now (c.withdraw.ensures.now ∙ ap (λ (h : History). h.tracker.before) same ∙ c.in_ok-issue.ensures.before) in
+    let pushed : c.answer.new.self.labels.items ≡ self.labels.items ++ c.in_ok-label.label ∷ [] =
+    ap (λ (h : History). h.labels.items) same ∙ c.push_reserved.ensures.items ∙ ap (λ (ls : List Label). ls ++ c.in_ok-label.label ∷ []) c.in_ok-reserve.ensures.items in
+    let count : vec_len c.answer.new.self.labels ≡ vec_len c.push_reserved.new.self = ap (λ (h : History). vec_len h.labels) same in
+    let back = pushed_and_popped self.labels.items c.answer.new.self.labels.items c.pop.new.self.items c.in_ok-label.label _ pushed c.pop.ensures.rest
+    (omega (arith, count, c.push_reserved.ensures.len, c.in_ok-reserve.ensures.len, self.labels.ok.0)) in
+    stands_same self _ setup records stands tracker back
+    (rw (ap (λ (h : History). h.order) same) (c.spare.ensures.stands setup.kind setup.replicas (records_before_fault setup.kind records) stands.order))
+    (ap (λ (h : History). h.fault) same)

@@ -1,0 +1,56 @@
+-- The place of a new label in the order of execution.
+use Rattle.std.proofs.Common.{◌≡◌, ℕ, true, List, ◌∷◌, [], ◌++◌, Option, Some, refl, sym, ap, ◌∙◌, arith}
+use Rattle.std.specs.Prelude.{reverse, drop, length, not}
+use Rattle.std.specs.List.{list_all, slice_get}
+use mathlib.Core.List.{reverse-cons}
+use Rattle.std.proofs.Math.Seq.{drop-length}
+use Rattle.std.proofs.lemmas.List.{length-reverse}
+use Rattle.ra_labels.specs.declared.kind.Kind.{Kind}
+use Rattle.ra_labels.specs.declared.operation.Op.{Op}
+use Rattle.ra_labels.specs.declared.label.Label.{Label}
+use Rattle.ra_labels.specs.declared.command.Command.TheVariants.{Operate, Deliver, Verdict}
+use Rattle.ra_labels.specs.Records.{Records, label_count, labels_of, next_label}
+use Rattle.ra_labels.specs.Linearization.{extends_visibility}
+use Rattle.ra_labels.specs.NamedOrder.{named_labels, named_sequence}
+use Rattle.ra_labels.proofs.TheLaws.{named_in_order_of_execution-labels}
+use Rattle.ra_visibility.specs.declared.order.Place.{Place}
+use Rattle.ra_visibility.specs.Order.{IsByExecution, IsPlaceOf, EachFitted, must_stand_before}
+use Rattle.ra_visibility.proofs.TheLaws.{visibility_is_extended_where_each_label_fitted}
+
+labels_counted : (records : Records) → length (labels_of records) ≡ label_count records
+labels_counted [] = refl
+labels_counted (Operate by op clock ∷ before) = omega (arith, labels_counted before)
+labels_counted (Deliver to label ∷ before) = labels_counted before
+labels_counted (Verdict ∷ before) = labels_counted before
+
+get_at_seam : (xs : List Label) (y : Label) → slice_get (xs ++ y ∷ []) (length xs) ≡ Some y
+get_at_seam [] y = refl
+get_at_seam (x ∷ xs) y = get_at_seam xs y
+
+-- it stands behind all labels, and fits
+pub last_fits : (kind : Kind) (records : Records) (by : ℕ) (op : Op) (clock : Option ℕ) (place : Place) → IsByExecution kind
+    → place.at ≡ label_count records → place.fits ≡ true → IsPlaceOf kind records by op clock place
+last_fits kind records by op clock place by_execution at fits =
+    let now = Operate by op clock ∷ records in
+    let label = next_label records by op clock in
+    let older = reverse (labels_of records) in
+    let long : place.at ≡ length older = at ∙ sym (labels_counted records) ∙ sym (length-reverse (labels_of records)) in
+    let named : named_labels kind now ≡ older ++ label ∷ [] = named_in_order_of_execution-labels kind now (by_execution now) ∙ reverse-cons label (labels_of records) in
+    let none : drop place.at (named_labels kind records) ≡ [] =
+    ap (λ labels. drop place.at labels) (named_in_order_of_execution-labels kind records (by_execution records)) ∙ ap (λ n. drop n older) long ∙ drop-length older in
+    record {
+      at = ap (λ labels. slice_get labels place.at) named ∙ ap (slice_get (older ++ label ∷ [])) long ∙ get_at_seam older label;
+      fits = fits ∙ sym (ap (list_all (λ m. not (must_stand_before now m label))) none);
+    }
+
+each_fits : (kind : Kind) → IsByExecution kind → (records : Records) → EachFitted kind records
+each_fits kind by_execution [] = tt
+each_fits kind by_execution (Operate by op clock ∷ before) =
+    let place : Place = record { at = label_count before; fits = true } in
+    ((place, last_fits kind before by op clock place by_execution refl refl, refl), each_fits kind by_execution before)
+each_fits kind by_execution (Deliver to label ∷ before) = each_fits kind by_execution before
+each_fits kind by_execution (Verdict ∷ before) = each_fits kind by_execution before
+
+-- the order of execution extends visibility
+pub always_extends : (kind : Kind) → IsByExecution kind → (records : Records) → extends_visibility records (named_sequence kind records) ≡ true
+always_extends kind by_execution records = visibility_is_extended_where_each_label_fitted kind records (each_fits kind by_execution records)

@@ -1,0 +1,70 @@
+ghost use Rattle.std.specs.Prelude.{◌≡◌, ℕ, []};
+ghost use Rattle.ra_labels.specs.declared.kind.Kind.{Kind};
+ghost use Rattle.ra_labels.specs.Records.{label_count};
+ghost use Rattle.ra_visibility.specs.Order.{IsByExecution};
+
+use ra_labels::{Label, NoMemory};
+use ra_visibility::{NamedOrder, Place, Seen};
+use std::marker::Model;
+
+/// Labels in the order of their execution. Each call takes no memory and costs a constant.
+#[derive(Debug, Drop)]
+pub struct ExecOrder {
+    labels: u32,
+}
+
+impl Model for ExecOrder {
+    ghost use Rattle.std.specs.Prelude.{ℕ};
+
+    // how many labels there are
+    ghost Value = { ℕ };
+
+    ghost view = { λ a. a.labels };
+}
+
+impl ExecOrder {
+    /// The order of no labels.
+    pub fn new() -> ExecOrder
+        ensures stands { (kind : Kind) (first : ℕ) → IsByExecution kind
+            → ⟦<ExecOrder as NamedOrder>⟧.stands_for result kind first [] }
+    {
+        ExecOrder { labels: 0 }
+    }
+}
+
+impl NamedOrder for ExecOrder {
+    ghost use Rattle.ra_exec_order.specs.Counted.{first_numbers, first_numbers-listed};
+
+    ghost listed = { λ order. first_numbers order };
+
+    ghost room = { λ order. 1 };
+
+    ghost stands_for = { λ order kind first records. IsByExecution kind × (order ≡ label_count records) };
+
+    fn place(&self, _label: &Label, _seen: &Seen<'_>) -> Place {
+        Place {
+            at: self.labels as usize,
+            fits: true,
+        }
+    }
+
+    fn spare(&mut self) -> Result<(), NoMemory> {
+        Ok(())
+    }
+
+    fn put(&mut self, _label: &Label, _seen: &Seen<'_>, _place: Place) {
+        self.labels += 1;
+    }
+
+    fn at(&self, position: usize) -> Option<u32> {
+        if position < self.labels as usize {
+            Some(position as u32)
+        } else {
+            None
+        }
+    }
+
+    ghost lists = { λ order kind first records stands. first_numbers-listed order kind records stands.0 stands.1 };
+
+    ghost keeps = { λ order kind first records to label stands. stands };
+}

@@ -1,0 +1,79 @@
+//! The named order of each kind.
+ghost use Rattle.std.specs.Prelude.{◌≡◌, ℕ, [], IfOk};
+ghost use Rattle.std.specs.List.{insert};
+ghost use Rattle.ra_monitor.specs.Order.{listed_in, IsOrderOf};
+
+use ra_exec_order::ExecOrder;
+use ra_labels::{Kind, Label, NoMemory};
+use ra_visibility::{NamedOrder, Place, Seen};
+use std::alloc::Global;
+
+/// The order that a kind names: of a counter that of execution.
+#[derive(Debug, Drop)]
+pub struct Order {
+    execution: ExecOrder,
+}
+
+impl Order {
+    /// The order that the kind names, of no labels.
+    pub fn of(kind: Kind) -> Order
+        ensures { (first : ℕ) → IsOrderOf result kind first [] }
+    {
+        match kind {
+            Kind::Counter => Order {
+                execution: ExecOrder::new(),
+            },
+        }
+    }
+
+    /// The numbers of the labels, in this order.
+    pub fn numbers(&self, alloc: Global) -> Result<Vec<u32>, NoMemory>
+        ensures { IfOk result (λ numbers. numbers.items ≡ listed_in self.now) }
+    {
+        let mut numbers = Vec::new(alloc);
+        while let Some(number) = self.at(numbers.len()) {
+            numbers.push(number)?;
+        }
+        Ok(numbers)
+    }
+
+    /// The same, with one more at this position, or behind all where there are fewer.
+    pub fn numbers_with(&self, alloc: Global, number: u32, at: usize) -> Result<Vec<u32>, NoMemory>
+        ensures { IfOk result (λ numbers. numbers.items ≡ insert (listed_in self.now) at number) }
+    {
+        let mut numbers = self.numbers(alloc)?;
+        numbers.insert(at.min(numbers.len()), number)?;
+        Ok(numbers)
+    }
+}
+
+impl NamedOrder for Order {
+    ghost use Rattle.ra_monitor.specs.Order.{listed_in, room_in, IsOrderOf, lists_named, keeps_delivered};
+
+    ghost listed = { λ order. listed_in order };
+
+    ghost room = { λ order. room_in order };
+
+    ghost stands_for = { λ order kind first records. IsOrderOf order kind first records };
+
+    fn place(&self, label: &Label, seen: &Seen<'_>) -> Place {
+        self.execution.place(label, seen)
+    }
+
+    fn spare(&mut self) -> Result<(), NoMemory> {
+        self.execution.spare()
+    }
+
+    fn put(&mut self, label: &Label, seen: &Seen<'_>, place: Place) {
+        self.execution.put(label, seen, place);
+    }
+
+    fn at(&self, position: usize) -> Option<u32> {
+        self.execution.at(position)
+    }
+
+    ghost lists = { λ order kind first records stands. lists_named order kind first records stands };
+
+    ghost keeps = { λ order kind first records to label stands.
+        keeps_delivered order kind first records to label stands };
+}

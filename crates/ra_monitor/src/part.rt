@@ -1,0 +1,56 @@
+ghost use Rattle.std.specs.Prelude.{◌≡◌, option_to_list, filter_map, is_some};
+ghost use Rattle.std.specs.List.{list_any};
+ghost use Rattle.ra_labels.specs.Rewriting.{update_of, query_of};
+ghost use Rattle.ra_monitor.specs.Parts.{acts_in};
+
+use ra_labels::{Query, Update};
+
+/// What one part of a label does, or asks.
+#[derive(Debug, Drop)]
+pub enum Part {
+    /// It asks.
+    Query(Query),
+    /// It does.
+    Update(Update),
+}
+
+/// What a label is rewritten into.
+#[derive(Debug, Drop)]
+pub enum Parts {
+    /// It is its own one part.
+    One(Part),
+    /// A query half, and then an update half.
+    Two(Query, Update),
+}
+
+impl Parts {
+    /// Is one of them an update?
+    pub fn has_update(&self) -> bool
+        ensures { result ≡ list_any (λ act. is_some (update_of act.1)) (acts_in self.now) }
+    {
+        match self {
+            Parts::One(Part::Query(_)) => false,
+            Parts::One(Part::Update(_)) | Parts::Two(..) => true,
+        }
+    }
+
+    /// What they do, if anything.
+    pub fn into_update(self) -> Option<Update>
+        ensures { option_to_list result ≡ filter_map (λ act. update_of act.1) (acts_in self) }
+    {
+        match self {
+            Parts::One(Part::Query(_)) => None,
+            Parts::One(Part::Update(update)) | Parts::Two(_, update) => Some(update),
+        }
+    }
+
+    /// What they ask, if anything.
+    pub fn into_query(self) -> Option<Query>
+        ensures { option_to_list result ≡ filter_map (λ act. query_of act.1) (acts_in self) }
+    {
+        match self {
+            Parts::One(Part::Update(_)) => None,
+            Parts::One(Part::Query(query)) | Parts::Two(query, _) => Some(query),
+        }
+    }
+}

@@ -1,0 +1,128 @@
+-- Where a label is inserted in the named order.
+use Rattle.std.proofs.Common.{◌≡◌, ℕ, suc, ◌+◌, ◌-◌, ◌<◌, ◌≤◌, List, [], ◌∷◌, length, get_or, Option, Some, refl, sym, ap, ◌∙◌, inl, inr, arith, Ordering}
+use Rattle.std.specs.Prelude.{All, Contains, cond}
+use Rattle.std.specs.List.{insert, slice_get}
+use Rattle.std.specs.Ordering.{is_lt, nat_cmp, ordering_then}
+use Rattle.std.proofs.lemmas.Bool.{cond_both, cases_order}
+use Rattle.std.proofs.lemmas.Option.{get_or_from_slice_get, slice_get_within}
+use Rattle.std.proofs.lemmas.List.Elements.{All-nil, All-cons, All-head, All-tail, All-weaker, All-get_or, All-contains_itself}
+use Rattle.std.proofs.lemmas.List.Edits.{length-insert, get_or-insert_below, get_or-insert_above}
+use Rattle.std.proofs.lemmas.List.Sorted.{All-permutation}
+use Rattle.ra_labels.specs.declared.kind.Kind.{Kind}
+use Rattle.ra_labels.specs.declared.kind.Kind.TheVariants.{Counter}
+use Rattle.ra_labels.specs.declared.operation.Op.{Op}
+use Rattle.ra_labels.specs.declared.label.Stamp.{Stamp}
+use Rattle.ra_labels.specs.declared.label.Label.{Label}
+use Rattle.ra_labels.specs.declared.command.Command.{Command}
+use Rattle.ra_labels.specs.declared.command.Command.TheVariants.{Operate, Deliver, Verdict}
+use Rattle.ra_labels.specs.Records.{Records, label_count, labels_of, next_label}
+use Rattle.ra_labels.specs.NamedOrder.{rank_of, stamp_cmp, label_cmp, insert_by, sort_by, named_labels}
+use Rattle.ra_labels.proofs.TheLaws.{named_labels_are_sorted-same}
+use Rattle.ra_visibility.specs.declared.order.Place.{Place}
+use Rattle.ra_visibility.specs.Order.{IsPlaceOf}
+
+-- each label's number is below their count
+below_count : (records : Records) → All (λ label. label.number < label_count records) (labels_of records)
+below_count [] = All-nil (λ label. label.number < 0)
+below_count (Operate by op clock ∷ before) =
+    All-cons (λ label. label.number < label_count before + 1) (next_label before by op clock) (labels_of before)
+    (omega arith)
+    (All-weaker (λ label. label.number < label_count before) (λ label. label.number < label_count before + 1) (λ label below. omega arith) (labels_of before) (below_count before))
+below_count (_ ∷ before) = below_count before
+
+pub named_below_count : (kind : Kind) (records : Records) → All (λ label. label.number < label_count records) (named_labels kind records)
+named_below_count kind records =
+    All-permutation (λ label. label.number < label_count records) (labels_of records) (named_labels kind records) (named_labels_are_sorted-same kind records) (below_count records)
+
+module _ {A : Type 0} where
+  All-insert_by : (P : A → Type 0) (cmp : A → A → Ordering) (x : A) (ys : List A) → P x → All P ys → All P (insert_by cmp x ys)
+  All-insert_by P cmp x [] this all = All-cons P x [] this (All-nil P)
+  All-insert_by P cmp x (y ∷ ys) this all =
+      cond_both (is_lt (cmp x y)) (x ∷ y ∷ ys) (y ∷ insert_by cmp x ys) (All P)
+      (λ _. All-cons P x (y ∷ ys) this all)
+      (λ _. All-cons P y (insert_by cmp x ys) (All-head P y ys all) (All-insert_by P cmp x ys this (All-tail P y ys all)))
+
+  All-sort_by : (P : A → Type 0) (cmp : A → A → Ordering) (xs : List A) → All P xs → All P (sort_by cmp xs)
+  All-sort_by P cmp [] all = All-nil P
+  All-sort_by P cmp (x ∷ xs) all = All-insert_by P cmp x (sort_by cmp xs) (All-head P x xs all) (All-sort_by P cmp xs (All-tail P x xs all))
+
+  insert_by_same : (cmp other : A → A → Ordering) (x : A) (ys : List A) → All (λ y. cmp x y ≡ other x y) ys → insert_by cmp x ys ≡ insert_by other x ys
+  insert_by_same cmp other x [] same = refl
+  insert_by_same cmp other x (y ∷ ys) same =
+      ap (λ o. cond (is_lt o) (x ∷ y ∷ ys) (y ∷ insert_by cmp x ys)) (All-head (λ z. cmp x z ≡ other x z) y ys same)
+      ∙ ap (λ zs. cond (is_lt (other x y)) (x ∷ y ∷ ys) (y ∷ zs)) (insert_by_same cmp other x ys (All-tail (λ z. cmp x z ≡ other x z) y ys same))
+
+  -- comparisons that agree on the elements sort them alike
+  sort_by_same : (P : A → Type 0) (cmp other : A → A → Ordering) → ((x y : A) → P x → P y → cmp x y ≡ other x y) → (xs : List A) → All P xs → sort_by cmp xs ≡ sort_by other xs
+  sort_by_same P cmp other same [] all = refl
+  sort_by_same P cmp other same (x ∷ xs) all =
+      let rest = All-sort_by P other xs (All-tail P x xs all) in
+      ap (insert_by cmp x) (sort_by_same P cmp other same xs (All-tail P x xs all))
+      ∙ insert_by_same cmp other x (sort_by other xs) (All-weaker P (λ y. cmp x y ≡ other x y) (λ y known. same x y (All-head P x xs all) known) (sort_by other xs) rest)
+
+  -- an insertion is one at some position
+  insert_by_somewhere : (cmp : A → A → Ordering) (x : A) (ys : List A) → (p : ℕ) × (p ≤ length ys) × (insert_by cmp x ys ≡ insert ys p x)
+  insert_by_somewhere cmp x [] = (0, omega arith, refl)
+  insert_by_somewhere cmp x (y ∷ ys) =
+      cond_both (is_lt (cmp x y)) (x ∷ y ∷ ys) (y ∷ insert_by cmp x ys) (λ zs. (p : ℕ) × (p ≤ length (y ∷ ys)) × (zs ≡ insert (y ∷ ys) p x))
+      (λ _. (0, omega arith, refl))
+      (λ _. let rest = insert_by_somewhere cmp x ys in (suc rest.0, omega (arith, rest.1), ap (λ zs. y ∷ zs) rest.2))
+
+-- a later record leaves a label's rank
+pub rank_later : (kind : Kind) (command : Command) (records : Records) (label : Label) → Contains (labels_of records) label → rank_of kind (command ∷ records) label ≡ rank_of kind records label
+rank_later Counter command records label found = refl
+
+cmp_later : (kind : Kind) (command : Command) (records : Records) (l m : Label) → Contains (labels_of records) l → Contains (labels_of records) m
+    → label_cmp kind (command ∷ records) l m ≡ label_cmp kind records l m
+cmp_later kind command records l m found_l found_m =
+    let by_ranks : Stamp → Stamp → Ordering = λ r s. ordering_then (stamp_cmp r s) (nat_cmp l.number m.number) in
+    ap (λ r. by_ranks r (rank_of kind (command ∷ records) m)) (rank_later kind command records l found_l)
+    ∙ ap (by_ranks (rank_of kind records l)) (rank_later kind command records m found_m)
+
+-- and so the order of the labels before
+order_later : (kind : Kind) (command : Command) (records : Records) → sort_by (label_cmp kind (command ∷ records)) (labels_of records) ≡ named_labels kind records
+order_later kind command records =
+    sort_by_same (Contains (labels_of records)) (label_cmp kind (command ∷ records)) (label_cmp kind records) (cmp_later kind command records) (labels_of records) (All-contains_itself (labels_of records))
+
+pub order_delivered : (kind : Kind) (records : Records) (to label : ℕ) → named_labels kind (Deliver to label ∷ records) ≡ named_labels kind records
+order_delivered kind records to label = order_later kind (Deliver to label) records
+
+pub order_after_verdict : (kind : Kind) (records : Records) → named_labels kind (Verdict ∷ records) ≡ named_labels kind records
+order_after_verdict kind records = order_later kind Verdict records
+
+-- a new label is inserted in the order of those before
+pub order_with : (kind : Kind) (records : Records) (by : ℕ) (op : Op) (clock : Option ℕ)
+    → named_labels kind (Operate by op clock ∷ records) ≡ insert_by (label_cmp kind (Operate by op clock ∷ records)) (next_label records by op clock) (named_labels kind records)
+order_with kind records by op clock =
+    ap (insert_by (label_cmp kind (Operate by op clock ∷ records)) (next_label records by op clock)) (order_later kind (Operate by op clock) records)
+
+-- the new label is at one position alone
+only_position : (xs : List Label) (p at : ℕ) (x : Label) → All (λ label. label.number < x.number) xs → p ≤ length xs → slice_get (insert xs p x) at ≡ Some x → at ≡ p
+only_position xs p at x below inside found =
+    let is : get_or (insert xs p x) at x ≡ x = get_or_from_slice_get (insert xs p x) at x x found in
+    let within = slice_get_within (insert xs p x) at x found in
+    let long = length-insert xs p x inside in
+    elim (cases_order at p) [
+      | inl same ↦ same
+      | inr (inl before) ↦
+          let older : get_or xs at x ≡ x = sym (get_or-insert_below xs p x x at before inside) ∙ is in
+          let less = All-get_or (λ label. label.number < x.number) xs at x (omega arith) below in
+          absurd (omega (arith, less, ap (λ (l : Label). l.number) older))
+      | inr (inr behind) ↦
+          let step : at - 1 + 1 ≡ at = omega arith in
+          let older : get_or xs (at - 1) x ≡ x = sym (get_or-insert_above xs p x x (at - 1) (omega arith) inside) ∙ ap (λ k. get_or (insert xs p x) k x) step ∙ is in
+          let less = All-get_or (λ label. label.number < x.number) xs (at - 1) x (omega arith) below in
+          absurd (omega (arith, less, ap (λ (l : Label). l.number) older))
+    ]
+
+-- with a new label the order is the one before, and the label inserted at its place
+pub at_its_place : (kind : Kind) (records : Records) (by : ℕ) (op : Op) (clock : Option ℕ) (place : Place) → IsPlaceOf kind records by op clock place
+    → (place.at ≤ length (named_labels kind records))
+    × (named_labels kind (Operate by op clock ∷ records) ≡ insert (named_labels kind records) place.at (next_label records by op clock))
+at_its_place kind records by op clock place is =
+    let label = next_label records by op clock in
+    let named = named_labels kind records in
+    let where_ = insert_by_somewhere (label_cmp kind (Operate by op clock ∷ records)) label named in
+    let inserted = order_with kind records by op clock ∙ where_.2 in
+    let same = only_position named where_.0 place.at label (named_below_count kind records) where_.1 (ap (λ ls. slice_get ls place.at) (sym inserted) ∙ is.at) in
+    (omega (arith, same, where_.1), inserted ∙ ap (λ p. insert named p label) (sym same))
