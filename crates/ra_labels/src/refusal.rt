@@ -53,13 +53,12 @@ fn fits_operation(kind: Kind, op: &Op, clock: Option<u32>) -> Option<Refusal>
         Some(Refusal::WrongKind)
     } else if !has_rising_list(op) {
         Some(Refusal::BadList)
-    } else if carries_stamp(op) {
-        match clock {
-            None | Some(0) => Some(Refusal::StampMissing),
-            Some(_) => None,
-        }
     } else {
-        clock.map(|_| Refusal::StampUnwanted)
+        match (carries_stamp(op), clock) {
+            (true, None | Some(0)) => Some(Refusal::StampMissing),
+            (false, Some(_)) => Some(Refusal::StampUnwanted),
+            (true, Some(_)) | (false, None) => None,
+        }
     }
 }
 
