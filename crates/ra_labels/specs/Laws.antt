@@ -147,7 +147,8 @@ pub record IsFit (kind : Kind) (replicas : ℕ) (label : Label) : Type 0 where
   pub list : has_rising_list label.op ≡ true
   pub replica : label.replica < replicas
   -- it has a stamp exactly where its operation carries one: a clock from 1 on, and its replica
-  pub stamp : (clock : Option ℕ) × HasItsClock label.op clock × (label.stamp ≡ option_map (stamp_at label.replica) clock)
+  pub stamp : (clock : Option ℕ) × HasItsClock label.op clock
+      × (label.stamp ≡ option_map (stamp_at label.replica) clock)
 
 abbrev pub EachLabelFits : Kind → ℕ → Records → Type 0
 EachLabelFits kind replicas records =

@@ -31,7 +31,8 @@ greatest_stamp (label ∷ labels) =
 -- the label's own stamp, else the greatest own stamp of those that it sees
 abbrev pub timestamp_of : Records → Label → Stamp
 timestamp_of records label =
-    unwrap_or label.stamp (greatest_stamp (filter (λ other. sees records label.number other.number) (labels_of records)))
+    let seen = filter (λ other. sees records label.number other.number) (labels_of records) in
+    unwrap_or label.stamp (greatest_stamp seen)
 
 -- what a label is sorted by before its number: in order of execution nothing, else its timestamp
 abbrev pub rank_of : Kind → Records → Label → Stamp

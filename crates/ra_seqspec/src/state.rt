@@ -89,8 +89,8 @@ impl State {
         Ok(true)
     }
 
-    /// Is the query's answer that of this state? It takes no memory and always answers. Costs as much as a set's read is
-    /// long.
+    /// Is the query's answer that of this state? It takes no memory and always answers. Costs as much as a read of a set
+    /// is long.
     pub fn admits(&self, query: &Query) -> bool
         requires { asks_rising query.now ≡ true }
         ensures { result ≡ answers self.now query.now }

@@ -69,8 +69,8 @@ pub fn misfits_are_refused()
         → refusal_of kind replicas records Verdict ≡ None }
 {}
 
-/// A delivery is refused as not causal exactly where the replica is there, the label is an update that is new to it, and
-/// the label sees one that it lacks; the least such is named.
+/// A delivery is refused as not causal exactly where the replica is there, the label is an update that is new to it,
+/// and the label sees one that the replica lacks; the least such is named.
 pub fn not_causal_where_a_seen_label_is_missing()
     ensures { (replicas : ℕ) (records : Records) (to label n : ℕ)
         → (refusal_of_delivery replicas records to label ≡ Some (NotCausal n))
@@ -98,7 +98,8 @@ pub fn forms_that_deserve_no_refusal()
         ↔ ((kind_of op ≡ kind) × (has_rising_list op ≡ true) × HasItsClock op clock) }
 {}
 
-/// An operation of a replica that is there, whose form deserves no refusal, is refused exactly where its stamp is taken.
+/// An operation of a replica that is there, whose form deserves no refusal, is refused exactly where its stamp is
+/// taken.
 pub fn operations_with_a_taken_stamp_are_refused()
     ensures taken { (kind : Kind) (replicas : ℕ) (records : Records) (by : ℕ) (op : Op) (clock : Option ℕ)
         → (refusal_of kind replicas records (Operate by op clock) ≡ Some StampTaken)
@@ -113,7 +114,8 @@ pub fn operations_with_a_taken_stamp_are_refused()
 /// Each label fits its kind in the records that commands leave, from none on.
 pub fn accepted_labels_fit()
     ensures one { (kind : Kind) (replicas : ℕ) (records : Records) (command : Command)
-        → EachLabelFits kind replicas records → EachLabelFits kind replicas (records_after kind replicas records command) }
+        → EachLabelFits kind replicas records
+        → EachLabelFits kind replicas (records_after kind replicas records command) }
     ensures all { (kind : Kind) (replicas : ℕ) (commands : List Command)
         → EachLabelFits kind replicas (records_after_all kind replicas [] commands) }
 {}

@@ -10,8 +10,8 @@ ghost use Rattle.ra_labels.specs.NamedOrder.{lowest_rank, timestamp_of, rank_of}
 ghost use Rattle.ra_labels.specs.Answer.{is_taken, records_after, records_after_all};
 ghost use Rattle.ra_labels.specs.Laws.{IsStampBelow, SeesStamp, IsOwnStamp, StampsAreOneLabels};
 
-/// A label that has a stamp counts with it. Another counts with one that it sees, above which it sees none; and with the
-/// lowest rank where it sees none at all.
+/// A label that has a stamp counts with it. Another counts with one that it sees, above which it sees none; and with
+/// the lowest rank where it sees none at all.
 pub fn a_timestamp_is_the_greatest_seen()
     ensures own { (records : Records) (label : Label) (stamp : Stamp) → label.stamp ≡ Some stamp
         → timestamp_of records label ≡ stamp }

@@ -25,7 +25,8 @@ pub fn equal_clocks_are_decided_by_the_replica()
 
 /// A write whose stamp is not above one that was seen has no place in the order.
 pub fn a_write_stands_behind_what_it_saw()
-    ensures equal { answers_of_register (written_after_one_seen 5) ≡ reply.Ok 0 ∷ reply.Got 0 ∷ reply.Ok 1 ∷ reply.Yes 2 ∷ [] }
+    ensures equal { answers_of_register (written_after_one_seen 5)
+        ≡ reply.Ok 0 ∷ reply.Got 0 ∷ reply.Ok 1 ∷ reply.Yes 2 ∷ [] }
     ensures below { answers_of_register (written_after_one_seen 4)
         ≡ reply.Ok 0 ∷ reply.Got 0 ∷ reply.No 1 cause.Order ∷ reply.No 1 cause.Order ∷ [] }
     ensures own { answers_of_register clocks_that_fall
