@@ -5,19 +5,19 @@ use Rattle.std.specs.List.{insert, slice_get}
 use Rattle.std.specs.Ordering.{is_lt, nat_cmp, ordering_then}
 use Rattle.std.proofs.lemmas.Bool.{cond_both, cases_order}
 use Rattle.std.proofs.lemmas.Option.{get_or_from_slice_get, slice_get_within}
-use Rattle.std.proofs.lemmas.List.Elements.{All-nil, All-cons, All-head, All-tail, All-weaker, All-get_or, All-contains_itself}
+use Rattle.std.proofs.lemmas.List.Elements.{All-nil, All-cons, All-head, All-tail, All-weaker, All-get_or, All-contains, All-contains_itself}
 use Rattle.std.proofs.lemmas.List.Edits.{length-insert, get_or-insert_below, get_or-insert_above}
 use Rattle.std.proofs.lemmas.List.Sorted.{All-permutation}
 use Rattle.ra_labels.specs.declared.kind.Kind.{Kind}
-use Rattle.ra_labels.specs.declared.kind.Kind.TheVariants.{Counter}
+use Rattle.ra_labels.specs.declared.kind.Kind.TheVariants.{Counter, Register, LwwSet}
 use Rattle.ra_labels.specs.declared.operation.Op.{Op}
 use Rattle.ra_labels.specs.declared.label.Stamp.{Stamp}
 use Rattle.ra_labels.specs.declared.label.Label.{Label}
 use Rattle.ra_labels.specs.declared.command.Command.{Command}
 use Rattle.ra_labels.specs.declared.command.Command.TheVariants.{Operate, Deliver, Verdict}
 use Rattle.ra_labels.specs.Records.{Records, label_count, labels_of, next_label}
-use Rattle.ra_labels.specs.NamedOrder.{rank_of, stamp_cmp, label_cmp, insert_by, sort_by, named_labels}
-use Rattle.ra_labels.proofs.TheLaws.{named_labels_are_sorted-same}
+use Rattle.ra_labels.specs.NamedOrder.{timestamp_of, rank_of, stamp_cmp, label_cmp, insert_by, sort_by, named_labels}
+use Rattle.ra_labels.proofs.TheLaws.{named_labels_are_sorted-same, a_timestamp_is_kept}
 use Rattle.ra_visibility.specs.declared.order.Place.{Place}
 use Rattle.ra_visibility.specs.Order.{IsPlaceOf}
 
@@ -68,9 +68,15 @@ module _ {A : Type 0} where
       (λ _. (0, omega arith, refl))
       (λ _. let rest = insert_by_somewhere cmp x ys in (suc rest.0, omega (arith, rest.1), ap (λ zs. y ∷ zs) rest.2))
 
+timestamp_later : (command : Command) (records : Records) (label : Label) → Contains (labels_of records) label → timestamp_of (command ∷ records) label ≡ timestamp_of records label
+timestamp_later command records label found =
+    a_timestamp_is_kept (command ∷ []) records label (All-contains (λ l. l.number < label_count records) (labels_of records) label (below_count records) found)
+
 -- a later record leaves a label's rank
 pub rank_later : (kind : Kind) (command : Command) (records : Records) (label : Label) → Contains (labels_of records) label → rank_of kind (command ∷ records) label ≡ rank_of kind records label
 rank_later Counter command records label found = refl
+rank_later Register command records label found = timestamp_later command records label found
+rank_later LwwSet command records label found = timestamp_later command records label found
 
 cmp_later : (kind : Kind) (command : Command) (records : Records) (l m : Label) → Contains (labels_of records) l → Contains (labels_of records) m
     → label_cmp kind (command ∷ records) l m ≡ label_cmp kind records l m
