@@ -28,7 +28,8 @@ use Rattle.ra_visibility.specs.declared.order.Place.{Place}
 use Rattle.ra_visibility.specs.Seen.{Seen, count_in}
 use Rattle.ra_visibility.specs.Order.{ComesNext, IsPlaceOf, must_stand_before}
 use Rattle.ra_visibility.proofs.TheLaws.{a_label_goes_behind_no_greater_ranks}
-use Rattle.ra_time_order.specs.Sorted.{Sorted, not_above, IsPositionOf}
+use Rattle.ra_time_order.specs.Sorted.{Sorted}
+use Rattle.ra_time_order.specs.Positions.{not_above, IsPositionOf}
 use Rattle.ra_time_order.specs.Stamps.{AtMost, greatest_in}
 use Rattle.ra_time_order.specs.Replicas.{Replicas}
 use Rattle.ra_time_order.specs.Standing.{TimeOrder, time_order_of, entry_of, StandsFor}

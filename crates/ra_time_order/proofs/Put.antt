@@ -21,7 +21,8 @@ use Rattle.ra_visibility.specs.Seen.{Seen, count_in}
 use Rattle.ra_visibility.specs.Order.{ComesNext}
 use Rattle.ra_time_order.specs.declared.entry.Entry.{Entry}
 use Rattle.ra_time_order.specs.Replicas.{Replicas}
-use Rattle.ra_time_order.specs.Sorted.{Sorted, not_above, IsPositionOf}
+use Rattle.ra_time_order.specs.Sorted.{Sorted}
+use Rattle.ra_time_order.specs.Positions.{not_above, IsPositionOf}
 use Rattle.ra_time_order.specs.Stamps.{AreGreatestOf, greatest_in, stamps_with}
 use Rattle.ra_time_order.specs.Standing.{TimeOrder, time_order_of, entry_of, StandsFor}
 use Rattle.ra_time_order.proofs.Ranks.{head_or_behind}

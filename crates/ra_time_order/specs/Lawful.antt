@@ -22,7 +22,8 @@ numbers_of_entries kind records (label ∷ labels) =
 pub listed-named : (order : TimeOrder) (kind : Kind) (first : ℕ) (records : Records)
     → StandsFor order kind first records → map (λ entry. entry.label) order.entries ≡ numbers_in kind records
 listed-named order kind first records stands =
-    ap (map (λ (entry : Entry). entry.label)) stands.entries ∙ numbers_of_entries kind records (named_labels kind records)
+    ap (map (λ (entry : Entry). entry.label)) stands.entries
+    ∙ numbers_of_entries kind records (named_labels kind records)
 
 ranks_delivered : (kind : Kind) (records : Records) (to n : ℕ) → IsByTimestamp kind → (labels : List Label)
     → map (entry_of kind records) labels ≡ map (entry_of kind (Deliver to n ∷ records)) labels

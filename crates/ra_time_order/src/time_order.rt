@@ -38,7 +38,7 @@ impl TimeOrder {
     {
         let replicas = Replicas::new(alloc, replicas)?;
         Ok(TimeOrder {
-            sorted: Sorted::new(alloc),
+            sorted: Sorted::new(alloc)?,
             replicas,
         })
     }

@@ -1,6 +1,38 @@
-use Rattle.std.proofs.Common.{length, ap, arith}
-use Rattle.ra_time_order.specs.Sorted.{Sorted}
+use Rattle.std.proofs.Common.{List, [], length, ◌+◌, sym, ap, ◌∙◌, subst}
+use Rattle.std.specs.List.{insert}
+use Rattle.std.proofs.lemmas.List.Edits.{length-insert}
+use Rattle.ra_time_order.specs.declared.entry.Entry.{Entry}
+use Rattle.ra_time_order.specs.Positions.{IsPositionOf}
+use Rattle.ra_time_order.specs.Sorted.{Sorted, joined, FirstsRise, IsRunOf}
+use Rattle.ra_time_order.proofs.Runs.{firsts_rise}
+use Rattle.ra_time_order.proofs.Filing.{room_says, filed}
 use Rattle.ra_time_order.proofs.sorted.Sorted.insert.Goals as goal
 
-pub insert-requires : goal.insert-requires
-insert-requires c = omega (arith, c.position-position.ensures.among, ap (λ (s : Sorted). length s.entries) c.self.view_is, c.self.inside.entries.ok.0)
+pub run_of-at-requires-clause-rise : goal.run_of-at-requires-clause-rise
+run_of-at-requires-clause-rise c = subst FirstsRise (sym c.as_slice.ensures.value) (firsts_rise [] c.self.inside.runs.items c.self.invariant.between)
+
+pub invariant_of-self : goal.invariant_of-self
+invariant_of-self c =
+    let items = c.self.inside.runs.items in
+    (filed items c.self.inside.labels c.self.inside.newest c.run_of-at.result c.index_mut.result.now c.insert.new.self c.args.entry c.self.invariant
+    (room_says items c.args.self.now c.self.view_is c.requires.room)
+    (subst (λ rs. IsRunOf rs c.args.entry.rank c.run_of-at.result) c.as_slice.ensures.value c.run_of-at.ensures) c.index_mut.ensures.value c.insert.ensures.inserted).1.kept
+
+pub returns-clause-one : goal.returns-clause-one
+returns-clause-one c =
+    let items = c.self.inside.runs.items in
+    let at = filed items c.self.inside.labels c.self.inside.newest c.run_of-at.result c.index_mut.result.now c.insert.new.self c.args.entry c.self.invariant
+    (room_says items c.args.self.now c.self.view_is c.requires.room)
+    (subst (λ rs. IsRunOf rs c.args.entry.rank c.run_of-at.result) c.as_slice.ensures.value c.run_of-at.ensures) c.index_mut.ensures.value c.insert.ensures.inserted in
+    ap (λ (xs : List Entry). length xs) at.1.made
+    ∙ length-insert (joined items) at.0 c.args.entry at.1.found.among
+    ∙ ap (λ (s : Sorted). length s.entries + 1) c.self.view_is
+
+pub returns-clause-inserted : goal.returns-clause-inserted
+returns-clause-inserted c = λ split.
+    let items = c.self.inside.runs.items in
+    let at = filed items c.self.inside.labels c.self.inside.newest c.run_of-at.result c.index_mut.result.now c.insert.new.self c.args.entry c.self.invariant
+    (room_says items c.args.self.now c.self.view_is c.requires.room)
+    (subst (λ rs. IsRunOf rs c.args.entry.rank c.run_of-at.result) c.as_slice.ensures.value c.run_of-at.ensures) c.index_mut.ensures.value c.insert.ensures.inserted in
+    let same = ap (λ (s : Sorted). s.entries) c.self.view_is in
+    (at.0, subst (λ xs. IsPositionOf c.args.entry.rank xs at.0) same at.1.found, at.1.made ∙ ap (λ xs. insert xs at.0 c.args.entry) same)
