@@ -8,15 +8,16 @@ use Rattle.std.proofs.lemmas.List.{length-set, get_or-set_other, length-drop, ta
 use Rattle.std.proofs.lemmas.List.Edits.{length-insert}
 use Rattle.std.proofs.lemmas.List.Elements.{recursion_from_All, All-from_get_or}
 use Rattle.ra_labels.specs.declared.label.Stamp.{Stamp}
-use Rattle.ra_labels.specs.NamedOrder.{lowest_rank}
+use Rattle.ra_labels.specs.NamedOrder.{lowest_rank, greater_of}
 use Rattle.ra_time_order.specs.declared.entry.Entry.{Entry}
 use Rattle.ra_time_order.specs.declared.run.Run.{Run}
 use Rattle.ra_time_order.specs.Chunk.{Chunk}
 use Rattle.ra_time_order.specs.Positions.{not_above, IsPositionOf}
 use Rattle.ra_time_order.specs.Stamps.{AtMost}
 use Rattle.ra_time_order.specs.Sorted.{Sorted, joined, sorted_of, Rise, IsRunOf, RunsKept}
-use Rattle.ra_time_order.proofs.Each.{each_left, each_at}
-use Rattle.ra_time_order.proofs.Rising.{rise_partitioned, rise_insert}
+use Rattle.ra_time_order.proofs.Ranks.{at_most_through, greater_above}
+use Rattle.ra_time_order.proofs.Each.{each_left, each_at, each_insert, each_weaker}
+use Rattle.ra_time_order.proofs.Rising.{under_to, rise_partitioned, rise_insert}
 use Rattle.ra_time_order.proofs.Runs.{offset, offset_rest, joined_set, position_joined, between_set}
 use Rattle.ra_time_order.proofs.Halves.{room_in_each, each_has_room}
 
@@ -156,3 +157,22 @@ room_there runs labels newest run sorted kept is room view =
       | inr other ↦ kept.room k run high other
     ])) in
     omega (arith, room_given runs each, ap (λ (s : Sorted). s.room) view)
+
+-- no label is above the greatest of all, also with one more
+pub under_with : (entries : List Entry) (p : ℕ) (e : Entry) (last : Stamp) → AllByRecursion (λ entry. AtMost entry.rank last) entries
+    → AllByRecursion (λ entry. AtMost entry.rank (greater_of last e.rank)) (insert entries p e)
+under_with entries p e last each =
+    let both = greater_above last e.rank in
+    each_insert (λ (entry : Entry). AtMost entry.rank (greater_of last e.rank)) entries p e
+    (each_weaker (λ (entry : Entry). AtMost entry.rank last) (λ (entry : Entry). AtMost entry.rank (greater_of last e.rank)) (λ entry most. at_most_through entry.rank last (greater_of last e.rank) most both.0) entries each)
+    both.1
+
+-- where the last rank is no greater, all labels stand before
+pub past_all : (entries : List Entry) (last rank : Stamp) → AllByRecursion (λ entry. AtMost entry.rank last) entries → AtMost last rank → IsPositionOf rank entries (length entries)
+past_all entries last rank each most = record {
+  among = omega arith;
+  split = (
+    (λ k d low high. under_to rank (get_or entries k d) (at_most_through (get_or entries k d).rank last rank (each_at (λ (entry : Entry). AtMost entry.rank last) entries k d each high) most)),
+    (λ k d low high. absurd (omega arith)),
+  );
+}

@@ -8,6 +8,7 @@ use Rattle.std.specs.declared.cmp.Ordering.TheVariants.{Less, Equal, Greater}
 use Rattle.std.specs.Cmp.{IsTotalOrder}
 use Rattle.std.proofs.lemmas.Cmp.{on_total, then_total, nat_cmp_total}
 use Rattle.std.proofs.lemmas.Bool.{true≢false, cases_lt, not-true, not_from_false, or_left, false_from_ne_true, true_from_ne_false}
+use Rattle.std.proofs.Math.ListN.{drop_of_length-le}
 use Rattle.std.proofs.lemmas.Option.{slice_get-get_or}
 use Rattle.std.proofs.lemmas.List.{length-map, get_or-map, get_or-drop, length-drop}
 use Rattle.std.proofs.lemmas.List.Edits.{length-insert, get_or-insert_at}
@@ -29,8 +30,9 @@ use Rattle.ra_visibility.specs.Seen.{Seen, count_in}
 use Rattle.ra_visibility.specs.Order.{ComesNext, IsPlaceOf, must_stand_before}
 use Rattle.ra_visibility.proofs.TheLaws.{a_label_goes_behind_no_greater_ranks}
 use Rattle.ra_time_order.specs.Sorted.{Sorted}
-use Rattle.ra_time_order.specs.Positions.{not_above, IsPositionOf}
+use Rattle.ra_time_order.specs.Positions.{not_above, IsPositionOf, IsPastAll}
 use Rattle.ra_time_order.specs.Stamps.{AtMost, greatest_in}
+use Rattle.ra_time_order.specs.declared.entry.Entry.{Entry}
 use Rattle.ra_time_order.specs.Replicas.{Replicas}
 use Rattle.ra_time_order.specs.Standing.{TimeOrder, time_order_of, entry_of, StandsFor}
 use Rattle.ra_time_order.proofs.Ranks.{at_most_from, at_most_through, not_below, lowest_at_most, IsGreatestOf}
@@ -148,7 +150,7 @@ module _ (order : TimeOrder) (kind : Kind) (first : ℕ) (records : Records) (by
         ∙ slice_get-get_or (insert (named_labels kind records) p x) p x (omega (arith, length-insert (named_labels kind records) p x short))
         ∙ ap Some (get_or-insert_at (named_labels kind records) p x x short)
 
-    abbrev must_not : Label → Bool
+    abbrev pub must_not : Label → Bool
     must_not m = not (must_stand_before now m x)
 
     -- where the greatest stamp that it sees is no greater, it fits
@@ -170,7 +172,7 @@ module _ (order : TimeOrder) (kind : Kind) (first : ℕ) (records : Records) (by
     must_earlier m = m.replica == x.replica && nat_lt m.number x.number
 
     -- where it fits, no stamp that it sees is greater
-    no_greater_where : list_all must_not (drop p (named_labels kind records)) ≡ true → is_lt (stamp_cmp its_rank greatest) ≡ false
+    pub no_greater_where : list_all must_not (drop p (named_labels kind records)) ≡ true → is_lt (stamp_cmp its_rank greatest) ≡ false
     no_greater_where fits = false_from_ne_true (is_lt (stamp_cmp its_rank greatest)) (λ less. elim (its_greatest.own) [
       | inl lowest ↦ true≢false (sym less ∙ ap (λ s. is_lt (stamp_cmp its_rank s)) lowest ∙ not_below its_rank lowest_rank (lowest_at_most its_rank))
       | inr one ↦
@@ -240,3 +242,28 @@ module _ (sorted : Sorted) (replicas : Replicas) (order : TimeOrder) (view : tim
       place_is order kind first records by op clock seen stands next_there p (position_same p (at splits)) (record { at = p; fits = fits })
       refl
       (is ∙ (λ i. not (is_lt (stamp_cmp (rank_same i) (found_same i)))))
+
+  -- a label whose stamp is past all goes to the end, and fits
+  pub place_at_end : IsPositionOf rank sorted.entries (length sorted.entries) → IsPlaceOf kind records by op clock (record { at = length sorted.entries; fits = true })
+  place_at_end is =
+      let p = length sorted.entries in
+      let there = position_same p is in
+      let long : length (named_labels kind records) ≤ p = omega (arith, ap (λ (es : List Entry). length es) (entries_same ∙ stands.entries), length-map (named_labels kind records) (entry_of kind records)) in
+      let none : drop p (named_labels kind records) ≡ [] = drop_of_length-le (named_labels kind records) long in
+      let fits = no_greater_where order kind first records by op clock seen stands next_there p there (ap (list_all (must_not order kind first records by op clock seen stands next_there p there)) none) in
+      place_found p true (λ _. is) (sym (not_from_false (is_lt (stamp_cmp rank found)) ((λ i. is_lt (stamp_cmp (rank_same i) (found_same i))) ∙ fits)))
+
+own_past_all : (entries : List Entry) (own : Option Stamp) → IsPastAll entries own → (stamp : Stamp) × (own ≡ Some stamp) × IsPositionOf stamp entries (length entries)
+own_past_all entries (Some stamp) is = (stamp, refl, is)
+own_past_all entries None is = absurd is
+
+-- the place of a label whose own stamp is past all
+pub place_past_all : (sorted : Sorted) (replicas : Replicas) (order : TimeOrder) (view : time_order_of sorted replicas ≡ order) (label : Label) (seen : Seen)
+    (kind : Kind) (first : ℕ) (records : Records) (by : ℕ) (op : Op) (clock : Option ℕ)
+    (stands : StandsFor order kind first records) (next : ComesNext kind first records by op clock label seen) (at : ℕ)
+    → at ≡ length sorted.entries → IsPastAll sorted.entries label.stamp → IsPlaceOf kind records by op clock (record { at = at; fits = true })
+place_past_all sorted replicas order view label seen kind first records by op clock stands next at at_is past =
+    let own = own_past_all sorted.entries label.stamp past in
+    let found = greatest_in replicas.stamps (count_in seen) (length replicas.stamps) in
+    subst (λ k. IsPlaceOf kind records by op clock (record { at = k; fits = true })) (sym at_is)
+    (place_at_end sorted replicas order view label seen found own.0 refl (ap (λ (s : Option Stamp). unwrap_or s found) (sym own.1)) kind first records by op clock stands next own.2)

@@ -1,5 +1,5 @@
 -- Where labels of a rank stand among sorted ones.
-use Rattle.std.specs.Prelude.{◌≡◌, ℕ, ◌≤◌, Bool, true, false, not, List, length}
+use Rattle.std.specs.Prelude.{◌≡◌, ℕ, ◌≤◌, Bool, true, false, not, List, length, Option, Some, None}
 use Rattle.std.specs.List.Sorted.{IsPartitionPoint}
 use Rattle.std.specs.Ordering.{is_lt}
 use Rattle.ra_labels.specs.declared.label.Stamp.{Stamp}
@@ -19,3 +19,8 @@ pub record IsPositionOf (rank : Stamp) (entries : List Entry) (position : ℕ) :
   pub among : position ≤ length entries
   pub split : IsPartitionPoint (λ entry. not_above rank entry ≡ true) (λ entry. not_above rank entry ≡ false)
       entries position
+
+-- all of them have no rank above the stamp
+abbrev pub IsPastAll : List Entry → Option Stamp → Type 0
+IsPastAll entries (Some stamp) = IsPositionOf stamp entries (length entries)
+IsPastAll entries None = ⊥

@@ -78,3 +78,8 @@ pub record RunsKept (runs : List Run) (labels newest : ℕ) : Type 0 where
   pub lowest : (d : Run) → (get_or runs 0 d).first ≡ lowest_rank
   -- another run has room
   pub room : (k : ℕ) (d : Run) → k < length runs → k ≢ newest → 0 < (get_or runs k d).chunk.room
+
+-- and no label has a rank above the last one
+pub record SortedKept (runs : List Run) (labels newest : ℕ) (last : Stamp) : Type 0 where
+  pub kept : RunsKept runs labels newest
+  pub under : AllByRecursion (λ entry. AtMost entry.rank last) (joined runs)

@@ -1,4 +1,6 @@
-ghost use Rattle.std.specs.Prelude.{◌≡◌, ◌<◌, ◌++◌, ◌∷◌, [], OnOk};
+ghost use Rattle.std.specs.Prelude.{◌≡◌, ◌<◌, ◌++◌, ◌∷◌, [], not, OnOk};
+ghost use Rattle.std.specs.Ordering.{is_lt};
+ghost use Rattle.ra_labels.specs.NamedOrder.{stamp_cmp, greater_of};
 ghost use Rattle.ra_time_order.specs.Greatest.{greatest_among, with_stamp};
 
 use ra_labels::{NoMemory, Stamp};
@@ -72,3 +74,17 @@ pub const LOWEST: Stamp = Stamp {
     clock: 0,
     replica: 0,
 };
+
+/// The greater of two stamps.
+pub fn greater(one: Stamp, other: Stamp) -> Stamp
+    ensures { result ≡ greater_of one other }
+{
+    if one < other { other } else { one }
+}
+
+/// Is the first stamp no greater than the other?
+pub fn is_at_most(one: Stamp, other: Stamp) -> bool
+    ensures { result ≡ not (is_lt (stamp_cmp other one)) }
+{
+    one <= other
+}

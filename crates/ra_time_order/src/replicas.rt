@@ -1,11 +1,10 @@
-ghost use Rattle.std.specs.Prelude.{◌≡◌, ℕ, ◌<◌, true, [], length, map, replicate, IfOk, OnOk};
+ghost use Rattle.std.specs.Prelude.{◌≡◌, ℕ, ◌<◌, true, [], length, map, replicate, unwrap_or, IfOk, OnOk};
 ghost use Rattle.std.specs.List.{list_all};
-ghost use Rattle.ra_labels.specs.NamedOrder.{greater_of};
 ghost use Rattle.ra_visibility.specs.Seen.{count_in};
 ghost use Rattle.ra_time_order.specs.Stamps.{greatest_in, stamps_with};
 ghost use Rattle.ra_time_order.specs.Replicas.{stamps_of, have_room};
 
-use crate::greatest::{Greatest, LOWEST};
+use crate::greatest::{Greatest, LOWEST, greater};
 use ra_labels::{NoMemory, Stamp};
 use ra_visibility::Seen;
 use std::alloc::Global;
@@ -59,6 +58,16 @@ impl Replicas {
         greatest
     }
 
+    /// The label's own stamp, or the greatest one that it sees.
+    pub fn rank(&self, own: Option<Stamp>, seen: &Seen<'_>) -> Stamp
+        ensures { result ≡ unwrap_or own (greatest_in self.now.stamps (count_in seen.now) (length self.now.stamps)) }
+    {
+        match own {
+            Some(stamp) => stamp,
+            None => self.greatest(seen),
+        }
+    }
+
     /// The next label of the replica, an update or not, with its own stamp or without.
     pub fn push(&mut self, replica: u8, update: bool, own: Option<Stamp>)
         requires { self.old.has_room ≡ true }
@@ -89,11 +98,4 @@ fn push_at(members: &mut Vec<Greatest>, replica: usize, own: Option<Stamp>)
     if replica < members.len() {
         members[replica].push(own);
     }
-}
-
-// The greater of two stamps.
-fn greater(one: Stamp, other: Stamp) -> Stamp
-    ensures { result ≡ greater_of one other }
-{
-    if one < other { other } else { one }
 }

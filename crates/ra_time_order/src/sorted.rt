@@ -1,4 +1,4 @@
-ghost use Rattle.std.specs.Prelude.{◌≡◌, ℕ, ◌+◌, ◌<◌, ◌≤◌, [], length, get_or, not, vec_len, IfOk, OnOk, OnErr, option_map};
+ghost use Rattle.std.specs.Prelude.{◌≡◌, ℕ, ◌+◌, ◌<◌, ◌≤◌, true, [], length, get_or, not, vec_len, IfOk, OnOk, OnErr, option_map};
 ghost use Rattle.std.specs.List.{insert, slice_get};
 ghost use Rattle.std.specs.List.Sorted.{IsPartitionedBy};
 ghost use Rattle.std.specs.Ordering.{is_lt};
@@ -9,7 +9,7 @@ ghost use Rattle.ra_time_order.specs.Sorted.{joined, FirstsRise, IsRunOf, IsSpli
 
 use crate::chunk::Chunk;
 use crate::entry::Entry;
-use crate::greatest::LOWEST;
+use crate::greatest::{LOWEST, greater, is_at_most};
 use crate::run::Run;
 use ra_labels::{NoMemory, Stamp};
 use std::alloc::Global;
@@ -22,16 +22,18 @@ pub struct Sorted {
     labels: usize,
     /// The run in which the newest label stands: no other one is full.
     newest: usize,
+    /// No label has a greater rank.
+    last: Stamp,
 }
 
 impl Model for Sorted {
-    ghost use Rattle.ra_time_order.specs.Sorted.{Sorted, sorted_of, RunsKept};
+    ghost use Rattle.ra_time_order.specs.Sorted.{Sorted, sorted_of, SortedKept};
 
     ghost Value = { Sorted };
 
     ghost view = { λ a. sorted_of a.runs.items };
 
-    ghost invariant = { λ a. RunsKept a.runs.items a.labels a.newest };
+    ghost invariant = { λ a. SortedKept a.runs.items a.labels a.newest a.last };
 }
 
 impl Sorted {
@@ -45,6 +47,7 @@ impl Sorted {
             runs: vec![in alloc; Run { first, chunk }]?,
             labels: 0,
             newest: 0,
+            last: LOWEST,
         })
     }
 
@@ -59,6 +62,20 @@ impl Sorted {
         }
         split(&mut self.runs, at)?;
         Ok(())
+    }
+
+    /// How many labels there are.
+    pub fn len(&self) -> usize
+        ensures { result ≡ length self.now.entries }
+    {
+        self.labels
+    }
+
+    /// Is it known that no label has a greater rank than this one?
+    pub fn is_past_all(&self, rank: Stamp) -> bool
+        ensures { result ≡ true → IsPositionOf rank self.now.entries (length self.now.entries) }
+    {
+        is_at_most(self.last, rank)
     }
 
     /// How many labels have no greater rank than this one. Costs a binary search, and a step for each run behind.
@@ -85,6 +102,7 @@ impl Sorted {
         self.runs[at].chunk.insert(entry);
         self.labels += 1;
         self.newest = at;
+        self.last = greater(self.last, entry.rank);
     }
 
     /// The label at a position. Costs a step for each run before it.

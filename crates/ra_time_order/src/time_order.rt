@@ -1,14 +1,14 @@
-ghost use Rattle.std.specs.Prelude.{◌≡◌, ℕ, [], map, not, IfOk};
-ghost use Rattle.std.specs.Ordering.{is_lt};
+ghost use Rattle.std.specs.Prelude.{◌≡◌, ℕ, true, [], map, IfOk};
 ghost use Rattle.ra_labels.specs.declared.kind.Kind.{Kind};
-ghost use Rattle.ra_labels.specs.NamedOrder.{stamp_cmp};
 ghost use Rattle.ra_labels.specs.Visibility.{is_update};
 ghost use Rattle.ra_visibility.specs.Order.{IsByTimestamp};
+ghost use Rattle.ra_time_order.specs.Positions.{IsPastAll};
 
 use crate::entry::Entry;
+use crate::greatest::is_at_most;
 use crate::replicas::Replicas;
 use crate::sorted::Sorted;
-use ra_labels::{Label, NoMemory, Op, Stamp};
+use ra_labels::{Label, NoMemory, Op};
 use ra_visibility::{NamedOrder, Place, Seen};
 use std::alloc::Global;
 use std::marker::Model;
@@ -31,7 +31,7 @@ impl Model for TimeOrder {
 impl TimeOrder {
     ghost use Rattle.ra_time_order.specs.Standing.{StandsFor};
 
-    /// The order of no labels, of so many replicas.
+    /// The order of no labels, of so many replicas. Costs room for a run.
     pub fn new(alloc: Global, replicas: u8) -> Result<TimeOrder, NoMemory>
         ensures stands { IfOk result (λ order. (kind : Kind) → IsByTimestamp kind
             → ⟦<TimeOrder as NamedOrder>⟧.stands_for order kind replicas []) }
@@ -54,8 +54,15 @@ impl NamedOrder for TimeOrder {
 
     ghost stands_for = { λ order kind first records. StandsFor order kind first records };
 
-    /// Costs a look-up for each replica and a binary search.
+    /// Costs a constant where the label has a stamp of its own above those of all labels. Else a look-up for each
+    /// replica, a binary search and a step for each run behind the place.
     fn place(&self, label: &Label, seen: &Seen<'_>) -> Place {
+        if is_past_all(&self.sorted, label) {
+            return Place {
+                at: self.sorted.len(),
+                fits: true,
+            };
+        }
         let greatest = self.replicas.greatest(seen);
         let rank = label.stamp.unwrap_or(greatest);
         Place {
@@ -64,16 +71,16 @@ impl NamedOrder for TimeOrder {
         }
     }
 
-    /// Costs a look at each replica.
+    /// Costs a look at each replica, and a move of half a run where the newest label filled it.
     fn spare(&mut self) -> Result<(), NoMemory> {
         self.replicas.spare()?;
         self.sorted.spare()
     }
 
-    /// Costs a look-up for each replica, and a move of the labels behind.
+    /// Costs a binary search and a move within a run, and a look-up for each replica where the label has no stamp of its
+    /// own.
     fn put(&mut self, label: &Label, seen: &Seen<'_>, _place: Place) {
-        let greatest = self.replicas.greatest(seen);
-        let rank = label.stamp.unwrap_or(greatest);
+        let rank = self.replicas.rank(label.stamp, seen);
         self.sorted.insert(Entry {
             rank,
             label: label.number,
@@ -82,6 +89,7 @@ impl NamedOrder for TimeOrder {
             .push(label.replica, is_update(&label.op), label.stamp);
     }
 
+    /// Costs a step for each run before the position.
     fn at(&self, position: usize) -> Option<u32> {
         self.sorted.at(position)
     }
@@ -101,9 +109,12 @@ fn is_update(op: &Op) -> bool
     }
 }
 
-// Is the first stamp no greater than the other?
-fn is_at_most(one: Stamp, other: Stamp) -> bool
-    ensures { result ≡ not (is_lt (stamp_cmp other one)) }
+// Has the label a stamp of its own, above those of all labels?
+fn is_past_all(sorted: &Sorted, label: &Label) -> bool
+    ensures { result ≡ true → IsPastAll sorted.now.entries label.now.stamp }
 {
-    one <= other
+    match label.stamp {
+        Some(stamp) => sorted.is_past_all(stamp),
+        None => false,
+    }
 }

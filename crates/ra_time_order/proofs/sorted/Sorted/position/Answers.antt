@@ -7,7 +7,7 @@ use Rattle.ra_time_order.proofs.Filing.{behind_is, few_behind, position_in_all}
 use Rattle.ra_time_order.proofs.sorted.Sorted.position.Goals as goal
 
 pub run_of-at-requires-clause-rise : goal.run_of-at-requires-clause-rise
-run_of-at-requires-clause-rise c = subst FirstsRise (sym c.as_slice.ensures.value) (firsts_rise [] c.self.inside.runs.items c.self.invariant.between)
+run_of-at-requires-clause-rise c = subst FirstsRise (sym c.as_slice.ensures.value) (firsts_rise [] c.self.inside.runs.items c.self.invariant.kept.between)
 
 pub count-behind-requires : goal.count-behind-requires
 count-behind-requires c =
@@ -15,7 +15,7 @@ count-behind-requires c =
     let at = c.run_of-at.result in
     let of = subst (λ rs. IsRunOf rs c.args.rank at) c.as_slice.ensures.value c.run_of-at.ensures in
     let same = behind_is c.as_slice-2.result.now items at c.as_slice-2.ensures.value in
-    omega (arith, ap (λ (xs : List Entry). length xs) same, few_behind items c.self.inside.labels c.self.inside.newest at c.self.invariant (omega (arith, of.there)))
+    omega (arith, ap (λ (xs : List Entry). length xs) same, few_behind items c.self.inside.labels c.self.inside.newest at c.self.invariant.kept (omega (arith, of.there)))
 
 pub overflow_sub-result : goal.overflow_sub-result
 overflow_sub-result c =
@@ -23,7 +23,7 @@ overflow_sub-result c =
     let at = c.run_of-at.result in
     let of = subst (λ rs. IsRunOf rs c.args.rank at) c.as_slice.ensures.value c.run_of-at.ensures in
     let same = behind_is c.as_slice-2.result.now items at c.as_slice-2.ensures.value in
-    omega (arith, c.count-behind.ensures, ap (λ (xs : List Entry). length xs) same, few_behind items c.self.inside.labels c.self.inside.newest at c.self.invariant (omega (arith, of.there)))
+    omega (arith, c.count-behind.ensures, ap (λ (xs : List Entry). length xs) same, few_behind items c.self.inside.labels c.self.inside.newest at c.self.invariant.kept (omega (arith, of.there)))
 
 pub returns-clause-among : goal.returns-clause-among
 returns-clause-among c =
@@ -31,7 +31,7 @@ returns-clause-among c =
     let at = c.run_of-at.result in
     let of = subst (λ rs. IsRunOf rs c.args.rank at) c.as_slice.ensures.value c.run_of-at.ensures in
     let same = behind_is c.as_slice-2.result.now items at c.as_slice-2.ensures.value in
-    let is = position_in_all items c.self.inside.labels c.self.inside.newest at c.position.result c.count-behind.result c.args.rank c.index.result.now c.self.invariant of c.index.ensures
+    let is = position_in_all items c.self.inside.labels c.self.inside.newest at c.position.result c.count-behind.result c.args.rank c.index.result.now c.self.invariant.kept of c.index.ensures
     c.position.ensures.split (c.count-behind.ensures ∙ ap (λ (xs : List Entry). length xs) same) in
     omega (arith, is.among, ap (λ (s : Sorted). length s.entries) c.self.view_is)
 
@@ -41,6 +41,6 @@ returns-clause-split c = λ sorted.
     let at = c.run_of-at.result in
     let of = subst (λ rs. IsRunOf rs c.args.rank at) c.as_slice.ensures.value c.run_of-at.ensures in
     let same = behind_is c.as_slice-2.result.now items at c.as_slice-2.ensures.value in
-    let is = position_in_all items c.self.inside.labels c.self.inside.newest at c.position.result c.count-behind.result c.args.rank c.index.result.now c.self.invariant of c.index.ensures
+    let is = position_in_all items c.self.inside.labels c.self.inside.newest at c.position.result c.count-behind.result c.args.rank c.index.result.now c.self.invariant.kept of c.index.ensures
     c.position.ensures.split (c.count-behind.ensures ∙ ap (λ (xs : List Entry). length xs) same) in
     subst (λ (s : Sorted). IsPositionOf c.args.rank s.entries (c.self.inside.labels - c.count-behind.result + c.position.result)) c.self.view_is is
