@@ -33,6 +33,7 @@ impl TimeOrder {
 
     /// The order of no labels, of so many replicas. Costs room for a run.
     pub fn new(alloc: Global, replicas: u8) -> Result<TimeOrder, NoMemory>
+        ensures listed { IfOk result (λ order. ⟦<TimeOrder as NamedOrder>⟧.listed order ≡ []) }
         ensures stands { IfOk result (λ order. (kind : Kind) → IsByTimestamp kind
             → ⟦<TimeOrder as NamedOrder>⟧.stands_for order kind replicas []) }
     {
