@@ -69,8 +69,8 @@ pub fn misfits_are_refused()
         → refusal_of kind replicas records Verdict ≡ None }
 {}
 
-/// A delivery is refused as not causal exactly where the replica is there, the label is an update that is new to it, and
-/// the label sees one that it lacks; the least such is named.
+/// A delivery is refused as not causal exactly where the replica is there, the label is an update that is new to it,
+/// and the label sees one that it lacks; the least such is named.
 pub fn not_causal_where_a_seen_label_is_missing()
     ensures { (replicas : ℕ) (records : Records) (to label n : ℕ)
         → (refusal_of_delivery replicas records to label ≡ Some (NotCausal n))
