@@ -164,7 +164,7 @@ impl Journal for Monitor {
     /// `Full` comes exactly where the log has as many entries as its limit allows, and is tested first;
     /// `NoMemory` where a growth was refused. After both nothing changed, and the command is handed back.
     ///
-    /// This first form sorts and folds the whole history afresh at each operation.
+    /// This first form folds the whole history afresh at each operation.
     fn step(&mut self, pass: u8, ticket: u64, command: Command) -> Result<Reply, StepFault<Command>>
         requires { IsNextTicket self.old ticket }
 

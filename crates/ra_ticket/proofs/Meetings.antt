@@ -149,6 +149,8 @@ module _ {M C R S : Type 0} (j : Readings M C R S) (opened : S) where
               record { setup = ap (λ (x : Known C R S). Some x.setup) a_is; next = omega arith; serving = omega arith; begins = subst (λ (x : Known C R S). HasBegun (Knows x) r.front) a_is begun.0; own = subst (λ (x : Known C R S). HasOwn (Knows x) r.front) a_is own.0 },
               record { setup = ap (λ (x : S). Some x) (so.0 ∙ sym so.1) ∙ ap (λ (x : Known C R S). Some x.setup) b_is; next = omega arith; serving = omega arith; begins = subst (λ (x : Known C R S). HasBegun (Knows x) r.front) b_is begun.1; own = subst (λ (x : Known C R S). HasOwn (Knows x) r.front) b_is own.1 },
               subst (λ (x : S). IsLegal (j.reply_of x) r.front × IsMarkOf j x r.front r.mark) (sym so.0) (r.legal, r.told),
+              omega arith,
+              omega arith,
             ),
       ))
     where

@@ -165,9 +165,9 @@ module _ {M C R S : Type 0} (j : Readings M C R S) (opened : S) where
     )
 
     -- an idle seat that has seen its ticket served, and finds `next` there, enters with it
-    enters_at_once : (t : ℕ) → k.stage ≡ Idle → k.serving ≡ t → r.next ≡ t → t + 1 < 2 ^ 64 → st.first ≡ t
+    enters_at_once : (t : ℕ) → k.stage ≡ Idle → k.serving ≡ t → r.next ≡ t → t + 1 < 2 ^ 64 → st.first ≡ t → st.second ≡ t + 1
         → Goes s id c ((t + 1) ∷ r.serving ∷ r.mark ∷ r.others) (drew_served j st (Knows k, c) r.next)
-    enters_at_once t idle seen at_next room asked = let nobody = changes.nobody_out j opened s r (at_next ∙ served) in let found = r.home nobody in (
+    enters_at_once t idle seen at_next room asked one_more = let nobody = changes.nobody_out j opened s r (at_next ∙ served) in let found = r.home nobody in (
       holding k (t + 1) r.serving t r.front,
       takes 0 (Some found.0),
       ap (λ (hs : changes.Homes j opened). get_elem? hs 0) found.1,
@@ -175,7 +175,7 @@ module _ {M C R S : Type 0} (j : Readings M C R S) (opened : S) where
       λ _ _. (
         record { numbers = refl; setup = refl; next = above; serving = low.1 },
         (r.begun id (Knows k) here, r.own id (Knows k) here),
-        (λ _. (ap (λ (n : ℕ). Some (Holding n)) (sym asked), (found.0, refl, subst (λ (n : ℕ). HasEntered j (holding k (t + 1) r.serving t r.front) n found.0) (sym asked) (entered (t + 1) t served found.0 found.1)))),
+        (λ _. (ap (λ (n : ℕ). Some (Holding n)) (sym asked), (found.0, refl, subst (λ (n : ℕ). HasEntered j (holding k (t + 1) r.serving t r.front) n found.0) (sym asked) (entered (t + 1) t served found.0 found.1)), one_more ∙ ap (λ (n : ℕ). n + 1) (sym asked))),
         λ ne. absurd (ne (at_next ∙ sym asked)),
       ),
     )
@@ -257,6 +257,7 @@ module _ {M C R S : Type 0} (j : Readings M C R S) (opened : S) where
         refl,
         refl,
         ap (λ (n : ℕ). n + 1) same,
+        subst (λ (n : ℕ). k.serving ≤ n) same (subst (λ (n : ℕ). k.serving ≤ n) (sym served) (r.reached id (Knows k) here).1),
       ),
     )
       where
@@ -369,15 +370,17 @@ module _ {M C R S : Type 0} (j : Readings M C R S) (opened : S) where
           idle,
           (r.begun id (Knows k) at, r.own id (Knows k) at),
           front_told s r id k at c st,
+          refl,
+          refl,
         ),
       )
 
   -- an idle seat draws the ticket t
-  pub draws : (slots id : ℕ) (v : View C R S) (c : Slots) (t : ℕ) (st : Step (Option M)) → st.first ≡ t → t + 1 < 2 ^ 64 → stage_of v ≡ Some Idle
+  pub draws : (slots id : ℕ) (v : View C R S) (c : Slots) (t : ℕ) (st : Step (Option M)) → st.first ≡ t → st.second ≡ t + 1 → t + 1 < 2 ^ 64 → stage_of v ≡ Some Idle
       → Allows Rule slots id (v, c) 0 (λ n. either (eqb n t) (t + 1) n) (drew st (v, c))
-  draws slots id Spent c t st asked room idle s r deep at fits = absurd (cc)
-  draws slots id (Met k l) c t st asked room idle s r deep at fits = absurd (cc)
-  draws slots id (Knows k) c t st asked room idle s r deep at fits = let low = r.reached id (Knows k) at in
+  draws slots id Spent c t st asked one_more room idle s r deep at fits = absurd (cc)
+  draws slots id (Met k l) c t st asked one_more room idle s r deep at fits = absurd (cc)
+  draws slots id (Knows k) c t st asked one_more room idle s r deep at fits = let low = r.reached id (Knows k) at in
       subst (λ (ws : List ℕ). Goes s id c (set ws 0 (either (eqb (get_or ws 0 0) t) (t + 1) (get_or ws 0 0))) (drew st (Knows k, c) (get_or ws 0 0))) (sym r.words)
       (exchanged r.next t (t + 1) (λ (n : ℕ). Goes s id c (n ∷ r.serving ∷ r.mark ∷ r.others) (drew st (Knows k, c) r.next))
       (λ e. (
@@ -385,7 +388,7 @@ module _ {M C R S : Type 0} (j : Readings M C R S) (opened : S) where
         keeps,
         tt,
         drawing s r id k at c st t (stage_is k Idle idle) e room,
-        λ _. ((record { numbers = refl; setup = refl; next = let l : k.next ≤ r.next = low.0 in omega arith; serving = le_refl k.serving }, refl), refl, (λ _. ap (λ (n : ℕ). Some (Waiting n)) (sym asked)), λ other. absurd (other (e ∙ sym asked))),
+        λ _. ((record { numbers = refl; setup = refl; next = let l : k.next ≤ r.next = low.0 in omega arith; serving = le_refl k.serving }, refl), refl, (λ _. (ap (λ (n : ℕ). Some (Waiting n)) (sym asked), one_more ∙ ap (λ (n : ℕ). n + 1) (sym asked))), λ other. absurd (other (e ∙ sym asked))),
       ))
       (λ ne. (
         Knows (with_next k r.next),
@@ -396,14 +399,14 @@ module _ {M C R S : Type 0} (j : Readings M C R S) (opened : S) where
       )))
 
   -- an idle seat that has seen the ticket t served draws it and takes the journal
-  pub draws_served : (slots id : ℕ) (v : View C R S) (c : Slots) (t : ℕ) (st : Step (Option M)) → st.first ≡ t → t + 1 < 2 ^ 64 → stage_of v ≡ Some Idle → serving_of v ≡ t
+  pub draws_served : (slots id : ℕ) (v : View C R S) (c : Slots) (t : ℕ) (st : Step (Option M)) → st.first ≡ t → st.second ≡ t + 1 → t + 1 < 2 ^ 64 → stage_of v ≡ Some Idle → serving_of v ≡ t
       → Allows Rule slots id (v, c) 0 (λ n. either (eqb n t) (t + 1) n) (drew_served j st (v, c))
-  draws_served slots id Spent c t st asked room idle seen s r deep at fits = absurd (cc)
-  draws_served slots id (Met k l) c t st asked room idle seen s r deep at fits = absurd (cc)
-  draws_served slots id (Knows k) c t st asked room idle seen s r deep at fits = let low = r.reached id (Knows k) at in
+  draws_served slots id Spent c t st asked one_more room idle seen s r deep at fits = absurd (cc)
+  draws_served slots id (Met k l) c t st asked one_more room idle seen s r deep at fits = absurd (cc)
+  draws_served slots id (Knows k) c t st asked one_more room idle seen s r deep at fits = let low = r.reached id (Knows k) at in
       subst (λ (ws : List ℕ). Goes s id c (set ws 0 (either (eqb (get_or ws 0 0) t) (t + 1) (get_or ws 0 0))) (drew_served j st (Knows k, c) (get_or ws 0 0))) (sym r.words)
       (exchanged r.next t (t + 1) (λ (n : ℕ). Goes s id c (n ∷ r.serving ∷ r.mark ∷ r.others) (drew_served j st (Knows k, c) r.next))
-      (λ e. enters_at_once s r id k at c st t (stage_is k Idle idle) seen e room asked)
+      (λ e. enters_at_once s r id k at c st t (stage_is k Idle idle) seen e room asked one_more)
       (λ ne. (
         Knows (with_next k r.next),
         keeps,

@@ -1,5 +1,5 @@
 -- Two passes that met and part again.
-use Rattle.std.proofs.Common.{◌≡◌, ℕ, List, [], ◌∷◌, ◌++◌, Some, refl, sym, ap, ◌∙◌, subst}
+use Rattle.std.proofs.Common.{◌≡◌, ℕ, List, [], ◌∷◌, ◌++◌, max, Some, refl, sym, ap, ◌∙◌, subst}
 use lib.ListN.{get_elem?}
 use mathlib.Core.Option.{some}
 use Rattle.ra_ticket.specs.declared.board.View.{View}
@@ -7,7 +7,7 @@ use Rattle.ra_ticket.specs.declared.board.View.TheVariants.{Spent, Knows, Met}
 use Rattle.ra_ticket.specs.declared.board.Known.{Known}
 use Rattle.ra_ticket.specs.declared.board.Stage.TheVariants.{Idle}
 use Rattle.ra_ticket.specs.Log.{Readings}
-use Rattle.ra_ticket.specs.Views.{stage_of, numbers_of, seen_of, first_only, others_only, first_pass, other_passes, met}
+use Rattle.ra_ticket.specs.Views.{stage_of, numbers_of, next_of, serving_of, seen_of, first_only, others_only, first_pass, other_passes, met}
 use Rattle.ra_ticket.specs.Steps.{IsTold, KnowsNoLess, GoesOn}
 
 module _ {C R S : Type 0} where
@@ -51,6 +51,28 @@ module _ {C R S : Type 0} where
       → stage_of u ≡ Some Idle → own ≡ first_pass u → rest ≡ other_passes u → GoesOn v own n × GoesOn w rest m
   parted v w joined u own rest n m i of i' of' is told idle first others = let both = both_go_on v w u n m i of i' of' idle (λ k l e. told k l (is ∙ e)) in
       (subst (λ (x : View C R S). GoesOn v x n) (sym first) both.0, subst (λ (x : View C R S). GoesOn w x m) (sym others) both.1)
+
+module _ {C R S : Type 0} where
+  next_first : (u : View C R S) → next_of (first_pass u) ≡ next_of u
+  next_first Spent = refl
+  next_first (Knows k) = refl
+  next_first (Met k l) = refl
+
+  serving_first : (u : View C R S) → serving_of (first_pass u) ≡ serving_of u
+  serving_first Spent = refl
+  serving_first (Knows k) = refl
+  serving_first (Met k l) = refl
+
+  -- what two seats that met know of the words once they have looked and parted
+  pub bounds_are : (v w joined u own : View C R S) → stage_of v ≡ Some Idle → stage_of w ≡ Some Idle → joined ≡ met v w
+      → ((k l : Known C R S) → joined ≡ Met k l → (next_of u ≡ max k.next l.next) × (serving_of u ≡ max k.serving l.serving))
+      → own ≡ first_pass u → (next_of own ≡ max (next_of v) (next_of w)) × (serving_of own ≡ max (serving_of v) (serving_of w))
+  bounds_are Spent w joined u own i i' is told first = absurd (cc)
+  bounds_are (Met k l) w joined u own i i' is told first = absurd (cc)
+  bounds_are (Knows k) Spent joined u own i i' is told first = absurd (cc)
+  bounds_are (Knows k) (Met l m) joined u own i i' is told first = absurd (cc)
+  bounds_are (Knows k) (Knows l) joined u own i i' is told first = let so = told k l is in
+      (ap next_of first ∙ (next_first u ∙ so.0), ap serving_of first ∙ (serving_first u ∙ so.1))
 
 module _ {M C R S : Type 0} (j : Readings M C R S) where
   -- a cut takes nothing away of what was told

@@ -1,5 +1,5 @@
 -- What callers see of a lock and its passes.
-use Rattle.std.specs.Prelude.{◌≡◌, ℕ, ◌<◌, ◌≤◌, List, [], ◌∷◌, ◌++◌, Option, IfSome}
+use Rattle.std.specs.Prelude.{◌≡◌, ℕ, ◌+◌, ◌<◌, ◌≤◌, List, [], ◌∷◌, ◌++◌, Option, IfSome}
 use Rattle.ra_ticket.specs.declared.entry.Entry.{Entry}
 use Rattle.ra_ticket.specs.declared.fault.CallFault.{CallFault}
 use Rattle.ra_ticket.specs.declared.fault.CallFault.TheVariants.{Worn, Full, NoMemory, Busy}
@@ -49,12 +49,15 @@ module _ {M C R S : Type 0} {g : Ghosts M C R S} where
     pub setup : pass_setup q ≡ pass_setup p
     pub seen_more : BeginsWith (seen q) (seen p)
 
-  -- what the pass has seen ends with this call of its own, which comes after all that it had seen before
+  -- what the pass has seen ends with this call of its own, which comes after all that it had seen before. Its ticket
+  -- was served during the call
   pub record IsLogged (p q : Pass M C R S g) (command : C) (reply : R) : Type 0 where
     pub before : List (Entry C R)
     pub ticket : ℕ
     pub begins : BeginsWith before (seen p)
     pub last : seen q ≡ before ++ entry (number_of p) ticket command reply ∷ []
+    pub since : serving_reached p ≤ ticket
+    pub until : serving_reached q ≡ ticket + 1
 
   -- its own calls are those that it had made and then this one
   abbrev pub IsMineAndThen : Pass M C R S g → Pass M C R S g → C → R → Type 0

@@ -1,5 +1,5 @@
 -- What each step on the table tells the seat that made it.
-use Rattle.std.specs.Prelude.{◌≡◌, ◌≢◌, ℕ, ◌+◌, ◌<◌, ◌≤◌, [], ◌∷◌, ◌++◌, Option, Some, None, IfSome}
+use Rattle.std.specs.Prelude.{◌≡◌, ◌≢◌, max, ℕ, ◌+◌, ◌<◌, ◌≤◌, [], ◌∷◌, ◌++◌, Option, Some, None, IfSome}
 use Rattle.atomic_table.specs.Table.{Me, Step, rest}
 use Rattle.atomic_table.specs.Seated.{TableId}
 use Rattle.atomic_table.specs.declared.shared.Seat.{Seat}
@@ -91,22 +91,23 @@ module _ {M C R S : Type 0} where
   learned_serving step m found m' = stage_of m.0 ≡ Some Idle
       → SeesTheSame m.0 m'.0 × (m'.1 ≡ m.1) × (stage_of m'.0 ≡ Some Idle) × (serving_of m'.0 ≡ found)
 
-  -- an idle seat sees the front, which is a legal log with this mark
+  -- an idle seat sees the front, which is a legal log with this mark, and learns nothing of the other words
   abbrev pub glanced : Readings M C R S → Step (Option M) → Sat M C R S → ℕ → Sat M C R S → Type 0
   glanced j step m found m' = stage_of m.0 ≡ Some Idle
       → Stays m.0 m'.0 × (m'.1 ≡ m.1) × (stage_of m'.0 ≡ Some Idle) × SeesMore m.0 m'.0
-      × IsTold j m'.0 found
+      × IsTold j m'.0 found × (next_of m'.0 ≡ next_of m.0) × (serving_of m'.0 ≡ serving_of m.0)
 
   -- two idle seats that met see the front, which is a legal log with this mark
   abbrev pub looked_together : Readings M C R S → Step (Option M) → Sat M C R S → ℕ → Sat M C R S → Type 0
   looked_together j step m found m' = (k l : Known C R S) → m.0 ≡ Met k l
       → (numbers_of m'.0 ≡ k.numbers ++ l.numbers) × (m'.1 ≡ m.1) × (stage_of m'.0 ≡ Some Idle)
       × KnowsNoLess k m'.0 × KnowsNoLess l m'.0 × IsTold j m'.0 found
+      × (next_of m'.0 ≡ max k.next l.next) × (serving_of m'.0 ≡ max k.serving l.serving)
 
   -- an idle seat draws the ticket, where `next` was it
   abbrev pub drew : Step (Option M) → Sat M C R S → ℕ → Sat M C R S → Type 0
   drew step m found m' = stage_of m.0 ≡ Some Idle → SeesTheSame m.0 m'.0 × (m'.1 ≡ m.1)
-      × (found ≡ step.first → stage_of m'.0 ≡ Some (Waiting step.first))
+      × (found ≡ step.first → (stage_of m'.0 ≡ Some (Waiting step.first)) × (step.second ≡ step.first + 1))
       × (found ≢ step.first → (stage_of m'.0 ≡ Some Idle) × (next_of m'.0 ≡ found))
 
   -- an idle seat draws the ticket that it has seen served, where `next` was it, takes the journal and sees its log
@@ -114,7 +115,8 @@ module _ {M C R S : Type 0} where
   drew_served j step m found m' = stage_of m.0 ≡ Some Idle → serving_of m.0 ≡ step.first
       → Stays m.0 m'.0 × SeesMore m.0 m'.0
       × (found ≡ step.first → (stage_of m'.0 ≡ Some (Holding step.first))
-      × ((journal : M) × (m'.1 ≡ (0, Some journal) ∷ m.1) × HasEntered j m'.0 step.first journal))
+      × ((journal : M) × (m'.1 ≡ (0, Some journal) ∷ m.1) × HasEntered j m'.0 step.first journal)
+      × (step.second ≡ step.first + 1))
       × (found ≢ step.first → (stage_of m'.0 ≡ Some Idle) × (m'.1 ≡ m.1) × (seen_of m'.0 ≡ seen_of m.0)
       × (serving_of m'.0 ≡ step.first) × (next_of m'.0 ≡ found) × (step.first < found))
 
@@ -137,6 +139,7 @@ module _ {M C R S : Type 0} where
   abbrev pub released : Step (Option M) → Sat M C R S → ℕ → Sat M C R S → Type 0
   released step m found m' = (t : ℕ) → stage_of m.0 ≡ Some (Holding t)
       → SeesTheSame m.0 m'.0 × (m'.1 ≡ rest m.1) × (stage_of m'.0 ≡ Some Idle) × (serving_of m'.0 ≡ t + 1)
+      × (serving_of m.0 ≤ t)
 
 -- it is the same seat, and knows no less of the words
 abbrev pub IsSameSeat : {X C R S : Type 0} → Seat X (View C R S) → Seat X (View C R S) → Type 0

@@ -2,7 +2,7 @@
 ghost use Rattle.std.specs.Prelude.{◌≡◌, Some};
 ghost use Rattle.ra_ticket.specs.Log.{readings, BeginsWith};
 ghost use Rattle.ra_ticket.specs.Steps.{IsSeated, IsSameSeat, IsTold};
-ghost use Rattle.ra_ticket.specs.Views.{stage_of, seen_of, HasOwn};
+ghost use Rattle.ra_ticket.specs.Views.{stage_of, next_of, serving_of, seen_of, HasOwn};
 ghost use Rattle.ra_ticket.specs.declared.board.Stage.TheVariants.{Idle};
 
 use crate::board::{Board, LockSeat, MARK};
@@ -31,6 +31,8 @@ pub(crate) fn look_at_mark<M: Journal>(board: &Board<M>, seat: &mut LockSeat<M>)
     ensures begins { BeginsWith (seen_of seat.new.me.0) (seen_of seat.old.me.0) }
     ensures own { HasOwn seat.old.me.0 (seen_of seat.new.me.0) }
     ensures told { IsTold (readings M.setup M.log M.reply_of M.fault_of) seat.new.me.0 result }
+    ensures bounds { (next_of seat.new.me.0 ≡ next_of seat.old.me.0)
+        × (serving_of seat.new.me.0 ≡ serving_of seat.old.me.0) }
 {
     board.load::<LookAtMark<M>>(seat, MARK)
 }
@@ -38,6 +40,7 @@ pub(crate) fn look_at_mark<M: Journal>(board: &Board<M>, seat: &mut LockSeat<M>)
 impl<M: Journal> TicketLock<M> {
     ghost use Rattle.std.specs.Prelude.{◌≡◌, length, IfSome};
     ghost use Rattle.ra_ticket.specs.Passes.{IsPassOf, IsSamePass, KnowsLegal, pass_setup, seen, mine};
+    ghost use Rattle.ra_ticket.specs.Passes.{next_reached, serving_reached};
 
     /// How many entries the log has and its fault, at a point during this call. The log is one that the pass has then
     /// seen, so it begins with all that the pass had seen before, and it has all of the pass's own calls. It waits for
@@ -47,6 +50,9 @@ impl<M: Journal> TicketLock<M> {
         ensures pass { IsSamePass pass.old pass.new }
         ensures legal { KnowsLegal M.reply_of pass.new }
         ensures mine { mine pass.new ≡ mine pass.old }
+        // It draws no ticket.
+        ensures draws_none { (next_reached pass.new ≡ next_reached pass.old)
+            × (serving_reached pass.new ≡ serving_reached pass.old) }
         ensures calls { result.calls ≡ length (seen pass.new) }
         ensures fault { IfSome (pass_setup pass.new) (λ s. result.fault ≡ M.fault_of s (seen pass.new)) }
     {

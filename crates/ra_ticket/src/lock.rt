@@ -19,19 +19,19 @@ pub struct TicketLock<M: Journal> {
 }
 
 impl<M: Journal> TicketLock<M> {
-    ghost use Rattle.std.specs.Prelude.{◌≡◌, ◌≢◌, ◌+◌, ◌≤◌, ◌⊎◌, length, IfOk, IfErr, IfSome};
+    ghost use Rattle.std.specs.Prelude.{◌≡◌, ◌≢◌, ◌+◌, ◌<◌, ◌≤◌, ◌⊎◌, length, IfOk, IfErr, IfSome};
     ghost use Rattle.ra_ticket.specs.Faults.{unserved, IsWorn, IsFull, IsNoMemory, IsBusy};
     ghost use Rattle.ra_ticket.specs.Passes.{IsPassOf, IsSamePass, IsLogged, KnowsLegal, IsMineAndThen};
-    ghost use Rattle.ra_ticket.specs.Passes.{next_reached, pass_setup, seen, mine, IsFoundBusy};
+    ghost use Rattle.ra_ticket.specs.Passes.{next_reached, serving_reached, pass_setup, seen, mine, IsFoundBusy};
 
     /// Draws a ticket, waits until it is served, lets the journal answer the command and publishes the answer.
     /// `Worn` comes before a ticket is drawn; after `Full` and `NoMemory` the ticket is served and leaves no entry.
     ///
     /// How it waits: it first tries up to 64 times for a ticket that is served at once, and has none in its hands
-    /// between two tries. So other calls may overtake it in at most 64 tries. Then it draws the next ticket to wait
-    /// with and stands in line, and no call that draws after it is served before it. Between two tries, and then
-    /// between two looks at the ticket that is served, it pauses for 1, 2, 4 .. 64 spins, and from then on leaves the
-    /// processor to others.
+    /// between two tries. Then it draws the next ticket to wait with, and tries again each time that another call draws
+    /// first. Up to there others may overtake it; once it has drawn, no call that draws after it is served before it.
+    /// Between two tries, and then between two looks at the ticket that is served, it pauses for 1, 2, 4 .. 64 spins,
+    /// and from then on leaves the processor to others.
     ///
     /// It costs the journal's step, a few atomic steps, two or three more for each try and one for each pass that
     /// draws at the same time, and the wait. The journal's own bytes, not what it owns, are copied twice.
@@ -53,6 +53,9 @@ impl<M: Journal> TicketLock<M> {
         ensures worn_unchanged { IfErr result (λ f. IsWorn f → seen pass.new ≡ seen pass.old) }
         ensures full_at_the_limit { IfErr result (λ f. IsFull f
             → IfSome (pass_setup pass.new) (λ s. length (seen pass.new) ≡ M.limit_of s)) }
+        // After these two the ticket that was drawn is served.
+        ensures served { IfErr result (λ f. IsFull f ⊎ IsNoMemory f
+            → serving_reached pass.old < serving_reached pass.new) }
         ensures no_memory_below_the_limit { IfErr result (λ f. IsNoMemory f
             → IfSome (pass_setup pass.new) (λ s. length (seen pass.new) ≢ M.limit_of s)) }
         ensures never_busy { IfErr result (λ f. ¬ (IsBusy f)) }
@@ -75,8 +78,8 @@ impl<M: Journal> TicketLock<M> {
     /// drawn, `Worn`. It waits for nobody. After `Full` and `NoMemory` its ticket is served and leaves no entry, and
     /// after `Worn` and `Busy` it has drawn none.
     ///
-    /// It costs one atomic load, one compare-exchange and, where it enters, the journal's step, two more atomic steps
-    /// and two copies of the journal's own bytes.
+    /// It costs two atomic steps and, where it enters, the journal's step, two more atomic steps and two copies of the
+    /// journal's own bytes.
     pub fn try_submit(
         &self,
         pass: &mut Pass<M>,
@@ -93,6 +96,9 @@ impl<M: Journal> TicketLock<M> {
         ensures worn_at_the_end { IfErr result (λ f. IsWorn f → next_reached pass.new ≡ GREATEST_TICKET + 1) }
         ensures full_at_the_limit { IfErr result (λ f. IsFull f
             → IfSome (pass_setup pass.new) (λ s. length (seen pass.new) ≡ M.limit_of s)) }
+        // After these two the ticket that was drawn is served.
+        ensures served { IfErr result (λ f. IsFull f ⊎ IsNoMemory f
+            → serving_reached pass.old < serving_reached pass.new) }
         ensures no_memory_below_the_limit { IfErr result (λ f. IsNoMemory f
             → IfSome (pass_setup pass.new) (λ s. length (seen pass.new) ≢ M.limit_of s)) }
         ensures busy_found { IfErr result (λ f. IsBusy f → IsFoundBusy pass.new f) }

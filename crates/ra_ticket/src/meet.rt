@@ -1,8 +1,8 @@
 //! How two passes tell each other what they know.
-ghost use Rattle.std.specs.Prelude.{◌≡◌, ℕ, [], ◌∷◌, ◌++◌, Some};
+ghost use Rattle.std.specs.Prelude.{◌≡◌, ℕ, max, [], ◌∷◌, ◌++◌, Some};
 ghost use Rattle.ra_ticket.specs.Log.{readings};
 ghost use Rattle.ra_ticket.specs.Steps.{IsSeated, IsTold, KnowsNoLess, GoesOn};
-ghost use Rattle.ra_ticket.specs.Views.{stage_of, numbers_of, seen_of, met};
+ghost use Rattle.ra_ticket.specs.Views.{stage_of, numbers_of, next_of, serving_of, seen_of, met};
 ghost use Rattle.ra_ticket.specs.declared.board.Known.{Known};
 ghost use Rattle.ra_ticket.specs.declared.board.Stage.TheVariants.{Idle};
 ghost use Rattle.ra_ticket.specs.declared.board.View.TheVariants.{Met};
@@ -37,6 +37,8 @@ fn look_together<M: Journal>(board: &Board<M>, seat: &mut LockSeat<M>) -> u64
     ensures no_less { (k l : Known M.Command M.Reply M.Setup) → seat.old.me.0 ≡ Met k l
         → (numbers_of seat.new.me.0 ≡ k.numbers ++ l.numbers) × KnowsNoLess k seat.new.me.0
         × KnowsNoLess l seat.new.me.0 }
+    ensures bounds { (k l : Known M.Command M.Reply M.Setup) → seat.old.me.0 ≡ Met k l
+        → (next_of seat.new.me.0 ≡ max k.next l.next) × (serving_of seat.new.me.0 ≡ max k.serving l.serving) }
 {
     board.load::<LookTogether<M>>(seat, MARK)
 }
@@ -55,6 +57,8 @@ fn look_and_part<M: Journal>(
     ensures parted { (n m : ℕ) → numbers_of seat.old.me.0 ≡ n ∷ [] → numbers_of other.me.0 ≡ m ∷ []
         → GoesOn seat.old.me.0 result.0.me.0 n × GoesOn other.me.0 seat.new.me.0 m }
     ensures one_log { seen_of seat.new.me.0 ≡ seen_of result.0.me.0 }
+    ensures bounds { (next_of result.0.me.0 ≡ max (next_of seat.old.me.0) (next_of other.me.0))
+        × (serving_of result.0.me.0 ≡ max (serving_of seat.old.me.0) (serving_of other.me.0)) }
     ensures told { IsTold (readings M.setup M.log M.reply_of M.fault_of) result.0.me.0 result.1
         × IsTold (readings M.setup M.log M.reply_of M.fault_of) seat.new.me.0 result.1 }
 {
@@ -65,8 +69,9 @@ fn look_and_part<M: Journal>(
 }
 
 impl<M: Journal> TicketLock<M> {
-    ghost use Rattle.std.specs.Prelude.{◌≡◌, length};
+    ghost use Rattle.std.specs.Prelude.{◌≡◌, max, length};
     ghost use Rattle.ra_ticket.specs.Passes.{IsPassOf, IsSamePass, KnowsLegal, seen, mine};
+    ghost use Rattle.ra_ticket.specs.Passes.{next_reached, serving_reached};
 
     /// Two passes tell each other what they know: both come back, in the order in which they were given, and have then
     /// seen one log, at a point during this call. It begins with all that either had seen before, and it has all calls
@@ -80,6 +85,9 @@ impl<M: Journal> TicketLock<M> {
         ensures mine_second { mine result.1 ≡ mine second }
         ensures one_log { seen result.1 ≡ seen result.0 }
         ensures legal { KnowsLegal M.reply_of result.0 × KnowsLegal M.reply_of result.1 }
+        // It draws no ticket.
+        ensures draws_none { (next_reached result.0 ≡ max (next_reached first) (next_reached second))
+            × (serving_reached result.0 ≡ max (serving_reached first) (serving_reached second)) }
         ensures calls { result.2 ≡ length (seen result.0) }
     {
         let board = &self.table.shared;

@@ -1,9 +1,9 @@
 //! How a pass publishes its entry and gives the journal back.
-ghost use Rattle.std.specs.Prelude.{◌≡◌, ◌+◌, [], ◌∷◌, Some, None};
+ghost use Rattle.std.specs.Prelude.{◌≡◌, ℕ, ◌+◌, ◌≤◌, [], ◌∷◌, Some, None};
 ghost use Rattle.ra_ticket.specs.Log.{readings, IsLegal};
 ghost use Rattle.ra_ticket.specs.Steps.{IsSeated, IsSameSeat, HoldsPublished, HoldsAhead, MayPublish};
-ghost use Rattle.ra_ticket.specs.Views.{stage_of, seen_of};
-ghost use Rattle.ra_ticket.specs.declared.board.Stage.TheVariants.{Idle};
+ghost use Rattle.ra_ticket.specs.Views.{stage_of, serving_of, seen_of};
+ghost use Rattle.ra_ticket.specs.declared.board.Stage.TheVariants.{Idle, Holding};
 
 use crate::board::{Board, JOURNAL, LockSeat, MARK, SERVING};
 use crate::journal::Journal;
@@ -25,6 +25,7 @@ fn store_mark<M: Journal>(board: &Board<M>, seat: &mut LockSeat<M>, mark: u64)
     requires table { IsSeated seat.old.table_id board.now.table_id }
     requires ahead { MayPublish (readings M.setup M.log M.reply_of M.fault_of) seat.old mark }
     ensures seat { IsSameSeat seat.old seat.new }
+    ensures stage { stage_of seat.new.me.0 ≡ stage_of seat.old.me.0 }
     ensures holds { HoldsPublished (readings M.setup M.log M.reply_of M.fault_of) seat.new }
     ensures told { (journal : M) → seat.old.me.1 ≡ (0, Some journal) ∷ []
         → (seen_of seat.new.me.0 ≡ M.log journal) × IsLegal (M.reply_of (M.setup journal)) (M.log journal) }
@@ -37,6 +38,7 @@ pub(crate) fn publish<M: Journal>(board: &Board<M>, seat: &mut LockSeat<M>, jour
     requires table { IsSeated seat.old.table_id board.now.table_id }
     requires ahead { HoldsAhead (readings M.setup M.log M.reply_of M.fault_of) seat.old journal }
     ensures seat { IsSameSeat seat.old seat.new }
+    ensures stage { stage_of seat.new.me.0 ≡ stage_of seat.old.me.0 }
     ensures holds { HoldsPublished (readings M.setup M.log M.reply_of M.fault_of) seat.new }
     ensures seen { seen_of seat.new.me.0 ≡ M.log journal }
     ensures legal { IsLegal (M.reply_of (M.setup journal)) (M.log journal) }
@@ -53,6 +55,8 @@ pub(crate) fn release<M: Journal>(board: &Board<M>, seat: &mut LockSeat<M>)
     ensures seat { IsSameSeat seat.old seat.new }
     ensures idle { (stage_of seat.new.me.0 ≡ Some Idle) × (seat.new.me.1 ≡ []) }
     ensures seen { seen_of seat.new.me.0 ≡ seen_of seat.old.me.0 }
+    ensures served { (ticket : ℕ) → stage_of seat.old.me.0 ≡ Some (Holding ticket)
+        → (serving_of seat.new.me.0 ≡ ticket + 1) × (serving_of seat.old.me.0 ≤ ticket) }
 {
     board.fetch_add::<Release>(seat, SERVING, 1);
 }

@@ -1,9 +1,9 @@
 //! What a pass does while it has the journal.
-ghost use Rattle.std.specs.Prelude.{◌≡◌, ◌≢◌, [], ◌∷◌, ◌++◌, length, Some, None, IfOk, IfErr, IfSome};
+ghost use Rattle.std.specs.Prelude.{◌≡◌, ◌≢◌, ◌+◌, ◌≤◌, [], ◌∷◌, ◌++◌, length, Some, None, IfOk, IfErr, IfSome};
 ghost use Rattle.ra_ticket.specs.Faults.{unserved, IsWorn, IsFull, IsNoMemory, IsBusy};
 ghost use Rattle.ra_ticket.specs.Log.{readings, entry, IsLegal};
 ghost use Rattle.ra_ticket.specs.Steps.{IsSeated, IsSameSeat, HasEntered};
-ghost use Rattle.ra_ticket.specs.Views.{stage_of, numbers_of, setup_of, seen_of};
+ghost use Rattle.ra_ticket.specs.Views.{stage_of, numbers_of, serving_of, setup_of, seen_of};
 ghost use Rattle.ra_ticket.specs.declared.board.Stage.TheVariants.{Idle, Holding};
 
 use crate::board::{Board, LockSeat};
@@ -27,6 +27,7 @@ pub(crate) fn serve<M: Journal>(
     requires entered { HasEntered (readings M.setup M.log M.reply_of M.fault_of) seat.old.me.0 ticket journal }
     ensures seat { IsSameSeat seat.old seat.new }
     ensures idle { (stage_of seat.new.me.0 ≡ Some Idle) × (seat.new.me.1 ≡ []) }
+    ensures served { (serving_of seat.new.me.0 ≡ ticket + 1) × (serving_of seat.old.me.0 ≤ ticket) }
     ensures logged { IfOk result (λ r. seen_of seat.new.me.0
         ≡ seen_of seat.old.me.0 ++ entry number ticket command r ∷ []) }
     ensures legal { IfSome (setup_of seat.new.me.0) (λ s. IsLegal (M.reply_of s) (seen_of seat.new.me.0)) }

@@ -11,7 +11,7 @@ pub compare_exchange-requires : goal.compare_exchange-requires
 compare_exchange-requires g c = (
   search rules,
   search rules,
-  draws_served (of_journal g.M.Journal) _ _ _ _ _ c.args.ticket (step c.args.board.now.table_id.slots 0 c.args.ticket (c.args.ticket + 1) none) refl (omega arith) c.requires.idle.0 c.requires.served,
+  draws_served (of_journal g.M.Journal) _ _ _ _ _ c.args.ticket (step c.args.board.now.table_id.slots 0 c.args.ticket (c.args.ticket + 1) none) refl refl (omega arith) c.requires.idle.0 c.requires.served,
 )
 
 pub returns-clause-own : goal.returns-clause-own

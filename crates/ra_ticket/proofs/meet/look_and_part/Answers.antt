@@ -1,6 +1,6 @@
 use Rattle.std.proofs.Common.{rules, ap, ◌∙◌}
 use Rattle.ra_ticket.proofs.Journals.{of_journal}
-use Rattle.ra_ticket.proofs.Parting.{met_so, parted, told_first, told_others, one_log}
+use Rattle.ra_ticket.proofs.Parting.{met_so, parted, told_first, told_others, one_log, bounds_are}
 use Rattle.ra_ticket.proofs.meet.look_and_part.Goals as goal
 
 pub look_together-mark-requires-clause-both : goal.look_together-mark-requires-clause-both
@@ -18,3 +18,7 @@ returns-clause-one_log g c = let cut = c.split_first-first.ensures in one_log _ 
 pub returns-clause-told : goal.returns-clause-told
 returns-clause-told g c = let cut = c.split_first-first.ensures in let u = c.look_together-mark.new.seat.me.0 in let told = c.look_together-mark.ensures.told in
     (told_first (of_journal g.M.Journal) u _ _ (ap (λ v. v.0) cut.first) told, told_others (of_journal g.M.Journal) u _ _ (ap (λ v. v.0) cut.rest) told)
+
+pub returns-clause-bounds : goal.returns-clause-bounds
+returns-clause-bounds g c = bounds_are _ _ c.join.new.seat.me.0 c.look_together-mark.new.seat.me.0 _ c.requires.idle.0 c.requires.idle.1 (ap (λ v. v.0) c.join.ensures.met) c.look_together-mark.ensures.bounds
+    (ap (λ v. v.0) c.split_first-first.ensures.first)

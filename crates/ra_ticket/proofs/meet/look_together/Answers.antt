@@ -19,3 +19,6 @@ returns-clause-told g c = let both = c.requires.both in (c.load.ensures.2 both.0
 
 pub returns-clause-no_less : goal.returns-clause-no_less
 returns-clause-no_less g c = λ k l are. let told = c.load.ensures.2 k l are in (told.0, told.3, told.4)
+
+pub returns-clause-bounds : goal.returns-clause-bounds
+returns-clause-bounds g c = λ k l are. let told = c.load.ensures.2 k l are in (told.6, told.7)
