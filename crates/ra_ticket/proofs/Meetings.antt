@@ -1,8 +1,6 @@
 -- An idle seat takes in another one, and looks at the log: both keep the rule of the lock.
 use Rattle.std.proofs.Common.{◌≡◌, ◌≢◌, ◌⊎◌, ℕ, zero, suc, ◌+◌, ◌<◌, ◌≤◌, List, [], ◌∷◌, ◌++◌, length, set, get_or, max, Option, Some, None, refl, sym, ap, ◌∙◌, subst, ⊎_elim, inl, inr, le_refl, arith}
-use mathlib.Core.Logic.{dite}
 use mathlib.Core.Option.{some, some-ne-none, some-injective}
-use native.Mathlib.Decide.{ℕ_discrete}
 use lib.ListN.{get_elem?}
 use Rattle.atomic_table.specs.Table.{State, Step, keeps, Allows, Joins}
 use Rattle.atomic_table.proofs.Lists.{at_set, set_else}
