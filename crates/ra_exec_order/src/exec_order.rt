@@ -25,6 +25,7 @@ impl Model for ExecOrder {
 impl ExecOrder {
     /// The order of no labels.
     pub fn new() -> ExecOrder
+        ensures listed { ⟦<ExecOrder as NamedOrder>⟧.listed result ≡ [] }
         ensures stands { (kind : Kind) (first : ℕ) → IsByExecution kind
             → ⟦<ExecOrder as NamedOrder>⟧.stands_for result kind first [] }
     {

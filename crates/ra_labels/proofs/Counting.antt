@@ -1,13 +1,15 @@
 -- The states that a counter's updates lead to.
-use Rattle.std.proofs.Common.{◌≡◌, List, [], ◌∷◌, ◌++◌, length, Some, refl, arith}
-use Rattle.std.specs.Prelude.{ℤ, pos, neg_ℤ, ◌+ℤ◌, ◌-ℤ◌, ◌≤ℤ◌, fold, option_and_then}
+use Rattle.std.proofs.Common.{◌≡◌, List, [], ◌∷◌, ◌++◌, length, Some, refl, sym, ◌∙◌, arith}
+use Rattle.std.specs.Prelude.{ℤ, pos, neg_ℤ, ◌+ℤ◌, ◌-ℤ◌, ◌≤ℤ◌, option_and_then}
 use Rattle.std.proofs.lemmas.Int.{ints}
 use Rattle.std.proofs.lemmas.List.Sums.{fold-append}
+use Rattle.std.proofs.lemmas.Option.{none-some, same_Some}
 use Rattle.ra_labels.specs.declared.kind.Kind.{Kind}
 use Rattle.ra_labels.specs.declared.kind.Kind.TheVariants.{Counter}
 use Rattle.ra_labels.specs.declared.operation.Update.{Update}
-use Rattle.ra_labels.specs.declared.operation.Update.TheVariants.{Inc, Dec}
-use Rattle.ra_labels.specs.Specification.{Number, start_of, step_of, state_after}
+use Rattle.ra_labels.specs.declared.operation.Update.TheVariants.{Inc, Dec, Write, LwwAdd, LwwRemove}
+use Rattle.ra_labels.specs.Specification.{State, Number, start_of, step_of, state_after}
+use Rattle.ra_labels.proofs.Stepping.{state_from, stuck}
 
 -- before any update the state is the first one
 pub state_after-nil : (kind : Kind) → state_after kind [] ≡ Some (start_of kind)
@@ -18,17 +20,20 @@ pub state_after-push : (kind : Kind) (updates : List Update) (update : Update) �
 state_after-push kind updates update = fold-append (λ state update. option_and_then (λ s. step_of s update) state) (Some (start_of kind)) updates (update ∷ [])
 
 -- from a number on, updates lead no further than their count
-number_after : (n : ℤ) (updates : List Update) → (m : ℤ) × (fold (λ state update. option_and_then (λ s. step_of s update) state) (Some (Number n)) updates ≡ Some (Number m)) × (n ≤ℤ (m +ℤ pos (length updates))) × (m ≤ℤ (n +ℤ pos (length updates)))
-number_after n [] = (n, refl, omega (arith, ints), omega (arith, ints))
-number_after n (Inc ∷ updates) =
-    let rest = number_after (n +ℤ pos 1) updates in
+number_after : (n : ℤ) (updates : List Update) (state : State) → state_from (Some (Number n)) updates ≡ Some state → (m : ℤ) × (state ≡ Number m) × (n ≤ℤ (m +ℤ pos (length updates))) × (m ≤ℤ (n +ℤ pos (length updates)))
+number_after n [] state is = (n, sym (same_Some (Number n) state is), omega (arith, ints), omega (arith, ints))
+number_after n (Inc ∷ updates) state is =
+    let rest = number_after (n +ℤ pos 1) updates state is in
     (rest.0, rest.1, omega (arith, ints, rest.2, rest.3), omega (arith, ints, rest.2, rest.3))
-number_after n (Dec ∷ updates) =
-    let rest = number_after (n -ℤ pos 1) updates in
+number_after n (Dec ∷ updates) state is =
+    let rest = number_after (n -ℤ pos 1) updates state is in
     (rest.0, rest.1, omega (arith, ints, rest.2, rest.3), omega (arith, ints, rest.2, rest.3))
+number_after n (Write value ∷ updates) state is = absurd (none-some state (sym (stuck updates) ∙ is))
+number_after n (LwwAdd x ∷ updates) state is = absurd (none-some state (sym (stuck updates) ∙ is))
+number_after n (LwwRemove x ∷ updates) state is = absurd (none-some state (sym (stuck updates) ∙ is))
 
--- a counter admits all updates, and its number is no further from 0 than their count
-pub counter_within : (updates : List Update) → (number : ℤ) × (state_after Counter updates ≡ Some (Number number)) × (neg_ℤ (pos (length updates)) ≤ℤ number) × (number ≤ℤ pos (length updates))
-counter_within updates =
-    let state = number_after (pos 0) updates in
-    (state.0, state.1, omega (arith, ints, state.2), omega (arith, ints, state.3))
+-- a counter's number is no further from 0 than their count
+pub counter_within : (updates : List Update) (state : State) → state_after Counter updates ≡ Some state → (number : ℤ) × (state ≡ Number number) × (neg_ℤ (pos (length updates)) ≤ℤ number) × (number ≤ℤ pos (length updates))
+counter_within updates state is =
+    let known = number_after (pos 0) updates state is in
+    (known.0, known.1, omega (arith, ints, known.2), omega (arith, ints, known.3))

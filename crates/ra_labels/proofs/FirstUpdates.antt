@@ -44,7 +44,7 @@ had-next before replica = false_from_ne_true (had before replica (label_count be
     let below = is_update_at-below before (label_count before) (had_update before replica (label_count before) had_it) in
     absurd (omega (arith, below)))
 
-sees-next : (before : Records) (n : ℕ) → sees before n (label_count before) ≡ false
+pub sees-next : (before : Records) (n : ℕ) → sees before n (label_count before) ≡ false
 sees-next before n = false_from_ne_true (sees before n (label_count before)) (λ seen.
     let below = is_update_at-below before (label_count before) (sees_earlier before n (label_count before) seen).1 in
     absurd (omega (arith, below)))

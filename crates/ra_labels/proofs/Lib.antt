@@ -1,3 +1,4 @@
+pub mod Lists
 pub mod Sorting
 pub mod Numbers
 pub mod Seen
@@ -7,9 +8,12 @@ pub mod Order
 pub mod Answering
 pub mod Places
 pub mod Unique
+pub mod Stepping
 pub mod Counting
 pub mod Exactly
 pub mod Updates
 pub mod FirstUpdates
 pub mod Missing
+pub mod Timestamps
+pub mod Stamps
 pub mod TheLaws

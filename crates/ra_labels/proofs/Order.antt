@@ -18,7 +18,7 @@ use Rattle.ra_labels.specs.NamedOrder.{lowest_rank, rank_of, stamp_cmp, label_cm
 use Rattle.ra_labels.specs.Laws.{IsStampBelow}
 use Rattle.ra_labels.proofs.Sorting.{IsSorted-sort_by, IsPermutation-sort_by, insert_by-last}
 
-stamp_cmp-total : IsTotalOrder stamp_cmp
+pub stamp_cmp-total : IsTotalOrder stamp_cmp
 stamp_cmp-total = then_total (on_total (λ (s : Stamp). s.clock) nat_cmp_total) (on_total (λ (s : Stamp). s.replica) nat_cmp_total)
 
 -- the named order is a total order

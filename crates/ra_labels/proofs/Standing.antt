@@ -127,3 +127,8 @@ pub is_update-acts : (operation : Op) → is_update operation ≡ list_any (λ a
 is_update-acts op.Inc = refl
 is_update-acts op.Dec = refl
 is_update-acts (op.Count v) = refl
+is_update-acts (op.Write value) = refl
+is_update-acts (op.Last value) = refl
+is_update-acts (op.LwwAdd x) = refl
+is_update-acts (op.LwwRemove x) = refl
+is_update-acts (op.LwwRead list) = refl

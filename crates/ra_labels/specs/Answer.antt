@@ -1,18 +1,25 @@
 -- The refusals, and the one-thread monitor's answer.
-use Rattle.std.specs.Prelude.{ℕ, nat_lt, Bool, false, not, ◌&&◌, ◌||◌, List, [], ◌∷◌, Option, Some, None, option_map, is_some, if◌then◌else◌}
+use Rattle.std.specs.Prelude.{ℕ, ◌==◌, nat_lt, Bool, true, false, not, ◌&&◌, ◌||◌, List, [], ◌∷◌, Option, Some, None, option_map, is_some, if◌then◌else◌}
 use Rattle.std.specs.Option.{option_or, option_map_or}
+use Rattle.std.specs.List.{list_any}
+use Rattle.std.specs.Ordering.{is_eq}
 use Rattle.ra_labels.specs.declared.kind.Kind.{Kind}
+use Rattle.ra_labels.specs.declared.kind.Kind.TheVariants.{Counter, Register, LwwSet}
 use Rattle.ra_labels.specs.declared.operation.Op.{Op}
-use Rattle.ra_labels.specs.declared.operation.Op.TheVariants.{Inc, Dec, Count}
+use Rattle.ra_labels.specs.declared.operation.Op.TheVariants.{Inc, Dec, Count, Write, Last, LwwAdd, LwwRemove, LwwRead}
+use Rattle.ra_labels.specs.declared.label.Stamp.{Stamp}
+use Rattle.ra_labels.specs.declared.label.Label.{Label}
 use Rattle.ra_labels.specs.declared.command.Command.{Command}
 use Rattle.ra_labels.specs.declared.command.Command.TheVariants.{Operate, Deliver, Verdict}
 use Rattle.ra_labels.specs.declared.refusal.Refusal.{Refusal}
-use Rattle.ra_labels.specs.declared.refusal.Refusal.TheVariants.{UnknownReplica, StampUnwanted, UnknownLabel, NotAnUpdate, AlreadySeen, NotCausal}
+use Rattle.ra_labels.specs.declared.refusal.Refusal.TheVariants.{UnknownReplica, WrongKind, BadList, StampMissing, StampUnwanted, StampTaken, UnknownLabel, NotAnUpdate, AlreadySeen, NotCausal}
 use Rattle.ra_labels.specs.declared.reply.Reply.{Reply}
 use Rattle.ra_labels.specs.declared.reply.Reply.TheVariants as reply
 use Rattle.ra_labels.specs.declared.reply.Fault.{Fault}
-use Rattle.ra_labels.specs.Records.{Records, label_count, replica_count}
+use Rattle.ra_labels.specs.Lists.{rises}
+use Rattle.ra_labels.specs.Records.{Records, label_count, labels_of, replica_count, stamp_at}
 use Rattle.ra_labels.specs.Visibility.{had, is_update_at, first_missing}
+use Rattle.ra_labels.specs.NamedOrder.{stamp_cmp}
 use Rattle.ra_labels.specs.Fault.{fault_of}
 
 -- the refusal, where its sentence is true
@@ -24,21 +31,74 @@ abbrev pub first_of : List (Option Refusal) → Option Refusal
 first_of [] = None
 first_of (refusal ∷ later) = option_or refusal (first_of later)
 
+-- the kind that the operation is of
+abbrev pub kind_of : Op → Kind
+kind_of Inc = Counter
+kind_of Dec = Counter
+kind_of (Count v) = Counter
+kind_of (Write value) = Register
+kind_of (Last value) = Register
+kind_of (LwwAdd x) = LwwSet
+kind_of (LwwRemove x) = LwwSet
+kind_of (LwwRead list) = LwwSet
+
+abbrev pub is_kind : Kind → Kind → Bool
+is_kind Counter Counter = true
+is_kind Register Register = true
+is_kind LwwSet LwwSet = true
+is_kind _ _ = false
+
+-- does the list rise that the operation returned, if it did return one?
+abbrev pub has_rising_list : Op → Bool
+has_rising_list (LwwRead list) = rises list
+has_rising_list _ = true
+
 -- does an operation of this form come with a stamp?
 abbrev pub carries_stamp : Op → Bool
 carries_stamp Inc = false
 carries_stamp Dec = false
 carries_stamp (Count v) = false
+carries_stamp (Write value) = true
+carries_stamp (Last value) = false
+carries_stamp (LwwAdd x) = true
+carries_stamp (LwwRemove x) = true
+carries_stamp (LwwRead list) = false
+
+-- a clock came that is one: not 0
+abbrev pub has_clock : Option ℕ → Bool
+has_clock clock = option_map_or (λ at. not (at == 0)) clock false
 
 -- what the command's own form deserves
 abbrev pub misfit_of : Kind → Command → Option Refusal
-misfit_of kind (Operate replica op clock) = first_of (when (not (carries_stamp op) && is_some clock) StampUnwanted ∷ [])
+misfit_of kind (Operate by op clock) = first_of (
+    when (not (is_kind kind (kind_of op))) WrongKind
+    ∷ when (not (has_rising_list op)) BadList
+    ∷ when (carries_stamp op && not (has_clock clock)) StampMissing
+    ∷ when (not (carries_stamp op) && is_some clock) StampUnwanted
+    ∷ []
+    )
 misfit_of kind command = None
 
+-- is this the label's own stamp?
+abbrev pub has_stamp : Stamp → Label → Bool
+has_stamp stamp label = option_map_or (λ own. is_eq (stamp_cmp own stamp)) label.stamp false
+
+-- is it that of an accepted label?
+abbrev pub is_taken : Records → Stamp → Bool
+is_taken records stamp = list_any (has_stamp stamp) (labels_of records)
+
+-- does the operation come with a stamp that is taken?
+abbrev pub comes_with_taken : Records → ℕ → Option ℕ → Bool
+comes_with_taken records by clock = option_map_or (λ at. is_taken records (stamp_at by at)) clock false
+
 -- the refusals of an operation, in their order
-abbrev pub refusal_of_operation : Kind → ℕ → Records → Command → ℕ → Option Refusal
-refusal_of_operation kind replicas records command by =
-    first_of (when (not (nat_lt by (replica_count replicas records))) UnknownReplica ∷ misfit_of kind command ∷ [])
+abbrev pub refusal_of_operation : Kind → ℕ → Records → ℕ → Op → Option ℕ → Option Refusal
+refusal_of_operation kind replicas records by op clock = first_of (
+    when (not (nat_lt by (replica_count replicas records))) UnknownReplica
+    ∷ misfit_of kind (Operate by op clock)
+    ∷ when (comes_with_taken records by clock) StampTaken
+    ∷ []
+    )
 
 -- the refusals of a delivery to a replica that is there, in their order
 abbrev pub refusal_at : Records → ℕ → ℕ → Option Refusal
@@ -57,8 +117,7 @@ refusal_of_delivery replicas records to label =
 
 -- the first refusal whose sentence is true of the command after these records
 abbrev pub refusal_of : Kind → ℕ → Records → Command → Option Refusal
-refusal_of kind replicas records (Operate by op clock) =
-    refusal_of_operation kind replicas records (Operate by op clock) by
+refusal_of kind replicas records (Operate by op clock) = refusal_of_operation kind replicas records by op clock
 refusal_of kind replicas records (Deliver to label) = refusal_of_delivery replicas records to label
 refusal_of kind replicas records Verdict = None
 

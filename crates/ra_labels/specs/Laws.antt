@@ -1,23 +1,59 @@
 -- Words of the laws above the definitions.
-use Rattle.std.specs.Prelude.{◌≡◌, ℕ, zero, suc, ◌<◌, ◌≤◌, ◌⊎◌, nat_lt, Bool, true, false, List, [], ◌∷◌, ◌++◌, Contains, Option, Some, None}
+use Rattle.std.specs.Prelude.{◌≡◌, ℕ, zero, suc, ◌<◌, ◌≤◌, ◌⊎◌, ◌==◌, nat_lt, Bool, true, false, not, List, [], ◌∷◌, ◌++◌, Contains, Option, Some, None, option_map}
+use Rattle.std.specs.List.{list_all}
 use Rattle.ra_labels.specs.declared.kind.Kind.{Kind}
+use Rattle.ra_labels.specs.declared.kind.Kind.TheVariants.{Counter, Register, LwwSet}
 use Rattle.ra_labels.specs.declared.operation.Op.{Op}
 use Rattle.ra_labels.specs.declared.operation.Update.{Update}
+use Rattle.ra_labels.specs.declared.operation.Update.TheVariants.{Inc, Dec, Write, LwwAdd, LwwRemove}
 use Rattle.ra_labels.specs.declared.operation.Query.{Query}
+use Rattle.ra_labels.specs.declared.operation.Query.TheVariants.{Count, Last, LwwRead}
 use Rattle.ra_labels.specs.declared.label.Stamp.{Stamp}
+use Rattle.ra_labels.specs.declared.label.Label.{Label}
 use Rattle.ra_labels.specs.declared.command.Command.{Command}
 use Rattle.ra_labels.specs.declared.command.Command.TheVariants.{Operate, Deliver, Verdict}
 use Rattle.ra_labels.specs.declared.reply.Fault.{Fault}
 use Rattle.ra_labels.specs.declared.reply.Reply.{Reply}
 use Rattle.ra_labels.specs.declared.reply.Reply.TheVariants as reply
-use Rattle.ra_labels.specs.Specification.{State, answers, state_after}
-use Rattle.ra_labels.specs.Records.{Records, label_count, records_to}
+use Rattle.ra_labels.specs.Specification.{State, Number, Written, Members, answers, state_after}
+use Rattle.ra_labels.specs.Records.{Records, label_count, labels_of, replica_count, stamp_at, records_to}
 use Rattle.ra_labels.specs.Visibility.{is_update, is_update_at, had, sees}
 use Rattle.ra_labels.specs.Places.{issuer_of, updates_of, place_of}
-use Rattle.ra_labels.specs.Rewriting.{Part, Does, Asks, QueryHalf, UpdateHalf}
+use Rattle.ra_labels.specs.Rewriting.{Part, Act, Does, Asks, QueryHalf, UpdateHalf}
 use Rattle.ra_labels.specs.Linearization.{visible_updates}
 use Rattle.ra_labels.specs.Fault.{Holds, cause_of, fault_of, fault_at}
-use Rattle.ra_labels.specs.Answer.{refusal_of, records_after}
+use Rattle.ra_labels.specs.Answer.{kind_of, has_rising_list, carries_stamp, refusal_of, records_after}
+
+-- the kind that a state, an update or a query is of
+abbrev pub kind_of_state : State → Kind
+kind_of_state (Number n) = Counter
+kind_of_state (Written last) = Register
+kind_of_state (Members xs) = LwwSet
+
+abbrev pub kind_of_update : Update → Kind
+kind_of_update Inc = Counter
+kind_of_update Dec = Counter
+kind_of_update (Write value) = Register
+kind_of_update (LwwAdd x) = LwwSet
+kind_of_update (LwwRemove x) = LwwSet
+
+abbrev pub kind_of_query : Query → Kind
+kind_of_query (Count v) = Counter
+kind_of_query (Last value) = Register
+kind_of_query (LwwRead list) = LwwSet
+
+abbrev pub kind_of_act : Act → Kind
+kind_of_act (Does update) = kind_of_update update
+kind_of_act (Asks query) = kind_of_query query
+
+-- does the update put the element in, or take it out?
+abbrev pub acts_on : ℕ → Update → Bool
+acts_on x (LwwAdd y) = x == y
+acts_on x (LwwRemove y) = x == y
+acts_on x _ = false
+
+abbrev pub NoneActsOn : ℕ → List Update → Type 0
+NoneActsOn x updates = list_all (λ update. not (acts_on x update)) updates ≡ true
 
 -- the updates lead to a state, and the query is answered yes there
 abbrev pub IsAnsweredAfter : Kind → List Update → Query → Type 0
@@ -89,6 +125,39 @@ EachQueryIsAnswered kind records sequence =
 -- by clock, and at one clock by replica
 abbrev pub IsStampBelow : Stamp → Stamp → Type 0
 IsStampBelow s t = (s.clock < t.clock) ⊎ ((s.clock ≡ t.clock) × (s.replica < t.replica))
+
+-- the label sees one whose own stamp this is
+abbrev pub SeesStamp : Records → Label → Stamp → Type 0
+SeesStamp records label stamp =
+    (other : Label) × Contains (labels_of records) other × (sees records label.number other.number ≡ true)
+    × (other.stamp ≡ Some stamp)
+
+-- a stamp that is a label's own
+abbrev pub IsOwnStamp : Records → Stamp → Type 0
+IsOwnStamp records stamp = (label : Label) × Contains (labels_of records) label × (label.stamp ≡ Some stamp)
+
+-- a clock from 1 on came where the operation carries a stamp, and none where it does not
+abbrev pub HasItsClock : Op → Option ℕ → Type 0
+HasItsClock op clock =
+    (carries_stamp op ≡ true → (at : ℕ) × (1 ≤ at) × (clock ≡ Some at)) × (carries_stamp op ≡ false → clock ≡ None)
+
+-- the label is as accepted ones are, of this kind and of so many replicas
+pub record IsFit (kind : Kind) (replicas : ℕ) (label : Label) : Type 0 where
+  pub of_kind : kind_of label.op ≡ kind
+  pub list : has_rising_list label.op ≡ true
+  pub replica : label.replica < replicas
+  -- it has a stamp exactly where its operation carries one: a clock from 1 on, and its replica
+  pub stamp : (clock : Option ℕ) × HasItsClock label.op clock
+      × (label.stamp ≡ option_map (stamp_at label.replica) clock)
+
+abbrev pub EachLabelFits : Kind → ℕ → Records → Type 0
+EachLabelFits kind replicas records =
+    (label : Label) → Contains (labels_of records) label → IsFit kind (replica_count replicas records) label
+
+-- no two labels have one stamp
+abbrev pub StampsAreOneLabels : Records → Type 0
+StampsAreOneLabels records = (l m : Label) (stamp : Stamp) → Contains (labels_of records) l
+    → Contains (labels_of records) m → l.stamp ≡ Some stamp → m.stamp ≡ Some stamp → l ≡ m
 
 -- n - 1, .., 1, 0
 abbrev pub numbers_below : ℕ → List ℕ

@@ -1,3 +1,4 @@
+pub mod Lists
 pub mod Specification
 pub mod Records
 pub mod Visibility
@@ -8,4 +9,5 @@ pub mod NamedOrder
 pub mod Fault
 pub mod Answer
 pub mod Worked
+pub mod WorkedTimestamps
 pub mod Laws

@@ -1,24 +1,44 @@
 -- The named order of each kind, and the sequence of all parts in that order.
-use Rattle.std.specs.Prelude.{List, [], ◌∷◌, flat_map, if◌then◌else◌}
+use Rattle.std.specs.Prelude.{List, [], ◌∷◌, filter, flat_map, unwrap_or, if◌then◌else◌}
+use Rattle.std.specs.Option.{option_map_or}
 use Rattle.std.specs.Ordering.{nat_cmp, ordering_then, is_lt}
 use Rattle.std.specs.declared.cmp.Ordering.{Ordering}
 use Rattle.ra_labels.specs.declared.kind.Kind.{Kind}
-use Rattle.ra_labels.specs.declared.kind.Kind.TheVariants.{Counter}
+use Rattle.ra_labels.specs.declared.kind.Kind.TheVariants.{Counter, Register, LwwSet}
 use Rattle.ra_labels.specs.declared.label.Stamp.{Stamp}
 use Rattle.ra_labels.specs.declared.label.Label.{Label}
 use Rattle.ra_labels.specs.Records.{Records, labels_of}
+use Rattle.ra_labels.specs.Visibility.{sees}
 use Rattle.ra_labels.specs.Rewriting.{Part, parts_of}
 
 -- below every stamp
 abbrev pub lowest_rank : Stamp
 lowest_rank = record { clock = 0; replica = 0 }
 
--- what a label is sorted by before its number: in order of execution nothing
-abbrev pub rank_of : Kind → Records → Label → Stamp
-rank_of Counter records label = lowest_rank
-
+-- by clock, and at one clock by replica
 abbrev pub stamp_cmp : Stamp → Stamp → Ordering
 stamp_cmp s t = ordering_then (nat_cmp s.clock t.clock) (nat_cmp s.replica t.replica)
+
+abbrev pub greater_of : Stamp → Stamp → Stamp
+greater_of s t = if is_lt (stamp_cmp s t) then t else s
+
+-- the greatest own stamp of these labels, or the lowest rank
+abbrev pub greatest_stamp : List Label → Stamp
+greatest_stamp [] = lowest_rank
+greatest_stamp (label ∷ labels) =
+    option_map_or (greater_of (greatest_stamp labels)) label.stamp (greatest_stamp labels)
+
+-- the label's own stamp, else the greatest own stamp of those that it sees
+abbrev pub timestamp_of : Records → Label → Stamp
+timestamp_of records label =
+    let seen = filter (λ other. sees records label.number other.number) (labels_of records) in
+    unwrap_or label.stamp (greatest_stamp seen)
+
+-- what a label is sorted by before its number: in order of execution nothing, else its timestamp
+abbrev pub rank_of : Kind → Records → Label → Stamp
+rank_of Counter records label = lowest_rank
+rank_of Register records label = timestamp_of records label
+rank_of LwwSet records label = timestamp_of records label
 
 -- by rank, and then by number
 abbrev pub label_cmp : Kind → Records → Label → Label → Ordering

@@ -2,6 +2,7 @@
 -- accepted operation is a label, and labels are numbered from 0 in the order of their acceptance.
 use Rattle.std.specs.Prelude.{ℕ, ◌+◌, ◌==◌, List, [], ◌∷◌, Option, find, option_map, if◌then◌else◌}
 use Rattle.ra_labels.specs.declared.operation.Op.{Op}
+use Rattle.ra_labels.specs.declared.label.Stamp.{Stamp}
 use Rattle.ra_labels.specs.declared.label.Label.{Label}
 use Rattle.ra_labels.specs.declared.command.Command.{Command}
 use Rattle.ra_labels.specs.declared.command.Command.TheVariants.{Operate}
@@ -19,13 +20,17 @@ label_count (_ ∷ before) = label_count before
 abbrev pub replica_count : ℕ → Records → ℕ
 replica_count first records = first
 
+-- the stamp of a replica, with this clock
+abbrev pub stamp_at : ℕ → ℕ → Stamp
+stamp_at replica clock = record { clock = clock; replica = replica }
+
 -- the label that an operation becomes after these records
 abbrev pub next_label : Records → ℕ → Op → Option ℕ → Label
 next_label before by op clock = record {
   number = label_count before;
   replica = by;
   op = op;
-  stamp = option_map (λ at. record { clock = at; replica = by }) clock;
+  stamp = option_map (stamp_at by) clock;
 }
 
 -- the labels, the newest first

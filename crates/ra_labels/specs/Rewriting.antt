@@ -3,9 +3,9 @@ use Rattle.std.specs.Prelude.{◌∷◌, [], List, map, Option, Some, None, filt
 use Rattle.ra_labels.specs.declared.operation.Op.{Op}
 use Rattle.ra_labels.specs.declared.operation.Op.TheVariants as op
 use Rattle.ra_labels.specs.declared.operation.Update.{Update}
-use Rattle.ra_labels.specs.declared.operation.Update.TheVariants.{Inc, Dec}
+use Rattle.ra_labels.specs.declared.operation.Update.TheVariants.{Inc, Dec, Write, LwwAdd, LwwRemove}
 use Rattle.ra_labels.specs.declared.operation.Query.{Query}
-use Rattle.ra_labels.specs.declared.operation.Query.TheVariants.{Count}
+use Rattle.ra_labels.specs.declared.operation.Query.TheVariants.{Count, Last, LwwRead}
 use Rattle.ra_labels.specs.declared.label.Label.{Label}
 
 -- which part of its label: all of it, or one of two halves
@@ -29,6 +29,11 @@ abbrev pub acts_of : Op → List (Half × Act)
 acts_of op.Inc = (Whole, Does Inc) ∷ []
 acts_of op.Dec = (Whole, Does Dec) ∷ []
 acts_of (op.Count v) = (Whole, Asks (Count v)) ∷ []
+acts_of (op.Write value) = (Whole, Does (Write value)) ∷ []
+acts_of (op.Last value) = (Whole, Asks (Last value)) ∷ []
+acts_of (op.LwwAdd x) = (Whole, Does (LwwAdd x)) ∷ []
+acts_of (op.LwwRemove x) = (Whole, Does (LwwRemove x)) ∷ []
+acts_of (op.LwwRead list) = (Whole, Asks (LwwRead list)) ∷ []
 
 abbrev pub part_of : Label → Half × Act → Part
 part_of from act = record { label = from; half = act.0; act = act.1 }

@@ -12,6 +12,7 @@
 #![tactic(auto)]
 
 mod command;
+mod elements;
 mod kind;
 mod label;
 pub mod laws;
@@ -22,6 +23,7 @@ mod reply;
 pub mod worked;
 
 pub use command::Command;
+pub use elements::Elements;
 pub use kind::Kind;
 pub use label::{Label, Stamp};
 pub use memory::NoMemory;

@@ -1,6 +1,7 @@
-ghost use Rattle.std.specs.Prelude.{◌≡◌, ◌&&◌, not, is_some};
-ghost use Rattle.ra_labels.specs.Answer.{misfit_of, carries_stamp, when};
-ghost use Rattle.ra_labels.specs.declared.refusal.Refusal.TheVariants.{StampUnwanted};
+ghost use Rattle.std.specs.Prelude.{◌≡◌, ℕ};
+ghost use Rattle.ra_labels.specs.declared.command.Command.TheVariants.{Operate};
+ghost use Rattle.ra_labels.specs.Answer.{misfit_of, kind_of, has_rising_list, carries_stamp};
+ghost use Rattle.ra_labels.specs.Lists.{rises};
 
 use crate::command::Command;
 use crate::kind::Kind;
@@ -34,20 +35,63 @@ pub enum Refusal {
 }
 
 /// The first refusal that the command's own form deserves in a history of this kind, if any: of `WrongKind`,
-/// `BadList`, `StampMissing` and `StampUnwanted`. It takes no memory and always answers.
+/// `BadList`, `StampMissing` and `StampUnwanted`. It takes no memory and always answers. Costs as much as the
+/// operation's list is long.
 pub fn fits(kind: Kind, command: &Command) -> Option<Refusal>
     ensures { result ≡ misfit_of kind command.now }
 {
-    match (kind, command) {
-        (Kind::Counter, Command::Operate { op, stamp, .. }) => fits_counter(op, *stamp),
-        (Kind::Counter, Command::Deliver { .. } | Command::Verdict) => None,
+    match command {
+        Command::Operate { op, stamp, .. } => fits_operation(kind, op, *stamp),
+        Command::Deliver { .. } | Command::Verdict => None,
     }
 }
 
-fn fits_counter(op: &Op, clock: Option<u32>) -> Option<Refusal>
-    ensures { result ≡ when (not (carries_stamp op.now) && is_some clock) StampUnwanted }
+fn fits_operation(kind: Kind, op: &Op, clock: Option<u32>) -> Option<Refusal>
+    ensures { (by : ℕ) → result ≡ misfit_of kind (Operate by op.now clock) }
+{
+    if kind_of(op) != kind {
+        Some(Refusal::WrongKind)
+    } else if !has_rising_list(op) {
+        Some(Refusal::BadList)
+    } else {
+        match (carries_stamp(op), clock) {
+            (true, None | Some(0)) => Some(Refusal::StampMissing),
+            (false, Some(_)) => Some(Refusal::StampUnwanted),
+            (true, Some(_)) | (false, None) => None,
+        }
+    }
+}
+
+fn kind_of(op: &Op) -> Kind
+    ensures { result ≡ kind_of op.now }
 {
     match op {
-        Op::Inc | Op::Dec | Op::Count(_) => clock.map(|_| Refusal::StampUnwanted),
+        Op::Inc | Op::Dec | Op::Count(_) => Kind::Counter,
+        Op::Write(_) | Op::Last(_) => Kind::Register,
+        Op::LwwAdd(_) | Op::LwwRemove(_) | Op::LwwRead(_) => Kind::LwwSet,
+    }
+}
+
+fn has_rising_list(op: &Op) -> bool
+    ensures { result ≡ has_rising_list op.now }
+{
+    match op {
+        Op::LwwRead(list) => rises(list.as_slice()),
+        _ => true,
+    }
+}
+
+fn rises(list: &[u32]) -> bool
+    ensures { result ≡ rises list.now }
+{
+    list.is_sorted_by(|x, y| x < y)
+}
+
+fn carries_stamp(op: &Op) -> bool
+    ensures { result ≡ carries_stamp op.now }
+{
+    match op {
+        Op::Write(_) | Op::LwwAdd(_) | Op::LwwRemove(_) => true,
+        Op::Inc | Op::Dec | Op::Count(_) | Op::Last(_) | Op::LwwRead(_) => false,
     }
 }

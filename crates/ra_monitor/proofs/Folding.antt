@@ -1,16 +1,16 @@
 -- The fold of the updates of labels, label by label.
-use Rattle.std.proofs.Common.{◌≡◌, ℕ, ◌+◌, ◌<◌, pos, neg_ℤ, ◌+ℤ◌, ◌-ℤ◌, ◌≤ℤ◌, Bool, true, false, cond, List, [], ◌∷◌, ◌++◌, map, length, get_or, take, Option, Some, None, refl, sym, ap, ◌∙◌, arith}
+use Rattle.std.proofs.Common.{◌≡◌, ℕ, ◌+◌, ◌<◌, ◌≤◌, pos, neg_ℤ, ◌≤ℤ◌, Bool, true, false, cond, List, [], ◌∷◌, ◌++◌, map, length, get_or, take, drop, Option, Some, None, refl, sym, ap, ◌∙◌, subst, arith}
 use Rattle.std.specs.Prelude.{filter, filter_map, flat_map, fold, option_and_then, IfSome}
 use Rattle.std.specs.List.{cons_option, slice_get}
 use Rattle.std.proofs.lemmas.Int.{ints}
-use Rattle.std.proofs.lemmas.List.{append-nil, take_more}
+use Rattle.std.proofs.lemmas.List.{append-nil, take_more, take-append-drop}
 use Rattle.std.proofs.lemmas.List.Elements.{filter-append, filter_map-append}
 use Rattle.std.proofs.lemmas.Grind.{flat_map-append}
 use Rattle.ra_labels.specs.declared.kind.Kind.{Kind}
 use Rattle.ra_labels.specs.declared.label.Label.{Label}
 use Rattle.ra_labels.specs.declared.operation.Update.{Update}
-use Rattle.ra_labels.specs.declared.operation.Update.TheVariants.{Inc, Dec}
-use Rattle.ra_labels.specs.Specification.{State, Number, start_of, step_of, state_after}
+use Rattle.ra_labels.specs.declared.operation.Update.TheVariants.{Inc, Dec, Write, LwwAdd, LwwRemove}
+use Rattle.ra_labels.specs.Specification.{State, Number, Written, Members, start_of, step_of, state_after}
 use Rattle.ra_labels.specs.Rewriting.{Half, Act, Part, acts_of, part_of, parts_of, update_of, updates_of}
 use Rattle.ra_seqspec.specs.Range.{IsInRange}
 use Rattle.ra_monitor.specs.Fold.{updates_in, labels_at, updates_within}
@@ -18,20 +18,46 @@ use Rattle.ra_monitor.specs.Fold.{updates_in, labels_at, updates_within}
 -- a counter's number is at most n from 0
 abbrev pub IsWithin : ℕ → State → Type 0
 IsWithin n (Number z) = (neg_ℤ (pos n) ≤ℤ z) × (z ≤ℤ pos n)
+IsWithin n (Written last) = Unit {0}
+IsWithin n (Members xs) = Unit {0}
 
 -- one step moves it by at most one
+stepped_within : (n : ℕ) (s : State) (u : Update) → IsWithin n s → IfSome (step_of s u) (IsWithin (n + 1))
+stepped_within n (Number z) Inc h = (omega (arith, ints), omega (arith, ints))
+stepped_within n (Number z) Dec h = (omega (arith, ints), omega (arith, ints))
+stepped_within n (Number z) (Write value) h = tt
+stepped_within n (Number z) (LwwAdd x) h = tt
+stepped_within n (Number z) (LwwRemove x) h = tt
+stepped_within n (Written last) Inc h = tt
+stepped_within n (Written last) Dec h = tt
+stepped_within n (Written last) (Write value) h = tt
+stepped_within n (Written last) (LwwAdd x) h = tt
+stepped_within n (Written last) (LwwRemove x) h = tt
+stepped_within n (Members xs) Inc h = tt
+stepped_within n (Members xs) Dec h = tt
+stepped_within n (Members xs) (Write value) h = tt
+stepped_within n (Members xs) (LwwAdd x) h = tt
+stepped_within n (Members xs) (LwwRemove x) h = tt
+
 pub step_within : (n : ℕ) (s t : State) (u : Update) → IsWithin n s → step_of s u ≡ Some t → IsWithin (n + 1) t
-step_within n (Number z) (Number w) Inc h e =
-    let moved : z +ℤ pos 1 ≡ w = cc (e) in (omega (arith, ints), omega (arith, ints))
-step_within n (Number z) (Number w) Dec h e =
-    let moved : z -ℤ pos 1 ≡ w = cc (e) in (omega (arith, ints), omega (arith, ints))
+step_within n s t u h e = subst (λ (o : Option State). IfSome o (IsWithin (n + 1))) e (stepped_within n s u h)
+
+pub in_range : (n : ℕ) (s : State) → IsWithin n s → n ≤ 1048576 → IsInRange s
+in_range n (Number z) h l = (omega (arith, ints), omega (arith, ints))
+in_range n (Written last) h l = tt
+in_range n (Members xs) h l = tt
+
+all_in_range : (n : ℕ) (o : Option State) → IfSome o (IsWithin n) → n ≤ 1048576 → IfSome o IsInRange
+all_in_range n None h l = tt
+all_in_range n (Some s) h l = in_range n s h l
 
 pub step_in_range : (n : ℕ) (s : State) (u : Update) → IsWithin n s → n < 1048576 → IfSome (step_of s u) IsInRange
-step_in_range n (Number z) Inc h l = (omega (arith, ints), omega (arith, ints))
-step_in_range n (Number z) Dec h l = (omega (arith, ints), omega (arith, ints))
+step_in_range n s u h l = all_in_range (n + 1) (step_of s u) (stepped_within n s u h) (omega (arith, l))
 
 pub within_more : (n : ℕ) (s : State) → IsWithin n s → IsWithin (n + 1) s
 within_more n (Number z) h = (omega (arith, ints), omega (arith, ints))
+within_more n (Written last) h = tt
+within_more n (Members xs) h = tt
 
 -- the parts of one label are let through together
 pub filter_one : (test : ℕ → Bool) (l : Label) (acts : List (Half × Act)) (b : Bool) → test l.number ≡ b
@@ -148,3 +174,36 @@ kept_by_update kind test labels numbers i l s t u below found seen one step kept
       ∙ ap (λ o. advance o u) kept.1
       ∙ step,
 )
+
+-- the updates of labels, and of others behind them
+updates_within-both : (test : ℕ → Bool) (ls ms : List Label) → updates_within test (ls ++ ms) ≡ updates_within test ls ++ updates_within test ms
+updates_within-both test ls ms =
+    let through : Part → Bool = λ p. test p.label.number in
+    ap (λ ps. updates_of (filter through ps)) (flat_map-append parts_of ls ms)
+    ∙ ap updates_of (filter-append through (flat_map parts_of ls) (flat_map parts_of ms))
+    ∙ filter_map-append (λ (p : Part). update_of p.act) (filter through (flat_map parts_of ls)) (filter through (flat_map parts_of ms))
+
+-- where there is no state after the first labels, there is none after all
+stuck_after : (kind : Kind) (test : ℕ → Bool) (labels : List Label) (first rest : List ℕ)
+    → state_after kind (updates_within test (labels_at labels first)) ≡ None
+    → state_after kind (updates_within test (labels_at labels (first ++ rest))) ≡ None
+stuck_after kind test labels first rest none =
+    let later = updates_within test (labels_at labels rest) in
+    ap (λ ls. state_after kind (updates_within test ls)) (filter_map-append (slice_get labels) first rest)
+    ∙ ap (state_after kind) (updates_within-both test (labels_at labels first) (labels_at labels rest))
+    ∙ fold_both (updates_within test (labels_at labels first)) later (Some (start_of kind))
+    ∙ ap (λ o. fold advance o later) none
+    ∙ stuck later
+
+-- a label whose update is not admitted leaves no state
+pub none_by_update : (kind : Kind) (test : ℕ → Bool) (labels : List Label) (numbers : List ℕ) (i : ℕ) (l : Label) (s : State) (u : Update)
+    → i < length numbers → slice_get labels (get_or numbers i 0) ≡ Some l → test l.number ≡ true → u ∷ [] ≡ updates_in l.op → step_of s u ≡ None
+    → IsSoFar kind test labels numbers i s → state_after kind (updates_within test (labels_at labels numbers)) ≡ None
+none_by_update kind test labels numbers i l s u below found seen one step kept =
+    let here : state_after kind (updates_within test (labels_at labels (take (i + 1) numbers))) ≡ None =
+    state_more kind test labels numbers i l true below found seen
+    ∙ ap (fold advance (state_after kind (updates_within test (labels_at labels (take i numbers))))) (sym one)
+    ∙ ap (λ o. advance o u) kept.1
+    ∙ step in
+    ap (λ ns. state_after kind (updates_within test (labels_at labels ns))) (sym (take-append-drop (i + 1) numbers))
+    ∙ stuck_after kind test labels (take (i + 1) numbers) (drop (i + 1) numbers) here

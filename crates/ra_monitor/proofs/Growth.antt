@@ -29,6 +29,7 @@ use Rattle.ra_visibility.proofs.TheLaws.{what_a_label_sees, a_label_comes_to_its
 use Rattle.ra_monitor.specs.declared.setup.Setup.{Setup}
 use Rattle.ra_monitor.specs.declared.history.History.{History}
 use Rattle.ra_monitor.specs.Order.{listed_in, IsOrderOf, lists_named, keeps_delivered}
+use Rattle.ra_monitor.specs.Stamps.{AreStampsOf}
 use Rattle.ra_monitor.specs.History.{StandsFor, HasNewest}
 use Rattle.ra_monitor.proofs.Named.{labels_counted, counted_in_turn}
 
@@ -41,7 +42,7 @@ pub labels_more : (records : Records) (by : ℕ) (op : Op) (clock : Option ℕ)
     → reverse (labels_of (Operate by op clock ∷ records)) ≡ reverse (labels_of records) ++ next_label records by op clock ∷ []
 labels_more records by op clock = reverse-cons (next_label records by op clock) (labels_of records)
 
-newest_label : (labels : List Label) (records : Records) (by : ℕ) (op : Op) (clock : Option ℕ) (n : ℕ) (d : Label)
+pub newest_label : (labels : List Label) (records : Records) (by : ℕ) (op : Op) (clock : Option ℕ) (n : ℕ) (d : Label)
     → labels ≡ reverse (labels_of (Operate by op clock ∷ records)) → n ≡ label_count records → get_or labels n d ≡ next_label records by op clock
 newest_label labels records by op clock n d in_turn is =
     let label = next_label records by op clock in
@@ -118,9 +119,10 @@ before_failed kind records by op clock why none because =
 pub stands_taken : (old new : History) (setup : Setup) (records : Records) (by : ℕ) (op : Op) (clock : Option ℕ)
     → HasNewest old setup records by op clock → None ≡ cause_of setup.kind (Operate by op clock ∷ records)
     → IsOrderOf new.order setup.kind setup.replicas (Operate by op clock ∷ records)
+    → AreStampsOf new.stamps (Operate by op clock ∷ records)
     → new.labels ≡ old.labels → new.tracker ≡ old.tracker → new.fault ≡ old.fault
     → StandsFor new setup (Operate by op clock ∷ records)
-stands_taken old new setup records by op clock newest because order labels tracker fault =
+stands_taken old new setup records by op clock newest because order stamps labels tracker fault =
     let now = Operate by op clock ∷ records in
     let none : fault_of setup.kind now ≡ None = fault_with setup.kind records by op clock None newest.none because in
     record {
@@ -128,19 +130,22 @@ stands_taken old new setup records by op clock newest because order labels track
       causal = newest.causal;
       labels = ap (λ ls. ls.items) labels ∙ newest.labels;
       order = rw (none_lost setup.kind now none) order;
+      stamps = rw (none_lost setup.kind now none) stamps;
       fault = fault ∙ newest.fault ∙ newest.none ∙ sym none;
     }
 
 -- or it fails
 pub stands_failed : (old new : History) (setup : Setup) (records : Records) (by : ℕ) (op : Op) (clock : Option ℕ) (why : Cause) (n : ℕ)
-    → HasNewest old setup records by op clock → Some why ≡ cause_of setup.kind (Operate by op clock ∷ records) → n ≡ label_count records
-    → new.order ≡ old.order → new.labels ≡ old.labels → new.tracker ≡ old.tracker → new.fault ≡ Some (fault_at n why)
+    → HasNewest old setup records by op clock → AreStampsOf old.stamps records
+    → Some why ≡ cause_of setup.kind (Operate by op clock ∷ records) → n ≡ label_count records
+    → new.order ≡ old.order → new.stamps ≡ old.stamps → new.labels ≡ old.labels → new.tracker ≡ old.tracker → new.fault ≡ Some (fault_at n why)
     → StandsFor new setup (Operate by op clock ∷ records)
-stands_failed old new setup records by op clock why n newest because is order labels tracker fault = record {
+stands_failed old new setup records by op clock why n newest taken because is order stamps labels tracker fault = record {
   tracker = rw tracker newest.tracker;
   causal = newest.causal;
   labels = ap (λ ls. ls.items) labels ∙ newest.labels;
   order = rw (before_failed setup.kind records by op clock why newest.none because, order) newest.order;
+  stamps = rw (before_failed setup.kind records by op clock why newest.none because, stamps) taken;
   fault = fault ∙ ap (λ (k : ℕ). Some (fault_at k why)) is ∙ sym (fault_with setup.kind records by op clock (Some why) newest.none because);
 }
 
@@ -157,18 +162,24 @@ reply_to kind records by op clock why n none because is =
     ∙ mapped (label_count records) why
     ∙ sym (ap (λ o. option_map_or no_at o (Ok (label_count records))) (fault_with kind records by op clock why none because))
 
+-- where nothing failed, the stamps are those of all labels
+pub stamps_known : (history : History) (setup : Setup) (records : Records) → StandsFor history setup records
+    → fault_of setup.kind records ≡ None → AreStampsOf history.stamps records
+stamps_known history setup records stands none = rw (none_lost setup.kind records none) at stands.stamps
+
 -- the history after a delivery
 pub stands_delivered : (old new : History) (setup : Setup) (records : Records) (to label : ℕ)
     → StandsFor old setup records → fault_of setup.kind records ≡ None
     → IsVisibilityOf new.tracker.now setup.replicas (Deliver to label ∷ records) → IsCausal (Deliver to label ∷ records)
-    → new.labels ≡ old.labels → new.order ≡ old.order → new.fault ≡ old.fault
+    → new.labels ≡ old.labels → new.order ≡ old.order → new.stamps ≡ old.stamps → new.fault ≡ old.fault
     → StandsFor new setup (Deliver to label ∷ records)
-stands_delivered old new setup records to label stands none tracker causal labels order fault = record {
+stands_delivered old new setup records to label stands none tracker causal labels order stamps fault = record {
   tracker = tracker;
   causal = causal;
   labels = ap (λ ls. ls.items) labels ∙ stands.labels;
   order = rw (none_lost setup.kind (Deliver to label ∷ records) none, order)
       (keeps_delivered old.order setup.kind setup.replicas records to label (rw (none_lost setup.kind records none) at stands.order));
+  stamps = rw (none_lost setup.kind (Deliver to label ∷ records) none, stamps) (stamps_known old setup records stands none);
   fault = fault ∙ stands.fault;
 }
 
@@ -191,16 +202,32 @@ newest_stands old new setup records by op clock label stands none tracker is lab
   fits = fits;
 }
 
+-- the newest label does not depend on the stamps
+pub newest_kept : (old new : History) (setup : Setup) (records : Records) (by : ℕ) (op : Op) (clock : Option ℕ)
+    → HasNewest old setup records by op clock → new ≡ record old { stamps = new.stamps } → HasNewest new setup records by op clock
+newest_kept old new setup records by op clock newest same = rw same (record {
+  tracker = newest.tracker;
+  causal = newest.causal;
+  labels = newest.labels;
+  order = newest.order;
+  fault = newest.fault;
+  none = newest.none;
+  replica = newest.replica;
+  fits = newest.fits;
+})
+
 -- the history with a label taken back, or room made
 pub stands_same : (old new : History) (setup : Setup) (records : Records) → StandsFor old setup records
     → new.tracker.now ≡ old.tracker.now → new.labels.items ≡ old.labels.items
-    → IsOrderOf new.order setup.kind setup.replicas (records_before_fault setup.kind records) → new.fault ≡ old.fault
+    → IsOrderOf new.order setup.kind setup.replicas (records_before_fault setup.kind records)
+    → new.stamps ≡ old.stamps → new.fault ≡ old.fault
     → StandsFor new setup records
-stands_same old new setup records stands tracker labels order fault = record {
+stands_same old new setup records stands tracker labels order stamps fault = record {
   tracker = rw tracker stands.tracker;
   causal = stands.causal;
   labels = labels ∙ stands.labels;
   order = order;
+  stamps = rw stamps stands.stamps;
   fault = fault ∙ stands.fault;
 }
 

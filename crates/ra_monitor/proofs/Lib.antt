@@ -2,6 +2,8 @@ pub mod Finding
 pub mod Folding
 pub mod Named
 pub mod Queries
+pub mod Rising
+pub mod Stamping
 pub mod Growth
 pub mod Legal
 pub mod Keeping

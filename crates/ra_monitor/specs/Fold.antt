@@ -1,11 +1,12 @@
 -- The updates of labels, in their order, of those that a test lets through.
-use Rattle.std.specs.Prelude.{ℕ, Bool, true, List, filter, filter_map, flat_map}
-use Rattle.std.specs.List.{slice_get}
+use Rattle.std.specs.Prelude.{◌≡◌, ℕ, Bool, true, List, filter, filter_map, flat_map}
+use Rattle.std.specs.List.{slice_get, list_all}
 use Rattle.ra_labels.specs.declared.operation.Op.{Op}
 use Rattle.ra_labels.specs.declared.operation.Update.{Update}
 use Rattle.ra_labels.specs.declared.operation.Query.{Query}
 use Rattle.ra_labels.specs.declared.label.Label.{Label}
 use Rattle.ra_labels.specs.Rewriting.{acts_of, update_of, query_of, parts_of, updates_of}
+use Rattle.ra_labels.specs.Answer.{has_rising_list}
 use Rattle.ra_visibility.specs.Seen.{is_in}
 use Rattle.ra_monitor.specs.declared.scope.Scope.{Scope}
 use Rattle.ra_monitor.specs.declared.scope.Scope.TheVariants.{All, Only}
@@ -28,3 +29,7 @@ updates_within test labels = updates_of (filter (λ part. test part.label.number
 abbrev pub includes : Scope → ℕ → Bool
 includes All label = true
 includes (Only seen) label = is_in seen.now label
+
+-- each list rises that an operation of the labels returned
+abbrev pub AllRise : List Label → Type 0
+AllRise labels = list_all (λ label. has_rising_list label.op) labels ≡ true

@@ -4,6 +4,7 @@ pub mod Limits
 pub mod Kept
 pub mod Sequence
 pub mod Order
+pub mod Stamps
 pub mod History
 pub mod Parts
 pub mod Fold

@@ -7,7 +7,8 @@ ghost use Rattle.ra_labels.specs.Fault.{cause_of};
 ghost use Rattle.ra_visibility.specs.Seen.{is_in};
 ghost use Rattle.ra_visibility.specs.Tracked.{labels_in, IsVisibilityOf};
 ghost use Rattle.ra_visibility.specs.Order.{numbers_in};
-ghost use Rattle.ra_monitor.specs.Fold.{labels_at, updates_within, includes};
+ghost use Rattle.ra_monitor.specs.Fold.{labels_at, updates_within, includes, AllRise};
+ghost use Rattle.ra_seqspec.specs.Asked.{asks_rising};
 
 use crate::rewriting::parts;
 use crate::scope::Scope;
@@ -54,14 +55,15 @@ fn is_answered(
     labels: &[Label],
     numbers: &[u32],
     seen: &Seen<'_>,
-    query: &Query,
+    query: Query,
 ) -> Result<bool, NoMemory>
-    requires { length numbers.now ≤ MOST_ENTRIES }
+    requires few { length numbers.now ≤ MOST_ENTRIES }
+    requires rising { asks_rising query ≡ true }
     ensures { IfOk result (λ is_so. is_so
-        ≡ is_answered_after kind (updates_within (is_in seen.now) (labels_at labels.now numbers.now)) query.now) }
+        ≡ is_answered_after kind (updates_within (is_in seen.now) (labels_at labels.now numbers.now)) query) }
 {
     match state_after(alloc, kind, labels, numbers, Scope::Only(seen))? {
-        Some(state) => Ok(state.admits(query)),
+        Some(state) => Ok(state.admits(&query)),
         None => Ok(false),
     }
 }
@@ -76,6 +78,7 @@ pub fn cause_of(
     tracker: &Tracker,
 ) -> Result<Option<Cause>, NoMemory>
     requires few { length numbers.now ≤ MOST_ENTRIES }
+    requires rising { AllRise labels.now }
     requires tracked { labels_in tracker.now.now ≡ length labels.now }
     ensures { (first : ℕ) (records : Records) → IsVisibilityOf tracker.now.now first records
         → labels.now ≡ reverse (labels_of records) → numbers.now ≡ numbers_in kind records
@@ -91,7 +94,7 @@ pub fn cause_of(
         };
         if let Some(query) = parts(label)?.into_query() {
             let seen = tracker.vis(*number);
-            if !is_answered(alloc, kind, labels, numbers, &seen, &query)? {
+            if !is_answered(alloc, kind, labels, numbers, &seen, query)? {
                 return Ok(Some(Cause::Query));
             }
         }

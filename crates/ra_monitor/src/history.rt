@@ -1,15 +1,17 @@
-ghost use Rattle.std.specs.Prelude.{◌≡◌, ℕ, ◌+◌, ◌<◌, ◌≤◌, ◌∷◌, [], length, map, IfOk, OnErr, OnOk, Option, None, vec_len, if◌then◌else◌, is_some};
+ghost use Rattle.std.specs.Prelude.{◌≡◌, ℕ, ◌+◌, ◌<◌, ◌≤◌, true, ◌∷◌, [], length, map, IfOk, OnErr, OnOk, Option, None, vec_len, if◌then◌else◌, is_some};
 ghost use Rattle.std.specs.Option.{option_or, option_map_or};
 ghost use Rattle.ra_labels.specs.declared.operation.Op.{Op};
 ghost use Rattle.ra_labels.specs.Records.{Records, label_count, next_label};
 ghost use Rattle.ra_labels.specs.NamedOrder.{named_sequence};
 ghost use Rattle.ra_labels.specs.Fault.{fault_of, cause_of, records_before_fault};
-ghost use Rattle.ra_labels.specs.Answer.{no_at, misfit_of, refusal_of, refusal_at, answer_of, answer_to_accepted, records_after};
+ghost use Rattle.ra_labels.specs.Answer.{no_at, when, misfit_of, refusal_of, refusal_at, answer_of, answer_to_accepted, has_rising_list, records_after};
 ghost use Rattle.ra_visibility.specs.Order.{IsPlaceOf};
 ghost use Rattle.ra_visibility.specs.Tracked.{labels_in, replicas_in};
 ghost use Rattle.ra_monitor.specs.Order.{listed_in, room_in, IsOrderOf};
+ghost use Rattle.ra_monitor.specs.Stamps.{is_kept, AreStampsOf};
+ghost use Rattle.ra_monitor.specs.Fold.{AllRise};
 ghost use Rattle.ra_monitor.specs.Sequence.{ref_of};
-ghost use Rattle.ra_monitor.specs.History.{IsAtReplica, StandsFor, HasNewest, refusal_left};
+ghost use Rattle.ra_monitor.specs.History.{IsAtReplica, StandsFor, HasNewest, refusal_after_form, refusal_left};
 ghost use Rattle.ra_monitor.specs.declared.setup.Setup.{Setup};
 
 use crate::fold::cause_of;
@@ -18,6 +20,7 @@ use crate::part_ref::PartRef;
 use crate::rewriting::parts;
 use crate::sequence::part_refs;
 use crate::setup::Setup;
+use crate::stamps::Stamps;
 use ra_labels::{Cause, Command, Fault, Label, NoMemory, Op, Refusal, Reply, Stamp, fits};
 use ra_ticket::MOST_ENTRIES;
 use ra_visibility::{DeliverFault, NamedOrder, Place, Tracker};
@@ -32,6 +35,8 @@ pub struct History {
     pub tracker: Tracker,
     /// Where the labels before the fault stand.
     pub order: Order,
+    /// The stamps of their own that these have.
+    pub stamps: Stamps,
     /// The first label at which the named order failed.
     pub fault: Option<Fault>,
 }
@@ -45,7 +50,8 @@ impl History {
         Ok(History {
             labels: Vec::new(alloc),
             tracker,
-            order: Order::of(setup.kind),
+            order: Order::of(alloc, setup.kind, setup.replicas)?,
+            stamps: Stamps::new(alloc),
             fault: None,
         })
     }
@@ -66,6 +72,7 @@ impl History {
         requires replicas { replicas_in self.old.tracker.now ≡ setup.now.replicas }
         requires labels { labels_in self.old.tracker.now ≡ vec_len self.old.labels }
         requires listed { length (listed_in self.old.order) ≤ vec_len self.old.labels }
+        requires rising { AllRise self.old.labels.items }
         requires room { vec_len self.old.labels < MOST_ENTRIES }
         ensures taken { (records : Records) → StandsFor self.old setup.now records → IfOk result (λ reply.
             (reply ≡ answer_of setup.now.kind setup.now.replicas records command.now)
@@ -91,8 +98,52 @@ impl History {
     // The first refusal that the command deserves, if any, but for those of a delivery to a replica that is there: the
     // tracker tells them.
     fn refusal_of(&self, setup: &Setup, command: &Command) -> Option<Refusal>
-        ensures first { (records : Records) → refusal_of setup.now.kind setup.now.replicas records command.now
+        ensures first { (records : Records) → AreStampsOf self.now.stamps records
+            → refusal_of setup.now.kind setup.now.replicas records command.now
             ≡ option_or result (refusal_left records command.now) }
+        ensures known { result ≡ None → IsAtReplica setup.now.replicas command.now }
+        ensures fits { result ≡ None → misfit_of setup.now.kind command.now ≡ None }
+    {
+        match self.refusal_of_form(setup, command) {
+            Some(refusal) => Some(refusal),
+            None => self.refusal_of_stamp(command),
+        }
+    }
+
+    // The refusal that the command deserves where its stamp is taken.
+    fn refusal_of_stamp(&self, command: &Command) -> Option<Refusal>
+        ensures { (records : Records) → AreStampsOf self.now.stamps records
+            → refusal_after_form records command.now ≡ option_or result (refusal_left records command.now) }
+    {
+        match command {
+            Command::Operate {
+                replica,
+                stamp: Some(clock),
+                ..
+            } => self.refusal_at_stamp(Stamp {
+                clock: *clock,
+                replica: *replica,
+            }),
+            Command::Operate { stamp: None, .. } | Command::Deliver { .. } | Command::Verdict =>
+                None,
+        }
+    }
+
+    // The refusal of a stamp that is taken.
+    fn refusal_at_stamp(&self, stamp: Stamp) -> Option<Refusal>
+        ensures { result ≡ when (is_kept self.now.stamps stamp) Refusal.StampTaken }
+    {
+        if self.stamps.has(stamp) {
+            Some(Refusal::StampTaken)
+        } else {
+            None
+        }
+    }
+
+    // The first refusal that the command deserves by its replica or by its form, if any.
+    fn refusal_of_form(&self, setup: &Setup, command: &Command) -> Option<Refusal>
+        ensures first { (records : Records) → refusal_of setup.now.kind setup.now.replicas records command.now
+            ≡ option_or result (refusal_after_form records command.now) }
         ensures known { result ≡ None → IsAtReplica setup.now.replicas command.now }
         ensures fits { result ≡ None → misfit_of setup.now.kind command.now ≡ None }
     {
@@ -137,6 +188,8 @@ impl History {
         requires replica { replica < replicas_in self.old.tracker.now }
         requires labels { labels_in self.old.tracker.now ≡ vec_len self.old.labels }
         requires listed { length (listed_in self.old.order) ≤ vec_len self.old.labels }
+        requires rising { AllRise self.old.labels.items }
+        requires list { has_rising_list op.now ≡ true }
         requires room { vec_len self.old.labels < MOST_ENTRIES }
         ensures taken { (records : Records) → StandsFor self.old setup.now records
             → fault_of setup.now.kind records ≡ None
@@ -170,9 +223,10 @@ impl History {
         requires few { vec_len self.old.labels ≤ MOST_ENTRIES }
         requires labels { labels_in self.old.tracker.now ≡ vec_len self.old.labels }
         requires listed { length (listed_in self.old.order) < vec_len self.old.labels }
+        requires rising { AllRise self.old.labels.items }
         requires room { 0 < room_in self.old.order }
         ensures answered { (records : Records) (by : ℕ) (op : Op) (clock : Option ℕ)
-            → HasNewest self.old setup.now records by op clock → IfOk result (λ reply.
+            → HasNewest self.old setup.now records by op clock → AreStampsOf self.old.stamps records → IfOk result (λ reply.
             (reply ≡ answer_to_accepted setup.now.kind records (Command.Operate by op clock))
             × StandsFor self.new setup.now (Command.Operate by op clock ∷ records)) }
         ensures labels { self.new.labels ≡ self.old.labels }
@@ -182,6 +236,7 @@ impl History {
         let place = self.place_of(number);
         match self.cause_at(setup, number, place)? {
             None => {
+                self.keep_stamp(number)?;
                 self.put(number, place);
                 Ok(Reply::Ok(number))
             }
@@ -208,6 +263,20 @@ impl History {
         self.order.place(&self.labels[newest as usize], &seen)
     }
 
+    // Keeps the newest label's stamp, if it has one of its own.
+    fn keep_stamp(&mut self, newest: u32) -> Result<(), NoMemory>
+        requires { newest < vec_len self.old.labels }
+        ensures stamps { OnOk result ((setup : Setup) (records : Records) (by : ℕ) (op : Op) (clock : Option ℕ)
+            → HasNewest self.old setup records by op clock → newest ≡ label_count records
+            → AreStampsOf self.old.stamps records
+            → AreStampsOf self.new.stamps (Command.Operate by op clock ∷ records)) }
+        ensures same { self.new ≡ record self.old { stamps = self.new.stamps } }
+        ensures err { OnErr result (self.new ≡ self.old) }
+    {
+        let own = self.labels[newest as usize].stamp;
+        self.stamps.keep(own)
+    }
+
     // Takes the newest label into the order, at its place.
     fn put(&mut self, newest: u32, place: Place)
         requires there { newest < vec_len self.old.labels }
@@ -229,6 +298,7 @@ impl History {
     fn cause_at(&self, setup: &Setup, newest: u32, place: Place) -> Result<Option<Cause>, NoMemory>
         requires few { length (listed_in self.now.order) < MOST_ENTRIES }
         requires labels { labels_in self.now.tracker.now ≡ vec_len self.now.labels }
+        requires rising { AllRise self.now.labels.items }
         ensures { (records : Records) (by : ℕ) (op : Op) (clock : Option ℕ)
             → HasNewest self.now setup.now records by op clock
             → newest ≡ label_count records
@@ -252,7 +322,8 @@ impl History {
 
 // The label with this number that the operation becomes.
 fn label_of(number: u32, replica: u8, op: &Op, clock: Option<u32>) -> Result<Label, NoMemory>
-    ensures { (records : Records) → number ≡ label_count records
+    ensures op { IfOk result (λ label. label.op ≡ op.now) }
+    ensures next { (records : Records) → number ≡ label_count records
         → IfOk result (λ label. label ≡ next_label records replica op.now clock) }
 {
     let op = op.clone()?;

@@ -26,6 +26,7 @@ mod rewriting;
 mod scope;
 mod sequence;
 mod setup;
+mod stamps;
 
 pub use desk::Desk;
 pub use faults::NewFault;

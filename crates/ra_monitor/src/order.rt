@@ -5,24 +5,27 @@ ghost use Rattle.ra_monitor.specs.Order.{listed_in, IsOrderOf};
 
 use ra_exec_order::ExecOrder;
 use ra_labels::{Kind, Label, NoMemory};
+use ra_time_order::TimeOrder;
 use ra_visibility::{NamedOrder, Place, Seen};
 use std::alloc::Global;
 
-/// The order that a kind names: of a counter that of execution.
+/// The order that a kind names.
 #[derive(Debug, Drop)]
-pub struct Order {
-    execution: ExecOrder,
+pub enum Order {
+    /// Of a counter: that of execution.
+    Execution(ExecOrder),
+    /// Of a register and of an LWW set: that of timestamps.
+    Time(TimeOrder),
 }
 
 impl Order {
-    /// The order that the kind names, of no labels.
-    pub fn of(kind: Kind) -> Order
-        ensures { (first : ℕ) → IsOrderOf result kind first [] }
+    /// The order that the kind names, of no labels, of so many replicas.
+    pub fn of(alloc: Global, kind: Kind, replicas: u8) -> Result<Order, NoMemory>
+        ensures { IfOk result (λ order. IsOrderOf order kind replicas []) }
     {
         match kind {
-            Kind::Counter => Order {
-                execution: ExecOrder::new(),
-            },
+            Kind::Counter => Ok(Order::Execution(ExecOrder::new())),
+            Kind::Register | Kind::LwwSet => Ok(Order::Time(TimeOrder::new(alloc, replicas)?)),
         }
     }
 
@@ -57,19 +60,31 @@ impl NamedOrder for Order {
     ghost stands_for = { λ order kind first records. IsOrderOf order kind first records };
 
     fn place(&self, label: &Label, seen: &Seen<'_>) -> Place {
-        self.execution.place(label, seen)
+        match self {
+            Order::Execution(order) => order.place(label, seen),
+            Order::Time(order) => order.place(label, seen),
+        }
     }
 
     fn spare(&mut self) -> Result<(), NoMemory> {
-        self.execution.spare()
+        match self {
+            Order::Execution(order) => order.spare(),
+            Order::Time(order) => order.spare(),
+        }
     }
 
     fn put(&mut self, label: &Label, seen: &Seen<'_>, place: Place) {
-        self.execution.put(label, seen, place);
+        match self {
+            Order::Execution(order) => order.put(label, seen, place),
+            Order::Time(order) => order.put(label, seen, place),
+        }
     }
 
     fn at(&self, position: usize) -> Option<u32> {
-        self.execution.at(position)
+        match self {
+            Order::Execution(order) => order.at(position),
+            Order::Time(order) => order.at(position),
+        }
     }
 
     ghost lists = { λ order kind first records stands. lists_named order kind first records stands };

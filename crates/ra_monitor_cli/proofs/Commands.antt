@@ -6,13 +6,13 @@ use Rattle.std.proofs.lemmas.Bool.{eqb-true}
 use Rattle.std.proofs.lemmas.Option.{option_and_then_some}
 use Rattle.std.proofs.lemmas.Slice.Eq.{bytes_eq-Decides}
 use Rattle.ra_labels.specs.declared.kind.Kind.{Kind}
-use Rattle.ra_labels.specs.declared.kind.Kind.TheVariants.{Counter}
+use Rattle.ra_labels.specs.declared.kind.Kind.TheVariants.{Counter, Register, LwwSet}
 use Rattle.ra_labels.specs.declared.operation.Op.{Op}
-use Rattle.ra_labels.specs.declared.operation.Op.TheVariants.{Inc, Dec, Count}
+use Rattle.ra_labels.specs.declared.operation.Op.TheVariants.{Inc, Dec, Count, Write, Last, LwwAdd, LwwRemove, LwwRead}
 use Rattle.ra_labels.specs.declared.command.Command.{Command}
 use Rattle.ra_labels.specs.declared.command.Command.TheVariants.{Operate, Deliver, Verdict}
-use Rattle.ra_monitor_cli.specs.Grammar.{is_name, place_of, fields_of, has_words, operation_fields, clock_fields, HasSmallNumbers, NamesReplica, AreFieldsOf, Spells}
-use Rattle.ra_monitor_cli.specs.Reading.{number_read, signed_read, clock_read, operation_read, delivery_read, count_read, replica_command_read, command_read}
+use Rattle.ra_monitor_cli.specs.Grammar.{is_name, place_of, fields_of, is_read, has_words, operation_fields, clock_fields, HasSmallNumbers, NamesReplica, AreFieldsOf, Spells}
+use Rattle.ra_monitor_cli.specs.Reading.{number_read, signed_read, clock_read, operation_read, delivery_read, count_read, word_read, replica_command_read, command_read}
 use Rattle.ra_monitor_cli.proofs.Numbers.{number_read-Some, number_read-decimal, signed_read-Some, signed_read-decimal}
 
 same_bytes : (word text : List ℕ) → bytes_eq word text ≡ true → word ≡ text
@@ -77,23 +77,36 @@ count_found names name replica (field ∷ fields) c who e =
     let found = operation_found Counter names name replica (Count value) fields c who refl says.1 next in
     subst (λ (f : List ℕ). AreFieldsOf Counter names (name ∷ codes "read" ∷ f ∷ fields) c) (sym says.0) found)
 
-replica_command_found : (kind : Kind) (names : List (List ℕ)) (name : List ℕ) (replica : ℕ) (word : List ℕ) (fields : List (List ℕ)) (c : Command)
-    → NamesReplica names name replica → replica_command_read kind replica word fields ≡ Some c → AreFieldsOf kind names (name ∷ word ∷ fields) c
-replica_command_found Counter names name replica word fields c who e =
+-- a word that is read as another is that one
+at_word : (kind : Kind) (names : List (List ℕ)) (name word text : List ℕ) (fields : List (List ℕ)) (c : Command)
+    → bytes_eq word text ≡ true → AreFieldsOf kind names (name ∷ text ∷ fields) c → AreFieldsOf kind names (name ∷ word ∷ fields) c
+at_word kind names name word text fields c is found =
+    subst (λ (w : List ℕ). AreFieldsOf kind names (name ∷ w ∷ fields) c) (sym (same_bytes word text is)) found
+
+word_found : (kind : Kind) (names : List (List ℕ)) (name : List ℕ) (replica : ℕ) (word : List ℕ) (fields : List (List ℕ)) (c : Command)
+    → NamesReplica names name replica → word_read kind replica word fields ≡ Some c → AreFieldsOf kind names (name ∷ word ∷ fields) c
+word_found Register names name replica word fields c who e = absurd cc
+word_found LwwSet names name replica word fields c who e = absurd cc
+word_found Counter names name replica word fields c who e =
     let at = λ (text : List ℕ) (is : bytes_eq word text ≡ true) (found : AreFieldsOf Counter names (name ∷ text ∷ fields) c).
-    subst (λ (w : List ℕ). AreFieldsOf Counter names (name ∷ w ∷ fields) c) (sym (same_bytes word text is)) found in
-    elim (chosen (bytes_eq word (codes "got")) _ _ _ e) [
-      | inl got ↦ at (codes "got") got.0 (delivery_found Counter names name replica fields c who got.1)
-      | inr e1 ↦ elim (chosen (bytes_eq word (codes "inc")) _ _ _ e1.1) [
-        | inl inc ↦ at (codes "inc") inc.0 (operation_found Counter names name replica Inc fields c who refl tt inc.1)
-        | inr e2 ↦ elim (chosen (bytes_eq word (codes "dec")) _ _ _ e2.1) [
-          | inl dec ↦ at (codes "dec") dec.0 (operation_found Counter names name replica Dec fields c who refl tt dec.1)
-          | inr e3 ↦ elim (chosen (bytes_eq word (codes "read")) _ _ _ e3.1) [
-            | inl read ↦ at (codes "read") read.0 (count_found names name replica fields c who read.1)
-            | inr e4 ↦ absurd (let never = e4.1 in cc)
-          ]
+    at_word Counter names name word text fields c is found in
+    elim (chosen (bytes_eq word (codes "inc")) _ _ _ e) [
+      | inl inc ↦ at (codes "inc") inc.0 (operation_found Counter names name replica Inc fields c who refl tt inc.1)
+      | inr e2 ↦ elim (chosen (bytes_eq word (codes "dec")) _ _ _ e2.1) [
+        | inl dec ↦ at (codes "dec") dec.0 (operation_found Counter names name replica Dec fields c who refl tt dec.1)
+        | inr e3 ↦ elim (chosen (bytes_eq word (codes "read")) _ _ _ e3.1) [
+          | inl read ↦ at (codes "read") read.0 (count_found names name replica fields c who read.1)
+          | inr e4 ↦ absurd (let never = e4.1 in cc)
         ]
       ]
+    ]
+
+replica_command_found : (kind : Kind) (names : List (List ℕ)) (name : List ℕ) (replica : ℕ) (word : List ℕ) (fields : List (List ℕ)) (c : Command)
+    → NamesReplica names name replica → replica_command_read kind replica word fields ≡ Some c → AreFieldsOf kind names (name ∷ word ∷ fields) c
+replica_command_found kind names name replica word fields c who e =
+    elim (chosen (bytes_eq word (codes "got")) _ _ _ e) [
+      | inl got ↦ at_word kind names name word (codes "got") fields c got.0 (delivery_found kind names name replica fields c who got.1)
+      | inr other ↦ word_found kind names name replica word fields c who other.1
     ]
 
 pub command_found : (kind : Kind) (names fields : List (List ℕ)) (c : Command) → command_read kind names fields ≡ Some c → AreFieldsOf kind names fields c
@@ -121,6 +134,12 @@ clock_only : (replica : ℕ) (op : Op) (clock : Option ℕ) → IfSome clock (λ
 clock_only replica op None small = refl
 clock_only replica op (Some at) small = rw (number_read-decimal at small) refl
 
+-- only counters have words yet
+words_of_counters : (kind : Kind) (op : Op) → has_words kind op ≡ true → is_read kind ≡ true
+words_of_counters Counter op own = refl
+words_of_counters Register op own = own
+words_of_counters LwwSet op own = own
+
 operation_only : (kind : Kind) (replica : ℕ) (op : Op) (clock : Option ℕ) (names : List (List ℕ)) (name : List ℕ) → NamesReplica names name replica → has_words kind op ≡ true → HasSmallNumbers op
     → IfSome clock (λ at. at < 2 ^ 32) → command_read kind names (name ∷ (operation_fields op ++ clock_fields clock)) ≡ Some (Operate replica op clock)
 operation_only Counter replica Inc clock names name who own small small_clock =
@@ -130,11 +149,18 @@ operation_only Counter replica Dec clock names name who own small small_clock =
 operation_only Counter replica (Count value) clock names name who own small small_clock =
     replica_command_only Counter names name (codes "read") (signed_decimal value ∷ clock_fields clock) replica who
     ∙ rw (signed_read-decimal value small) (clock_only replica (Count value) clock small_clock)
+operation_only Counter replica (Write value) clock names name who own small small_clock = absurd cc
+operation_only Counter replica (Last value) clock names name who own small small_clock = absurd cc
+operation_only Counter replica (LwwAdd x) clock names name who own small small_clock = absurd cc
+operation_only Counter replica (LwwRemove x) clock names name who own small small_clock = absurd cc
+operation_only Counter replica (LwwRead list) clock names name who own small small_clock = absurd cc
+operation_only Register replica op clock names name who own small small_clock = absurd (let never : is_read Register ≡ true = words_of_counters Register op own in cc)
+operation_only LwwSet replica op clock names name who own small small_clock = absurd (let never : is_read LwwSet ≡ true = words_of_counters LwwSet op own in cc)
 
 delivery_only : (kind : Kind) (replica label : ℕ) (names : List (List ℕ)) (name : List ℕ) → NamesReplica names name replica → label < 2 ^ 32
     → command_read kind names (name ∷ codes "got" ∷ decimal label ∷ []) ≡ Some (Deliver replica label)
-delivery_only Counter replica label names name who small =
-    replica_command_only Counter names name (codes "got") (decimal label ∷ []) replica who ∙ rw (number_read-decimal label small) refl
+delivery_only kind replica label names name who small =
+    replica_command_only kind names name (codes "got") (decimal label ∷ []) replica who ∙ rw (number_read-decimal label small) refl
 
 pub command_only : (kind : Kind) (names fields : List (List ℕ)) (c : Command) → AreFieldsOf kind names fields c → command_read kind names fields ≡ Some c
 command_only kind names fields Verdict spelled = ap (command_read kind names) spelled

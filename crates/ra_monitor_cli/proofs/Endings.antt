@@ -1,5 +1,5 @@
 -- A text ends in one way.
-use Rattle.std.proofs.Common.{◌≡◌, ◌≢◌, ◌⊎◌, ℕ, ◌<◌, eqb, suc, List, [], ◌∷◌, ◌++◌, length, All, Option, inl, inr, refl, sym, ap, subst, ◌∙◌, arith}
+use Rattle.std.proofs.Common.{◌≡◌, ◌≢◌, ◌⊎◌, ℕ, ◌<◌, eqb, suc, true, List, [], ◌∷◌, ◌++◌, length, All, Option, inl, inr, refl, sym, ap, subst, ◌∙◌, arith}
 use Rattle.std.specs.Prelude.{codes}
 use Rattle.std.specs.List.{slice_split, AllByRecursion}
 use Rattle.std.proofs.lemmas.Bool.{ne_eqb}
@@ -12,7 +12,7 @@ use Rattle.ra_monitor_cli.specs.declared.check.fault.CheckFault.{CheckFault}
 use Rattle.ra_monitor_cli.specs.declared.check.fault.CheckFault.TheVariants.{Read, Write, Syntax, Truncated, LineTooLong, NoMemory, Endless, Full}
 use Rattle.ra_monitor_cli.specs.declared.check.session.Stage.{Stage}
 use Rattle.ra_monitor_cli.specs.declared.check.session.Stage.TheVariants.{FirstLine, NamesLine, Commands}
-use Rattle.ra_monitor_cli.specs.Grammar.{IsLine, bytes_of, fields_of, first_line, ListsNames, Spells, SpellEach}
+use Rattle.ra_monitor_cli.specs.Grammar.{IsLine, bytes_of, fields_of, first_line, is_read, ListsNames, Spells, SpellEach}
 use Rattle.ra_monitor_cli.specs.Output.{IsAnswered}
 use Rattle.ra_monitor_cli.specs.Recorder.{Recorder}
 use Rattle.ra_monitor_cli.specs.Progress.{AreTaken, replies_at, IsNoLine, IsOneTooMany}
@@ -88,7 +88,7 @@ long_or_part rest long part = omega (arith, long.long, part.short, ap length lon
 
 -- the line can come at this stage
 abbrev MayCome : Stage → List ℕ → Type 0
-MayCome FirstLine line = (kind : Kind) × (line ≡ first_line kind)
+MayCome FirstLine line = (kind : Kind) × (is_read kind ≡ true) × (line ≡ first_line kind)
 MayCome (NamesLine kind) line = (names : List (List ℕ)) × ListsNames line names
 MayCome (Commands r) line = (length r.commands < 1048576) × ((command : Command) × Spells r.kind r.names line command)
 
@@ -108,19 +108,19 @@ spell_next kind names (l ∷ lines) more next (c ∷ commands) (d ∷ others) ea
 next_taken : (stage other : Stage) (lines more : List (List ℕ)) (next : List ℕ) → AreTaken stage lines → AreTaken other (lines ++ next ∷ more) → MayCome stage next
 next_taken FirstLine other (l ∷ lines) more next taken longer = absurd (let none = taken in cc)
 next_taken FirstLine FirstLine [] more next taken longer = absurd (let none = longer in cc)
-next_taken FirstLine (NamesLine kind) [] more next taken longer = (kind, let all = longer in cc)
-next_taken FirstLine (Commands r) [] more next taken longer = (r.kind, let all = longer.2 in cc)
-next_taken (NamesLine kind) other [] more next taken longer = absurd (let one = taken in cc)
-next_taken (NamesLine kind) other (l ∷ m ∷ lines) more next taken longer = absurd (let one = taken in cc)
+next_taken FirstLine (NamesLine kind) [] more next taken longer = (kind, longer.1, let all = longer.0 in cc)
+next_taken FirstLine (Commands r) [] more next taken longer = (r.kind, longer.6, let all = longer.2 in cc)
+next_taken (NamesLine kind) other [] more next taken longer = absurd (let one = taken.0 in cc)
+next_taken (NamesLine kind) other (l ∷ m ∷ lines) more next taken longer = absurd (let one = taken.0 in cc)
 next_taken (NamesLine kind) FirstLine (l ∷ []) more next taken longer = absurd (let none = longer in cc)
-next_taken (NamesLine kind) (NamesLine another) (l ∷ []) more next taken longer = absurd (let one = longer in cc)
+next_taken (NamesLine kind) (NamesLine another) (l ∷ []) more next taken longer = absurd (let one = longer.0 in cc)
 next_taken (NamesLine kind) (Commands r) (l ∷ []) more next taken longer =
     let second : next ≡ longer.0 = let all = longer.2 in cc in
     (r.names, rw second longer.3)
 next_taken (Commands r) other [] more next taken longer = absurd (let all = taken.2 in cc)
 next_taken (Commands r) other (l ∷ []) more next taken longer = absurd (let all = taken.2 in cc)
 next_taken (Commands r) FirstLine (l ∷ m ∷ lines) more next taken longer = absurd (let none = longer in cc)
-next_taken (Commands r) (NamesLine kind) (l ∷ m ∷ lines) more next taken longer = absurd (let one = longer in cc)
+next_taken (Commands r) (NamesLine kind) (l ∷ m ∷ lines) more next taken longer = absurd (let one = longer.0 in cc)
 next_taken (Commands r) (Commands s) (l ∷ m ∷ lines) more next taken longer =
     let all = taken.2 in
     let all_longer = longer.2 in
@@ -144,16 +144,16 @@ same_recorded r s kinds names commands =
 -- the same lines lead to one stage
 one_stage : (stage other : Stage) (lines : List (List ℕ)) → AreTaken stage lines → AreTaken other lines → stage ≡ other
 one_stage FirstLine FirstLine lines taken other = refl
-one_stage FirstLine (NamesLine kind) lines taken other = absurd (let both = sym taken ∙ other in cc)
+one_stage FirstLine (NamesLine kind) lines taken other = absurd (let both = sym taken ∙ other.0 in cc)
 one_stage FirstLine (Commands s) lines taken other = absurd (let both = sym taken ∙ other.2 in cc)
-one_stage (NamesLine kind) FirstLine lines taken other = absurd (let both = sym taken ∙ other in cc)
+one_stage (NamesLine kind) FirstLine lines taken other = absurd (let both = sym taken.0 ∙ other in cc)
 one_stage (NamesLine kind) (NamesLine another) lines taken other =
-    let both = sym taken ∙ other in
+    let both = sym taken.0 ∙ other.0 in
     let first : first_line kind ≡ first_line another = cc in
     ap NamesLine (one_kind kind another first)
-one_stage (NamesLine kind) (Commands s) lines taken other = absurd (let both = sym taken ∙ other.2 in cc)
+one_stage (NamesLine kind) (Commands s) lines taken other = absurd (let both = sym taken.0 ∙ other.2 in cc)
 one_stage (Commands r) FirstLine lines taken other = absurd (let both = sym taken.2 ∙ other in cc)
-one_stage (Commands r) (NamesLine kind) lines taken other = absurd (let both = sym taken.2 ∙ other in cc)
+one_stage (Commands r) (NamesLine kind) lines taken other = absurd (let both = sym taken.2 ∙ other.0 in cc)
 one_stage (Commands r) (Commands s) lines taken other =
     let both = sym taken.2 ∙ other.2 in
     let first : first_line r.kind ≡ first_line s.kind = cc in
@@ -168,7 +168,7 @@ one_stage (Commands r) (Commands s) lines taken other =
 -- ---- why a text stops
 
 no_line_comes : (stage : Stage) (line : List ℕ) → IsNoLine stage line → MayCome stage line → ⊥
-no_line_comes FirstLine line none may = none may.0 may.1
+no_line_comes FirstLine line none may = none may.0 may.1 may.2
 no_line_comes (NamesLine kind) line none may = none may.0 may.1
 no_line_comes (Commands r) line none may = none may.1.0 may.1.1
 
@@ -283,7 +283,7 @@ pub no_end : (text out other : List ℕ) (left : Option (List ℕ)) (fault : Che
 no_end text out other left fault report own p q =
     let r : Recorder = record { kind = q.kind; names = q.names; commands = q.commands } in
     let lines = first_line q.kind ∷ q.says.second ∷ q.says.lines in
-    let taken : AreTaken (Commands r) lines = (q.says.second, q.says.lines, refl, q.says.lists, q.says.spell, q.says.few) in
+    let taken : AreTaken (Commands r) lines = (q.says.second, q.says.lines, refl, q.says.lists, q.says.spell, q.says.few, q.says.read) in
     let same : bytes_of p.answered.lines ++ p.rest ≡ bytes_of lines ++ [] = sym p.answered.parts ∙ q.says.whole ∙ sym (append-nil (bytes_of lines)) in
     elim (parting p.answered.lines lines p.rest [] p.answered.are_lines q.says.are_lines same) [
       | inl both ↦

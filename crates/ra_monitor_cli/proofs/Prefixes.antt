@@ -60,7 +60,7 @@ as_many_answers kind n records (c ∷ commands) = omega (arith, as_many_answers 
 -- the reply lines to these lines: one for each line behind the first two
 reply_lines : (stage : Stage) (lines : List (List ℕ)) → AreTaken stage lines → (replies : List Reply) × (replies_at stage ≡ flat_map reply_line replies) × (length replies ≡ length lines - 2)
 reply_lines FirstLine lines taken = ([], refl, omega (arith, ap length taken))
-reply_lines (NamesLine kind) lines taken = ([], refl, omega (arith, ap length taken))
+reply_lines (NamesLine kind) lines taken = ([], refl, omega (arith, ap length taken.0))
 reply_lines (Commands r) lines taken = (
   answers_in r.kind r.names r.commands,
   refl,
@@ -130,7 +130,7 @@ less_written : (text out rest all : List ℕ) (stage : Stage) (report : Report) 
 less_written text out rest all stage report p q =
     let r : Recorder = record { kind = q.kind; names = q.names; commands = q.commands } in
     let lines : List (List ℕ) = first_line q.kind ∷ q.says.second ∷ q.says.lines in
-    let taken : AreTaken (Commands r) lines = (q.says.second, q.says.lines, refl, q.says.lists, q.says.spell, q.says.few) in
+    let taken : AreTaken (Commands r) lines = (q.says.second, q.says.lines, refl, q.says.lists, q.says.spell, q.says.few, q.says.read) in
     let same : bytes_of p.lines ++ rest ≡ bytes_of lines ++ [] = sym p.parts ∙ q.says.whole ∙ sym (append-nil (bytes_of lines)) in
     let records : Records = records_in q.kind q.names q.commands in
     let less = λ (more : List (List ℕ)) (is : lines ≡ p.lines ++ more).

@@ -8,9 +8,13 @@ use Rattle.ra_labels.specs.declared.command.Command.{Command}
 use Rattle.ra_labels.specs.declared.reply.Reply.{Reply}
 use Rattle.ra_labels.specs.Records.{Records}
 use Rattle.ra_labels.specs.Answer.{answer_of, answers_to, records_after, records_after_all}
-use Rattle.ra_ticket.specs.Log.{IsAboveLast}
+use Rattle.ra_ticket.specs.Log.{IsAboveLast, unstepped}
+use Rattle.ra_ticket.specs.declared.journal.StepFault.{StepFault}
+use Rattle.ra_ticket.specs.declared.journal.StepFault.TheVariants as handed
 use Rattle.ra_monitor.specs.Monitor.{Monitor, MonitorEntry, commands_of, records_of}
 use Rattle.ra_monitor_cli.specs.declared.check.recorder.Recorder.TheInside.{Inside}
+use Rattle.ra_monitor_cli.specs.declared.limits.TheConstants.{MOST_COMMANDS}
+use Rattle.ra_monitor_cli.specs.Recorder.{Recorder, StopsAnswering, fault_at}
 use Rattle.ra_monitor_cli.specs.RecorderKept.{RecorderKept, are_tickets_below}
 
 -- an entry's ticket is below the number of entries
@@ -82,3 +86,9 @@ has_room r x e count limit is full fits most =
       | inl same ↦ let failed : r ≡ Err e = full.1 same in absurd (let both = sym is ∙ failed in cc)
       | inr apart ↦ omega (arith, apart)
     ]
+
+-- what the monitor hands back stops the text as its fault says
+pub stops_answering : (old : Recorder) (line : ℕ) (command : Command) (fault : StepFault Command) → line ≡ length old.commands + 3
+    → (fault ≡ handed.Full command → length old.commands ≡ MOST_COMMANDS) → unstepped fault ≡ command → StopsAnswering old (fault_at line fault)
+stops_answering old line command (handed.Full other) is full back = (is, full (ap handed.Full back))
+stops_answering old line command (handed.NoMemory other) is full back = tt

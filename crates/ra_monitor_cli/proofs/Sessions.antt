@@ -43,6 +43,7 @@ taken_command old command line here room lines taken = (
   taken.3,
   SpellEach-push old.kind old.names taken.1 old.commands line command taken.4 here,
   omega (arith, room, length_push old.commands command),
+  taken.6,
 )
 
 replied_command : (old : Recorder) (command : Command) → replies_at (Commands (with_command old command)) ≡ replies_at (Commands old) ++ reply_line (next_answer old command)
@@ -167,7 +168,7 @@ answered session recorder text end report stage nothing reported ended after =
       kind = recorder.kind;
       names = recorder.names;
       commands = recorder.commands;
-      says = record { second = taken.0; lines = taken.1; whole = whole; are_lines = lines; lists = taken.3; spell = taken.4; few = taken.5 };
+      says = record { second = taken.0; lines = taken.1; whole = whole; are_lines = lines; lists = taken.3; spell = taken.4; few = taken.5; read = taken.6 };
       written = rw (before, last) refl;
       reported = reported;
     }

@@ -6,7 +6,7 @@ use Rattle.std.specs.Int.{w32}
 use Rattle.std.specs.List.{list_all, slice_split, flat_map, IsDistinct, AllByRecursion}
 use Rattle.ra_monitor_cli.specs.declared.limits.TheConstants.{LONGEST_LINE, LONGEST_NAME, MOST_COMMANDS, MOST_NAMES}
 use Rattle.ra_labels.specs.declared.kind.Kind.{Kind}
-use Rattle.ra_labels.specs.declared.kind.Kind.TheVariants.{Counter}
+use Rattle.ra_labels.specs.declared.kind.Kind.TheVariants.{Counter, Register, LwwSet}
 use Rattle.ra_labels.specs.declared.operation.Op.{Op}
 use Rattle.ra_labels.specs.declared.operation.Op.TheVariants.{Inc, Dec, Count}
 use Rattle.ra_labels.specs.declared.command.Command.{Command}
@@ -62,6 +62,14 @@ place_of (first ∷ others) name = if bytes_eq first name then 0 else place_of o
 
 abbrev pub kind_word : Kind → List ℕ
 kind_word Counter = codes "counter"
+kind_word Register = codes "register"
+kind_word LwwSet = codes "lwwset"
+
+-- are texts of the kind read? Of the others none are yet
+abbrev pub is_read : Kind → Bool
+is_read Counter = true
+is_read Register = false
+is_read LwwSet = false
 
 abbrev pub first_line : Kind → List ℕ
 first_line kind = codes "RAH 1 " ++ kind_word kind
@@ -77,12 +85,14 @@ abbrev pub has_words : Kind → Op → Bool
 has_words Counter Inc = true
 has_words Counter Dec = true
 has_words Counter (Count value) = true
+has_words _ _ = false
 
 -- the fields of an operation, with its return value
 abbrev pub operation_fields : Op → List (List ℕ)
 operation_fields Inc = codes "inc" ∷ []
 operation_fields Dec = codes "dec" ∷ []
 operation_fields (Count value) = codes "read" ∷ signed_decimal value ∷ []
+operation_fields _ = []
 
 -- the field of a clock: a commercial at, which is the byte 64, and the number
 abbrev pub clock_fields : Option ℕ → List (List ℕ)
@@ -94,6 +104,7 @@ abbrev pub HasSmallNumbers : Op → Type 0
 HasSmallNumbers Inc = Unit {0}
 HasSmallNumbers Dec = Unit {0}
 HasSmallNumbers (Count value) = FitsSigned w32 value
+HasSmallNumbers _ = Unit {0}
 
 -- the name stands for the replica
 pub record NamesReplica (names : List (List ℕ)) (name : List ℕ) (replica : ℕ) : Type 0 where
@@ -146,3 +157,4 @@ pub record Says (text : List ℕ) (kind : Kind) (names : List (List ℕ)) (comma
   pub lists : ListsNames second names
   pub spell : SpellEach kind names lines commands
   pub few : length commands ≤ MOST_COMMANDS
+  pub read : is_read kind ≡ true

@@ -1,5 +1,5 @@
 -- How far a text is taken in.
-use Rattle.std.specs.Prelude.{◌+◌, ◌≡◌, ℕ, ◌<◌, ◌≤◌, List, [], ◌∷◌, ◌++◌, length, flat_map, ⊤}
+use Rattle.std.specs.Prelude.{◌+◌, ◌≡◌, ℕ, ◌<◌, ◌≤◌, true, List, [], ◌∷◌, ◌++◌, length, flat_map, ⊤}
 use Rattle.std.specs.List.{AllByRecursion}
 use Rattle.ra_labels.specs.declared.kind.Kind.{Kind}
 use Rattle.ra_monitor_cli.specs.Bytes.{Grows}
@@ -9,17 +9,18 @@ use Rattle.ra_monitor_cli.specs.declared.check.session.Stage.{Stage}
 use Rattle.ra_monitor_cli.specs.declared.check.session.Stage.TheVariants.{FirstLine, NamesLine, Commands}
 use Rattle.ra_monitor_cli.specs.declared.check.session.Session.{Session}
 use Rattle.ra_monitor_cli.specs.declared.limits.TheConstants.{LONGEST_LINE, MOST_COMMANDS}
-use Rattle.ra_monitor_cli.specs.Grammar.{IsLine, bytes_of, first_line, ListsNames, SpellEach}
+use Rattle.ra_monitor_cli.specs.Grammar.{IsLine, bytes_of, first_line, is_read, ListsNames, SpellEach}
 use Rattle.ra_monitor_cli.specs.Output.{reply_line, answers_in}
 use Rattle.ra_monitor_cli.specs.Recorder.{SpellsNone, SpellsOne, SpellsOneTooMany}
 
 -- these lines were taken in, and lead to this stage
 abbrev pub AreTaken : Stage → List (List ℕ) → Type 0
 AreTaken FirstLine lines = lines ≡ []
-AreTaken (NamesLine kind) lines = lines ≡ first_line kind ∷ []
+AreTaken (NamesLine kind) lines = (lines ≡ first_line kind ∷ []) × (is_read kind ≡ true)
 AreTaken (Commands recorder) lines = (second : List ℕ) × (others : List (List ℕ))
     × (lines ≡ first_line recorder.kind ∷ second ∷ others) × ListsNames second recorder.names
     × SpellEach recorder.kind recorder.names others recorder.commands × (length recorder.commands ≤ MOST_COMMANDS)
+    × (is_read recorder.kind ≡ true)
 
 -- the reply lines so far
 abbrev pub replies_at : Stage → List ℕ
@@ -40,7 +41,7 @@ pub record TakesLine (old new : Stage) (line more : List ℕ) : Type 0 where
 
 -- the line is none that can come here
 abbrev pub IsNoLine : Stage → List ℕ → Type 0
-IsNoLine FirstLine line = (kind : Kind) → line ≡ first_line kind → ⊥
+IsNoLine FirstLine line = (kind : Kind) → is_read kind ≡ true → line ≡ first_line kind → ⊥
 IsNoLine (NamesLine kind) line = (names : List (List ℕ)) → ListsNames line names → ⊥
 IsNoLine (Commands recorder) line = SpellsNone recorder line
 

@@ -5,7 +5,7 @@ use Rattle.std.specs.Char.{is_ascii_digit}
 use Rattle.std.specs.Fmt.{signed_decimal}
 use Rattle.std.specs.Str.Parse.{digits_value, signed_digits_value}
 use Rattle.ra_labels.specs.declared.kind.Kind.{Kind}
-use Rattle.ra_labels.specs.declared.kind.Kind.TheVariants.{Counter}
+use Rattle.ra_labels.specs.declared.kind.Kind.TheVariants.{Counter, Register, LwwSet}
 use Rattle.ra_labels.specs.declared.operation.Op.{Op}
 use Rattle.ra_labels.specs.declared.operation.Op.TheVariants.{Inc, Dec, Count}
 use Rattle.ra_labels.specs.declared.command.Command.{Command}
@@ -59,14 +59,20 @@ count_read replica [] = None
 count_read replica (field ∷ fields) =
     option_and_then (λ value. operation_read replica (Count value) fields) (signed_read field)
 
--- the command of a replica, by the word behind its name
-abbrev pub replica_command_read : Kind → ℕ → List ℕ → List (List ℕ) → Option Command
-replica_command_read Counter replica word fields =
-    if bytes_eq word (codes "got") then delivery_read replica fields
-    else if bytes_eq word (codes "inc") then operation_read replica Inc fields
+-- the operation of a replica, by the word behind its name
+abbrev pub word_read : Kind → ℕ → List ℕ → List (List ℕ) → Option Command
+word_read Counter replica word fields =
+    if bytes_eq word (codes "inc") then operation_read replica Inc fields
     else if bytes_eq word (codes "dec") then operation_read replica Dec fields
     else if bytes_eq word (codes "read") then count_read replica fields
     else None
+word_read Register replica word fields = None
+word_read LwwSet replica word fields = None
+
+-- the command of a replica, by the word behind its name
+abbrev pub replica_command_read : Kind → ℕ → List ℕ → List (List ℕ) → Option Command
+replica_command_read kind replica word fields =
+    if bytes_eq word (codes "got") then delivery_read replica fields else word_read kind replica word fields
 
 -- a command, by the fields of its line
 abbrev pub command_read : Kind → List (List ℕ) → List (List ℕ) → Option Command

@@ -4,6 +4,8 @@ use Rattle.ra_labels.specs.declared.kind.Kind.{Kind}
 use Rattle.ra_labels.specs.declared.command.Command.{Command}
 use Rattle.ra_labels.specs.declared.reply.Reply.{Reply}
 use Rattle.ra_labels.specs.Answer.{answer_of}
+use Rattle.ra_ticket.specs.declared.journal.StepFault.{StepFault}
+use Rattle.ra_ticket.specs.declared.journal.StepFault.TheVariants as handed
 use Rattle.ra_monitor_cli.specs.declared.check.fault.CheckFault.{CheckFault}
 use Rattle.ra_monitor_cli.specs.declared.check.fault.CheckFault.TheVariants.{Syntax, NoMemory, Full}
 use Rattle.ra_monitor_cli.specs.declared.limits.TheConstants.{MOST_COMMANDS}
@@ -54,6 +56,11 @@ abbrev pub StopsAnswering : Recorder → CheckFault → Type 0
 StopsAnswering old (Full line_number) = (line_number ≡ length old.commands + 3) × (length old.commands ≡ MOST_COMMANDS)
 StopsAnswering old NoMemory = ⊤
 StopsAnswering old _ = ⊥
+
+-- the fault of a text where the monitor hands the command of this line back
+abbrev pub fault_at : ℕ → StepFault Command → CheckFault
+fault_at line (handed.Full command) = Full line
+fault_at line (handed.NoMemory command) = NoMemory
 
 -- why a line is not recorded: memory can be missing only where the line spells a command
 abbrev pub StopsRecording : Recorder → List ℕ → CheckFault → Type 0

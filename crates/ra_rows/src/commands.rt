@@ -54,7 +54,16 @@ pub fn step_by(
     ticket: u64,
     say: Say,
 ) -> Result<Reply, StepFault<Command>> {
-    let command = command_of(say);
+    step_with(rt, monitor, pass, ticket, command_of(say))
+}
+
+fn step_with(
+    rt: &impl Abort,
+    monitor: &mut Monitor,
+    pass: u8,
+    ticket: u64,
+    command: Command,
+) -> Result<Reply, StepFault<Command>> {
     match monitor.last_ticket() {
         Some(last) => {
             assert!(rt; last < ticket);
@@ -66,8 +75,13 @@ pub fn step_by(
 
 /// The reply to one command of pass 0, with the number of commands before it as its ticket.
 pub fn reply_to(rt: &impl Abort, monitor: &mut Monitor, say: Say) -> Reply {
+    reply_to_command(rt, monitor, command_of(say))
+}
+
+/// The same, of a command.
+pub fn reply_to_command(rt: &impl Abort, monitor: &mut Monitor, command: Command) -> Reply {
     let ticket = monitor.log().len() as u64;
-    match step_by(rt, monitor, 0, ticket, say) {
+    match step_with(rt, monitor, 0, ticket, command) {
         Ok(reply) => reply,
         Err(StepFault::Full(_)) => panic!(rt; "full"),
         Err(StepFault::NoMemory(_)) => panic!(rt; "no memory"),

@@ -15,4 +15,6 @@ mod limits;
 #[cfg(test)]
 mod lock;
 #[cfg(test)]
+mod timestamps;
+#[cfg(test)]
 mod visibility;

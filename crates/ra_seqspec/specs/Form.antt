@@ -1,7 +1,17 @@
--- The state that the fields of a `State` stand for.
-use Rattle.ra_labels.specs.Specification.{State, Number}
+-- The state that the fields of a `State` stand for, and what is kept true of them.
+use Rattle.std.specs.Ordering.{nat_cmp}
+use Rattle.std.specs.BTreeSet.{IsOrdered}
+use Rattle.ra_labels.specs.Specification.{State, Number, Written, Members}
 use Rattle.ra_seqspec.specs.declared.state.Form.{Form}
-use Rattle.ra_seqspec.specs.declared.state.Form.TheVariants.{Counter}
+use Rattle.ra_seqspec.specs.declared.state.Form.TheVariants.{Counter, Register, LwwSet}
 
 abbrev pub state_of : Form → State
 state_of (Counter n) = Number n
+state_of (Register last) = Written last
+state_of (LwwSet set) = Members set.keys
+
+-- a set's elements rise
+abbrev pub StateKept : Form → Type 0
+StateKept (Counter n) = Unit {0}
+StateKept (Register last) = Unit {0}
+StateKept (LwwSet set) = IsOrdered nat_cmp set

@@ -1,3 +1,4 @@
 pub mod Range
 pub mod Memory
 pub mod Form
+pub mod Asked

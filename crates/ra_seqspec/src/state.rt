@@ -1,10 +1,14 @@
-ghost use Rattle.std.specs.Prelude.{◌≡◌, IfOk, IsOk, IfSome, OnErr, false, is_some, unwrap_or};
-ghost use Rattle.ra_labels.specs.Specification.{Number, start_of, step_of, answers};
+ghost use Rattle.std.specs.Prelude.{◌≡◌, ◌↔◌, ◌==◌, not, filter, IsTrue, IfOk, IsOk, IfSome, OnErr, true, false, is_some, unwrap_or};
+ghost use Rattle.std.specs.Ordering.{nat_cmp};
+ghost use Rattle.std.specs.BTreeSet.{IsOrdered};
+ghost use Rattle.ra_labels.specs.Specification.{start_of, step_of, answers};
+ghost use Rattle.ra_seqspec.specs.Asked.{asks_rising};
 ghost use Rattle.ra_seqspec.specs.Range.{IsInRange};
-ghost use Rattle.ra_seqspec.specs.Memory.{takes_memory};
+ghost use Rattle.ra_seqspec.specs.Memory.{takes_memory, update_takes_memory};
 
 use ra_labels::{Kind, NoMemory, Query, Update};
 use std::alloc::Global;
+use std::collections::BTreeSet;
 use std::marker::Model;
 
 /// A state of the sequential specification of one kind.
@@ -18,6 +22,10 @@ pub struct State {
 enum Form {
     // The counter's number.
     Counter(i32),
+    // The value that was written last.
+    Register(Option<u32>),
+    // The elements.
+    LwwSet(BTreeSet<u32>),
 }
 
 impl Model for State {
@@ -25,20 +33,25 @@ impl Model for State {
 
     ghost Value = { specification.State };
 
-    ghost use Rattle.ra_seqspec.specs.Form.{state_of};
+    ghost use Rattle.ra_seqspec.specs.Form.{state_of, StateKept};
 
     ghost view = { λ s. state_of s.form };
+
+    ghost invariant = { λ s. StateKept s.form };
 }
 
 impl State {
     /// The state of the kind before any update. Where a kind's state is a collection, it lives in `alloc`.
-    pub fn new(_alloc: Global, kind: Kind) -> Result<State, NoMemory>
+    pub fn new(alloc: Global, kind: Kind) -> Result<State, NoMemory>
         ensures start { IfOk result (λ state. state ≡ start_of kind) }
-        ensures memory { takes_memory (start_of kind) ≡ false → IsOk result }
+        ensures memory { IsOk result }
     {
-        match kind {
-            Kind::Counter => Ok(State::counter(0)),
-        }
+        let form = match kind {
+            Kind::Counter => Form::Counter(0),
+            Kind::Register => Form::Register(None),
+            Kind::LwwSet => Form::LwwSet(BTreeSet::new(alloc)),
+        };
+        Ok(State { form })
     }
 
     /// An equal state of its own. Costs as much as the state is large.
@@ -46,44 +59,67 @@ impl State {
         ensures equal { IfOk result (λ copy. copy ≡ self.now) }
         ensures memory { takes_memory self.now ≡ false → IsOk result }
     {
-        match self.form {
-            Form::Counter(number) => Ok(State::counter(number)),
-        }
+        let form = match &self.form {
+            Form::Counter(number) => Form::Counter(*number),
+            Form::Register(last) => Form::Register(*last),
+            Form::LwwSet(elements) => Form::LwwSet(elements.clone()?),
+        };
+        Ok(State { form })
     }
 
-    /// Makes the update and answers true, or changes nothing and answers false where the state does not admit it.
+    /// Makes the update and answers true, or changes nothing and answers false where the state does not admit it. Costs
+    /// a search among a set's elements.
     pub fn apply(&mut self, update: &Update) -> Result<bool, NoMemory>
         requires { IfSome (step_of self.old update.now) IsInRange }
         ensures admitted { IfOk result (λ is_admitted. is_admitted ≡ is_some (step_of self.old update.now)) }
         ensures step { IfOk result (λ is_admitted. self.new ≡ unwrap_or (step_of self.old update.now) self.old) }
         ensures err { OnErr result (self.new ≡ self.old) }
-        ensures memory { takes_memory self.old ≡ false → IsOk result }
+        ensures memory { update_takes_memory self.old update.now ≡ false → IsOk result }
     {
-        match &mut self.form {
-            Form::Counter(number) => {
-                match update {
-                    Update::Inc => *number += 1,
-                    Update::Dec => *number -= 1,
-                }
-                Ok(true)
+        match (&mut self.form, update) {
+            (Form::Counter(number), Update::Inc) => *number += 1,
+            (Form::Counter(number), Update::Dec) => *number -= 1,
+            (Form::Register(last), Update::Write(value)) => *last = Some(*value),
+            (Form::LwwSet(elements), Update::LwwAdd(element)) => {
+                elements.insert(*element)?;
             }
+            (Form::LwwSet(elements), Update::LwwRemove(element)) => take_out(elements, *element),
+            _ => return Ok(false),
         }
+        Ok(true)
     }
 
-    fn counter(number: i32) -> State
-        ensures { result ≡ Number number }
-    {
-        State {
-            form: Form::Counter(number),
-        }
-    }
-
-    /// Is the query's answer that of this state? It takes no memory and always answers.
+    /// Is the query's answer that of this state? It takes no memory and always answers. Costs as much as a read of a set
+    /// is long.
     pub fn admits(&self, query: &Query) -> bool
+        requires { asks_rising query.now ≡ true }
         ensures { result ≡ answers self.now query.now }
     {
         match (&self.form, query) {
             (Form::Counter(number), Query::Count(answer)) => *answer == *number,
+            (Form::Register(last), Query::Last(answer)) => *answer == *last,
+            (Form::LwwSet(elements), Query::LwwRead(answer)) => are_elements(
+                elements,
+                answer.as_slice(),
+            ),
+            _ => false,
         }
     }
+}
+
+// Takes the element out, if it is in.
+#[tactic(auto, using(crate::proofs::Keys::taken_out))]
+fn take_out(elements: &mut BTreeSet<u32>, element: u32)
+    requires { IsOrdered nat_cmp elements.old }
+    ensures left { elements.new.keys ≡ filter (λ y. not (element == y)) elements.old.keys }
+    ensures ordered { IsOrdered nat_cmp elements.new }
+{
+    elements.remove(&element);
+}
+
+// Is this the list of the elements?
+fn are_elements(elements: &BTreeSet<u32>, list: &[u32]) -> bool
+    ensures { IsTrue result ↔ (list.now ≡ elements.now.keys) }
+{
+    elements.iter().eq(list)
 }

@@ -27,12 +27,22 @@ pub parts_extend : (records : Records) (label : Label) (operation : Op) → exte
 parts_extend records label op.Inc = refl
 parts_extend records label op.Dec = refl
 parts_extend records label (op.Count v) = refl
+parts_extend records label (op.Write value) = refl
+parts_extend records label (op.Last value) = refl
+parts_extend records label (op.LwwAdd x) = refl
+parts_extend records label (op.LwwRemove x) = refl
+parts_extend records label (op.LwwRead list) = refl
 
 -- each label has a part
 some_act : (operation : Op) → (act : Half × Act) × Contains (acts_of operation) act
 some_act op.Inc = (_, (0, omega arith, refl))
 some_act op.Dec = (_, (0, omega arith, refl))
 some_act (op.Count v) = (_, (0, omega arith, refl))
+some_act (op.Write value) = (_, (0, omega arith, refl))
+some_act (op.Last value) = (_, (0, omega arith, refl))
+some_act (op.LwwAdd x) = (_, (0, omega arith, refl))
+some_act (op.LwwRemove x) = (_, (0, omega arith, refl))
+some_act (op.LwwRead list) = (_, (0, omega arith, refl))
 
 pub some_part : (label : Label) → (part : Part) × Contains (parts_of label) part
 some_part label =

@@ -1,23 +1,25 @@
 -- Where a label is inserted in the named order.
-use Rattle.std.proofs.Common.{◌≡◌, ℕ, suc, ◌+◌, ◌-◌, ◌<◌, ◌≤◌, List, [], ◌∷◌, length, get_or, Option, Some, refl, sym, ap, ◌∙◌, inl, inr, arith, Ordering}
+use Rattle.std.proofs.Common.{◌≡◌, ℕ, zero, suc, ◌+◌, ◌-◌, ◌<◌, ◌≤◌, List, [], ◌∷◌, true, false, length, get_or, Option, Some, refl, sym, ap, ◌∙◌, inl, inr, arith, Ordering}
 use Rattle.std.specs.Prelude.{All, Contains, cond}
 use Rattle.std.specs.List.{insert, slice_get}
+use Rattle.std.specs.List.Sorted.{IsPartitionPoint}
+use Rattle.std.specs.declared.cmp.Ordering.TheVariants.{Less, Equal, Greater}
 use Rattle.std.specs.Ordering.{is_lt, nat_cmp, ordering_then}
-use Rattle.std.proofs.lemmas.Bool.{cond_both, cases_order}
+use Rattle.std.proofs.lemmas.Bool.{cond_both, cond-true, cond-false, cases_order, le-ltb, ne_eqb}
 use Rattle.std.proofs.lemmas.Option.{get_or_from_slice_get, slice_get_within}
-use Rattle.std.proofs.lemmas.List.Elements.{All-nil, All-cons, All-head, All-tail, All-weaker, All-get_or, All-contains_itself}
+use Rattle.std.proofs.lemmas.List.Elements.{All-nil, All-cons, All-head, All-tail, All-weaker, All-get_or, All-contains, All-contains_itself, Contains-get_or}
 use Rattle.std.proofs.lemmas.List.Edits.{length-insert, get_or-insert_below, get_or-insert_above}
-use Rattle.std.proofs.lemmas.List.Sorted.{All-permutation}
+use Rattle.std.proofs.lemmas.List.Sorted.{All-permutation, Contains-permutation, IsPermutation-sym}
 use Rattle.ra_labels.specs.declared.kind.Kind.{Kind}
-use Rattle.ra_labels.specs.declared.kind.Kind.TheVariants.{Counter}
+use Rattle.ra_labels.specs.declared.kind.Kind.TheVariants.{Counter, Register, LwwSet}
 use Rattle.ra_labels.specs.declared.operation.Op.{Op}
 use Rattle.ra_labels.specs.declared.label.Stamp.{Stamp}
 use Rattle.ra_labels.specs.declared.label.Label.{Label}
 use Rattle.ra_labels.specs.declared.command.Command.{Command}
 use Rattle.ra_labels.specs.declared.command.Command.TheVariants.{Operate, Deliver, Verdict}
 use Rattle.ra_labels.specs.Records.{Records, label_count, labels_of, next_label}
-use Rattle.ra_labels.specs.NamedOrder.{rank_of, stamp_cmp, label_cmp, insert_by, sort_by, named_labels}
-use Rattle.ra_labels.proofs.TheLaws.{named_labels_are_sorted-same}
+use Rattle.ra_labels.specs.NamedOrder.{timestamp_of, rank_of, stamp_cmp, label_cmp, insert_by, sort_by, named_labels}
+use Rattle.ra_labels.proofs.TheLaws.{named_labels_are_sorted-same, a_timestamp_is_kept}
 use Rattle.ra_visibility.specs.declared.order.Place.{Place}
 use Rattle.ra_visibility.specs.Order.{IsPlaceOf}
 
@@ -60,6 +62,17 @@ module _ {A : Type 0} where
       ap (insert_by cmp x) (sort_by_same P cmp other same xs (All-tail P x xs all))
       ∙ insert_by_same cmp other x (sort_by other xs) (All-weaker P (λ y. cmp x y ≡ other x y) (λ y known. same x y (All-head P x xs all) known) (sort_by other xs) rest)
 
+  -- an insertion is one behind those that the element is not below
+  insert_by_split : (cmp : A → A → Ordering) (x : A) (ys : List A) (p : ℕ) → p ≤ length ys
+      → IsPartitionPoint (λ y. is_lt (cmp x y) ≡ false) (λ y. is_lt (cmp x y) ≡ true) ys p → insert_by cmp x ys ≡ insert ys p x
+  insert_by_split cmp x [] zero few split = refl
+  insert_by_split cmp x [] (suc p) few split = absurd (omega arith)
+  insert_by_split cmp x (y ∷ ys) zero few split =
+      cond-true (is_lt (cmp x y)) (x ∷ y ∷ ys) (y ∷ insert_by cmp x ys) (split.1 0 x (omega arith) (omega arith))
+  insert_by_split cmp x (y ∷ ys) (suc p) few split =
+      cond-false (is_lt (cmp x y)) (x ∷ y ∷ ys) (y ∷ insert_by cmp x ys) (split.0 0 x (omega arith) (omega arith))
+      ∙ ap (λ zs. y ∷ zs) (insert_by_split cmp x ys p (omega arith) ((λ k d low high. split.0 (suc k) d (omega arith) (omega arith)), (λ k d low high. split.1 (suc k) d (omega arith) (omega arith))))
+
   -- an insertion is one at some position
   insert_by_somewhere : (cmp : A → A → Ordering) (x : A) (ys : List A) → (p : ℕ) × (p ≤ length ys) × (insert_by cmp x ys ≡ insert ys p x)
   insert_by_somewhere cmp x [] = (0, omega arith, refl)
@@ -68,9 +81,15 @@ module _ {A : Type 0} where
       (λ _. (0, omega arith, refl))
       (λ _. let rest = insert_by_somewhere cmp x ys in (suc rest.0, omega (arith, rest.1), ap (λ zs. y ∷ zs) rest.2))
 
+timestamp_later : (command : Command) (records : Records) (label : Label) → Contains (labels_of records) label → timestamp_of (command ∷ records) label ≡ timestamp_of records label
+timestamp_later command records label found =
+    a_timestamp_is_kept (command ∷ []) records label (All-contains (λ l. l.number < label_count records) (labels_of records) label (below_count records) found)
+
 -- a later record leaves a label's rank
 pub rank_later : (kind : Kind) (command : Command) (records : Records) (label : Label) → Contains (labels_of records) label → rank_of kind (command ∷ records) label ≡ rank_of kind records label
 rank_later Counter command records label found = refl
+rank_later Register command records label found = timestamp_later command records label found
+rank_later LwwSet command records label found = timestamp_later command records label found
 
 cmp_later : (kind : Kind) (command : Command) (records : Records) (l m : Label) → Contains (labels_of records) l → Contains (labels_of records) m
     → label_cmp kind (command ∷ records) l m ≡ label_cmp kind records l m
@@ -95,6 +114,43 @@ pub order_with : (kind : Kind) (records : Records) (by : ℕ) (op : Op) (clock :
     → named_labels kind (Operate by op clock ∷ records) ≡ insert_by (label_cmp kind (Operate by op clock ∷ records)) (next_label records by op clock) (named_labels kind records)
 order_with kind records by op clock =
     ap (insert_by (label_cmp kind (Operate by op clock ∷ records)) (next_label records by op clock)) (order_later kind (Operate by op clock) records)
+
+not_lt_then : (o p : Ordering) → is_lt p ≡ false → is_lt (ordering_then o p) ≡ is_lt o
+not_lt_then Less p none = refl
+not_lt_then Equal p none = none
+not_lt_then Greater p none = refl
+
+number_not_below : (m n : ℕ) → m < n → is_lt (nat_cmp n m) ≡ false
+number_not_below m n below = rw (le-ltb n m (omega arith), ne_eqb n m (λ is. absurd (omega arith)))
+
+-- the new label is below those of greater rank alone
+below_by_rank : (kind : Kind) (records : Records) (by : ℕ) (op : Op) (clock : Option ℕ) (m : Label) → Contains (named_labels kind records) m
+    → is_lt (label_cmp kind (Operate by op clock ∷ records) (next_label records by op clock) m)
+    ≡ is_lt (stamp_cmp (rank_of kind (Operate by op clock ∷ records) (next_label records by op clock)) (rank_of kind records m))
+below_by_rank kind records by op clock m named =
+    let now = Operate by op clock ∷ records in
+    let x = next_label records by op clock in
+    let below = All-contains (λ label. label.number < label_count records) (named_labels kind records) m (named_below_count kind records) named in
+    let found = Contains-permutation (named_labels kind records) (labels_of records) m (IsPermutation-sym (labels_of records) (named_labels kind records) (named_labels_are_sorted-same kind records)) named in
+    not_lt_then (stamp_cmp (rank_of kind now x) (rank_of kind now m)) (nat_cmp x.number m.number) (number_not_below m.number x.number below)
+    ∙ ap (λ r. is_lt (stamp_cmp (rank_of kind now x) r)) (rank_later kind (Operate by op clock) records m found)
+
+-- a new label goes behind those of no greater rank
+pub behind_no_greater : (kind : Kind) (records : Records) (by : ℕ) (op : Op) (clock : Option ℕ) (at : ℕ) → at ≤ length (named_labels kind records)
+    → IsPartitionPoint
+    (λ m. is_lt (stamp_cmp (rank_of kind (Operate by op clock ∷ records) (next_label records by op clock)) (rank_of kind records m)) ≡ false)
+    (λ m. is_lt (stamp_cmp (rank_of kind (Operate by op clock ∷ records) (next_label records by op clock)) (rank_of kind records m)) ≡ true)
+    (named_labels kind records) at
+    → named_labels kind (Operate by op clock ∷ records) ≡ insert (named_labels kind records) at (next_label records by op clock)
+behind_no_greater kind records by op clock at few split =
+    let now = Operate by op clock ∷ records in
+    let x = next_label records by op clock in
+    let named = named_labels kind records in
+    order_with kind records by op clock
+    ∙ insert_by_split (label_cmp kind now) x named at few (
+      (λ k d low high. below_by_rank kind records by op clock (get_or named k d) (Contains-get_or named k d (omega (arith, few))) ∙ split.0 k d low high),
+      (λ k d low high. below_by_rank kind records by op clock (get_or named k d) (Contains-get_or named k d high) ∙ split.1 k d low high),
+    )
 
 -- the new label is at one position alone
 only_position : (xs : List Label) (p at : ℕ) (x : Label) → All (λ label. label.number < x.number) xs → p ≤ length xs → slice_get (insert xs p x) at ≡ Some x → at ≡ p

@@ -17,7 +17,7 @@ use Rattle.ra_visibility.specs.Order.{IsSeenBy, IsPlaceOf}
 use Rattle.ra_visibility.proofs.Inserting.{at_its_place}
 -- laws
 pub use Rattle.ra_visibility.proofs.Refusing.{refusal_same as refused_as_the_records_say, delivery_causal as records_stay_causal}
-pub use Rattle.ra_visibility.proofs.Inserting.{order_delivered as deliveries_leave_the_order-order}
+pub use Rattle.ra_visibility.proofs.Inserting.{order_delivered as deliveries_leave_the_order-order, behind_no_greater as a_label_goes_behind_no_greater_ranks}
 pub use Rattle.ra_visibility.proofs.Growing.{extends_where_it_fits as visibility_is_extended_where_a_label_fits, extends_where_each_fitted as visibility_is_extended_where_each_label_fitted, delivery_extends as deliveries_leave_the_order-visibility}
 
 -- a test of the count, said of the records

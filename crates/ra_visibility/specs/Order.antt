@@ -7,7 +7,7 @@ use Rattle.ra_labels.specs.declared.label.Label.{Label}
 use Rattle.ra_labels.specs.declared.command.Command.TheVariants.{Operate}
 use Rattle.ra_labels.specs.Records.{Records, label_count, next_label, replica_count}
 use Rattle.ra_labels.specs.Visibility.{sees, is_update_at, IsCausal}
-use Rattle.ra_labels.specs.NamedOrder.{lowest_rank, rank_of, named_labels}
+use Rattle.ra_labels.specs.NamedOrder.{lowest_rank, timestamp_of, rank_of, named_labels}
 use Rattle.ra_labels.specs.Answer.{misfit_of}
 use Rattle.ra_visibility.specs.declared.order.Place.{Place}
 use Rattle.ra_labels.specs.Places.{issuer_of, place_of}
@@ -20,6 +20,10 @@ numbers_in kind records = map (λ label. label.number) (named_labels kind record
 -- the order of execution: no label has a rank of its own
 abbrev pub IsByExecution : Kind → Type 0
 IsByExecution kind = (records : Records) (label : Label) → rank_of kind records label ≡ lowest_rank
+
+-- the order of timestamps: each label's rank is its timestamp
+abbrev pub IsByTimestamp : Kind → Type 0
+IsByTimestamp kind = (records : Records) (label : Label) → rank_of kind records label ≡ timestamp_of records label
 
 -- the set has what label n sees: of each replica the first updates, as many as it counts
 pub record IsSeenBy (records : Records) (n : ℕ) (seen : Seen) : Type 0 where

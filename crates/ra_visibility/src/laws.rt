@@ -1,13 +1,15 @@
 //! Laws of the words that the contracts use, which the layers above cite.
-ghost use Rattle.std.specs.Prelude.{◌≡◌, ℕ, ◌<◌, ◌≤◌, ◌&&◌, ◌∷◌, length, true, Option, None, nat_lt};
+ghost use Rattle.std.specs.Prelude.{◌≡◌, ℕ, ◌<◌, ◌≤◌, ◌&&◌, ◌∷◌, length, true, false, Option, None, nat_lt};
 ghost use Rattle.std.specs.List.{insert};
+ghost use Rattle.std.specs.List.Sorted.{IsPartitionPoint};
+ghost use Rattle.std.specs.Ordering.{is_lt};
 ghost use Rattle.ra_labels.specs.declared.kind.Kind.{Kind};
 ghost use Rattle.ra_labels.specs.declared.operation.Op.{Op};
 ghost use Rattle.ra_labels.specs.declared.command.Command.TheVariants.{Operate, Deliver};
 ghost use Rattle.ra_labels.specs.Records.{Records, next_label};
 ghost use Rattle.ra_labels.specs.Visibility.{had, sees, is_update_at, IsCausal};
 ghost use Rattle.ra_labels.specs.Linearization.{extends_visibility};
-ghost use Rattle.ra_labels.specs.NamedOrder.{named_labels, named_sequence};
+ghost use Rattle.ra_labels.specs.NamedOrder.{stamp_cmp, rank_of, named_labels, named_sequence};
 ghost use Rattle.ra_visibility.specs.declared.order.Place.{Place};
 ghost use Rattle.ra_visibility.specs.Order.{IsSeenBy, IsPlaceOf, EachFitted};
 ghost use Rattle.ra_visibility.specs.Seen.{count_in};
@@ -45,6 +47,18 @@ pub fn first_updates_of_each_replica()
 pub fn what_a_label_sees()
     ensures { (tracked : Tracked) (first : ℕ) (records : Records) (n : ℕ)
         → IsVisibilityOf tracked first records → n < labels_in tracked → IsSeenBy records n (seen_in tracked n) }
+{}
+
+/// A new label stands behind those that have no greater rank.
+pub fn a_label_goes_behind_no_greater_ranks()
+    ensures { (kind : Kind) (records : Records) (by : ℕ) (op : Op) (clock : Option ℕ) (at : ℕ)
+        → at ≤ length (named_labels kind records)
+        → let label = next_label records by op clock in let rank = rank_of kind (Operate by op clock ∷ records) label in
+        IsPartitionPoint
+        (λ m. is_lt (stamp_cmp rank (rank_of kind records m)) ≡ false)
+        (λ m. is_lt (stamp_cmp rank (rank_of kind records m)) ≡ true)
+        (named_labels kind records) at
+        → named_labels kind (Operate by op clock ∷ records) ≡ insert (named_labels kind records) at label }
 {}
 
 /// With a new label the named order is the one before, and the label at its place.

@@ -1,11 +1,11 @@
 //! The refusals and the answers.
-ghost use Rattle.std.specs.Prelude.{◌≡◌, ◌↔◌, ℕ, ◌<◌, true, List, [], ◌++◌, Option, Some, None};
+ghost use Rattle.std.specs.Prelude.{◌≡◌, ◌↔◌, ℕ, ◌<◌, true, false, List, [], ◌++◌, Option, Some, None};
 ghost use Rattle.ra_labels.specs.declared.kind.Kind.{Kind};
 ghost use Rattle.ra_labels.specs.declared.operation.Op.{Op};
 ghost use Rattle.ra_labels.specs.declared.command.Command.{Command};
 ghost use Rattle.ra_labels.specs.declared.command.Command.TheVariants.{Operate, Deliver, Verdict};
 ghost use Rattle.ra_labels.specs.declared.refusal.Refusal.{Refusal};
-ghost use Rattle.ra_labels.specs.declared.refusal.Refusal.TheVariants.{NotCausal};
+ghost use Rattle.ra_labels.specs.declared.refusal.Refusal.TheVariants.{StampTaken, NotCausal};
 ghost use Rattle.ra_labels.specs.declared.reply.Fault.{Fault};
 ghost use Rattle.ra_labels.specs.declared.reply.Reply.TheVariants as reply;
 ghost use Rattle.ra_labels.specs.Records.{Records};
@@ -13,8 +13,8 @@ ghost use Rattle.ra_labels.specs.Visibility.{is_update_at, IsCausal};
 ghost use Rattle.ra_labels.specs.Rewriting.{Part};
 ghost use Rattle.ra_labels.specs.Linearization.{IsRaLinearization};
 ghost use Rattle.ra_labels.specs.Fault.{fault_of};
-ghost use Rattle.ra_labels.specs.Answer.{no_at, misfit_of, refusal_of, refusal_of_delivery, answer_of, records_after, answers_to, records_after_all};
-ghost use Rattle.ra_labels.specs.Laws.{ReplySays, IsCausalDelivery, IsNewUpdate, IsLeastMissing};
+ghost use Rattle.ra_labels.specs.Answer.{no_at, kind_of, has_rising_list, misfit_of, comes_with_taken, refusal_of, refusal_of_delivery, answer_of, records_after, answers_to, records_after_all};
+ghost use Rattle.ra_labels.specs.Laws.{ReplySays, IsCausalDelivery, IsNewUpdate, IsLeastMissing, HasItsClock, EachLabelFits};
 
 /// What each reply says of the records that the command meets, and of those that it leaves.
 pub fn what_a_reply_says()
@@ -70,7 +70,7 @@ pub fn misfits_are_refused()
 {}
 
 /// A delivery is refused as not causal exactly where the replica is there, the label is an update that is new to it,
-/// and the label sees one that it lacks; the least such is named.
+/// and the label sees one that the replica lacks; the least such is named.
 pub fn not_causal_where_a_seen_label_is_missing()
     ensures { (replicas : ℕ) (records : Records) (to label n : ℕ)
         → (refusal_of_delivery replicas records to label ≡ Some (NotCausal n))
@@ -89,4 +89,33 @@ pub fn answers_keep_records_causal()
         → IsCausal (records_after kind replicas records command) }
     ensures all { (kind : Kind) (replicas : ℕ) (commands : List Command)
         → IsCausal (records_after_all kind replicas [] commands) }
+{}
+
+/// An operation's form deserves no refusal exactly where it is of the kind, its list rises, and a clock came where it
+/// carries a stamp and none where it does not.
+pub fn forms_that_deserve_no_refusal()
+    ensures { (kind : Kind) (by : ℕ) (op : Op) (clock : Option ℕ) → (misfit_of kind (Operate by op clock) ≡ None)
+        ↔ ((kind_of op ≡ kind) × (has_rising_list op ≡ true) × HasItsClock op clock) }
+{}
+
+/// An operation of a replica that is there, whose form deserves no refusal, is refused exactly where its stamp is
+/// taken.
+pub fn operations_with_a_taken_stamp_are_refused()
+    ensures taken { (kind : Kind) (replicas : ℕ) (records : Records) (by : ℕ) (op : Op) (clock : Option ℕ)
+        → (refusal_of kind replicas records (Operate by op clock) ≡ Some StampTaken)
+        ↔ ((by < replicas) × (misfit_of kind (Operate by op clock) ≡ None)
+        × (comes_with_taken records by clock ≡ true)) }
+    ensures accepted { (kind : Kind) (replicas : ℕ) (records : Records) (by : ℕ) (op : Op) (clock : Option ℕ)
+        → (refusal_of kind replicas records (Operate by op clock) ≡ None)
+        ↔ ((by < replicas) × (misfit_of kind (Operate by op clock) ≡ None)
+        × (comes_with_taken records by clock ≡ false)) }
+{}
+
+/// Each label fits its kind in the records that commands leave, from none on.
+pub fn accepted_labels_fit()
+    ensures one { (kind : Kind) (replicas : ℕ) (records : Records) (command : Command)
+        → EachLabelFits kind replicas records
+        → EachLabelFits kind replicas (records_after kind replicas records command) }
+    ensures all { (kind : Kind) (replicas : ℕ) (commands : List Command)
+        → EachLabelFits kind replicas (records_after_all kind replicas [] commands) }
 {}

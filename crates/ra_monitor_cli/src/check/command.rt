@@ -2,7 +2,7 @@
 ghost use Rattle.std.specs.Prelude.{◌≡◌, IfSome, Some};
 ghost use Rattle.ra_labels.specs.declared.command.Command.{Command};
 ghost use Rattle.ra_monitor_cli.specs.Grammar.{Spells};
-ghost use Rattle.ra_monitor_cli.specs.Reading.{command_read, replica_command_read, delivery_read, operation_read, count_read, clock_read};
+ghost use Rattle.ra_monitor_cli.specs.Reading.{command_read, replica_command_read, word_read, delivery_read, operation_read, count_read, clock_read};
 
 use crate::check::fields::Fields;
 use crate::check::name::{Names, is_name};
@@ -40,11 +40,20 @@ fn command_in(kind: Kind, names: &Names, mut fields: Fields<'_>) -> Option<Comma
 fn replica_command(kind: Kind, replica: u8, word: &[u8], fields: Fields<'_>) -> Option<Command>
     ensures { result ≡ replica_command_read kind replica word.now fields.entry }
 {
+    if word == b"got".as_slice() {
+        delivery(replica, fields)
+    } else {
+        word_command(kind, replica, word, fields)
+    }
+}
+
+// The operation of a replica, by the word behind its name. Only counters have words yet.
+fn word_command(kind: Kind, replica: u8, word: &[u8], fields: Fields<'_>) -> Option<Command>
+    ensures { result ≡ word_read kind replica word.now fields.entry }
+{
     match kind {
         Kind::Counter => {
-            if word == b"got".as_slice() {
-                delivery(replica, fields)
-            } else if word == b"inc".as_slice() {
+            if word == b"inc".as_slice() {
                 operation(replica, Op::Inc, fields)
             } else if word == b"dec".as_slice() {
                 operation(replica, Op::Dec, fields)
@@ -54,6 +63,7 @@ fn replica_command(kind: Kind, replica: u8, word: &[u8], fields: Fields<'_>) -> 
                 None
             }
         }
+        Kind::Register | Kind::LwwSet => None,
     }
 }
 

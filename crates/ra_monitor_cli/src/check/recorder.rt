@@ -2,7 +2,7 @@
 ghost use Rattle.std.specs.Prelude.{◌≡◌, ◌+◌, ◌^◌, ℕ, List, [], length, IfOk, IfErr, OnOk, OnErr, IsOkUnless, string_bytes};
 ghost use Rattle.ra_monitor_cli.specs.Grammar.{AreNames};
 ghost use Rattle.ra_monitor_cli.specs.Output.{IsReportOf};
-ghost use Rattle.ra_monitor_cli.specs.Recorder.{RecordsCommand, RecordsLine, StopsAnswering, StopsRecording};
+ghost use Rattle.ra_monitor_cli.specs.Recorder.{RecordsCommand, RecordsLine, StopsAnswering, StopsRecording, fault_at};
 ghost use Rattle.ra_monitor_cli.specs.declared.check.fault.LineFault.TheVariants as line_fault;
 ghost use Rattle.ra_monitor_cli.specs.Bytes.{Grows};
 
@@ -92,8 +92,7 @@ impl Recorder {
         let ticket = self.monitor.log().len() as u64;
         match self.monitor.step(0, ticket, command) {
             Ok(reply) => Ok(reply),
-            Err(StepFault::Full(_)) => Err(CheckFault::Full(number)),
-            Err(StepFault::NoMemory(_)) => Err(CheckFault::NoMemory),
+            Err(fault) => Err(fault_at(number, fault)),
         }
     }
 
@@ -102,5 +101,15 @@ impl Recorder {
         ensures { IsReportOf self.now.kind self.now.names self.now.commands result }
     {
         self.monitor.report()
+    }
+}
+
+// The fault of a text where the monitor hands the command of this line back.
+fn fault_at(line: u32, fault: StepFault<Command>) -> CheckFault
+    ensures { result ≡ fault_at line fault }
+{
+    match fault {
+        StepFault::Full(_) => CheckFault::Full(line),
+        StepFault::NoMemory(_) => CheckFault::NoMemory,
     }
 }

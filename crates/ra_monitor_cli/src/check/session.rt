@@ -1,8 +1,8 @@
 //! A text that is taken in piece by piece.
-ghost use Rattle.std.specs.Prelude.{◌≡◌, ◌≢◌, ◌++◌, ◌≤◌, ℕ, List, [], All, length, IfErr, IfOk, IfSome, OnErr, OnOk, Some, string_bytes};
+ghost use Rattle.std.specs.Prelude.{◌≡◌, ◌≢◌, ◌++◌, ◌≤◌, ℕ, true, List, [], All, length, IfErr, IfOk, IfSome, OnErr, OnOk, Some, string_bytes};
 ghost use Rattle.ra_labels.specs.declared.kind.Kind.{Kind};
 ghost use Rattle.ra_monitor_cli.specs.Bytes.{Grows};
-ghost use Rattle.ra_monitor_cli.specs.Grammar.{first_line};
+ghost use Rattle.ra_monitor_cli.specs.Grammar.{first_line, is_read};
 ghost use Rattle.ra_monitor_cli.specs.Output.{IsAnswered};
 ghost use Rattle.ra_monitor_cli.specs.Progress.{replies_at, next_line, TakesLine, IsNoLine, StopsLine, IsAfter, Extends, StopsExtending, ClosesLine, StopsClosing, StopsEnding, Takes};
 ghost use Rattle.ra_monitor_cli.specs.Stopped.{StopsInside};
@@ -63,10 +63,11 @@ impl Stage {
     }
 }
 
-// The kind that a first line names.
+// The kind that a first line names, of those whose texts are read.
 fn kind_of(line: &[u8]) -> Option<Kind>
     ensures found { IfSome result (λ kind. line.now ≡ first_line kind) }
-    ensures only { (kind : Kind) → line.now ≡ first_line kind → result ≡ Some kind }
+    ensures read { IfSome result (λ kind. is_read kind ≡ true) }
+    ensures only { (kind : Kind) → is_read kind ≡ true → line.now ≡ first_line kind → result ≡ Some kind }
 {
     if line == b"RAH 1 counter".as_slice() {
         Some(Kind::Counter)

@@ -10,6 +10,7 @@ use Rattle.ra_labels.specs.Rewriting.{Half, Act, query_of}
 use Rattle.ra_visibility.specs.Seen.{Seen, is_in}
 use Rattle.ra_monitor.specs.Fold.{labels_at, updates_within}
 use Rattle.ra_monitor.proofs.Finding.{label_there, no_label_there}
+use Rattle.ra_monitor.proofs.Rising.{asked_rises}
 use Rattle.ra_monitor.proofs.Queries.{is_answered_at, cause_is, answers_its_query, asks_nothing, asks_nowhere, answered_more, one_unanswered}
 use Rattle.ra_monitor.proofs.fold.cause_of.Goals as goal
 use Rattle.ra_monitor.proofs.fold.cause_of.Goals.{in-Some-into_query+in_ok-is_answered+else-not-branch, in_default-into_query}
@@ -66,3 +67,10 @@ returns c = λ first records visible in_turn in_order extends.
     sym (cause_is c.args.kind c.args.labels.now c.args.numbers.now c.args.tracker.now.now first records
     (record { in_turn = in_turn; in_order = in_order; visible = visible; count = c.requires.tracked })
     extends true true (sym (ap is_some c.in_ok-state_after.ensures) ∙ c.if-is_none.ensures) all)
+
+pub is_answered-requires-clause-rising : goal.is_answered-requires-clause-rising
+is_answered-requires-clause-rising c =
+    let labels = c.args.labels.now in
+    let found = label_there labels _ c.in-Some.label.now c.in-Some.ensures.lookup.0 c.in-Some.ensures.lookup.1 in
+    let asks = c.in-Some-into_query.ensures ∙ ap (filter_map (λ (a : Half × Act). query_of a.1)) c.in_ok-parts.ensures in
+    asked_rises labels _ c.in-Some.label.now c.in-Some-into_query.query c.requires.rising found asks

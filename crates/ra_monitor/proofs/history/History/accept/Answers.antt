@@ -7,10 +7,12 @@ use Rattle.ra_labels.specs.Records.{label_count, next_label}
 use Rattle.ra_labels.specs.Visibility.{is_update}
 use Rattle.ra_labels.specs.Rewriting.{Half, Act, acts_of, update_of}
 use Rattle.ra_labels.specs.Fault.{records_before_fault}
+use Rattle.ra_labels.specs.Answer.{has_rising_list}
 use Rattle.ra_labels.proofs.TheLaws.{update_where_a_part_is_one}
 use Rattle.ra_visibility.specs.Tracked.{Tracked}
 use Rattle.ra_monitor.specs.declared.history.History.{History}
-use Rattle.ra_monitor.proofs.Growth.{stands_same, newest_stands}
+use Rattle.ra_monitor.proofs.Growth.{stands_same, newest_stands, stamps_known}
+use Rattle.ra_monitor.proofs.Rising.{rise-push}
 use Rattle.ra_monitor.proofs.history.History.accept.Goals as goal
 
 -- a fact holds after an error too
@@ -22,13 +24,13 @@ pub returns-in_err-spare-clause-err : goal.returns-in_err-spare-clause-err
 returns-in_err-spare-clause-err c = λ records stands.
     let setup = c.args.setup.now in
     on_err c.from_residual-in_err-spare.result (stands_same c.args.self.now _ setup records stands refl c.in_ok-reserve.ensures.items
-    (c.spare.ensures.stands setup.kind setup.replicas (records_before_fault setup.kind records) stands.order) refl)
+    (c.spare.ensures.stands setup.kind setup.replicas (records_before_fault setup.kind records) stands.order) refl refl)
 
 pub returns-in_err-issue-clause-err : goal.returns-in_err-issue-clause-err
 returns-in_err-issue-clause-err c = λ records stands.
     let setup = c.args.setup.now in
     on_err c.from_residual-in_err-issue.result (stands_same c.args.self.now _ setup records stands (ap (λ t. t.now) c.in_err-issue.ensures.same) c.in_ok-reserve.ensures.items
-    (c.spare.ensures.stands setup.kind setup.replicas (records_before_fault setup.kind records) stands.order) refl)
+    (c.spare.ensures.stands setup.kind setup.replicas (records_before_fault setup.kind records) stands.order) refl refl)
 
 pub returns-in-Ok-clause-taken : goal.returns-in-Ok-clause-taken
 returns-in-Ok-clause-taken c = λ records stands none fits.
@@ -39,7 +41,7 @@ returns-in-Ok-clause-taken c = λ records stands none fits.
     let clock = c.args.clock in
     let label = c.in_ok-label.label in
     let numbered : c.len.result ≡ label_count records = omega (arith, c.len.ensures, c.requires.labels, stands.tracker.labels) in
-    let is : label ≡ next_label records by op clock = c.in_ok-label.ensures records numbered in
+    let is : label ≡ next_label records by op clock = c.in_ok-label.ensures.next records numbered in
     let acts = c.in_ok-parts.ensures ∙ ap (λ l. acts_of l.op) is in
     let update : is_update op ≡ c.has_update-is_update.result =
     update_where_a_part_is_one op ∙ sym (c.has_update-is_update.ensures ∙ ap (list_any (λ (act : Half × Act). is_some (update_of act.1))) acts) in
@@ -48,6 +50,7 @@ returns-in-Ok-clause-taken c = λ records stands none fits.
     (c.in_ok-issue.ensures.stands setup.replicas records op clock stands.tracker update) is
     (c.push_reserved.ensures.items ∙ ap (λ (ls : List Label). ls ++ label ∷ []) c.in_ok-reserve.ensures.items)
     (c.spare.ensures.stands setup.kind setup.replicas (records_before_fault setup.kind records) stands.order) refl known fits)
+    (stamps_known self setup records stands none)
 
 -- an element that was pushed is taken back
 pushed_and_popped : (xs ys zs : List Label) (x : Label) (n : ℕ) → ys ≡ xs ++ x ∷ [] → zs ≡ take n ys → n ≡ length xs → zs ≡ xs
@@ -61,7 +64,7 @@ pub returns-in-Err-clause-err : goal.returns-in-Err-clause-err
 returns-in-Err-clause-err c = λ records stands.
     let setup = c.args.setup.now in
     let self = c.args.self.now in
-    let kept : History = record { labels = c.push_reserved.new.self; tracker = c.issue.new.self; order = c.spare.new.self; fault = self.fault } in
+    let kept : History = record { labels = c.push_reserved.new.self; tracker = c.issue.new.self; order = c.spare.new.self; stamps = self.stamps; fault = self.fault } in
     let same : c.answer.new.self ≡ kept = c.in-Err.ensures.same in
     let tracker : c.withdraw.new.self.now ≡ self.tracker.now =
     same_tracked c.withdraw.new.self.now self.tracker.now (c.withdraw.ensures.now ∙ ap (λ (h : History). h.tracker.before) same ∙ c.in_ok-issue.ensures.before) in
@@ -72,4 +75,11 @@ returns-in-Err-clause-err c = λ records stands.
     (omega (arith, count, c.push_reserved.ensures.len, c.in_ok-reserve.ensures.len, self.labels.ok.0)) in
     stands_same self _ setup records stands tracker back
     (rw (ap (λ (h : History). h.order) same) (c.spare.ensures.stands setup.kind setup.replicas (records_before_fault setup.kind records) stands.order))
-    (ap (λ (h : History). h.fault) same)
+    (ap (λ (h : History). h.stamps) same) (ap (λ (h : History). h.fault) same)
+
+pub answer-requires-clause-rising : goal.answer-requires-clause-rising
+answer-requires-clause-rising c =
+    let pushed : c.push_reserved.new.self.items ≡ c.args.self.now.labels.items ++ c.in_ok-label.label ∷ [] =
+    c.push_reserved.ensures.items ∙ ap (λ (ls : List Label). ls ++ c.in_ok-label.label ∷ []) c.in_ok-reserve.ensures.items in
+    rw pushed (rise-push c.args.self.now.labels.items c.in_ok-label.label c.requires.rising
+    (ap has_rising_list c.in_ok-label.ensures.op ∙ c.requires.list))

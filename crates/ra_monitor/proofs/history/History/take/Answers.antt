@@ -1,16 +1,19 @@
-use Rattle.std.proofs.Common.{◌≡◌, ℕ, ◌∷◌, Option, None, refl, sym, ap, ◌∙◌, subst}
-use Rattle.std.specs.Prelude.{IfOk}
-use Rattle.std.specs.Option.{option_map_or}
+use Rattle.std.proofs.Common.{◌≡◌, ℕ, ◌∷◌, Option, Some, None, refl, sym, ap, ◌∙◌, subst}
+use Rattle.std.specs.Prelude.{IfOk, is_some, if◌then◌else◌}
+use Rattle.std.specs.Option.{option_or, option_map_or}
 use Rattle.ra_labels.specs.declared.kind.Kind.{Kind}
 use Rattle.ra_labels.specs.declared.operation.Op.{Op}
 use Rattle.ra_labels.specs.declared.command.Command.{Command}
-use Rattle.ra_labels.specs.declared.command.Command.TheVariants.{Operate}
+use Rattle.ra_labels.specs.declared.command.Command.TheVariants.{Operate, Deliver}
+use Rattle.ra_labels.specs.declared.refusal.Refusal.{Refusal}
 use Rattle.ra_labels.specs.declared.reply.Reply.{Reply}
-use Rattle.ra_labels.specs.declared.reply.Reply.TheVariants.{Refused}
+use Rattle.ra_labels.specs.declared.reply.Reply.TheVariants.{Refused, Got}
 use Rattle.ra_labels.specs.Records.{Records}
 use Rattle.ra_labels.specs.Fault.{fault_of}
-use Rattle.ra_labels.specs.Answer.{no_at, misfit_of, refusal_of, answer_of, answer_to_accepted, records_after}
+use Rattle.ra_labels.specs.Answer.{no_at, misfit_of, refusal_of, refusal_at, answer_of, answer_to_accepted, records_after}
+use Rattle.ra_labels.proofs.TheLaws.{forms_that_deserve_no_refusal}
 use Rattle.ra_monitor.specs.History.{StandsFor, refusal_left}
+use Rattle.ra_monitor.proofs.Growth.{stamps_known}
 use Rattle.ra_monitor.proofs.history.History.take.Goals as goal
 
 -- where nothing failed and nothing is refused, an operation joins the records
@@ -40,10 +43,69 @@ returns-in-Operate-clause-taken c = λ records stands.
     let clock = c.in-Operate.stamp in
     let none : fault_of setup.kind records ≡ None = sym stands.fault ∙ c.in_default.is in
     let accepted : refusal_of setup.kind setup.replicas records command ≡ None =
-    c.in_default-refusal_of.ensures.first records ∙ nothing_left records command by op clock c.in-Operate.is in
+    c.in_default-refusal_of.ensures.first records (stamps_known c.args.self.now setup records stands none) ∙ nothing_left records command by op clock c.in-Operate.is in
     let fits = ap (misfit_of setup.kind) (sym c.in-Operate.is) ∙ c.in_default-refusal_of.ensures.fits refl in
     let taken = c.accept.ensures.taken records stands none fits in
     let replied = subst (λ (r : Reply). IfOk c.accept.result (λ reply. (reply ≡ r) × StandsFor c.accept.new.self setup (Operate by op clock ∷ records)))
     (answered setup.kind setup.replicas records command by op clock c.in-Operate.is none accepted) taken in
     subst (λ (r : Records). IfOk c.accept.result (λ reply. (reply ≡ answer_of setup.kind setup.replicas records command) × StandsFor c.accept.new.self setup r))
     (joined setup.kind setup.replicas records command by op clock c.in-Operate.is none accepted) replied
+
+-- what is refused leaves the records
+refused : (kind : Kind) (replicas : ℕ) (records : Records) (command : Command) (why : Refusal)
+    → fault_of kind records ≡ None → refusal_of kind replicas records command ≡ Some why
+    → (Refused why ≡ answer_of kind replicas records command) × (records ≡ records_after kind replicas records command)
+refused kind replicas records command why none is = (
+  sym (ap (λ o. option_map_or no_at o (option_map_or Refused (refusal_of kind replicas records command) (answer_to_accepted kind records command))) none
+      ∙ ap (λ o. option_map_or Refused o (answer_to_accepted kind records command)) is),
+  rw (none, is) refl,
+)
+
+pub returns-in-Some-refusal_of-clause-taken : goal.returns-in-Some-refusal_of-clause-taken
+returns-in-Some-refusal_of-clause-taken c = λ records stands.
+    let setup = c.args.setup.now in
+    let command = c.args.command.now in
+    let self = c.args.self.now in
+    let none : fault_of setup.kind records ≡ None = sym stands.fault ∙ c.in_default.is in
+    let is : refusal_of setup.kind setup.replicas records command ≡ Some c.in-Some-refusal_of.refusal =
+    c.refusal_of.ensures.first records (stamps_known self setup records stands none)
+    ∙ ap (λ o. option_or o (refusal_left records command)) c.in-Some-refusal_of.is in
+    let both = refused setup.kind setup.replicas records command c.in-Some-refusal_of.refusal none is in
+    (both.0, subst (StandsFor self setup) both.1 stands)
+
+-- the answer to a delivery that nothing is left against but what the records say
+delivered : (kind : Kind) (replicas : ℕ) (records : Records) (command : Command) (to label : ℕ) → command ≡ Deliver to label
+    → fault_of kind records ≡ None → refusal_of kind replicas records command ≡ refusal_at records to label
+    → option_map_or Refused (refusal_at records to label) (Got label) ≡ answer_of kind replicas records command
+delivered kind replicas records command to label is none same = sym (
+    ap (λ o. option_map_or no_at o (option_map_or Refused (refusal_of kind replicas records command) (answer_to_accepted kind records command))) none
+    ∙ ap (λ o. option_map_or Refused o (answer_to_accepted kind records command)) same
+    ∙ ap (λ (c : Command). option_map_or Refused (refusal_at records to label) (answer_to_accepted kind records c)) is
+    )
+
+delivered_records : (kind : Kind) (replicas : ℕ) (records : Records) (command : Command) (to label : ℕ) → command ≡ Deliver to label
+    → fault_of kind records ≡ None → refusal_of kind replicas records command ≡ refusal_at records to label
+    → (if is_some (refusal_at records to label) then records else Deliver to label ∷ records) ≡ records_after kind replicas records command
+delivered_records kind replicas records command to label is none same = rw (none, same, is) refl
+
+pub returns-in-Deliver-clause-taken : goal.returns-in-Deliver-clause-taken
+returns-in-Deliver-clause-taken c = λ records stands.
+    let setup = c.args.setup.now in
+    let command = c.args.command.now in
+    let to = c.in-Deliver.replica in
+    let label = c.in-Deliver.label in
+    let none : fault_of setup.kind records ≡ None = sym stands.fault ∙ c.in_default.is in
+    let same : refusal_of setup.kind setup.replicas records command ≡ refusal_at records to label =
+    c.in_default-refusal_of.ensures.first records (stamps_known c.args.self.now setup records stands none)
+    ∙ ap (refusal_left records) c.in-Deliver.is in
+    let taken = c.deliver.ensures.taken setup records stands none in
+    let replied = subst (λ (r : Reply). IfOk c.deliver.result (λ reply. (reply ≡ r)
+    × StandsFor c.deliver.new.self setup (if is_some (refusal_at records to label) then records else Deliver to label ∷ records)))
+    (delivered setup.kind setup.replicas records command to label c.in-Deliver.is none same) taken in
+    subst (λ (r : Records). IfOk c.deliver.result (λ reply. (reply ≡ answer_of setup.kind setup.replicas records command) × StandsFor c.deliver.new.self setup r))
+    (delivered_records setup.kind setup.replicas records command to label c.in-Deliver.is none same) replied
+
+pub accept-requires-clause-list : goal.accept-requires-clause-list
+accept-requires-clause-list c =
+    let fits = ap (misfit_of c.args.setup.now.kind) (sym c.in-Operate.is) ∙ c.in_default-refusal_of.ensures.fits refl in
+    ((forms_that_deserve_no_refusal c.args.setup.now.kind c.in-Operate.replica c.in-Operate.op c.in-Operate.stamp).0 fits).1

@@ -1,0 +1,11 @@
+use Rattle.ra_labels.proofs.TheLaws.{each_kind_has_its_order-counter, each_kind_has_its_order-register, each_kind_has_its_order-lww_set}
+use Rattle.ra_labels.proofs.laws.timestamps.each_kind_has_its_order.Goals as goal
+
+pub returns-clause-counter : goal.returns-clause-counter
+returns-clause-counter c = each_kind_has_its_order-counter
+
+pub returns-clause-register : goal.returns-clause-register
+returns-clause-register c = each_kind_has_its_order-register
+
+pub returns-clause-lww_set : goal.returns-clause-lww_set
+returns-clause-lww_set c = each_kind_has_its_order-lww_set

@@ -1,0 +1,67 @@
+ghost use Rattle.std.specs.Prelude.{◌≡◌, nat_eq};
+ghost use Rattle.std.specs.Cmp.{nat_eq_equiv, partial_equiv_from_equiv};
+ghost use Rattle.std.specs.Cmp.Lexicographic.{pointwise, lists_per, lists_equiv};
+
+use std::alloc::AllocError;
+use std::marker::Model;
+
+/// A list of elements, as a read of a set returned it. Contracts see the list.
+#[derive(Debug, Drop)]
+pub struct Elements {
+    items: Vec<u32>,
+}
+
+impl Model for Elements {
+    ghost use Rattle.std.specs.Prelude.{ℕ, List};
+
+    ghost Value = { List ℕ };
+
+    ghost view = { λ elements. elements.items.items };
+}
+
+impl Elements {
+    /// The list of these items. It takes no memory.
+    pub fn new(items: Vec<u32>) -> Elements
+        ensures { result ≡ items.items }
+    {
+        Elements { items }
+    }
+
+    /// Gives the items back. It takes no memory.
+    pub fn into_vec(self) -> Vec<u32>
+        ensures { result.items ≡ self }
+    {
+        self.items
+    }
+
+    /// The items.
+    pub fn as_slice(&self) -> &[u32]
+        ensures { result.now ≡ self.now }
+    {
+        &self.items
+    }
+}
+
+impl Clone for Elements {
+    ghost is_clone = { λ elements copy. copy ≡ elements };
+
+    fn clone(&self) -> Result<Elements, AllocError> {
+        Ok(Elements {
+            items: self.items.clone()?,
+        })
+    }
+}
+
+impl PartialEq for Elements {
+    ghost eq = { pointwise nat_eq };
+
+    ghost laws = { lists_per (partial_equiv_from_equiv nat_eq_equiv) };
+
+    fn eq(&self, other: &Elements) -> bool {
+        self.items == other.items
+    }
+}
+
+impl Eq for Elements {
+    ghost laws = { lists_equiv nat_eq_equiv };
+}

@@ -1,0 +1,14 @@
+pub mod Each
+pub mod Ranks
+pub mod Rising
+pub mod Runs
+pub mod Found
+pub mod Halves
+pub mod Filing
+pub mod Table
+pub mod Seeing
+pub mod Bounded
+pub mod Placed
+pub mod Put
+pub mod Members
+pub mod TheLaws

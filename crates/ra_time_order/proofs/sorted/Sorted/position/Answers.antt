@@ -1,0 +1,46 @@
+use Rattle.std.proofs.Common.{List, [], length, sym, ap, ◌∙◌, subst, ◌+◌, ◌-◌, arith}
+use Rattle.ra_time_order.specs.declared.entry.Entry.{Entry}
+use Rattle.ra_time_order.specs.Positions.{IsPositionOf}
+use Rattle.ra_time_order.specs.Sorted.{Sorted, FirstsRise, IsRunOf}
+use Rattle.ra_time_order.proofs.Runs.{firsts_rise}
+use Rattle.ra_time_order.proofs.Filing.{behind_is, few_behind, position_in_all}
+use Rattle.ra_time_order.proofs.sorted.Sorted.position.Goals as goal
+
+pub run_of-at-requires-clause-rise : goal.run_of-at-requires-clause-rise
+run_of-at-requires-clause-rise c = subst FirstsRise (sym c.as_slice.ensures.value) (firsts_rise [] c.self.inside.runs.items c.self.invariant.kept.between)
+
+pub count-behind-requires : goal.count-behind-requires
+count-behind-requires c =
+    let items = c.self.inside.runs.items in
+    let at = c.run_of-at.result in
+    let of = subst (λ rs. IsRunOf rs c.args.rank at) c.as_slice.ensures.value c.run_of-at.ensures in
+    let same = behind_is c.as_slice-2.result.now items at c.as_slice-2.ensures.value in
+    omega (arith, ap (λ (xs : List Entry). length xs) same, few_behind items c.self.inside.labels c.self.inside.newest at c.self.invariant.kept (omega (arith, of.there)))
+
+pub overflow_sub-result : goal.overflow_sub-result
+overflow_sub-result c =
+    let items = c.self.inside.runs.items in
+    let at = c.run_of-at.result in
+    let of = subst (λ rs. IsRunOf rs c.args.rank at) c.as_slice.ensures.value c.run_of-at.ensures in
+    let same = behind_is c.as_slice-2.result.now items at c.as_slice-2.ensures.value in
+    omega (arith, c.count-behind.ensures, ap (λ (xs : List Entry). length xs) same, few_behind items c.self.inside.labels c.self.inside.newest at c.self.invariant.kept (omega (arith, of.there)))
+
+pub returns-clause-among : goal.returns-clause-among
+returns-clause-among c =
+    let items = c.self.inside.runs.items in
+    let at = c.run_of-at.result in
+    let of = subst (λ rs. IsRunOf rs c.args.rank at) c.as_slice.ensures.value c.run_of-at.ensures in
+    let same = behind_is c.as_slice-2.result.now items at c.as_slice-2.ensures.value in
+    let is = position_in_all items c.self.inside.labels c.self.inside.newest at c.position.result c.count-behind.result c.args.rank c.index.result.now c.self.invariant.kept of c.index.ensures
+    c.position.ensures.split (c.count-behind.ensures ∙ ap (λ (xs : List Entry). length xs) same) in
+    omega (arith, is.among, ap (λ (s : Sorted). length s.entries) c.self.view_is)
+
+pub returns-clause-split : goal.returns-clause-split
+returns-clause-split c = λ sorted.
+    let items = c.self.inside.runs.items in
+    let at = c.run_of-at.result in
+    let of = subst (λ rs. IsRunOf rs c.args.rank at) c.as_slice.ensures.value c.run_of-at.ensures in
+    let same = behind_is c.as_slice-2.result.now items at c.as_slice-2.ensures.value in
+    let is = position_in_all items c.self.inside.labels c.self.inside.newest at c.position.result c.count-behind.result c.args.rank c.index.result.now c.self.invariant.kept of c.index.ensures
+    c.position.ensures.split (c.count-behind.ensures ∙ ap (λ (xs : List Entry). length xs) same) in
+    subst (λ (s : Sorted). IsPositionOf c.args.rank s.entries (c.self.inside.labels - c.count-behind.result + c.position.result)) c.self.view_is is

@@ -1,0 +1,85 @@
+-- What contracts see of sorted labels, and how they are kept in runs.
+use Rattle.std.specs.Prelude.{◌≡◌, ◌≢◌, ℕ, ◌+◌, ◌<◌, nat_lt, true, List, [], ◌∷◌, ◌++◌, length, get_or, set, if◌then◌else◌}
+use Rattle.std.specs.List.{list_all, AllByRecursion, insert}
+use Rattle.std.specs.Ordering.{is_lt}
+use Rattle.ra_labels.specs.declared.label.Stamp.{Stamp}
+use Rattle.ra_labels.specs.NamedOrder.{lowest_rank, stamp_cmp}
+use Rattle.ra_time_order.specs.declared.entry.Entry.{Entry}
+use Rattle.ra_time_order.specs.declared.run.Run.{Run}
+use Rattle.ra_time_order.specs.Positions.{no_entry}
+use Rattle.ra_time_order.specs.Stamps.{AtMost}
+
+pub record Sorted : Type 0 where
+  pub entries : List Entry
+  -- how many more there is room for
+  pub room : ℕ
+
+-- no run
+abbrev pub no_run : Run
+no_run = record { first = lowest_rank; chunk = record { entries = []; room = 0 } }
+
+-- the labels of the runs, one run behind the other
+abbrev pub joined : List Run → List Entry
+joined [] = []
+joined (run ∷ runs) = run.chunk.entries ++ joined runs
+
+-- there is room for one more where each run has it
+abbrev pub sorted_of : List Run → Sorted
+sorted_of runs = record {
+  entries = joined runs;
+  room = if list_all (λ run. nat_lt 0 run.chunk.room) runs then 1 else 0;
+}
+
+-- no rank is greater than that of a later label
+abbrev pub Rise : List Entry → Type 0
+Rise [] = Unit {0}
+Rise (entry ∷ entries) = AllByRecursion (λ later. AtMost entry.rank later.rank) entries × Rise entries
+
+-- behind these labels, each run's first rank is between those of the labels before the run and those from it on, and
+-- is no greater than that of a later run
+abbrev pub AreBetween : List Entry → List Run → Type 0
+AreBetween before [] = Unit {0}
+AreBetween before (run ∷ runs) =
+    AllByRecursion (λ earlier. AtMost earlier.rank run.first) before
+    × AllByRecursion (λ later. AtMost run.first later.rank) (run.chunk.entries ++ joined runs)
+    × AllByRecursion (λ later. AtMost run.first later.first) runs
+    × AreBetween (before ++ run.chunk.entries) runs
+
+-- no first rank is greater than that of a later run
+abbrev pub FirstsRise : List Run → Type 0
+FirstsRise [] = Unit {0}
+FirstsRise (run ∷ runs) = AllByRecursion (λ later. AtMost run.first later.first) runs × FirstsRise runs
+
+-- it is the last run whose first rank is not above this one
+pub record IsRunOf (runs : List Run) (rank : Stamp) (at : ℕ) : Type 0 where
+  pub there : at < length runs
+  pub under : (d : Run) → AtMost (get_or runs at d).first rank
+  pub over : (k : ℕ) (d : Run) → at < k → k < length runs → is_lt (stamp_cmp rank (get_or runs k d).first) ≡ true
+
+-- a run is made two
+pub record AreHalvesOf (run left right : Run) : Type 0 where
+  pub entries : left.chunk.entries ++ right.chunk.entries ≡ run.chunk.entries
+  pub first : left.first ≡ run.first
+  pub some : 0 < length right.chunk.entries
+  pub begins : (get_or right.chunk.entries 0 no_entry).rank ≡ right.first
+  pub left_room : 0 < left.chunk.room
+  pub right_room : 0 < right.chunk.room
+
+abbrev pub IsSplit : List Run → ℕ → List Run → Type 0
+IsSplit runs at new =
+    (left right : Run) × AreHalvesOf (get_or runs at left) left right × (new ≡ insert (set runs at left) (at + 1) right)
+
+-- what holds of runs, with so many labels, of which the newest stands in this run
+pub record RunsKept (runs : List Run) (labels newest : ℕ) : Type 0 where
+  pub count : labels ≡ length (joined runs)
+  pub there : newest < length runs
+  pub rise : Rise (joined runs)
+  pub between : AreBetween [] runs
+  pub lowest : (d : Run) → (get_or runs 0 d).first ≡ lowest_rank
+  -- another run has room
+  pub room : (k : ℕ) (d : Run) → k < length runs → k ≢ newest → 0 < (get_or runs k d).chunk.room
+
+-- and no label has a rank above the last one
+pub record SortedKept (runs : List Run) (labels newest : ℕ) (last : Stamp) : Type 0 where
+  pub kept : RunsKept runs labels newest
+  pub under : AllByRecursion (λ entry. AtMost entry.rank last) (joined runs)

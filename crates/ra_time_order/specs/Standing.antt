@@ -1,0 +1,42 @@
+-- What contracts see of an order of timestamps, and when it is that of records.
+use Rattle.std.specs.Prelude.{◌≡◌, ℕ, nat_lt, true, ◌&&◌, List, map, Some, Contains, if◌then◌else◌}
+use Rattle.ra_labels.specs.declared.kind.Kind.{Kind}
+use Rattle.ra_labels.specs.declared.label.Stamp.{Stamp}
+use Rattle.ra_labels.specs.declared.label.Label.{Label}
+use Rattle.ra_labels.specs.NamedOrder.{rank_of, named_labels}
+use Rattle.ra_labels.specs.Records.{Records, labels_of}
+use Rattle.ra_labels.specs.Visibility.{is_update}
+use Rattle.ra_visibility.specs.Order.{IsByTimestamp}
+use Rattle.ra_time_order.specs.declared.entry.Entry.{Entry}
+use Rattle.ra_time_order.specs.Replicas.{Replicas}
+use Rattle.ra_time_order.specs.Sorted.{Sorted}
+use Rattle.ra_time_order.specs.Stamps.{AreGreatestOf}
+
+pub record TimeOrder : Type 0 where
+  -- the labels in their order, each with its timestamp
+  pub entries : List Entry
+  -- of each replica the greatest own stamp among its first updates, for each number of them
+  pub stamps : List (List Stamp)
+  -- how many more labels there is room for
+  pub room : ℕ
+
+-- there is room for one more label where each part has it
+abbrev pub time_order_of : Sorted → Replicas → TimeOrder
+time_order_of sorted replicas = record {
+  entries = sorted.entries;
+  stamps = replicas.stamps;
+  room = if nat_lt 0 sorted.room && replicas.has_room then 1 else 0;
+}
+
+-- what is kept of a label
+abbrev pub entry_of : Kind → Records → Label → Entry
+entry_of kind records label = record { rank = rank_of kind records label; label = label.number }
+
+-- it is the order of these records, of such a kind and of so many replicas that were there first
+pub record StandsFor (order : TimeOrder) (kind : Kind) (first : ℕ) (records : Records) : Type 0 where
+  pub sorts : IsByTimestamp kind
+  pub entries : order.entries ≡ map (entry_of kind records) (named_labels kind records)
+  pub stamps : AreGreatestOf order.stamps first records
+  -- only updates have a stamp of their own
+  pub stamped : (label : Label) (stamp : Stamp) → Contains (labels_of records) label → label.stamp ≡ Some stamp
+      → is_update label.op ≡ true

@@ -1,0 +1,168 @@
+ghost use Rattle.std.specs.Prelude.{◌≡◌, ℕ, ◌+◌, ◌<◌, ◌≤◌, true, [], length, get_or, not, vec_len, IfOk, OnOk, OnErr, option_map};
+ghost use Rattle.std.specs.List.{insert, slice_get};
+ghost use Rattle.std.specs.List.Sorted.{IsPartitionedBy};
+ghost use Rattle.std.specs.Ordering.{is_lt};
+ghost use Rattle.ra_labels.specs.NamedOrder.{lowest_rank, stamp_cmp};
+ghost use Rattle.ra_time_order.specs.declared.run.Run.{Run};
+ghost use Rattle.ra_time_order.specs.Positions.{not_above, IsPositionOf};
+ghost use Rattle.ra_time_order.specs.Sorted.{joined, FirstsRise, IsRunOf, IsSplit};
+
+use crate::chunk::Chunk;
+use crate::entry::Entry;
+use crate::greatest::{LOWEST, greater, is_at_most};
+use crate::run::Run;
+use ra_labels::{NoMemory, Stamp};
+use std::alloc::Global;
+use std::marker::Model;
+
+/// Labels, sorted by rank: in these contracts a list, which is split at a rank where it is sorted.
+#[derive(Debug, Drop)]
+pub struct Sorted {
+    runs: Vec<Run>,
+    labels: usize,
+    /// The run in which the newest label stands: no other one is full.
+    newest: usize,
+    /// No label has a greater rank.
+    last: Stamp,
+}
+
+impl Model for Sorted {
+    ghost use Rattle.ra_time_order.specs.Sorted.{Sorted, sorted_of, SortedKept};
+
+    ghost Value = { Sorted };
+
+    ghost view = { λ a. sorted_of a.runs.items };
+
+    ghost invariant = { λ a. SortedKept a.runs.items a.labels a.newest a.last };
+}
+
+impl Sorted {
+    /// No labels.
+    pub fn new(alloc: Global) -> Result<Sorted, NoMemory>
+        ensures { IfOk result (λ sorted. sorted.entries ≡ []) }
+    {
+        let chunk = Chunk::new(alloc)?;
+        let first = LOWEST;
+        Ok(Sorted {
+            runs: vec![in alloc; Run { first, chunk }]?,
+            labels: 0,
+            newest: 0,
+            last: LOWEST,
+        })
+    }
+
+    /// Room for one more label: a run that is full is split.
+    pub fn spare(&mut self) -> Result<(), NoMemory>
+        ensures entries { self.new.entries ≡ self.old.entries }
+        ensures room { OnOk result (0 < self.new.room) }
+    {
+        let at = self.newest;
+        if self.runs[at].chunk.has_room() {
+            return Ok(());
+        }
+        split(&mut self.runs, at)?;
+        Ok(())
+    }
+
+    /// How many labels there are.
+    pub fn len(&self) -> usize
+        ensures { result ≡ length self.now.entries }
+    {
+        self.labels
+    }
+
+    /// Is it known that no label has a greater rank than this one?
+    pub fn is_past_all(&self, rank: Stamp) -> bool
+        ensures { result ≡ true → IsPositionOf rank self.now.entries (length self.now.entries) }
+    {
+        is_at_most(self.last, rank)
+    }
+
+    /// How many labels have no greater rank than this one. Costs a binary search, and a step for each run behind.
+    pub fn position(&self, rank: Stamp) -> usize
+        ensures among { result ≤ length self.now.entries }
+        ensures split { IsPartitionedBy (not_above rank) self.now.entries → IsPositionOf rank self.now.entries result }
+    {
+        let labels = self.labels;
+        let at = run_of(self.runs.as_slice(), rank);
+        let behind = count(&self.runs.as_slice()[at..]);
+        labels - behind + self.runs[at].chunk.position(rank)
+    }
+
+    /// Puts a label behind those that have no greater rank. Costs a binary search and a move within a run.
+    pub fn insert(&mut self, entry: Entry)
+        requires room { 0 < self.old.room }
+        requires few { length self.old.entries < 4294967295 }
+        ensures one { length self.new.entries ≡ length self.old.entries + 1 }
+        ensures inserted { IsPartitionedBy (not_above entry.rank) self.old.entries
+            → (position : ℕ) × IsPositionOf entry.rank self.old.entries position
+            × (self.new.entries ≡ insert self.old.entries position entry) }
+    {
+        let at = run_of(self.runs.as_slice(), entry.rank);
+        self.runs[at].chunk.insert(entry);
+        self.labels += 1;
+        self.newest = at;
+        self.last = greater(self.last, entry.rank);
+    }
+
+    /// The label at a position. Costs a step for each run before it.
+    pub fn at(&self, position: usize) -> Option<u32>
+        ensures { result ≡ option_map (λ entry. entry.label) (slice_get self.now.entries position) }
+    {
+        let mut rest = position;
+        for run in &self.runs {
+            if rest < run.chunk.len() {
+                return run.chunk.at(rest);
+            }
+            rest -= run.chunk.len();
+        }
+        None
+    }
+}
+
+// The last run whose first rank is no greater: there labels of this rank stand.
+fn run_of(runs: &[Run], rank: Stamp) -> usize
+    requires some { 0 < length runs.now }
+    requires lowest { (d : Run) → (get_or runs.now 0 d).first ≡ lowest_rank }
+    requires rise { FirstsRise runs.now }
+    ensures { IsRunOf runs.now rank result }
+{
+    let behind = runs.partition_point(
+        |run: &Run| -> bool
+            ensures { result ≡ not (is_lt (stamp_cmp rank run.now.first)) }
+        { run.first <= rank },
+    );
+    behind - 1
+}
+
+// How many labels these runs have.
+fn count(runs: &[Run]) -> usize
+    requires { length (joined runs.now) < 18446744073709551616 }
+    ensures { result ≡ length (joined runs.now) }
+{
+    let mut labels = 0;
+    for run in runs {
+        labels += run.chunk.len();
+    }
+    labels
+}
+
+// Splits a full run: the last one before its last label, since mostly labels come at the end; another in the middle.
+fn split(runs: &mut Vec<Run>, at: usize) -> Result<(), NoMemory>
+    requires at { at < vec_len runs.old }
+    requires many { (d : Run) → 1 < length (get_or runs.old.items at d).chunk.entries }
+    ensures split { OnOk result (IsSplit runs.old.items at runs.new.items) }
+    ensures same { OnErr result (runs.new.items ≡ runs.old.items) }
+{
+    let len = runs[at].chunk.len();
+    let keep = if at + 1 == runs.len() {
+        len - 1
+    } else {
+        len / 2
+    };
+    runs.reserve(1)?;
+    let chunk = runs[at].chunk.split_off(keep)?;
+    let first = chunk.rank(0);
+    let _ = runs.insert(at + 1, Run { first, chunk });
+    Ok(())
+}

@@ -1,0 +1,121 @@
+ghost use Rattle.std.specs.Prelude.{◌≡◌, ℕ, true, [], map, IfOk};
+ghost use Rattle.ra_labels.specs.declared.kind.Kind.{Kind};
+ghost use Rattle.ra_labels.specs.Visibility.{is_update};
+ghost use Rattle.ra_visibility.specs.Order.{IsByTimestamp};
+ghost use Rattle.ra_time_order.specs.Positions.{IsPastAll};
+
+use crate::entry::Entry;
+use crate::greatest::is_at_most;
+use crate::replicas::Replicas;
+use crate::sorted::Sorted;
+use ra_labels::{Label, NoMemory, Op};
+use ra_visibility::{NamedOrder, Place, Seen};
+use std::alloc::Global;
+use std::marker::Model;
+
+/// Labels in the order of their timestamps, and at one timestamp of their numbers.
+#[derive(Debug, Drop)]
+pub struct TimeOrder {
+    sorted: Sorted,
+    replicas: Replicas,
+}
+
+impl Model for TimeOrder {
+    ghost use Rattle.ra_time_order.specs.Standing.{TimeOrder, time_order_of};
+
+    ghost Value = { TimeOrder };
+
+    ghost view = { λ a. time_order_of a.sorted a.replicas };
+}
+
+impl TimeOrder {
+    ghost use Rattle.ra_time_order.specs.Standing.{StandsFor};
+
+    /// The order of no labels, of so many replicas. Costs room for a run.
+    pub fn new(alloc: Global, replicas: u8) -> Result<TimeOrder, NoMemory>
+        ensures listed { IfOk result (λ order. ⟦<TimeOrder as NamedOrder>⟧.listed order ≡ []) }
+        ensures stands { IfOk result (λ order. (kind : Kind) → IsByTimestamp kind
+            → ⟦<TimeOrder as NamedOrder>⟧.stands_for order kind replicas []) }
+    {
+        let replicas = Replicas::new(alloc, replicas)?;
+        Ok(TimeOrder {
+            sorted: Sorted::new(alloc)?,
+            replicas,
+        })
+    }
+}
+
+impl NamedOrder for TimeOrder {
+    ghost use Rattle.ra_time_order.specs.Standing.{StandsFor};
+    ghost use Rattle.ra_time_order.specs.Lawful.{listed-named, stands_delivered};
+
+    ghost listed = { λ order. map (λ entry. entry.label) order.entries };
+
+    ghost room = { λ order. order.room };
+
+    ghost stands_for = { λ order kind first records. StandsFor order kind first records };
+
+    /// Costs a constant where the label has a stamp of its own above those of all labels. Else a look-up for each
+    /// replica, a binary search and a step for each run behind the place.
+    fn place(&self, label: &Label, seen: &Seen<'_>) -> Place {
+        if is_past_all(&self.sorted, label) {
+            return Place {
+                at: self.sorted.len(),
+                fits: true,
+            };
+        }
+        let greatest = self.replicas.greatest(seen);
+        let rank = label.stamp.unwrap_or(greatest);
+        Place {
+            at: self.sorted.position(rank),
+            fits: is_at_most(greatest, rank),
+        }
+    }
+
+    /// Costs a look at each replica, and a move of half a run where the newest label filled it.
+    fn spare(&mut self) -> Result<(), NoMemory> {
+        self.replicas.spare()?;
+        self.sorted.spare()
+    }
+
+    /// Costs a binary search and a move within a run, and a look-up for each replica where the label has no stamp of its
+    /// own.
+    fn put(&mut self, label: &Label, seen: &Seen<'_>, _place: Place) {
+        let rank = self.replicas.rank(label.stamp, seen);
+        self.sorted.insert(Entry {
+            rank,
+            label: label.number,
+        });
+        self.replicas
+            .push(label.replica, is_update(&label.op), label.stamp);
+    }
+
+    /// Costs a step for each run before the position.
+    fn at(&self, position: usize) -> Option<u32> {
+        self.sorted.at(position)
+    }
+
+    ghost lists = { λ order kind first records stands. listed-named order kind first records stands };
+
+    ghost keeps = { λ order kind first records to n stands. stands_delivered order kind first records to n stands };
+}
+
+// Does the operation change the state?
+fn is_update(op: &Op) -> bool
+    ensures { result ≡ is_update op.now }
+{
+    match op {
+        Op::Inc | Op::Dec | Op::Write(_) | Op::LwwAdd(_) | Op::LwwRemove(_) => true,
+        Op::Count(_) | Op::Last(_) | Op::LwwRead(_) => false,
+    }
+}
+
+// Has the label a stamp of its own, above those of all labels?
+fn is_past_all(sorted: &Sorted, label: &Label) -> bool
+    ensures { result ≡ true → IsPastAll sorted.now.entries label.now.stamp }
+{
+    match label.stamp {
+        Some(stamp) => sorted.is_past_all(stamp),
+        None => false,
+    }
+}
