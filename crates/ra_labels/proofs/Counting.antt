@@ -7,7 +7,7 @@ use Rattle.std.proofs.lemmas.Option.{none-some, same_Some}
 use Rattle.ra_labels.specs.declared.kind.Kind.{Kind}
 use Rattle.ra_labels.specs.declared.kind.Kind.TheVariants.{Counter}
 use Rattle.ra_labels.specs.declared.operation.Update.{Update}
-use Rattle.ra_labels.specs.declared.operation.Update.TheVariants.{Inc, Dec, Write, LwwAdd, LwwRemove}
+use Rattle.ra_labels.specs.declared.operation.Update.TheVariants.{Inc, Dec, Write, LwwAdd, LwwRemove, OrAdd, TakeOut, After, RgaRemove}
 use Rattle.ra_labels.specs.Specification.{State, Number, start_of, step_of, state_after}
 use Rattle.ra_labels.proofs.Stepping.{state_from, stuck}
 
@@ -31,6 +31,10 @@ number_after n (Dec ∷ updates) state is =
 number_after n (Write value ∷ updates) state is = absurd (none-some state (sym (stuck updates) ∙ is))
 number_after n (LwwAdd x ∷ updates) state is = absurd (none-some state (sym (stuck updates) ∙ is))
 number_after n (LwwRemove x ∷ updates) state is = absurd (none-some state (sym (stuck updates) ∙ is))
+number_after n (OrAdd x id ∷ updates) state is = absurd (none-some state (sym (stuck updates) ∙ is))
+number_after n (TakeOut x ids ∷ updates) state is = absurd (none-some state (sym (stuck updates) ∙ is))
+number_after n (After anchor x ∷ updates) state is = absurd (none-some state (sym (stuck updates) ∙ is))
+number_after n (RgaRemove x ∷ updates) state is = absurd (none-some state (sym (stuck updates) ∙ is))
 
 -- a counter's number is no further from 0 than their count
 pub counter_within : (updates : List Update) (state : State) → state_after Counter updates ≡ Some state → (number : ℤ) × (state ≡ Number number) × (neg_ℤ (pos (length updates)) ≤ℤ number) × (number ≤ℤ pos (length updates))

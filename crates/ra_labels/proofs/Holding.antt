@@ -5,7 +5,7 @@ use Rattle.std.specs.Option.{option_or}
 use Rattle.std.proofs.lemmas.Option.{none-some, same_Some}
 use Rattle.std.proofs.lemmas.Bool.{cases_eq, cases_order, eq-eqb, ne_eqb, cond-true, cond-false, cond_both, false≢true}
 use Rattle.ra_labels.specs.declared.kind.Kind.{Kind}
-use Rattle.ra_labels.specs.declared.kind.Kind.TheVariants.{Counter, Register, LwwSet}
+use Rattle.ra_labels.specs.declared.kind.Kind.TheVariants.{Counter, Register, LwwSet, OrSet, Rga}
 use Rattle.ra_labels.specs.declared.operation.Op.{Op}
 use Rattle.ra_labels.specs.declared.command.Command.TheVariants.{Operate, Deliver, Verdict}
 use Rattle.ra_labels.specs.declared.reply.Cause.{Cause}
@@ -89,17 +89,23 @@ cause_of-nil : (kind : Kind) → cause_of kind [] ≡ None
 cause_of-nil Counter = refl
 cause_of-nil Register = refl
 cause_of-nil LwwSet = refl
+cause_of-nil OrSet = refl
+cause_of-nil Rga = refl
 
 -- a delivery changes nothing for the labels that are there
 cause_of-deliver : (kind : Kind) (to label : ℕ) (before : Records) → cause_of kind (Deliver to label ∷ before) ≡ cause_of kind before
 cause_of-deliver Counter to label before = refl
 cause_of-deliver Register to label before = refl
 cause_of-deliver LwwSet to label before = refl
+cause_of-deliver OrSet to label before = refl
+cause_of-deliver Rga to label before = refl
 
 cause_of-verdict : (kind : Kind) (before : Records) → cause_of kind (Verdict ∷ before) ≡ cause_of kind before
 cause_of-verdict Counter before = refl
 cause_of-verdict Register before = refl
 cause_of-verdict LwwSet before = refl
+cause_of-verdict OrSet before = refl
+cause_of-verdict Rga before = refl
 
 -- neither of two
 pub neither : {A : Type 0} (a b : Option A) → option_or a b ≡ None → (a ≡ None) × (b ≡ None)

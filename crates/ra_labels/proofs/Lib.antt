@@ -8,6 +8,7 @@ pub mod Order
 pub mod Answering
 pub mod Places
 pub mod Unique
+pub mod OfKind
 pub mod Stepping
 pub mod Counting
 pub mod Exactly

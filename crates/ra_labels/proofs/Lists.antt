@@ -135,7 +135,7 @@ pub rises-sorted : (xs : List ℕ) → (rises xs ≡ true) ↔ IsStrictlySortedB
 rises-sorted xs = (rises-to_sorted xs, sorted-to_rises xs)
 
 -- lists that rise and have the same elements are the same
-bool_same : (a b : Bool) → (a ≡ true → b ≡ true) → (b ≡ true → a ≡ true) → a ≡ b
+pub bool_same : (a b : Bool) → (a ≡ true → b ≡ true) → (b ≡ true → a ≡ true) → a ≡ b
 bool_same true b to from = sym (to refl)
 bool_same false true to from = from refl
 bool_same false false to from = refl

@@ -9,21 +9,21 @@ use Rattle.std.specs.declared.cmp.Ordering.TheVariants.{Less, Equal, Greater}
 use Rattle.std.proofs.lemmas.Bool.{false≢true, cond_both, ne_eqb, lt-ltb, ltb-true, or_cases, or_left, or_right, or_parts}
 use Rattle.std.proofs.lemmas.Option.{none-some, same_Some}
 use Rattle.ra_labels.specs.declared.kind.Kind.{Kind}
-use Rattle.ra_labels.specs.declared.kind.Kind.TheVariants.{Counter, Register, LwwSet}
 use Rattle.ra_labels.specs.declared.operation.Op.{Op}
 use Rattle.ra_labels.specs.declared.label.Stamp.{Stamp}
 use Rattle.ra_labels.specs.declared.label.Label.{Label}
 use Rattle.ra_labels.specs.declared.command.Command.{Command}
 use Rattle.ra_labels.specs.declared.command.Command.TheVariants.{Operate, Deliver, Verdict}
 use Rattle.ra_labels.specs.declared.refusal.Refusal.{Refusal}
-use Rattle.ra_labels.specs.declared.refusal.Refusal.TheVariants.{UnknownReplica, WrongKind, BadList, StampMissing, StampUnwanted, StampTaken}
+use Rattle.ra_labels.specs.declared.refusal.Refusal.TheVariants.{UnknownReplica, WrongKind, BadList, StampMissing, StampUnwanted, StampTaken, IdTaken}
 use Rattle.ra_labels.specs.Records.{Records, labels_of, next_label, stamp_at}
 use Rattle.ra_labels.specs.NamedOrder.{stamp_cmp}
 use Rattle.ra_labels.specs.Fault.{fault_of}
-use Rattle.ra_labels.specs.Answer.{when, first_of, kind_of, is_kind, has_rising_list, carries_stamp, has_clock, misfit_of, has_stamp, is_taken, comes_with_taken, refusal_of, with_accepted, records_after, records_after_all}
+use Rattle.ra_labels.specs.Answer.{when, first_of, kind_of, is_kind, has_rising_list, carries_stamp, has_clock, misfit_of, has_stamp, is_taken, comes_with_taken, gives_taken, refusal_of, with_accepted, records_after, records_after_all}
 use Rattle.ra_labels.specs.Laws.{IsOwnStamp, HasItsClock, IsFit, EachLabelFits, StampsAreOneLabels}
 use Rattle.ra_labels.proofs.Places.{Contains-cons_cases}
 use Rattle.ra_labels.proofs.Order.{stamp_same}
+use Rattle.ra_labels.proofs.OfKind.{kinds, same_kinds}
 
 -- an element that passes a test
 abbrev One : (Label → Bool) → List Label → Type 0
@@ -73,30 +73,14 @@ form-none false false true unwanted is = absurd (cc (is))
 form-none false false false true is = absurd (cc (is))
 form-none false false false false is = (refl, refl, refl, refl)
 
-form-not_taken : (wrong bad missing unwanted : Bool) → form wrong bad missing unwanted ≡ Some StampTaken → ⊥
-form-not_taken true bad missing unwanted is = absurd (cc (is))
-form-not_taken false true missing unwanted is = absurd (cc (is))
-form-not_taken false false true unwanted is = absurd (cc (is))
-form-not_taken false false false true is = absurd (cc (is))
-form-not_taken false false false false is = absurd (cc (is))
+form-not_taken : (wrong bad missing unwanted : Bool) → (form wrong bad missing unwanted ≡ Some StampTaken → ⊥) × (form wrong bad missing unwanted ≡ Some IdTaken → ⊥)
+form-not_taken true bad missing unwanted = ((λ is. cc is), (λ is. cc is))
+form-not_taken false true missing unwanted = ((λ is. cc is), (λ is. cc is))
+form-not_taken false false true unwanted = ((λ is. cc is), (λ is. cc is))
+form-not_taken false false false true = ((λ is. cc is), (λ is. cc is))
+form-not_taken false false false false = ((λ is. cc is), (λ is. cc is))
 
 -- what an operation's tests say
-kinds : (k l : Kind) → is_kind k l ≡ true → l ≡ k
-kinds Counter Counter is = refl
-kinds Register Register is = refl
-kinds LwwSet LwwSet is = refl
-kinds Counter Register is = absurd (false≢true is)
-kinds Counter LwwSet is = absurd (false≢true is)
-kinds Register Counter is = absurd (false≢true is)
-kinds Register LwwSet is = absurd (false≢true is)
-kinds LwwSet Counter is = absurd (false≢true is)
-kinds LwwSet Register is = absurd (false≢true is)
-
-same_kinds : (k : Kind) → is_kind k k ≡ true
-same_kinds Counter = refl
-same_kinds Register = refl
-same_kinds LwwSet = refl
-
 from_not : (b : Bool) → not b ≡ false → b ≡ true
 from_not true is = refl
 from_not false is = absurd (false≢true (sym is))
@@ -135,41 +119,59 @@ fits-exactly kind by op clock = (
 )
 
 -- the refusals of an operation, over what they test
-abbrev all : Bool → Option Refusal → Bool → Option Refusal
-all known misfit taken = first_of (when (not known) UnknownReplica ∷ misfit ∷ when taken StampTaken ∷ [])
+abbrev all : Bool → Option Refusal → Bool → Bool → Option Refusal
+all known misfit stamp id = first_of (when (not known) UnknownReplica ∷ misfit ∷ when stamp StampTaken ∷ when id IdTaken ∷ [])
 
-all-taken : (known : Bool) (misfit : Option Refusal) (taken : Bool) → (misfit ≡ Some StampTaken → ⊥) → all known misfit taken ≡ Some StampTaken → (known ≡ true) × (misfit ≡ None) × (taken ≡ true)
-all-taken false misfit taken other is = absurd (cc (is))
-all-taken true (Some why) taken other is = absurd (other is)
-all-taken true None true other is = (refl, refl, refl)
-all-taken true None false other is = absurd (cc (is))
+all-stamp : (known : Bool) (misfit : Option Refusal) (stamp id : Bool) → (misfit ≡ Some StampTaken → ⊥) → all known misfit stamp id ≡ Some StampTaken → (known ≡ true) × (misfit ≡ None) × (stamp ≡ true)
+all-stamp false misfit stamp id other is = absurd (cc (is))
+all-stamp true (Some why) stamp id other is = absurd (other is)
+all-stamp true None true id other is = (refl, refl, refl)
+all-stamp true None false true other is = absurd (cc (is))
+all-stamp true None false false other is = absurd (cc (is))
 
-all-none : (known : Bool) (misfit : Option Refusal) (taken : Bool) → all known misfit taken ≡ None → (known ≡ true) × (misfit ≡ None) × (taken ≡ false)
-all-none false misfit taken is = absurd (cc (is))
-all-none true (Some why) taken is = absurd (cc (is))
-all-none true None true is = absurd (cc (is))
-all-none true None false is = (refl, refl, refl)
+all-id : (known : Bool) (misfit : Option Refusal) (stamp id : Bool) → (misfit ≡ Some IdTaken → ⊥) → all known misfit stamp id ≡ Some IdTaken → (known ≡ true) × (misfit ≡ None) × (stamp ≡ false) × (id ≡ true)
+all-id false misfit stamp id other is = absurd (cc (is))
+all-id true (Some why) stamp id other is = absurd (other is)
+all-id true None true id other is = absurd (cc (is))
+all-id true None false true other is = (refl, refl, refl, refl)
+all-id true None false false other is = absurd (cc (is))
 
-pub stamp_taken-exactly : (kind : Kind) (replicas : ℕ) (records : Records) (by : ℕ) (op : Op) (clock : Option ℕ)
-    → (refusal_of kind replicas records (Operate by op clock) ≡ Some StampTaken)
-    ↔ ((by < replicas) × (misfit_of kind (Operate by op clock) ≡ None) × (comes_with_taken records by clock ≡ true))
-stamp_taken-exactly kind replicas records by op clock = (
-  (λ refused.
-      let never = form-not_taken (not (is_kind kind (kind_of op))) (not (has_rising_list op)) (carries_stamp op && not (has_clock clock)) (not (carries_stamp op) && is_some clock) in
-      let tests = all-taken (nat_lt by replicas) (misfit_of kind (Operate by op clock)) (comes_with_taken records by clock) never refused in
-      (ltb-true by replicas tests.0, tests.1, tests.2)),
-  (λ known. rw (lt-ltb by replicas known.0, known.1, known.2)),
-)
+all-none : (known : Bool) (misfit : Option Refusal) (stamp id : Bool) → all known misfit stamp id ≡ None → (known ≡ true) × (misfit ≡ None) × (stamp ≡ false) × (id ≡ false)
+all-none false misfit stamp id is = absurd (cc (is))
+all-none true (Some why) stamp id is = absurd (cc (is))
+all-none true None true id is = absurd (cc (is))
+all-none true None false true is = absurd (cc (is))
+all-none true None false false is = (refl, refl, refl, refl)
 
-pub operated-exactly : (kind : Kind) (replicas : ℕ) (records : Records) (by : ℕ) (op : Op) (clock : Option ℕ)
-    → (refusal_of kind replicas records (Operate by op clock) ≡ None)
-    ↔ ((by < replicas) × (misfit_of kind (Operate by op clock) ≡ None) × (comes_with_taken records by clock ≡ false))
-operated-exactly kind replicas records by op clock = (
-  (λ accepted.
-      let tests = all-none (nat_lt by replicas) (misfit_of kind (Operate by op clock)) (comes_with_taken records by clock) accepted in
-      (ltb-true by replicas tests.0, tests.1, tests.2)),
-  (λ known. rw (lt-ltb by replicas known.0, known.1, known.2)),
-)
+module _ (kind : Kind) (replicas : ℕ) (records : Records) (by : ℕ) (op : Op) (clock : Option ℕ) where
+  pub stamp_taken-exactly : (refusal_of kind replicas records (Operate by op clock) ≡ Some StampTaken)
+      ↔ ((by < replicas) × (misfit_of kind (Operate by op clock) ≡ None) × (comes_with_taken records by clock ≡ true))
+  stamp_taken-exactly = (
+    (λ refused.
+        let never = form-not_taken (not (is_kind kind (kind_of op))) (not (has_rising_list op)) (carries_stamp op && not (has_clock clock)) (not (carries_stamp op) && is_some clock) in
+        let tests = all-stamp (nat_lt by replicas) (misfit_of kind (Operate by op clock)) (comes_with_taken records by clock) (gives_taken records op) never.0 refused in
+        (ltb-true by replicas tests.0, tests.1, tests.2)),
+    (λ known. rw (lt-ltb by replicas known.0, known.1, known.2)),
+  )
+
+  pub id_taken-exactly : (refusal_of kind replicas records (Operate by op clock) ≡ Some IdTaken)
+      ↔ ((by < replicas) × (misfit_of kind (Operate by op clock) ≡ None) × (comes_with_taken records by clock ≡ false) × (gives_taken records op ≡ true))
+  id_taken-exactly = (
+    (λ refused.
+        let never = form-not_taken (not (is_kind kind (kind_of op))) (not (has_rising_list op)) (carries_stamp op && not (has_clock clock)) (not (carries_stamp op) && is_some clock) in
+        let tests = all-id (nat_lt by replicas) (misfit_of kind (Operate by op clock)) (comes_with_taken records by clock) (gives_taken records op) never.1 refused in
+        (ltb-true by replicas tests.0, tests.1, tests.2, tests.3)),
+    (λ known. rw (lt-ltb by replicas known.0, known.1, known.2, known.3)),
+  )
+
+  pub operated-exactly : (refusal_of kind replicas records (Operate by op clock) ≡ None)
+      ↔ ((by < replicas) × (misfit_of kind (Operate by op clock) ≡ None) × (comes_with_taken records by clock ≡ false) × (gives_taken records op ≡ false))
+  operated-exactly = (
+    (λ accepted.
+        let tests = all-none (nat_lt by replicas) (misfit_of kind (Operate by op clock)) (comes_with_taken records by clock) (gives_taken records op) accepted in
+        (ltb-true by replicas tests.0, tests.1, tests.2, tests.3)),
+    (λ known. rw (lt-ltb by replicas known.0, known.1, known.2, known.3)),
+  )
 
 not_some : {A : Type 0} (o : Option A) → is_some o ≡ false → o ≡ None
 not_some None is = refl

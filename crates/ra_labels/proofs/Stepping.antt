@@ -1,28 +1,26 @@
 -- The states that updates lead to, step by step.
-use Rattle.std.proofs.Common.{◌≡◌, ℕ, true, false, List, [], ◌∷◌, ◌++◌, filter, Option, Some, None, refl, sym, ap, ◌∙◌, subst}
+use Rattle.std.proofs.Common.{◌≡◌, ℕ, true, false, List, [], ◌∷◌, ◌++◌, filter, Option, Some, None, refl, sym, ap, ◌∙◌, subst, inl, inr}
 use Rattle.std.specs.Prelude.{◌↔◌, ◌==◌, ◌&&◌, ◌||◌, not, fold, option_and_then, is_some, Contains}
 use Rattle.std.specs.List.{list_all}
 use Rattle.std.specs.Option.{option_eq}
 use Rattle.std.specs.Bool.{Decides}
 use Rattle.std.specs.Ordering.{nat_cmp}
 use Rattle.std.specs.BTreeSet.{insert_key}
-use Rattle.std.proofs.lemmas.Bool.{false≢true, and_parts, eqb-true, eq-eqb, not-true, not_from_true, false_from_ne_true, and_left, or_left}
+use Rattle.std.proofs.lemmas.Bool.{false≢true, and_parts, and_from, eqb-true, eq-eqb, not-true, not_from_true, false_from_ne_true, and_left, or_left}
 use Rattle.std.proofs.lemmas.Option.{none-some, same_Some}
 use Rattle.std.proofs.lemmas.List.Sums.{fold-append}
 use Rattle.ra_labels.specs.declared.kind.Kind.{Kind}
-use Rattle.ra_labels.specs.declared.kind.Kind.TheVariants.{Counter, Register, LwwSet}
-use Rattle.ra_labels.specs.declared.operation.Op.{Op}
-use Rattle.ra_labels.specs.declared.operation.Op.TheVariants as op
+use Rattle.ra_labels.specs.declared.kind.Kind.TheVariants.{Register, LwwSet, Rga}
 use Rattle.ra_labels.specs.declared.operation.Update.{Update}
-use Rattle.ra_labels.specs.declared.operation.Update.TheVariants.{Inc, Dec, Write, LwwAdd, LwwRemove}
+use Rattle.ra_labels.specs.declared.operation.Update.TheVariants.{Inc, Dec, Write, LwwAdd, LwwRemove, OrAdd, TakeOut, After, RgaRemove}
 use Rattle.ra_labels.specs.declared.operation.Query.{Query}
-use Rattle.ra_labels.specs.declared.operation.Query.TheVariants.{Count, Last, LwwRead}
+use Rattle.ra_labels.specs.declared.operation.Query.TheVariants.{Last, LwwRead}
 use Rattle.ra_labels.specs.Lists.{is_among, rises}
-use Rattle.ra_labels.specs.Specification.{State, Number, Written, Members, start_of, step_of, answers, state_after, is_admitted}
-use Rattle.ra_labels.specs.Rewriting.{acts_of}
-use Rattle.ra_labels.specs.Answer.{kind_of, is_kind}
-use Rattle.ra_labels.specs.Laws.{kind_of_state, kind_of_update, kind_of_query, kind_of_act, acts_on, NoneActsOn}
-use Rattle.ra_labels.proofs.Lists.{among-exactly, among-insert, among-remove, same-exactly, rises-insert, rises-remove}
+use Rattle.ra_labels.specs.Specification.{State, Number, Written, Members, Pairs, Listed, start_of, step_of, answers, state_after, is_admitted}
+use Rattle.ra_labels.specs.Answer.{is_kind}
+use Rattle.ra_labels.specs.Laws.{kind_of_state, kind_of_update, acts_on, NoneActsOn}
+use Rattle.ra_labels.proofs.Lists.{among-exactly, among-insert, among-remove, same-exactly, bool_same, rises-insert, rises-remove}
+use Rattle.ra_labels.proofs.OfKind.{same_kinds, start_kind, StepKnown, step-known, step-kind}
 
 -- the state that updates lead to from another
 abbrev pub state_from : Option State → List Update → Option State
@@ -33,56 +31,46 @@ pub stuck : (updates : List Update) → state_from None updates ≡ None
 stuck [] = refl
 stuck (update ∷ updates) = stuck updates
 
--- updates are admitted where they are of the state's kind
-goes_on : (state : State) (updates : List Update) → is_some (state_from (Some state) updates) ≡ list_all (λ update. is_kind (kind_of_state state) (kind_of_update update)) updates
-goes_on state [] = refl
-goes_on (Number n) (Inc ∷ updates) = goes_on (Number _) updates
-goes_on (Number n) (Dec ∷ updates) = goes_on (Number _) updates
-goes_on (Number n) (Write value ∷ updates) = ap is_some (stuck updates)
-goes_on (Number n) (LwwAdd x ∷ updates) = ap is_some (stuck updates)
-goes_on (Number n) (LwwRemove x ∷ updates) = ap is_some (stuck updates)
-goes_on (Written last) (Inc ∷ updates) = ap is_some (stuck updates)
-goes_on (Written last) (Dec ∷ updates) = ap is_some (stuck updates)
-goes_on (Written last) (Write value ∷ updates) = goes_on (Written (Some value)) updates
-goes_on (Written last) (LwwAdd x ∷ updates) = ap is_some (stuck updates)
-goes_on (Written last) (LwwRemove x ∷ updates) = ap is_some (stuck updates)
-goes_on (Members xs) (Inc ∷ updates) = ap is_some (stuck updates)
-goes_on (Members xs) (Dec ∷ updates) = ap is_some (stuck updates)
-goes_on (Members xs) (Write value ∷ updates) = ap is_some (stuck updates)
-goes_on (Members xs) (LwwAdd x ∷ updates) = goes_on (Members _) updates
-goes_on (Members xs) (LwwRemove x ∷ updates) = goes_on (Members _) updates
+-- updates are admitted only where they are of the state's kind
+onwards : (state : State) (update : Update) (updates : List Update) (o : Option State) → StepKnown state update o
+    → ((next : State) → kind_of_state next ≡ kind_of_state state → is_some (state_from (Some next) updates) ≡ true → list_all (λ u. is_kind (kind_of_state state) (kind_of_update u)) updates ≡ true)
+    → is_some (state_from o updates) ≡ true → list_all (λ u. is_kind (kind_of_state state) (kind_of_update u)) (update ∷ updates) ≡ true
+onwards state update updates None known rest is = absurd (false≢true (sym (ap is_some (stuck updates)) ∙ is))
+onwards state update updates (Some next) known rest is =
+    and_from (is_kind (kind_of_state state) (kind_of_update update)) (list_all (λ u. is_kind (kind_of_state state) (kind_of_update u)) updates)
+    (ap (is_kind (kind_of_state state)) known.1 ∙ same_kinds (kind_of_state state)) (rest next known.0 is)
 
-start_kind : (kind : Kind) → kind_of_state (start_of kind) ≡ kind
-start_kind Counter = refl
-start_kind Register = refl
-start_kind LwwSet = refl
+only_kind : (state : State) (kind : Kind) (updates : List Update) → kind_of_state state ≡ kind → is_some (state_from (Some state) updates) ≡ true → list_all (λ update. is_kind kind (kind_of_update update)) updates ≡ true
+only_kind state kind [] of is = refl
+only_kind state kind (update ∷ updates) of is =
+    subst (λ k. list_all (λ u. is_kind k (kind_of_update u)) (update ∷ updates) ≡ true) of
+    (onwards state update updates (step_of state update) (step-known state update)
+    (λ next same there. only_kind next (kind_of_state state) updates same there) is)
 
-pub admitted-of_kind : (kind : Kind) (updates : List Update) → is_admitted kind updates ≡ list_all (λ update. is_kind kind (kind_of_update update)) updates
-admitted-of_kind kind updates =
-    goes_on (start_of kind) updates ∙ ap (λ k. list_all (λ update. is_kind k (kind_of_update update)) updates) (start_kind kind)
+pub admitted-only : (kind : Kind) (updates : List Update) → is_admitted kind updates ≡ true → list_all (λ update. is_kind kind (kind_of_update update)) updates ≡ true
+admitted-only kind updates is = only_kind (start_of kind) kind updates (start_kind kind) is
 
--- a query of another kind is answered no
-pub answers-of_kind : (state : State) (query : Query) → is_kind (kind_of_state state) (kind_of_query query) ≡ false → answers state query ≡ false
-answers-of_kind (Number n) (Count v) other = absurd (false≢true (sym other))
-answers-of_kind (Number n) (Last value) other = refl
-answers-of_kind (Number n) (LwwRead list) other = refl
-answers-of_kind (Written last) (Count v) other = refl
-answers-of_kind (Written last) (Last value) other = absurd (false≢true (sym other))
-answers-of_kind (Written last) (LwwRead list) other = refl
-answers-of_kind (Members xs) (Count v) other = refl
-answers-of_kind (Members xs) (Last value) other = refl
-answers-of_kind (Members xs) (LwwRead list) other = absurd (false≢true (sym other))
+-- and, but for an RGA, wherever they are
+goes : (state : State) (update : Update) (updates : List Update) (o : Option State) → ¬ (kind_of_state state ≡ Rga) → StepKnown state update o
+    → ((next : State) → kind_of_state next ≡ kind_of_state state → list_all (λ u. is_kind (kind_of_state state) (kind_of_update u)) updates ≡ true → is_some (state_from (Some next) updates) ≡ true)
+    → list_all (λ u. is_kind (kind_of_state state) (kind_of_update u)) (update ∷ updates) ≡ true → is_some (state_from o updates) ≡ true
+goes state update updates None other (inl wrong) rest is =
+    absurd (false≢true (sym wrong ∙ (and_parts (is_kind (kind_of_state state) (kind_of_update update)) (list_all (λ u. is_kind (kind_of_state state) (kind_of_update u)) updates) is).0))
+goes state update updates None other (inr rga) rest is = absurd (other rga)
+goes state update updates (Some next) other known rest is =
+    rest next known.0 (and_parts (is_kind (kind_of_state state) (kind_of_update update)) (list_all (λ u. is_kind (kind_of_state state) (kind_of_update u)) updates) is).1
 
--- the parts of an operation are of its kind
-pub acts-of_kind : (operation : Op) → list_all (λ act. is_kind (kind_of operation) (kind_of_act act.1)) (acts_of operation) ≡ true
-acts-of_kind op.Inc = refl
-acts-of_kind op.Dec = refl
-acts-of_kind (op.Count v) = refl
-acts-of_kind (op.Write value) = refl
-acts-of_kind (op.Last value) = refl
-acts-of_kind (op.LwwAdd x) = refl
-acts-of_kind (op.LwwRemove x) = refl
-acts-of_kind (op.LwwRead list) = refl
+goes_on : (state : State) (kind : Kind) (updates : List Update) → ¬ (kind ≡ Rga) → kind_of_state state ≡ kind → list_all (λ update. is_kind kind (kind_of_update update)) updates ≡ true → is_some (state_from (Some state) updates) ≡ true
+goes_on state kind [] other of is = refl
+goes_on state kind (update ∷ updates) other of is =
+    goes state update updates (step_of state update) (λ rga. other (sym of ∙ rga)) (step-known state update)
+    (λ next same all. goes_on next (kind_of_state state) updates (λ rga. other (sym of ∙ rga)) same all)
+    (subst (λ k. list_all (λ u. is_kind k (kind_of_update u)) (update ∷ updates) ≡ true) (sym of) is)
+
+pub admitted-of_kind : (kind : Kind) (updates : List Update) → ¬ (kind ≡ Rga) → is_admitted kind updates ≡ list_all (λ update. is_kind kind (kind_of_update update)) updates
+admitted-of_kind kind updates other =
+    bool_same (is_admitted kind updates) (list_all (λ update. is_kind kind (kind_of_update update)) updates)
+    (admitted-only kind updates) (goes_on (start_of kind) kind updates other (start_kind kind))
 
 -- a register has the value of the last write
 written : (state : Option State) (value : ℕ) → is_some state ≡ true → ((s : State) → state ≡ Some s → (last : Option ℕ) × (s ≡ Written last)) → option_and_then (λ s. step_of s (Write value)) state ≡ Some (Written (Some value))
@@ -96,6 +84,10 @@ register_from last (Inc ∷ updates) state is = absurd (none-some state (sym (st
 register_from last (Dec ∷ updates) state is = absurd (none-some state (sym (stuck updates) ∙ is))
 register_from last (LwwAdd x ∷ updates) state is = absurd (none-some state (sym (stuck updates) ∙ is))
 register_from last (LwwRemove x ∷ updates) state is = absurd (none-some state (sym (stuck updates) ∙ is))
+register_from last (OrAdd x id ∷ updates) state is = absurd (none-some state (sym (stuck updates) ∙ is))
+register_from last (TakeOut x ids ∷ updates) state is = absurd (none-some state (sym (stuck updates) ∙ is))
+register_from last (After anchor x ∷ updates) state is = absurd (none-some state (sym (stuck updates) ∙ is))
+register_from last (RgaRemove x ∷ updates) state is = absurd (none-some state (sym (stuck updates) ∙ is))
 
 pub register-last : (updates : List Update) (value : ℕ) → is_admitted Register updates ≡ true → state_after Register (updates ++ Write value ∷ []) ≡ Some (Written (Some value))
 register-last updates value there =
@@ -129,12 +121,18 @@ set_from x xs (LwwRemove y ∷ updates) ys none is =
 set_from x xs (Inc ∷ updates) ys none is = absurd (none-some (Members ys) (sym (stuck updates) ∙ is))
 set_from x xs (Dec ∷ updates) ys none is = absurd (none-some (Members ys) (sym (stuck updates) ∙ is))
 set_from x xs (Write value ∷ updates) ys none is = absurd (none-some (Members ys) (sym (stuck updates) ∙ is))
+set_from x xs (OrAdd y id ∷ updates) ys none is = absurd (none-some (Members ys) (sym (stuck updates) ∙ is))
+set_from x xs (TakeOut y ids ∷ updates) ys none is = absurd (none-some (Members ys) (sym (stuck updates) ∙ is))
+set_from x xs (After anchor y ∷ updates) ys none is = absurd (none-some (Members ys) (sym (stuck updates) ∙ is))
+set_from x xs (RgaRemove y ∷ updates) ys none is = absurd (none-some (Members ys) (sym (stuck updates) ∙ is))
 
 -- an element is in where the last update on it put it in
 added_from : (state : Option State) (x : ℕ) (later : List Update) (xs : List ℕ) → NoneActsOn x later → state_from state (LwwAdd x ∷ later) ≡ Some (Members xs) → is_among x xs ≡ true
 added_from None x later xs none is = absurd (none-some (Members xs) (sym (stuck later) ∙ is))
 added_from (Some (Number n)) x later xs none is = absurd (none-some (Members xs) (sym (stuck later) ∙ is))
 added_from (Some (Written last)) x later xs none is = absurd (none-some (Members xs) (sym (stuck later) ∙ is))
+added_from (Some (Pairs pairs)) x later xs none is = absurd (none-some (Members xs) (sym (stuck later) ∙ is))
+added_from (Some (Listed list)) x later xs none is = absurd (none-some (Members xs) (sym (stuck later) ∙ is))
 added_from (Some (Members zs)) x later xs none is =
     set_from x _ later xs none is ∙ among-insert x x zs ∙ or_left (x == x) (is_among x zs) (eq-eqb x x refl)
 
@@ -142,6 +140,8 @@ removed_from : (state : Option State) (x : ℕ) (later : List Update) (xs : List
 removed_from None x later xs none is = absurd (none-some (Members xs) (sym (stuck later) ∙ is))
 removed_from (Some (Number n)) x later xs none is = absurd (none-some (Members xs) (sym (stuck later) ∙ is))
 removed_from (Some (Written last)) x later xs none is = absurd (none-some (Members xs) (sym (stuck later) ∙ is))
+removed_from (Some (Pairs pairs)) x later xs none is = absurd (none-some (Members xs) (sym (stuck later) ∙ is))
+removed_from (Some (Listed list)) x later xs none is = absurd (none-some (Members xs) (sym (stuck later) ∙ is))
 removed_from (Some (Members zs)) x later xs none is =
     set_from x _ later xs none is ∙ among-remove x x zs ∙ and_left (not (x == x)) (is_among x zs) (not_from_true (x == x) (eq-eqb x x refl))
 
@@ -170,33 +170,20 @@ rises_from xs (LwwRemove y ∷ updates) ys up is = rises_from (filter (λ z. not
 rises_from xs (Inc ∷ updates) ys up is = absurd (none-some (Members ys) (sym (stuck updates) ∙ is))
 rises_from xs (Dec ∷ updates) ys up is = absurd (none-some (Members ys) (sym (stuck updates) ∙ is))
 rises_from xs (Write value ∷ updates) ys up is = absurd (none-some (Members ys) (sym (stuck updates) ∙ is))
+rises_from xs (OrAdd y id ∷ updates) ys up is = absurd (none-some (Members ys) (sym (stuck updates) ∙ is))
+rises_from xs (TakeOut y ids ∷ updates) ys up is = absurd (none-some (Members ys) (sym (stuck updates) ∙ is))
+rises_from xs (After anchor y ∷ updates) ys up is = absurd (none-some (Members ys) (sym (stuck updates) ∙ is))
+rises_from xs (RgaRemove y ∷ updates) ys up is = absurd (none-some (Members ys) (sym (stuck updates) ∙ is))
 
 pub set-rises : (updates : List Update) (xs : List ℕ) → state_after LwwSet updates ≡ Some (Members xs) → rises xs ≡ true
 set-rises updates xs is = rises_from [] updates xs refl is
 
 -- a state stays of its kind
-same_kind : (state : State) (update : Update) (next : State) → step_of state update ≡ Some next → kind_of_state next ≡ kind_of_state state
-same_kind (Number n) Inc next is = ap kind_of_state (sym (same_Some _ next is))
-same_kind (Number n) Dec next is = ap kind_of_state (sym (same_Some _ next is))
-same_kind (Number n) (Write value) next is = absurd (none-some next is)
-same_kind (Number n) (LwwAdd x) next is = absurd (none-some next is)
-same_kind (Number n) (LwwRemove x) next is = absurd (none-some next is)
-same_kind (Written last) Inc next is = absurd (none-some next is)
-same_kind (Written last) Dec next is = absurd (none-some next is)
-same_kind (Written last) (Write value) next is = ap kind_of_state (sym (same_Some _ next is))
-same_kind (Written last) (LwwAdd x) next is = absurd (none-some next is)
-same_kind (Written last) (LwwRemove x) next is = absurd (none-some next is)
-same_kind (Members xs) Inc next is = absurd (none-some next is)
-same_kind (Members xs) Dec next is = absurd (none-some next is)
-same_kind (Members xs) (Write value) next is = absurd (none-some next is)
-same_kind (Members xs) (LwwAdd x) next is = ap kind_of_state (sym (same_Some _ next is))
-same_kind (Members xs) (LwwRemove x) next is = ap kind_of_state (sym (same_Some _ next is))
-
 kind_from : (state : Option State) (updates : List Update) (kind : Kind) → ((s : State) → state ≡ Some s → kind_of_state s ≡ kind) → (last : State) → state_from state updates ≡ Some last → kind_of_state last ≡ kind
 kind_from state [] kind of last is = of last is
 kind_from None (update ∷ updates) kind of last is = absurd (none-some last (sym (stuck updates) ∙ is))
 kind_from (Some s) (update ∷ updates) kind of last is =
-    kind_from (step_of s update) updates kind (λ t next. same_kind s update t next ∙ of s refl) last is
+    kind_from (step_of s update) updates kind (λ t next. (step-kind s update t next).0 ∙ of s refl) last is
 
 pub state-of_kind : (kind : Kind) (updates : List Update) (state : State) → state_after kind updates ≡ Some state → kind_of_state state ≡ kind
 state-of_kind kind updates state is =

@@ -3,7 +3,7 @@
 use Rattle.std.proofs.Common.{◌≡◌, ℕ, ◌<◌, true, List, [], Some, None, ap, refl}
 use Rattle.std.specs.Prelude.{◌↔◌, flat_map, reverse}
 use Rattle.ra_labels.specs.declared.kind.Kind.{Kind}
-use Rattle.ra_labels.specs.declared.kind.Kind.TheVariants.{Counter, Register, LwwSet}
+use Rattle.ra_labels.specs.declared.kind.Kind.TheVariants.{Counter, Register, LwwSet, OrSet, Rga}
 use Rattle.ra_labels.specs.declared.operation.Op.{Op}
 use Rattle.ra_labels.specs.declared.label.Stamp.{Stamp}
 use Rattle.ra_labels.specs.declared.label.Label.{Label}
@@ -26,7 +26,8 @@ use Rattle.ra_labels.proofs.Missing.{records_after_all-causal}
 -- laws::specification
 pub use Rattle.ra_labels.proofs.Counting.{state_after-nil as no_update_leaves_the_start, state_after-push as one_more_update_is_one_more_step, counter_within as a_counter_goes_no_further_than_its_updates}
 pub use Rattle.ra_labels.proofs.Exactly.{answers-count as a_count_is_answered_where_it_is_the_number}
-pub use Rattle.ra_labels.proofs.Stepping.{state-of_kind as states_are_of_their_kind, admitted-of_kind as updates_of_the_kind_are_admitted, answers-of_kind as queries_of_another_kind_are_answered_no, acts-of_kind as parts_are_of_their_kind, register-last as a_register_has_the_last_value-last, answers-last as a_last_value_is_answered_where_it_is_the_value, set-added as a_set_has_what_was_put_in_last-added, set-removed as a_set_has_what_was_put_in_last-removed, set-never as a_set_has_what_was_put_in_last-never, set-rises as a_set_has_what_was_put_in_last-rises, answers-elements as elements_are_answered_where_they_are_the_same}
+pub use Rattle.ra_labels.proofs.Stepping.{state-of_kind as states_are_of_their_kind, admitted-only as updates_of_the_kind_are_admitted-only, admitted-of_kind as updates_of_the_kind_are_admitted-exactly, register-last as a_register_has_the_last_value-last, answers-last as a_last_value_is_answered_where_it_is_the_value, set-added as a_set_has_what_was_put_in_last-added, set-removed as a_set_has_what_was_put_in_last-removed, set-never as a_set_has_what_was_put_in_last-never, set-rises as a_set_has_what_was_put_in_last-rises, answers-elements as elements_are_answered_where_they_are_the_same}
+pub use Rattle.ra_labels.proofs.OfKind.{answers-of_kind as queries_of_another_kind_are_answered_no, acts-of_kind as parts_are_of_their_kind}
 -- laws::lists
 pub use Rattle.ra_labels.proofs.Lists.{rises-exactly as a_list_rises_where_each_is_below_the_later-places, rises-sorted as a_list_rises_where_each_is_below_the_later-sorted, same-exactly as lists_have_the_same_elements-elements, rising-same as lists_have_the_same_elements-rising}
 -- laws::records
@@ -45,7 +46,7 @@ pub use Rattle.ra_labels.proofs.Holding.{IsPermutation-named_sequence as each_pa
 pub use Rattle.ra_labels.proofs.Order.{stamp_below as stamps_by_clock_and_then_by_replica-less, stamp_same as stamps_by_clock_and_then_by_replica-equal, lowest_below as the_lowest_rank_is_below_each_stamp, label_below as labels_by_rank_and_then_by_number, IsPermutation-named_labels as named_labels_are_sorted-same, IsSorted-named_labels as named_labels_are_sorted-sorted, named_labels-by_number as named_in_order_of_execution-labels}
 -- laws::timestamps
 pub use Rattle.ra_labels.proofs.Timestamps.{timestamp-own as a_timestamp_is_the_greatest_seen-own, timestamp-reached as a_timestamp_is_the_greatest_seen-seen, timestamp-bounds as a_timestamp_is_the_greatest_seen-greatest, timestamp-append as a_timestamp_is_kept}
-pub use Rattle.ra_labels.proofs.Stamps.{taken-exactly as a_stamp_is_taken_where_a_label_has_it, stamps-once as stamps_are_given_once-one, stamps-once_all as stamps_are_given_once-all, fits-exactly as forms_that_deserve_no_refusal, stamp_taken-exactly as operations_with_a_taken_stamp_are_refused-taken, operated-exactly as operations_with_a_taken_stamp_are_refused-accepted, labels-fit as accepted_labels_fit-one, labels-fit_all as accepted_labels_fit-all}
+pub use Rattle.ra_labels.proofs.Stamps.{taken-exactly as a_stamp_is_taken_where_a_label_has_it, stamps-once as stamps_are_given_once-one, stamps-once_all as stamps_are_given_once-all, fits-exactly as forms_that_deserve_no_refusal, stamp_taken-exactly as operations_with_a_taken_stamp_are_refused, id_taken-exactly as operations_with_a_taken_identifier_are_refused, operated-exactly as operations_are_accepted_where_nothing_is_taken, labels-fit as accepted_labels_fit-one, labels-fit_all as accepted_labels_fit-all}
 -- laws::linearization
 pub use Rattle.ra_labels.proofs.Exactly.{visible-exactly as must_precede_in_three_cases-visible, earlier-exactly as must_precede_in_three_cases-earlier, halves-exactly as must_precede_in_three_cases-halves, must_precede-exactly as must_precede_in_three_cases-cases, updates_of-append as updates_stand_in_order-all, visible_updates-append as updates_stand_in_order-visible, updates-exactly as updates_admitted_where_they_lead_to_a_state, queries-exactly as queries_admitted_where_each_is_answered}
 pub use Rattle.ra_labels.proofs.Standing.{must_precede-irreflexive as no_part_precedes_itself, extends-stands as extending_puts_before-stands, stands-extends as extending_puts_before-extends, linearization_by-stands as linearization_by_an_order_puts_before, linearization_by-weaker as linearization_by_a_weaker_order, linearization-stands as linearization_puts_before, is_update-acts as update_where_a_part_is_one}
@@ -92,6 +93,15 @@ each_kind_has_its_order-register records label = refl
 
 pub each_kind_has_its_order-lww_set : (records : Records) (label : Label) → rank_of LwwSet records label ≡ timestamp_of records label
 each_kind_has_its_order-lww_set records label = refl
+
+pub each_kind_has_its_order-or_set : (records : Records) (label : Label) → rank_of OrSet records label ≡ lowest_rank
+each_kind_has_its_order-or_set records label = refl
+
+pub each_kind_has_its_order-rga : (records : Records) (label : Label) → rank_of Rga records label ≡ timestamp_of records label
+each_kind_has_its_order-rga records label = refl
+
+pub named_in_order_of_execution-or_set : (records : Records) → named_sequence OrSet records ≡ flat_map parts_of (reverse (labels_of records))
+named_in_order_of_execution-or_set records = ap (flat_map parts_of) (named_labels-by_number OrSet records (λ label. refl))
 
 pub named_in_order_of_execution-counter : (records : Records) → named_sequence Counter records ≡ flat_map parts_of (reverse (labels_of records))
 named_in_order_of_execution-counter records = ap (flat_map parts_of) (named_labels-by_number Counter records (λ label. refl))

@@ -4,15 +4,15 @@ use Rattle.std.specs.Option.{option_or, option_map_or}
 use Rattle.std.specs.List.{list_any}
 use Rattle.std.specs.Ordering.{is_eq}
 use Rattle.ra_labels.specs.declared.kind.Kind.{Kind}
-use Rattle.ra_labels.specs.declared.kind.Kind.TheVariants.{Counter, Register, LwwSet}
+use Rattle.ra_labels.specs.declared.kind.Kind.TheVariants.{Counter, Register, LwwSet, OrSet, Rga}
 use Rattle.ra_labels.specs.declared.operation.Op.{Op}
-use Rattle.ra_labels.specs.declared.operation.Op.TheVariants.{Inc, Dec, Count, Write, Last, LwwAdd, LwwRemove, LwwRead}
+use Rattle.ra_labels.specs.declared.operation.Op.TheVariants.{Inc, Dec, Count, Write, Last, LwwAdd, LwwRemove, LwwRead, OrAdd, OrRemove, OrRead, After, RgaRemove, RgaRead}
 use Rattle.ra_labels.specs.declared.label.Stamp.{Stamp}
 use Rattle.ra_labels.specs.declared.label.Label.{Label}
 use Rattle.ra_labels.specs.declared.command.Command.{Command}
 use Rattle.ra_labels.specs.declared.command.Command.TheVariants.{Operate, Deliver, Verdict}
 use Rattle.ra_labels.specs.declared.refusal.Refusal.{Refusal}
-use Rattle.ra_labels.specs.declared.refusal.Refusal.TheVariants.{UnknownReplica, WrongKind, BadList, StampMissing, StampUnwanted, StampTaken, UnknownLabel, NotAnUpdate, AlreadySeen, NotCausal}
+use Rattle.ra_labels.specs.declared.refusal.Refusal.TheVariants.{UnknownReplica, WrongKind, BadList, StampMissing, StampUnwanted, StampTaken, IdTaken, UnknownLabel, NotAnUpdate, AlreadySeen, NotCausal}
 use Rattle.ra_labels.specs.declared.reply.Reply.{Reply}
 use Rattle.ra_labels.specs.declared.reply.Reply.TheVariants as reply
 use Rattle.ra_labels.specs.declared.reply.Fault.{Fault}
@@ -41,16 +41,26 @@ kind_of (Last value) = Register
 kind_of (LwwAdd x) = LwwSet
 kind_of (LwwRemove x) = LwwSet
 kind_of (LwwRead list) = LwwSet
+kind_of (OrAdd x id) = OrSet
+kind_of (OrRemove x ids) = OrSet
+kind_of (OrRead list) = OrSet
+kind_of (After anchor x) = Rga
+kind_of (RgaRemove x) = Rga
+kind_of (RgaRead list) = Rga
 
 abbrev pub is_kind : Kind → Kind → Bool
 is_kind Counter Counter = true
 is_kind Register Register = true
 is_kind LwwSet LwwSet = true
+is_kind OrSet OrSet = true
+is_kind Rga Rga = true
 is_kind _ _ = false
 
--- does the list rise that the operation returned, if it did return one?
+-- does the list rise that the operation returned, where it returned one of a set?
 abbrev pub has_rising_list : Op → Bool
 has_rising_list (LwwRead list) = rises list
+has_rising_list (OrRemove x ids) = rises ids
+has_rising_list (OrRead list) = rises list
 has_rising_list _ = true
 
 -- does an operation of this form come with a stamp?
@@ -63,6 +73,12 @@ carries_stamp (Last value) = false
 carries_stamp (LwwAdd x) = true
 carries_stamp (LwwRemove x) = true
 carries_stamp (LwwRead list) = false
+carries_stamp (OrAdd x id) = false
+carries_stamp (OrRemove x ids) = false
+carries_stamp (OrRead list) = false
+carries_stamp (After anchor x) = true
+carries_stamp (RgaRemove x) = false
+carries_stamp (RgaRead list) = false
 
 -- a clock came that is one: not 0
 abbrev pub has_clock : Option ℕ → Bool
@@ -91,12 +107,30 @@ is_taken records stamp = list_any (has_stamp stamp) (labels_of records)
 abbrev pub comes_with_taken : Records → ℕ → Option ℕ → Bool
 comes_with_taken records by clock = option_map_or (λ at. is_taken records (stamp_at by at)) clock false
 
+-- the identifier that the operation gives to an element
+abbrev pub identifier_of : Op → Option ℕ
+identifier_of (OrAdd x id) = Some id
+identifier_of _ = None
+
+-- did the label give this identifier?
+abbrev pub has_identifier : ℕ → Label → Bool
+has_identifier id label = option_map_or (λ own. own == id) (identifier_of label.op) false
+
+-- did an accepted label give it?
+abbrev pub is_identifier_taken : Records → ℕ → Bool
+is_identifier_taken records id = list_any (has_identifier id) (labels_of records)
+
+-- does the operation give an identifier that is taken?
+abbrev pub gives_taken : Records → Op → Bool
+gives_taken records op = option_map_or (is_identifier_taken records) (identifier_of op) false
+
 -- the refusals of an operation, in their order
 abbrev pub refusal_of_operation : Kind → ℕ → Records → ℕ → Op → Option ℕ → Option Refusal
 refusal_of_operation kind replicas records by op clock = first_of (
     when (not (nat_lt by (replica_count replicas records))) UnknownReplica
     ∷ misfit_of kind (Operate by op clock)
     ∷ when (comes_with_taken records by clock) StampTaken
+    ∷ when (gives_taken records op) IdTaken
     ∷ []
     )
 

@@ -2,12 +2,12 @@
 use Rattle.std.specs.Prelude.{◌≡◌, ℕ, zero, suc, ◌<◌, ◌≤◌, ◌⊎◌, ◌==◌, nat_lt, Bool, true, false, not, List, [], ◌∷◌, ◌++◌, Contains, Option, Some, None, option_map}
 use Rattle.std.specs.List.{list_all}
 use Rattle.ra_labels.specs.declared.kind.Kind.{Kind}
-use Rattle.ra_labels.specs.declared.kind.Kind.TheVariants.{Counter, Register, LwwSet}
+use Rattle.ra_labels.specs.declared.kind.Kind.TheVariants.{Counter, Register, LwwSet, OrSet, Rga}
 use Rattle.ra_labels.specs.declared.operation.Op.{Op}
 use Rattle.ra_labels.specs.declared.operation.Update.{Update}
-use Rattle.ra_labels.specs.declared.operation.Update.TheVariants.{Inc, Dec, Write, LwwAdd, LwwRemove}
+use Rattle.ra_labels.specs.declared.operation.Update.TheVariants.{Inc, Dec, Write, LwwAdd, LwwRemove, OrAdd, TakeOut, After, RgaRemove}
 use Rattle.ra_labels.specs.declared.operation.Query.{Query}
-use Rattle.ra_labels.specs.declared.operation.Query.TheVariants.{Count, Last, LwwRead}
+use Rattle.ra_labels.specs.declared.operation.Query.TheVariants.{Count, Last, LwwRead, ReadIds, OrRead, RgaRead}
 use Rattle.ra_labels.specs.declared.label.Stamp.{Stamp}
 use Rattle.ra_labels.specs.declared.label.Label.{Label}
 use Rattle.ra_labels.specs.declared.command.Command.{Command}
@@ -15,7 +15,7 @@ use Rattle.ra_labels.specs.declared.command.Command.TheVariants.{Operate, Delive
 use Rattle.ra_labels.specs.declared.reply.Fault.{Fault}
 use Rattle.ra_labels.specs.declared.reply.Reply.{Reply}
 use Rattle.ra_labels.specs.declared.reply.Reply.TheVariants as reply
-use Rattle.ra_labels.specs.Specification.{State, Number, Written, Members, answers, state_after}
+use Rattle.ra_labels.specs.Specification.{State, Number, Written, Members, Pairs, Listed, answers, state_after}
 use Rattle.ra_labels.specs.Records.{Records, label_count, labels_of, replica_count, stamp_at, records_to}
 use Rattle.ra_labels.specs.Visibility.{is_update, is_update_at, had, sees}
 use Rattle.ra_labels.specs.Places.{issuer_of, updates_of, place_of}
@@ -29,6 +29,8 @@ abbrev pub kind_of_state : State → Kind
 kind_of_state (Number n) = Counter
 kind_of_state (Written last) = Register
 kind_of_state (Members xs) = LwwSet
+kind_of_state (Pairs pairs) = OrSet
+kind_of_state (Listed list) = Rga
 
 abbrev pub kind_of_update : Update → Kind
 kind_of_update Inc = Counter
@@ -36,11 +38,18 @@ kind_of_update Dec = Counter
 kind_of_update (Write value) = Register
 kind_of_update (LwwAdd x) = LwwSet
 kind_of_update (LwwRemove x) = LwwSet
+kind_of_update (OrAdd x id) = OrSet
+kind_of_update (TakeOut x ids) = OrSet
+kind_of_update (After anchor x) = Rga
+kind_of_update (RgaRemove x) = Rga
 
 abbrev pub kind_of_query : Query → Kind
 kind_of_query (Count v) = Counter
 kind_of_query (Last value) = Register
 kind_of_query (LwwRead list) = LwwSet
+kind_of_query (ReadIds x ids) = OrSet
+kind_of_query (OrRead list) = OrSet
+kind_of_query (RgaRead list) = Rga
 
 abbrev pub kind_of_act : Act → Kind
 kind_of_act (Does update) = kind_of_update update

@@ -3,9 +3,9 @@ use Rattle.std.specs.Prelude.{◌∷◌, [], List, map, Option, Some, None, filt
 use Rattle.ra_labels.specs.declared.operation.Op.{Op}
 use Rattle.ra_labels.specs.declared.operation.Op.TheVariants as op
 use Rattle.ra_labels.specs.declared.operation.Update.{Update}
-use Rattle.ra_labels.specs.declared.operation.Update.TheVariants.{Inc, Dec, Write, LwwAdd, LwwRemove}
+use Rattle.ra_labels.specs.declared.operation.Update.TheVariants.{Inc, Dec, Write, LwwAdd, LwwRemove, OrAdd, TakeOut, After, RgaRemove}
 use Rattle.ra_labels.specs.declared.operation.Query.{Query}
-use Rattle.ra_labels.specs.declared.operation.Query.TheVariants.{Count, Last, LwwRead}
+use Rattle.ra_labels.specs.declared.operation.Query.TheVariants.{Count, Last, LwwRead, ReadIds, OrRead, RgaRead}
 use Rattle.ra_labels.specs.declared.label.Label.{Label}
 
 -- which part of its label: all of it, or one of two halves
@@ -34,6 +34,12 @@ acts_of (op.Last value) = (Whole, Asks (Last value)) ∷ []
 acts_of (op.LwwAdd x) = (Whole, Does (LwwAdd x)) ∷ []
 acts_of (op.LwwRemove x) = (Whole, Does (LwwRemove x)) ∷ []
 acts_of (op.LwwRead list) = (Whole, Asks (LwwRead list)) ∷ []
+acts_of (op.OrAdd x id) = (Whole, Does (OrAdd x id)) ∷ []
+acts_of (op.OrRemove x ids) = (QueryHalf, Asks (ReadIds x ids)) ∷ (UpdateHalf, Does (TakeOut x ids)) ∷ []
+acts_of (op.OrRead list) = (Whole, Asks (OrRead list)) ∷ []
+acts_of (op.After anchor x) = (Whole, Does (After anchor x)) ∷ []
+acts_of (op.RgaRemove x) = (Whole, Does (RgaRemove x)) ∷ []
+acts_of (op.RgaRead list) = (Whole, Asks (RgaRead list)) ∷ []
 
 abbrev pub part_of : Label → Half × Act → Part
 part_of from act = record { label = from; half = act.0; act = act.1 }

@@ -1,16 +1,17 @@
 -- The sequential specification of each kind: a state at first, a partial step for each update, and a yes or
 -- no for each query.
-use Rattle.std.specs.Prelude.{ℕ, ℤ, pos, ◌+ℤ◌, ◌-ℤ◌, ◌==◌, Bool, false, not, List, [], Option, Some, None, filter, option_and_then, fold, is_some}
+use Rattle.std.specs.Prelude.{ℕ, ℤ, pos, ◌+ℤ◌, ◌-ℤ◌, ◌==◌, nat_eq, Bool, false, not, ◌&&◌, List, [], ◌∷◌, Option, Some, None, filter, option_and_then, fold, is_some, if◌then◌else◌}
 use Rattle.std.specs.Option.{option_map_or, option_eq}
 use Rattle.std.specs.Ordering.{int_eq, nat_cmp}
+use Rattle.std.specs.Cmp.Lexicographic.{pointwise}
 use Rattle.std.specs.BTreeSet.{insert_key}
 use Rattle.ra_labels.specs.declared.kind.Kind.{Kind}
-use Rattle.ra_labels.specs.declared.kind.Kind.TheVariants.{Counter, Register, LwwSet}
+use Rattle.ra_labels.specs.declared.kind.Kind.TheVariants.{Counter, Register, LwwSet, OrSet, Rga}
 use Rattle.ra_labels.specs.declared.operation.Update.{Update}
-use Rattle.ra_labels.specs.declared.operation.Update.TheVariants.{Inc, Dec, Write, LwwAdd, LwwRemove}
+use Rattle.ra_labels.specs.declared.operation.Update.TheVariants.{Inc, Dec, Write, LwwAdd, LwwRemove, OrAdd, TakeOut, After, RgaRemove}
 use Rattle.ra_labels.specs.declared.operation.Query.{Query}
-use Rattle.ra_labels.specs.declared.operation.Query.TheVariants.{Count, Last, LwwRead}
-use Rattle.ra_labels.specs.Lists.{have_same}
+use Rattle.ra_labels.specs.declared.operation.Query.TheVariants.{Count, Last, LwwRead, ReadIds, OrRead, RgaRead}
+use Rattle.ra_labels.specs.Lists.{have_same, pair_cmp, identifiers_of, elements_of, without_pairs, is_in_list, insert_after, hide, shown}
 
 -- what the updates made
 pub data State : Type 0 where
@@ -18,14 +19,20 @@ pub data State : Type 0 where
   Number : ℤ → State
   -- of a register, the value that was written last
   Written : Option ℕ → State
-  -- of a set, its elements, rising
+  -- of an LWW set, its elements, rising
   Members : List ℕ → State
+  -- of an OR-Set, its pairs of an element and an identifier, rising
+  Pairs : List (ℕ × ℕ) → State
+  -- of an RGA, its elements in their order, the root 0 first, each with whether a read shows it
+  Listed : List (ℕ × Bool) → State
 
 -- before any update
 abbrev pub start_of : Kind → State
 start_of Counter = Number (pos 0)
 start_of Register = Written None
 start_of LwwSet = Members []
+start_of OrSet = Pairs []
+start_of Rga = Listed ((0, false) ∷ [])
 
 -- the state after the update; none where the state does not admit it
 abbrev pub step_of : State → Update → Option State
@@ -34,6 +41,12 @@ step_of (Number n) Dec = Some (Number (n -ℤ pos 1))
 step_of (Written last) (Write value) = Some (Written (Some value))
 step_of (Members xs) (LwwAdd x) = Some (Members (insert_key nat_cmp xs x))
 step_of (Members xs) (LwwRemove x) = Some (Members (filter (λ y. not (x == y)) xs))
+step_of (Pairs pairs) (OrAdd x id) = Some (Pairs (insert_key pair_cmp pairs (x, id)))
+step_of (Pairs pairs) (TakeOut x ids) = Some (Pairs (without_pairs x ids pairs))
+step_of (Listed list) (After anchor x) =
+    if is_in_list anchor list && not (is_in_list x list) then Some (Listed (insert_after anchor x list)) else None
+step_of (Listed list) (RgaRemove x) =
+    if is_in_list x list && not (x == 0) then Some (Listed (hide x list)) else None
 step_of _ _ = None
 
 -- is the query's answer that of the state?
@@ -41,6 +54,9 @@ abbrev pub answers : State → Query → Bool
 answers (Number n) (Count v) = int_eq v n
 answers (Written last) (Last value) = option_eq (λ v w. v == w) value last
 answers (Members xs) (LwwRead list) = have_same list xs
+answers (Pairs pairs) (ReadIds x ids) = have_same ids (identifiers_of x pairs)
+answers (Pairs pairs) (OrRead list) = have_same list (elements_of pairs)
+answers (Listed entries) (RgaRead list) = pointwise nat_eq list (shown entries)
 answers _ _ = false
 
 -- the state after the updates, in this order; none from the first on that is not admitted

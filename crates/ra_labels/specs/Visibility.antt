@@ -3,7 +3,7 @@ use Rattle.std.specs.Prelude.{◌≡◌, ℕ, ◌==◌, Bool, true, false, not, 
 use Rattle.std.specs.Option.{option_map_or}
 use Rattle.std.specs.List.{find, range_with_len}
 use Rattle.ra_labels.specs.declared.operation.Op.{Op}
-use Rattle.ra_labels.specs.declared.operation.Op.TheVariants.{Inc, Dec, Count, Write, Last, LwwAdd, LwwRemove, LwwRead}
+use Rattle.ra_labels.specs.declared.operation.Op.TheVariants.{Inc, Dec, Count, Write, Last, LwwAdd, LwwRemove, LwwRead, OrAdd, OrRemove, OrRead, After, RgaRemove, RgaRead}
 use Rattle.ra_labels.specs.declared.command.Command.TheVariants.{Operate, Deliver}
 use Rattle.ra_labels.specs.Records.{Records, label_count, label_at}
 
@@ -17,6 +17,12 @@ is_update (Last value) = false
 is_update (LwwAdd x) = true
 is_update (LwwRemove x) = true
 is_update (LwwRead list) = false
+is_update (OrAdd x id) = true
+is_update (OrRemove x ids) = true
+is_update (OrRead list) = false
+is_update (After anchor x) = true
+is_update (RgaRemove x) = true
+is_update (RgaRead list) = false
 
 -- is label n there, and an update?
 abbrev pub is_update_at : Records → ℕ → Bool

@@ -19,6 +19,33 @@ pub enum Op {
     LwwRemove(u32),
     /// LWW set: a read, which returned these elements.
     LwwRead(Elements),
+    /// OR-Set: this element is put in, under an identifier that no other addition has.
+    OrAdd {
+        /// The element.
+        element: u32,
+        /// The addition's identifier.
+        id: u32,
+    },
+    /// OR-Set: this element is taken out as far as it was there, which returned the identifiers that it was there under.
+    OrRemove {
+        /// The element.
+        element: u32,
+        /// The identifiers of the additions that are taken out.
+        ids: Elements,
+    },
+    /// OR-Set: a read, which returned these elements.
+    OrRead(Elements),
+    /// RGA: an element is put directly behind another one.
+    After {
+        /// The element that is there, or 0, behind which the list begins.
+        anchor: u32,
+        /// The new element.
+        element: u32,
+    },
+    /// RGA: this element is shown no more. It keeps its place.
+    RgaRemove(u32),
+    /// RGA: a read, which returned these elements in this order.
+    RgaRead(Elements),
 }
 
 /// What an operation does to the state of the sequential specification.
@@ -34,6 +61,29 @@ pub enum Update {
     LwwAdd(u32),
     /// LWW set: this element is taken out, if it is in.
     LwwRemove(u32),
+    /// OR-Set: the element is put in under this identifier.
+    OrAdd {
+        /// The element.
+        element: u32,
+        /// The addition's identifier.
+        id: u32,
+    },
+    /// OR-Set: what the element is there under of these identifiers is taken out.
+    TakeOut {
+        /// The element.
+        element: u32,
+        /// The identifiers.
+        ids: Elements,
+    },
+    /// RGA: an element is put directly behind another one.
+    After {
+        /// The element that is there, or 0, behind which the list begins.
+        anchor: u32,
+        /// The new element.
+        element: u32,
+    },
+    /// RGA: this element is shown no more.
+    RgaRemove(u32),
 }
 
 /// What an operation asks of the state of the sequential specification, with the answer that it got.
@@ -45,4 +95,15 @@ pub enum Query {
     Last(Option<u32>),
     /// LWW set: the elements.
     LwwRead(Elements),
+    /// OR-Set: the identifiers that an element is there under.
+    ReadIds {
+        /// The element.
+        element: u32,
+        /// The identifiers.
+        ids: Elements,
+    },
+    /// OR-Set: the elements.
+    OrRead(Elements),
+    /// RGA: the elements that are shown, in their order.
+    RgaRead(Elements),
 }

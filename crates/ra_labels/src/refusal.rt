@@ -69,6 +69,8 @@ fn kind_of(op: &Op) -> Kind
         Op::Inc | Op::Dec | Op::Count(_) => Kind::Counter,
         Op::Write(_) | Op::Last(_) => Kind::Register,
         Op::LwwAdd(_) | Op::LwwRemove(_) | Op::LwwRead(_) => Kind::LwwSet,
+        Op::OrAdd { .. } | Op::OrRemove { .. } | Op::OrRead(_) => Kind::OrSet,
+        Op::After { .. } | Op::RgaRemove(_) | Op::RgaRead(_) => Kind::Rga,
     }
 }
 
@@ -76,7 +78,8 @@ fn has_rising_list(op: &Op) -> bool
     ensures { result ≡ has_rising_list op.now }
 {
     match op {
-        Op::LwwRead(list) => rises(list.as_slice()),
+        Op::LwwRead(list) | Op::OrRead(list) => rises(list.as_slice()),
+        Op::OrRemove { ids, .. } => rises(ids.as_slice()),
         _ => true,
     }
 }
@@ -91,7 +94,12 @@ fn carries_stamp(op: &Op) -> bool
     ensures { result ≡ carries_stamp op.now }
 {
     match op {
-        Op::Write(_) | Op::LwwAdd(_) | Op::LwwRemove(_) => true,
+        Op::Write(_) | Op::LwwAdd(_) | Op::LwwRemove(_) | Op::After { .. } => true,
         Op::Inc | Op::Dec | Op::Count(_) | Op::Last(_) | Op::LwwRead(_) => false,
+        Op::OrAdd { .. }
+        | Op::OrRemove { .. }
+        | Op::OrRead(_)
+        | Op::RgaRemove(_)
+        | Op::RgaRead(_) => false,
     }
 }

@@ -5,7 +5,7 @@ ghost use Rattle.ra_labels.specs.declared.operation.Op.{Op};
 ghost use Rattle.ra_labels.specs.declared.command.Command.{Command};
 ghost use Rattle.ra_labels.specs.declared.command.Command.TheVariants.{Operate, Deliver, Verdict};
 ghost use Rattle.ra_labels.specs.declared.refusal.Refusal.{Refusal};
-ghost use Rattle.ra_labels.specs.declared.refusal.Refusal.TheVariants.{StampTaken, NotCausal};
+ghost use Rattle.ra_labels.specs.declared.refusal.Refusal.TheVariants.{StampTaken, IdTaken, NotCausal};
 ghost use Rattle.ra_labels.specs.declared.reply.Fault.{Fault};
 ghost use Rattle.ra_labels.specs.declared.reply.Reply.TheVariants as reply;
 ghost use Rattle.ra_labels.specs.Records.{Records};
@@ -13,7 +13,7 @@ ghost use Rattle.ra_labels.specs.Visibility.{is_update_at, IsCausal};
 ghost use Rattle.ra_labels.specs.Rewriting.{Part};
 ghost use Rattle.ra_labels.specs.Linearization.{IsRaLinearization};
 ghost use Rattle.ra_labels.specs.Fault.{fault_of};
-ghost use Rattle.ra_labels.specs.Answer.{no_at, kind_of, has_rising_list, misfit_of, comes_with_taken, refusal_of, refusal_of_delivery, answer_of, records_after, answers_to, records_after_all};
+ghost use Rattle.ra_labels.specs.Answer.{no_at, kind_of, has_rising_list, misfit_of, comes_with_taken, gives_taken, refusal_of, refusal_of_delivery, answer_of, records_after, answers_to, records_after_all};
 ghost use Rattle.ra_labels.specs.Laws.{ReplySays, IsCausalDelivery, IsNewUpdate, IsLeastMissing, HasItsClock, EachLabelFits};
 
 /// What each reply says of the records that the command meets, and of those that it leaves.
@@ -98,17 +98,29 @@ pub fn forms_that_deserve_no_refusal()
         ↔ ((kind_of op ≡ kind) × (has_rising_list op ≡ true) × HasItsClock op clock) }
 {}
 
-/// An operation of a replica that is there, whose form deserves no refusal, is refused exactly where its stamp is
-/// taken.
+/// An operation is refused for its stamp exactly where its replica is there, its form deserves no refusal, and its
+/// stamp is taken.
 pub fn operations_with_a_taken_stamp_are_refused()
-    ensures taken { (kind : Kind) (replicas : ℕ) (records : Records) (by : ℕ) (op : Op) (clock : Option ℕ)
+    ensures { (kind : Kind) (replicas : ℕ) (records : Records) (by : ℕ) (op : Op) (clock : Option ℕ)
         → (refusal_of kind replicas records (Operate by op clock) ≡ Some StampTaken)
         ↔ ((by < replicas) × (misfit_of kind (Operate by op clock) ≡ None)
         × (comes_with_taken records by clock ≡ true)) }
-    ensures accepted { (kind : Kind) (replicas : ℕ) (records : Records) (by : ℕ) (op : Op) (clock : Option ℕ)
+{}
+
+/// It is refused for its identifier exactly where, besides, its stamp is not taken and its identifier is.
+pub fn operations_with_a_taken_identifier_are_refused()
+    ensures { (kind : Kind) (replicas : ℕ) (records : Records) (by : ℕ) (op : Op) (clock : Option ℕ)
+        → (refusal_of kind replicas records (Operate by op clock) ≡ Some IdTaken)
+        ↔ ((by < replicas) × (misfit_of kind (Operate by op clock) ≡ None)
+        × (comes_with_taken records by clock ≡ false) × (gives_taken records op ≡ true)) }
+{}
+
+/// It is accepted exactly where neither is taken.
+pub fn operations_are_accepted_where_nothing_is_taken()
+    ensures { (kind : Kind) (replicas : ℕ) (records : Records) (by : ℕ) (op : Op) (clock : Option ℕ)
         → (refusal_of kind replicas records (Operate by op clock) ≡ None)
         ↔ ((by < replicas) × (misfit_of kind (Operate by op clock) ≡ None)
-        × (comes_with_taken records by clock ≡ false)) }
+        × (comes_with_taken records by clock ≡ false) × (gives_taken records op ≡ false)) }
 {}
 
 /// Each label fits its kind in the records that commands leave, from none on.

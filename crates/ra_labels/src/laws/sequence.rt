@@ -69,4 +69,6 @@ pub fn named_in_order_of_execution()
         → named_labels kind records ≡ reverse (labels_of records) }
     ensures counter { (records : Records) → named_sequence kind.Counter records
         ≡ flat_map parts_of (reverse (labels_of records)) }
+    ensures or_set { (records : Records) → named_sequence kind.OrSet records
+        ≡ flat_map parts_of (reverse (labels_of records)) }
 {}

@@ -3,6 +3,7 @@ ghost use Rattle.std.specs.Prelude.{◌≡◌, ◌↔◌, true, false, ℕ, ℤ,
 ghost use Rattle.std.specs.List.{list_all};
 ghost use Rattle.ra_labels.specs.declared.kind.Kind.{Kind};
 ghost use Rattle.ra_labels.specs.declared.kind.Kind.TheVariants as kind;
+ghost use Rattle.ra_labels.specs.declared.kind.Kind.TheVariants.{Rga};
 ghost use Rattle.ra_labels.specs.declared.operation.Op.{Op};
 ghost use Rattle.ra_labels.specs.declared.operation.Update.{Update};
 ghost use Rattle.ra_labels.specs.declared.operation.Update.TheVariants.{Write, LwwAdd, LwwRemove};
@@ -31,9 +32,11 @@ pub fn states_are_of_their_kind()
         → kind_of_state state ≡ kind }
 {}
 
-/// Updates are admitted exactly where they are of the kind.
+/// Updates are admitted only where they are of the kind. But for an RGA, they are wherever they are of it.
 pub fn updates_of_the_kind_are_admitted()
-    ensures { (kind : Kind) (updates : List Update)
+    ensures only { (kind : Kind) (updates : List Update) → is_admitted kind updates ≡ true
+        → list_all (λ update. is_kind kind (kind_of_update update)) updates ≡ true }
+    ensures exactly { (kind : Kind) (updates : List Update) → ¬ (kind ≡ Rga)
         → is_admitted kind updates ≡ list_all (λ update. is_kind kind (kind_of_update update)) updates }
 {}
 

@@ -28,13 +28,16 @@ pub fn a_timestamp_is_kept()
         → timestamp_of (later ++ records) label ≡ timestamp_of records label }
 {}
 
-/// Counters are sorted in order of execution, registers and LWW sets by timestamps.
+/// Counters and OR-Sets are sorted in order of execution, registers, LWW sets and RGAs by timestamps.
 pub fn each_kind_has_its_order()
     ensures counter { (records : Records) (label : Label) → rank_of kind.Counter records label ≡ lowest_rank }
     ensures register { (records : Records) (label : Label)
         → rank_of kind.Register records label ≡ timestamp_of records label }
     ensures lww_set { (records : Records) (label : Label)
         → rank_of kind.LwwSet records label ≡ timestamp_of records label }
+    ensures or_set { (records : Records) (label : Label) → rank_of kind.OrSet records label ≡ lowest_rank }
+    ensures rga { (records : Records) (label : Label)
+        → rank_of kind.Rga records label ≡ timestamp_of records label }
 {}
 
 /// A stamp is taken exactly where it is a label's own.

@@ -1,5 +1,8 @@
-use Rattle.ra_labels.proofs.TheLaws.{updates_of_the_kind_are_admitted}
+use Rattle.ra_labels.proofs.TheLaws.{updates_of_the_kind_are_admitted-only, updates_of_the_kind_are_admitted-exactly}
 use Rattle.ra_labels.proofs.laws.specification.updates_of_the_kind_are_admitted.Goals as goal
 
-pub returns : goal.returns
-returns c = updates_of_the_kind_are_admitted
+pub returns-clause-only : goal.returns-clause-only
+returns-clause-only c = updates_of_the_kind_are_admitted-only
+
+pub returns-clause-exactly : goal.returns-clause-exactly
+returns-clause-exactly c = updates_of_the_kind_are_admitted-exactly
