@@ -10,9 +10,9 @@ ghost use Rattle.ra_visibility.specs.Order.{numbers_in};
 ghost use Rattle.ra_monitor.specs.Fold.{labels_at, updates_within, includes, AllRise};
 ghost use Rattle.ra_seqspec.specs.Asked.{asks_rising};
 
-use crate::rewriting::parts;
 use crate::scope::Scope;
 use ra_labels::{Cause, Kind, Label, NoMemory, Query};
+use ra_rewrite::parts;
 use ra_seqspec::State;
 use ra_ticket::MOST_ENTRIES;
 use ra_visibility::{Seen, Tracker};
