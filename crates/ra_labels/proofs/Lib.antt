@@ -10,6 +10,8 @@ pub mod Places
 pub mod Unique
 pub mod OfKind
 pub mod Stepping
+pub mod Keys
+pub mod OrSets
 pub mod Counting
 pub mod Exactly
 pub mod Updates

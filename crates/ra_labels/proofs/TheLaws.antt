@@ -28,6 +28,8 @@ pub use Rattle.ra_labels.proofs.Counting.{state_after-nil as no_update_leaves_th
 pub use Rattle.ra_labels.proofs.Exactly.{answers-count as a_count_is_answered_where_it_is_the_number}
 pub use Rattle.ra_labels.proofs.Stepping.{state-of_kind as states_are_of_their_kind, admitted-only as updates_of_the_kind_are_admitted-only, admitted-of_kind as updates_of_the_kind_are_admitted-exactly, register-last as a_register_has_the_last_value-last, answers-last as a_last_value_is_answered_where_it_is_the_value, set-added as a_set_has_what_was_put_in_last-added, set-removed as a_set_has_what_was_put_in_last-removed, set-never as a_set_has_what_was_put_in_last-never, set-rises as a_set_has_what_was_put_in_last-rises, answers-elements as elements_are_answered_where_they_are_the_same}
 pub use Rattle.ra_labels.proofs.OfKind.{answers-of_kind as queries_of_another_kind_are_answered_no, acts-of_kind as parts_are_of_their_kind}
+-- laws::or_set
+pub use Rattle.ra_labels.proofs.OrSets.{pair_below as pairs_by_element_and_then_by_identifier-less, pair_same as pairs_by_element_and_then_by_identifier-equal, pairs-exactly as an_or_set_has_what_was_added_and_stays-pairs, pairs-rise as an_or_set_has_what_was_added_and_stays-rises, added-exactly as an_addition_adds_its_pair, taken_out-exactly as a_removal_takes_out_only_what_it_names, answers-ids as identifiers_are_answered_where_they_are_the_elements, answers-pairs as elements_are_answered_where_they_are_paired}
 -- laws::lists
 pub use Rattle.ra_labels.proofs.Lists.{rises-exactly as a_list_rises_where_each_is_below_the_later-places, rises-sorted as a_list_rises_where_each_is_below_the_later-sorted, same-exactly as lists_have_the_same_elements-elements, rising-same as lists_have_the_same_elements-rising}
 -- laws::records

@@ -1,5 +1,5 @@
 -- Words of the laws above the definitions.
-use Rattle.std.specs.Prelude.{◌≡◌, ℕ, zero, suc, ◌<◌, ◌≤◌, ◌⊎◌, ◌==◌, nat_lt, Bool, true, false, not, List, [], ◌∷◌, ◌++◌, Contains, Option, Some, None, option_map}
+use Rattle.std.specs.Prelude.{◌≡◌, ℕ, zero, suc, ◌<◌, ◌≤◌, ◌⊎◌, ◌==◌, nat_lt, Bool, true, false, not, ◌&&◌, List, [], ◌∷◌, ◌++◌, Contains, Option, Some, None, option_map}
 use Rattle.std.specs.List.{list_all}
 use Rattle.ra_labels.specs.declared.kind.Kind.{Kind}
 use Rattle.ra_labels.specs.declared.kind.Kind.TheVariants.{Counter, Register, LwwSet, OrSet, Rga}
@@ -15,6 +15,7 @@ use Rattle.ra_labels.specs.declared.command.Command.TheVariants.{Operate, Delive
 use Rattle.ra_labels.specs.declared.reply.Fault.{Fault}
 use Rattle.ra_labels.specs.declared.reply.Reply.{Reply}
 use Rattle.ra_labels.specs.declared.reply.Reply.TheVariants as reply
+use Rattle.ra_labels.specs.Lists.{is_among}
 use Rattle.ra_labels.specs.Specification.{State, Number, Written, Members, Pairs, Listed, answers, state_after}
 use Rattle.ra_labels.specs.Records.{Records, label_count, labels_of, replica_count, stamp_at, records_to}
 use Rattle.ra_labels.specs.Visibility.{is_update, is_update_at, had, sees}
@@ -63,6 +64,19 @@ acts_on x _ = false
 
 abbrev pub NoneActsOn : ℕ → List Update → Type 0
 NoneActsOn x updates = list_all (λ update. not (acts_on x update)) updates ≡ true
+
+-- does the update take out the pair of the element and the identifier?
+abbrev pub takes_out : ℕ → ℕ → Update → Bool
+takes_out x id (TakeOut y ids) = y == x && is_among id ids
+takes_out x id _ = false
+
+abbrev pub NoneTakesOut : ℕ → ℕ → List Update → Type 0
+NoneTakesOut x id updates = list_all (λ update. not (takes_out x id update)) updates ≡ true
+
+-- the pair was added, and not taken out since
+abbrev pub WasAddedAndStays : ℕ → ℕ → List Update → Type 0
+WasAddedAndStays x id updates =
+    (first later : List Update) × (updates ≡ first ++ OrAdd x id ∷ later) × NoneTakesOut x id later
 
 -- the updates lead to a state, and the query is answered yes there
 abbrev pub IsAnsweredAfter : Kind → List Update → Query → Type 0

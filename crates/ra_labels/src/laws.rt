@@ -5,6 +5,7 @@ pub mod counts;
 pub mod fault;
 pub mod linearization;
 pub mod lists;
+pub mod or_set;
 pub mod records;
 pub mod sequence;
 pub mod specification;
