@@ -1,6 +1,6 @@
 -- The fold of the updates of labels, label by label.
 use Rattle.std.proofs.Common.{◌≡◌, ℕ, ◌+◌, ◌<◌, ◌≤◌, pos, neg_ℤ, ◌≤ℤ◌, Bool, true, false, cond, List, [], ◌∷◌, ◌++◌, map, length, get_or, take, drop, Option, Some, None, refl, sym, ap, ◌∙◌, subst, arith}
-use Rattle.std.specs.Prelude.{filter, filter_map, flat_map, fold, option_and_then, IfSome}
+use Rattle.std.specs.Prelude.{◌==◌, ◌&&◌, not, if◌then◌else◌, filter, filter_map, flat_map, fold, option_and_then, IfSome}
 use Rattle.std.specs.List.{cons_option, slice_get}
 use Rattle.std.proofs.lemmas.Int.{ints}
 use Rattle.std.proofs.lemmas.List.{append-nil, take_more, take-append-drop}
@@ -9,8 +9,9 @@ use Rattle.std.proofs.lemmas.Grind.{flat_map-append}
 use Rattle.ra_labels.specs.declared.kind.Kind.{Kind}
 use Rattle.ra_labels.specs.declared.label.Label.{Label}
 use Rattle.ra_labels.specs.declared.operation.Update.{Update}
-use Rattle.ra_labels.specs.declared.operation.Update.TheVariants.{Inc, Dec, Write, LwwAdd, LwwRemove}
-use Rattle.ra_labels.specs.Specification.{State, Number, Written, Members, start_of, step_of, state_after}
+use Rattle.ra_labels.specs.declared.operation.Update.TheVariants.{Inc, Dec, Write, LwwAdd, LwwRemove, OrAdd, TakeOut, After, RgaRemove}
+use Rattle.ra_labels.specs.Lists.{is_in_list, insert_after, hide}
+use Rattle.ra_labels.specs.Specification.{State, Number, Written, Members, Pairs, Listed, start_of, step_of, state_after}
 use Rattle.ra_labels.specs.Rewriting.{Half, Act, Part, acts_of, part_of, parts_of, update_of, updates_of}
 use Rattle.ra_seqspec.specs.Range.{IsInRange}
 use Rattle.ra_monitor.specs.Fold.{updates_in, labels_at, updates_within}
@@ -20,6 +21,13 @@ abbrev pub IsWithin : ℕ → State → Type 0
 IsWithin n (Number z) = (neg_ℤ (pos n) ≤ℤ z) × (z ≤ℤ pos n)
 IsWithin n (Written last) = Unit {0}
 IsWithin n (Members xs) = Unit {0}
+IsWithin n (Pairs pairs) = Unit {0}
+IsWithin n (Listed list) = Unit {0}
+
+-- a list is no number
+listed_within : (n : ℕ) (b : Bool) (list : List (ℕ × Bool)) → IfSome (if b then Some (Listed list) else None) (IsWithin n)
+listed_within n true list = tt
+listed_within n false list = tt
 
 -- one step moves it by at most one
 stepped_within : (n : ℕ) (s : State) (u : Update) → IsWithin n s → IfSome (step_of s u) (IsWithin (n + 1))
@@ -28,16 +36,46 @@ stepped_within n (Number z) Dec h = (omega (arith, ints), omega (arith, ints))
 stepped_within n (Number z) (Write value) h = tt
 stepped_within n (Number z) (LwwAdd x) h = tt
 stepped_within n (Number z) (LwwRemove x) h = tt
+stepped_within n (Number z) (OrAdd x id) h = tt
+stepped_within n (Number z) (TakeOut x ids) h = tt
+stepped_within n (Number z) (After anchor x) h = tt
+stepped_within n (Number z) (RgaRemove x) h = tt
 stepped_within n (Written last) Inc h = tt
 stepped_within n (Written last) Dec h = tt
 stepped_within n (Written last) (Write value) h = tt
 stepped_within n (Written last) (LwwAdd x) h = tt
 stepped_within n (Written last) (LwwRemove x) h = tt
+stepped_within n (Written last) (OrAdd x id) h = tt
+stepped_within n (Written last) (TakeOut x ids) h = tt
+stepped_within n (Written last) (After anchor x) h = tt
+stepped_within n (Written last) (RgaRemove x) h = tt
 stepped_within n (Members xs) Inc h = tt
 stepped_within n (Members xs) Dec h = tt
 stepped_within n (Members xs) (Write value) h = tt
 stepped_within n (Members xs) (LwwAdd x) h = tt
 stepped_within n (Members xs) (LwwRemove x) h = tt
+stepped_within n (Members xs) (OrAdd x id) h = tt
+stepped_within n (Members xs) (TakeOut x ids) h = tt
+stepped_within n (Members xs) (After anchor x) h = tt
+stepped_within n (Members xs) (RgaRemove x) h = tt
+stepped_within n (Pairs pairs) Inc h = tt
+stepped_within n (Pairs pairs) Dec h = tt
+stepped_within n (Pairs pairs) (Write value) h = tt
+stepped_within n (Pairs pairs) (LwwAdd x) h = tt
+stepped_within n (Pairs pairs) (LwwRemove x) h = tt
+stepped_within n (Pairs pairs) (OrAdd x id) h = tt
+stepped_within n (Pairs pairs) (TakeOut x ids) h = tt
+stepped_within n (Pairs pairs) (After anchor x) h = tt
+stepped_within n (Pairs pairs) (RgaRemove x) h = tt
+stepped_within n (Listed list) Inc h = tt
+stepped_within n (Listed list) Dec h = tt
+stepped_within n (Listed list) (Write value) h = tt
+stepped_within n (Listed list) (LwwAdd x) h = tt
+stepped_within n (Listed list) (LwwRemove x) h = tt
+stepped_within n (Listed list) (OrAdd x id) h = tt
+stepped_within n (Listed list) (TakeOut x ids) h = tt
+stepped_within n (Listed list) (After anchor x) h = listed_within (n + 1) (is_in_list anchor list && not (is_in_list x list)) (insert_after anchor x list)
+stepped_within n (Listed list) (RgaRemove x) h = listed_within (n + 1) (is_in_list x list && not (x == 0)) (hide x list)
 
 pub step_within : (n : ℕ) (s t : State) (u : Update) → IsWithin n s → step_of s u ≡ Some t → IsWithin (n + 1) t
 step_within n s t u h e = subst (λ (o : Option State). IfSome o (IsWithin (n + 1))) e (stepped_within n s u h)
@@ -46,6 +84,8 @@ pub in_range : (n : ℕ) (s : State) → IsWithin n s → n ≤ 1048576 → IsIn
 in_range n (Number z) h l = (omega (arith, ints), omega (arith, ints))
 in_range n (Written last) h l = tt
 in_range n (Members xs) h l = tt
+in_range n (Pairs pairs) h l = tt
+in_range n (Listed list) h l = tt
 
 all_in_range : (n : ℕ) (o : Option State) → IfSome o (IsWithin n) → n ≤ 1048576 → IfSome o IsInRange
 all_in_range n None h l = tt
@@ -58,6 +98,8 @@ pub within_more : (n : ℕ) (s : State) → IsWithin n s → IsWithin (n + 1) s
 within_more n (Number z) h = (omega (arith, ints), omega (arith, ints))
 within_more n (Written last) h = tt
 within_more n (Members xs) h = tt
+within_more n (Pairs pairs) h = tt
+within_more n (Listed list) h = tt
 
 -- the parts of one label are let through together
 pub filter_one : (test : ℕ → Bool) (l : Label) (acts : List (Half × Act)) (b : Bool) → test l.number ≡ b
