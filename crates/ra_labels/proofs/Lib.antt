@@ -12,6 +12,7 @@ pub mod OfKind
 pub mod Stepping
 pub mod Keys
 pub mod OrSets
+pub mod Rgas
 pub mod Counting
 pub mod Exactly
 pub mod Updates

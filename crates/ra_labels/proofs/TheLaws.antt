@@ -1,6 +1,6 @@
 -- The laws of the definitions, under the names of the functions whose clauses they are: of a law with several clauses,
 -- LAW-CLAUSE. The crates above cite these, and no other file of this folder.
-use Rattle.std.proofs.Common.{◌≡◌, ℕ, ◌<◌, true, List, [], Some, None, ap, refl}
+use Rattle.std.proofs.Common.{◌≡◌, ℕ, ◌<◌, true, false, List, [], ◌∷◌, Some, None, ap, refl}
 use Rattle.std.specs.Prelude.{◌↔◌, flat_map, reverse}
 use Rattle.ra_labels.specs.declared.kind.Kind.{Kind}
 use Rattle.ra_labels.specs.declared.kind.Kind.TheVariants.{Counter, Register, LwwSet, OrSet, Rga}
@@ -11,6 +11,7 @@ use Rattle.ra_labels.specs.contracts.label.StampOrd.TheImpl as derived
 use Rattle.ra_labels.specs.declared.command.Command.{Command}
 use Rattle.ra_labels.specs.declared.command.Command.TheVariants.{Deliver, Verdict}
 use Rattle.ra_labels.specs.declared.reply.Fault.{Fault}
+use Rattle.ra_labels.specs.Lists.{shown}
 use Rattle.ra_labels.specs.Specification.{Written, state_after}
 use Rattle.ra_labels.specs.Records.{Records, label_count, next_label, replica_count, records_to, labels_of}
 use Rattle.ra_labels.specs.Visibility.{is_update_at, sees, IsCausal}
@@ -30,6 +31,8 @@ pub use Rattle.ra_labels.proofs.Stepping.{state-of_kind as states_are_of_their_k
 pub use Rattle.ra_labels.proofs.OfKind.{answers-of_kind as queries_of_another_kind_are_answered_no, acts-of_kind as parts_are_of_their_kind}
 -- laws::or_set
 pub use Rattle.ra_labels.proofs.OrSets.{pair_below as pairs_by_element_and_then_by_identifier-less, pair_same as pairs_by_element_and_then_by_identifier-equal, pairs-exactly as an_or_set_has_what_was_added_and_stays-pairs, pairs-rise as an_or_set_has_what_was_added_and_stays-rises, added-exactly as an_addition_adds_its_pair, taken_out-exactly as a_removal_takes_out_only_what_it_names, answers-ids as identifiers_are_answered_where_they_are_the_elements, answers-pairs as elements_are_answered_where_they_are_paired}
+-- laws::rga
+pub use Rattle.ra_labels.proofs.Rgas.{after-admitted as an_element_is_put_behind_one_that_is_there-admitted, after-puts as an_element_is_put_behind_one_that_is_there-behind, removed-admitted as an_element_is_removed_that_is_there-admitted, removed-places as an_element_is_removed_that_is_there-places, removed-shown as an_element_is_removed_that_is_there-shown, removed-anchor as a_removed_element_stays-anchor, removed-again as a_removed_element_stays-again, removed-twice as a_removed_element_stays-twice, list-exactly as a_list_has_what_was_put_in-elements, list-shown as a_list_has_what_was_put_in-shown, list-root as a_list_has_what_was_put_in-root, list-once as a_list_has_what_was_put_in-once, list-stays as a_list_has_what_was_put_in-stays, shown-append as elements_are_shown_in_their_order-all, answers-shown as a_list_is_answered_where_it_is_shown}
 -- laws::lists
 pub use Rattle.ra_labels.proofs.Lists.{rises-exactly as a_list_rises_where_each_is_below_the_later-places, rises-sorted as a_list_rises_where_each_is_below_the_later-sorted, same-exactly as lists_have_the_same_elements-elements, rising-same as lists_have_the_same_elements-rising}
 -- laws::records
@@ -60,6 +63,12 @@ pub use Rattle.ra_labels.proofs.Missing.{not_causal-exactly as not_causal_where_
 
 pub a_register_has_the_last_value-none : state_after Register [] ≡ Some (Written None)
 a_register_has_the_last_value-none = refl
+
+pub elements_are_shown_in_their_order-one : (x : ℕ) → shown ((x, true) ∷ []) ≡ x ∷ []
+elements_are_shown_in_their_order-one x = refl
+
+pub elements_are_shown_in_their_order-hidden : (x : ℕ) → shown ((x, false) ∷ []) ≡ []
+elements_are_shown_in_their_order-hidden x = refl
 
 pub no_command_adds_a_replica : (first : ℕ) (records : Records) → replica_count first records ≡ first
 no_command_adds_a_replica first records = refl

@@ -1,5 +1,5 @@
 -- Words of the laws above the definitions.
-use Rattle.std.specs.Prelude.{◌≡◌, ℕ, zero, suc, ◌<◌, ◌≤◌, ◌⊎◌, ◌==◌, nat_lt, Bool, true, false, not, ◌&&◌, List, [], ◌∷◌, ◌++◌, Contains, Option, Some, None, option_map}
+use Rattle.std.specs.Prelude.{◌≡◌, ℕ, zero, suc, ◌<◌, ◌≤◌, ◌⊎◌, ◌==◌, nat_lt, Bool, true, false, not, ◌&&◌, List, [], ◌∷◌, ◌++◌, Contains, map, Option, Some, None, option_map}
 use Rattle.std.specs.List.{list_all}
 use Rattle.ra_labels.specs.declared.kind.Kind.{Kind}
 use Rattle.ra_labels.specs.declared.kind.Kind.TheVariants.{Counter, Register, LwwSet, OrSet, Rga}
@@ -77,6 +77,24 @@ NoneTakesOut x id updates = list_all (λ update. not (takes_out x id update)) up
 abbrev pub WasAddedAndStays : ℕ → ℕ → List Update → Type 0
 WasAddedAndStays x id updates =
     (first later : List Update) × (updates ≡ first ++ OrAdd x id ∷ later) × NoneTakesOut x id later
+
+-- the elements of an RGA's list, in their order, shown or not
+abbrev pub elements_in : List (ℕ × Bool) → List ℕ
+elements_in list = map (λ entry. entry.0) list
+
+-- the root stands first, and is not shown
+abbrev pub RootFirst : List (ℕ × Bool) → Type 0
+RootFirst list = (rest : List (ℕ × Bool)) × (list ≡ (0, false) ∷ rest)
+
+-- the next list is this one with x, shown, directly behind the anchor
+abbrev pub IsPutBehind : ℕ → ℕ → List (ℕ × Bool) → List (ℕ × Bool) → Type 0
+IsPutBehind anchor x list next =
+    (before behind : List (ℕ × Bool)) × (is_shown : Bool) × (list ≡ before ++ (anchor, is_shown) ∷ behind)
+    × (next ≡ before ++ (anchor, is_shown) ∷ (x, true) ∷ behind)
+
+-- one of the updates puts the element in
+abbrev pub WasPutIn : ℕ → List Update → Type 0
+WasPutIn x updates = (anchor : ℕ) × Contains updates (After anchor x)
 
 -- the updates lead to a state, and the query is answered yes there
 abbrev pub IsAnsweredAfter : Kind → List Update → Query → Type 0

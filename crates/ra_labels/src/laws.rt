@@ -7,6 +7,7 @@ pub mod linearization;
 pub mod lists;
 pub mod or_set;
 pub mod records;
+pub mod rga;
 pub mod sequence;
 pub mod specification;
 pub mod timestamps;
