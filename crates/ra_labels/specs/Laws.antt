@@ -4,6 +4,7 @@ use Rattle.std.specs.List.{list_all}
 use Rattle.ra_labels.specs.declared.kind.Kind.{Kind}
 use Rattle.ra_labels.specs.declared.kind.Kind.TheVariants.{Counter, Register, LwwSet, OrSet, Rga}
 use Rattle.ra_labels.specs.declared.operation.Op.{Op}
+use Rattle.ra_labels.specs.declared.operation.Op.TheVariants as op
 use Rattle.ra_labels.specs.declared.operation.Update.{Update}
 use Rattle.ra_labels.specs.declared.operation.Update.TheVariants.{Inc, Dec, Write, LwwAdd, LwwRemove, OrAdd, TakeOut, After, RgaRemove}
 use Rattle.ra_labels.specs.declared.operation.Query.{Query}
@@ -199,6 +200,19 @@ EachLabelFits kind replicas records =
 abbrev pub StampsAreOneLabels : Records → Type 0
 StampsAreOneLabels records = (l m : Label) (stamp : Stamp) → Contains (labels_of records) l
     → Contains (labels_of records) m → l.stamp ≡ Some stamp → m.stamp ≡ Some stamp → l ≡ m
+
+-- the operation gives an identifier to an element
+abbrev pub Gives : Op → ℕ → Type 0
+Gives operation id = (x : ℕ) × (operation ≡ op.OrAdd x id)
+
+-- an identifier that a label gave
+abbrev pub IsOwnIdentifier : Records → ℕ → Type 0
+IsOwnIdentifier records id = (label : Label) × Contains (labels_of records) label × Gives label.op id
+
+-- no two labels gave one identifier
+abbrev pub IdentifiersAreOneLabels : Records → Type 0
+IdentifiersAreOneLabels records = (l m : Label) (id : ℕ) → Contains (labels_of records) l
+    → Contains (labels_of records) m → Gives l.op id → Gives m.op id → l ≡ m
 
 -- n - 1, .., 1, 0
 abbrev pub numbers_below : ℕ → List ℕ
