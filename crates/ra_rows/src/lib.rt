@@ -15,6 +15,8 @@ mod limits;
 #[cfg(test)]
 mod lock;
 #[cfg(test)]
+mod sizes;
+#[cfg(test)]
 mod timestamps;
 #[cfg(test)]
 mod visibility;
