@@ -21,6 +21,8 @@ mod or_sets;
 #[cfg(test)]
 mod rows;
 #[cfg(test)]
+mod sizes;
+#[cfg(test)]
 mod timestamps;
 #[cfg(test)]
 mod visibility;
