@@ -10,6 +10,11 @@ pub mod Places
 pub mod Unique
 pub mod OfKind
 pub mod Stepping
+pub mod Keys
+pub mod OrSets
+pub mod Rgas
+pub mod Showing
+pub mod Extending
 pub mod Counting
 pub mod Exactly
 pub mod Updates
@@ -17,4 +22,5 @@ pub mod FirstUpdates
 pub mod Missing
 pub mod Timestamps
 pub mod Stamps
+pub mod Identifiers
 pub mod TheLaws

@@ -63,14 +63,14 @@ named_labels-by_number kind records lowest =
     sort_by_number (label_cmp kind records) records (λ l m below. same_rank_above (rank_of kind records l) (rank_of kind records m) m.number l.number (lowest l) (lowest m) below)
 
 -- of two comparisons the first decides, and the second where that is a tie
-ranked_less : (m n j k : ℕ) (o p : Ordering) → MatchOrdering o (m < n) (m ≡ n) (n < m) → MatchOrdering p (j < k) (j ≡ k) (k < j) → (ordering_then o p ≡ Less) ↔ ((m < n) ⊎ ((m ≡ n) × (j < k)))
+pub ranked_less : (m n j k : ℕ) (o p : Ordering) → MatchOrdering o (m < n) (m ≡ n) (n < m) → MatchOrdering p (j < k) (j ≡ k) (k < j) → (ordering_then o p ≡ Less) ↔ ((m < n) ⊎ ((m ≡ n) × (j < k)))
 ranked_less m n j k Less p first second = (λ is. inl first, λ below. refl)
 ranked_less m n j k Equal Less first second = (λ is. inr (first, second), λ below. refl)
 ranked_less m n j k Equal Equal first second = (λ is. absurd (cc is), λ below. absurd (omega arith))
 ranked_less m n j k Equal Greater first second = (λ is. absurd (cc is), λ below. absurd (omega arith))
 ranked_less m n j k Greater p first second = (λ is. absurd (cc is), λ below. absurd (omega arith))
 
-ranked_same : (m n j k : ℕ) (o p : Ordering) → MatchOrdering o (m < n) (m ≡ n) (n < m) → MatchOrdering p (j < k) (j ≡ k) (k < j) → (ordering_then o p ≡ Equal) ↔ ((m ≡ n) × (j ≡ k))
+pub ranked_same : (m n j k : ℕ) (o p : Ordering) → MatchOrdering o (m < n) (m ≡ n) (n < m) → MatchOrdering p (j < k) (j ≡ k) (k < j) → (ordering_then o p ≡ Equal) ↔ ((m ≡ n) × (j ≡ k))
 ranked_same m n j k Less p first second = (λ is. absurd (cc is), λ same. absurd (omega arith))
 ranked_same m n j k Equal Less first second = (λ is. absurd (cc is), λ same. absurd (omega arith))
 ranked_same m n j k Equal Equal first second = (λ is. (first, second), λ same. refl)

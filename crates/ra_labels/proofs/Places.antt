@@ -1,7 +1,8 @@
 -- Where an element stands in a list.
-use Rattle.std.proofs.Common.{◌≡◌, zero, suc, Bool, true, List, [], ◌∷◌, ◌++◌, ap, inl, inr, arith}
-use Rattle.std.specs.Prelude.{◌⊎◌, Contains}
+use Rattle.std.proofs.Common.{◌≡◌, zero, suc, Bool, true, List, [], ◌∷◌, ◌++◌, filter, refl, sym, ap, ◌∙◌, subst, inl, inr, arith}
+use Rattle.std.specs.Prelude.{◌⊎◌, Contains, map}
 use Rattle.std.specs.List.{list_all}
+use Rattle.std.proofs.lemmas.Bool.{false≢true, cases_Bool, cond-true, cond-false}
 use Rattle.std.proofs.lemmas.List.Elements.{All-contains}
 use Rattle.std.proofs.lemmas.List.Sums.{AllPass-from_list_all}
 
@@ -21,3 +22,51 @@ split_at (x ∷ xs) y found = elim (Contains-cons_cases x xs y found) [
 -- an element passes a test that all pass
 pub list_all-contains : {A : Type 0} (p : A → Bool) (xs : List A) (y : A) → list_all p xs ≡ true → Contains xs y → p y ≡ true
 list_all-contains p xs y pass found = All-contains (λ x. p x ≡ true) xs y (AllPass-from_list_all p xs pass) found
+
+-- an element at the head, and one behind it
+pub at_head : {A : Type 0} (x : A) (xs : List A) (y : A) → x ≡ y → Contains (x ∷ xs) y
+at_head x xs y is = (zero, omega arith, is)
+
+pub behind_head : {A : Type 0} (x : A) (xs : List A) (y : A) → Contains xs y → Contains (x ∷ xs) y
+behind_head x xs y (k, within, is) = (suc k, omega arith, is)
+
+-- what a filter keeps
+pub kept-there : {A : Type 0} (p : A → Bool) (xs : List A) (y : A) → Contains xs y → p y ≡ true → Contains (filter p xs) y
+kept-there p [] y there passes = absurd (omega (arith, there.1))
+kept-there p (x ∷ xs) y there passes = elim (cases_Bool (p x)) [
+  | inl keeps ↦ subst (λ kept. Contains kept y) (sym (cond-true (p x) (x ∷ filter p xs) (filter p xs) keeps)) (elim (Contains-cons_cases x xs y there) [
+    | inl here ↦ at_head x (filter p xs) y here
+    | inr further ↦ behind_head x (filter p xs) y (kept-there p xs y further passes)
+  ])
+  | inr drops ↦ subst (λ kept. Contains kept y) (sym (cond-false (p x) (x ∷ filter p xs) (filter p xs) drops)) (elim (Contains-cons_cases x xs y there) [
+    | inl here ↦ absurd (false≢true (sym drops ∙ ap p here ∙ passes))
+    | inr further ↦ kept-there p xs y further passes
+  ])
+]
+
+pub there-kept : {A : Type 0} (p : A → Bool) (xs : List A) (y : A) → Contains (filter p xs) y → Contains xs y × (p y ≡ true)
+there-kept p [] y there = absurd (omega (arith, there.1))
+there-kept p (x ∷ xs) y there = elim (cases_Bool (p x)) [
+  | inl keeps ↦ elim (Contains-cons_cases x (filter p xs) y (subst (λ kept. Contains kept y) (cond-true (p x) (x ∷ filter p xs) (filter p xs) keeps) there)) [
+    | inl here ↦ (at_head x xs y here, sym (ap p here) ∙ keeps)
+    | inr further ↦ let rest = there-kept p xs y further in (behind_head x xs y rest.0, rest.1)
+  ]
+  | inr drops ↦
+      let rest = there-kept p xs y (subst (λ kept. Contains kept y) (cond-false (p x) (x ∷ filter p xs) (filter p xs) drops) there) in
+      (behind_head x xs y rest.0, rest.1)
+]
+
+-- what a map reaches
+pub reached : {A B : Type 0} (f : A → B) (xs : List A) (x : A) → Contains xs x → Contains (map f xs) (f x)
+reached f [] x there = absurd (omega (arith, there.1))
+reached f (y ∷ ys) x there = elim (Contains-cons_cases y ys x there) [
+  | inl here ↦ at_head (f y) (map f ys) (f x) (ap f here)
+  | inr further ↦ behind_head (f y) (map f ys) (f x) (reached f ys x further)
+]
+
+pub from_where : {A B : Type 0} (f : A → B) (xs : List A) (z : B) → Contains (map f xs) z → (x : A) × Contains xs x × (f x ≡ z)
+from_where f [] z there = absurd (omega (arith, there.1))
+from_where f (y ∷ ys) z there = elim (Contains-cons_cases (f y) (map f ys) z there) [
+  | inl here ↦ (y, at_head y ys y refl, here)
+  | inr further ↦ let rest = from_where f ys z further in (rest.0, behind_head y ys rest.0 rest.1, rest.2)
+]

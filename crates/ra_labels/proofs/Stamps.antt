@@ -26,17 +26,17 @@ use Rattle.ra_labels.proofs.Order.{stamp_same}
 use Rattle.ra_labels.proofs.OfKind.{kinds, same_kinds}
 
 -- an element that passes a test
-abbrev One : (Label → Bool) → List Label → Type 0
+abbrev pub One : (Label → Bool) → List Label → Type 0
 One p labels = (label : Label) × Contains labels label × (p label ≡ true)
 
-any_one : (p : Label → Bool) (labels : List Label) → list_any p labels ≡ true → One p labels
+pub any_one : (p : Label → Bool) (labels : List Label) → list_any p labels ≡ true → One p labels
 any_one p [] is = absurd (false≢true is)
 any_one p (first ∷ labels) is = elim (or_cases (p first) (list_any p labels) is) [
   | inl here ↦ (first, (zero, omega arith, refl), here)
   | inr further ↦ let rest = any_one p labels further in (rest.0, (suc rest.1.0, omega (arith, rest.1.1), rest.1.2), rest.2)
 ]
 
-one_any : (p : Label → Bool) (labels : List Label) (label : Label) → Contains labels label → p label ≡ true → list_any p labels ≡ true
+pub one_any : (p : Label → Bool) (labels : List Label) (label : Label) → Contains labels label → p label ≡ true → list_any p labels ≡ true
 one_any p [] label there passes = absurd (omega (arith, there.1))
 one_any p (first ∷ labels) label there passes = elim (Contains-cons_cases first labels label there) [
   | inl here ↦ or_left (p first) (list_any p labels) (ap p here ∙ passes)
@@ -178,14 +178,14 @@ not_some None is = refl
 not_some (Some x) is = absurd (false≢true (sym is))
 
 -- a property of the records that each command which is accepted keeps
-kept_by_answers : (P : Records → Type 0) (kind : Kind) (replicas : ℕ) → ((records : Records) (command : Command) → refusal_of kind replicas records command ≡ None → P records → P (with_accepted records command))
+pub kept_by_answers : (P : Records → Type 0) (kind : Kind) (replicas : ℕ) → ((records : Records) (command : Command) → refusal_of kind replicas records command ≡ None → P records → P (with_accepted records command))
     → (records : Records) (command : Command) → P records → P (records_after kind replicas records command)
 kept_by_answers P kind replicas keeps records command before =
     cond_both (is_some (fault_of kind records) || is_some (refusal_of kind replicas records command)) records (with_accepted records command) P
     (λ stays. before)
     (λ goes. keeps records command (not_some (refusal_of kind replicas records command) (or_parts (is_some (fault_of kind records)) (is_some (refusal_of kind replicas records command)) goes).1) before)
 
-kept_by_all : (P : Records → Type 0) (kind : Kind) (replicas : ℕ) → ((records : Records) (command : Command) → P records → P (records_after kind replicas records command))
+pub kept_by_all : (P : Records → Type 0) (kind : Kind) (replicas : ℕ) → ((records : Records) (command : Command) → P records → P (records_after kind replicas records command))
     → (records : Records) (commands : List Command) → P records → P (records_after_all kind replicas records commands)
 kept_by_all P kind replicas keeps records [] before = before
 kept_by_all P kind replicas keeps records (command ∷ commands) before =

@@ -1,6 +1,6 @@
 -- The laws of the definitions, under the names of the functions whose clauses they are: of a law with several clauses,
 -- LAW-CLAUSE. The crates above cite these, and no other file of this folder.
-use Rattle.std.proofs.Common.{◌≡◌, ℕ, ◌<◌, true, List, [], Some, None, ap, refl}
+use Rattle.std.proofs.Common.{◌≡◌, ℕ, ◌<◌, true, false, List, [], ◌∷◌, Some, None, ap, refl}
 use Rattle.std.specs.Prelude.{◌↔◌, flat_map, reverse}
 use Rattle.ra_labels.specs.declared.kind.Kind.{Kind}
 use Rattle.ra_labels.specs.declared.kind.Kind.TheVariants.{Counter, Register, LwwSet, OrSet, Rga}
@@ -11,6 +11,7 @@ use Rattle.ra_labels.specs.contracts.label.StampOrd.TheImpl as derived
 use Rattle.ra_labels.specs.declared.command.Command.{Command}
 use Rattle.ra_labels.specs.declared.command.Command.TheVariants.{Deliver, Verdict}
 use Rattle.ra_labels.specs.declared.reply.Fault.{Fault}
+use Rattle.ra_labels.specs.Lists.{shown}
 use Rattle.ra_labels.specs.Specification.{Written, state_after}
 use Rattle.ra_labels.specs.Records.{Records, label_count, next_label, replica_count, records_to, labels_of}
 use Rattle.ra_labels.specs.Visibility.{is_update_at, sees, IsCausal}
@@ -28,6 +29,11 @@ pub use Rattle.ra_labels.proofs.Counting.{state_after-nil as no_update_leaves_th
 pub use Rattle.ra_labels.proofs.Exactly.{answers-count as a_count_is_answered_where_it_is_the_number}
 pub use Rattle.ra_labels.proofs.Stepping.{state-of_kind as states_are_of_their_kind, admitted-only as updates_of_the_kind_are_admitted-only, admitted-of_kind as updates_of_the_kind_are_admitted-exactly, register-last as a_register_has_the_last_value-last, answers-last as a_last_value_is_answered_where_it_is_the_value, set-added as a_set_has_what_was_put_in_last-added, set-removed as a_set_has_what_was_put_in_last-removed, set-never as a_set_has_what_was_put_in_last-never, set-rises as a_set_has_what_was_put_in_last-rises, answers-elements as elements_are_answered_where_they_are_the_same}
 pub use Rattle.ra_labels.proofs.OfKind.{answers-of_kind as queries_of_another_kind_are_answered_no, acts-of_kind as parts_are_of_their_kind}
+-- laws::or_set
+pub use Rattle.ra_labels.proofs.OrSets.{pair_below as pairs_by_element_and_then_by_identifier-less, pair_same as pairs_by_element_and_then_by_identifier-equal, pairs-exactly as an_or_set_has_what_was_added_and_stays-pairs, pairs-rise as an_or_set_has_what_was_added_and_stays-rises, added-exactly as an_addition_adds_its_pair, taken_out-exactly as a_removal_takes_out_only_what_it_names, answers-ids as identifiers_are_answered_where_they_are_the_elements, answers-pairs as elements_are_answered_where_they_are_paired}
+-- laws::rga
+pub use Rattle.ra_labels.proofs.Rgas.{after-admitted as an_element_is_put_behind_one_that_is_there-admitted, after-puts as an_element_is_put_behind_one_that_is_there-behind, removed-admitted as an_element_is_removed_that_is_there-admitted, removed-places as an_element_is_removed_that_is_there-places, removed-shown as an_element_is_removed_that_is_there-shown, removed-anchor as a_removed_element_stays-anchor, removed-again as a_removed_element_stays-again, removed-twice as a_removed_element_stays-twice, list-exactly as a_list_has_what_was_put_in-elements, list-root as a_list_has_what_was_put_in-root, list-once as a_list_has_what_was_put_in-once, list-stays as a_list_has_what_was_put_in-stays, shown-append as elements_are_shown_in_their_order-all, answers-shown as a_list_is_answered_where_it_is_shown}
+pub use Rattle.ra_labels.proofs.Showing.{list-shown as a_list_has_what_was_put_in-shown}
 -- laws::lists
 pub use Rattle.ra_labels.proofs.Lists.{rises-exactly as a_list_rises_where_each_is_below_the_later-places, rises-sorted as a_list_rises_where_each_is_below_the_later-sorted, same-exactly as lists_have_the_same_elements-elements, rising-same as lists_have_the_same_elements-rising}
 -- laws::records
@@ -44,9 +50,12 @@ pub use Rattle.ra_labels.proofs.Numbers.{numbers_of_labels as labels_are_numbere
 pub use Rattle.ra_labels.proofs.Unique.{label_found as each_number_has_its_label-found, named_labels-only as the_order_is_pinned}
 pub use Rattle.ra_labels.proofs.Holding.{IsPermutation-named_sequence as each_part_once}
 pub use Rattle.ra_labels.proofs.Order.{stamp_below as stamps_by_clock_and_then_by_replica-less, stamp_same as stamps_by_clock_and_then_by_replica-equal, lowest_below as the_lowest_rank_is_below_each_stamp, label_below as labels_by_rank_and_then_by_number, IsPermutation-named_labels as named_labels_are_sorted-same, IsSorted-named_labels as named_labels_are_sorted-sorted, named_labels-by_number as named_in_order_of_execution-labels}
+pub use Rattle.ra_labels.proofs.Extending.{execution-extends as the_order_of_execution_extends_visibility-labels, counter-extends as the_order_of_execution_extends_visibility-counter, or_set-extends as the_order_of_execution_extends_visibility-or_set}
 -- laws::timestamps
 pub use Rattle.ra_labels.proofs.Timestamps.{timestamp-own as a_timestamp_is_the_greatest_seen-own, timestamp-reached as a_timestamp_is_the_greatest_seen-seen, timestamp-bounds as a_timestamp_is_the_greatest_seen-greatest, timestamp-append as a_timestamp_is_kept}
 pub use Rattle.ra_labels.proofs.Stamps.{taken-exactly as a_stamp_is_taken_where_a_label_has_it, stamps-once as stamps_are_given_once-one, stamps-once_all as stamps_are_given_once-all, fits-exactly as forms_that_deserve_no_refusal, stamp_taken-exactly as operations_with_a_taken_stamp_are_refused, id_taken-exactly as operations_with_a_taken_identifier_are_refused, operated-exactly as operations_are_accepted_where_nothing_is_taken, labels-fit as accepted_labels_fit-one, labels-fit_all as accepted_labels_fit-all}
+-- laws::identifiers
+pub use Rattle.ra_labels.proofs.Identifiers.{identifier-exactly as an_identifier_is_taken_where_an_addition_has_it-taken, gives-exactly as an_identifier_is_taken_where_an_addition_has_it-gives, identifiers-once as identifiers_are_given_once-one, identifiers-once_all as identifiers_are_given_once-all}
 -- laws::linearization
 pub use Rattle.ra_labels.proofs.Exactly.{visible-exactly as must_precede_in_three_cases-visible, earlier-exactly as must_precede_in_three_cases-earlier, halves-exactly as must_precede_in_three_cases-halves, must_precede-exactly as must_precede_in_three_cases-cases, updates_of-append as updates_stand_in_order-all, visible_updates-append as updates_stand_in_order-visible, updates-exactly as updates_admitted_where_they_lead_to_a_state, queries-exactly as queries_admitted_where_each_is_answered}
 pub use Rattle.ra_labels.proofs.Standing.{must_precede-irreflexive as no_part_precedes_itself, extends-stands as extending_puts_before-stands, stands-extends as extending_puts_before-extends, linearization_by-stands as linearization_by_an_order_puts_before, linearization_by-weaker as linearization_by_a_weaker_order, linearization-stands as linearization_puts_before, is_update-acts as update_where_a_part_is_one}
@@ -58,6 +67,12 @@ pub use Rattle.ra_labels.proofs.Missing.{not_causal-exactly as not_causal_where_
 
 pub a_register_has_the_last_value-none : state_after Register [] ≡ Some (Written None)
 a_register_has_the_last_value-none = refl
+
+pub elements_are_shown_in_their_order-one : (x : ℕ) → shown ((x, true) ∷ []) ≡ x ∷ []
+elements_are_shown_in_their_order-one x = refl
+
+pub elements_are_shown_in_their_order-hidden : (x : ℕ) → shown ((x, false) ∷ []) ≡ []
+elements_are_shown_in_their_order-hidden x = refl
 
 pub no_command_adds_a_replica : (first : ℕ) (records : Records) → replica_count first records ≡ first
 no_command_adds_a_replica first records = refl

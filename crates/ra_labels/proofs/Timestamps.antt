@@ -16,7 +16,7 @@ use Rattle.ra_labels.specs.Visibility.{sees, had}
 use Rattle.ra_labels.specs.NamedOrder.{lowest_rank, stamp_cmp, greater_of, greatest_stamp, timestamp_of}
 use Rattle.ra_labels.specs.Laws.{IsStampBelow, SeesStamp}
 use Rattle.ra_labels.proofs.Numbers.{label_count-append}
-use Rattle.ra_labels.proofs.Places.{Contains-cons_cases}
+use Rattle.ra_labels.proofs.Places.{Contains-cons_cases, kept-there, there-kept}
 use Rattle.ra_labels.proofs.Order.{stamp_below}
 use Rattle.ra_labels.proofs.FirstUpdates.{sees-next}
 
@@ -153,32 +153,6 @@ greatest-reached (first ∷ labels) = elim (stamp_or_none first.stamp) [
               inl (at_head first labels (greatest_stamp (first ∷ labels)) (some.1 ∙ ap Some (is ∙ sym (same ∙ older.0 ∙ lowest.0))))
         ]
       ]
-]
-
--- what a filter keeps
-kept-there : (p : Label → Bool) (labels : List Label) (label : Label) → Contains labels label → p label ≡ true → Contains (filter p labels) label
-kept-there p [] label there passes = absurd (omega (arith, there.1))
-kept-there p (first ∷ labels) label there passes = elim (cases_Bool (p first)) [
-  | inl keeps ↦ subst (λ kept. Contains kept label) (sym (cond-true (p first) (first ∷ filter p labels) (filter p labels) keeps)) (elim (Contains-cons_cases first labels label there) [
-    | inl here ↦ (zero, omega arith, here)
-    | inr further ↦ let rest = kept-there p labels label further passes in (suc rest.0, omega (arith, rest.1), rest.2)
-  ])
-  | inr drops ↦ subst (λ kept. Contains kept label) (sym (cond-false (p first) (first ∷ filter p labels) (filter p labels) drops)) (elim (Contains-cons_cases first labels label there) [
-    | inl here ↦ absurd (false≢true (sym drops ∙ ap p here ∙ passes))
-    | inr further ↦ kept-there p labels label further passes
-  ])
-]
-
-there-kept : (p : Label → Bool) (labels : List Label) (label : Label) → Contains (filter p labels) label → Contains labels label × (p label ≡ true)
-there-kept p [] label there = absurd (omega (arith, there.1))
-there-kept p (first ∷ labels) label there = elim (cases_Bool (p first)) [
-  | inl keeps ↦ elim (Contains-cons_cases first (filter p labels) label (subst (λ kept. Contains kept label) (cond-true (p first) (first ∷ filter p labels) (filter p labels) keeps) there)) [
-    | inl here ↦ ((zero, omega arith, here), sym (ap p here) ∙ keeps)
-    | inr further ↦ let rest = there-kept p labels label further in ((suc rest.0.0, omega (arith, rest.0.1), rest.0.2), rest.1)
-  ]
-  | inr drops ↦
-      let rest = there-kept p labels label (subst (λ kept. Contains kept label) (cond-false (p first) (first ∷ filter p labels) (filter p labels) drops) there) in
-      ((suc rest.0.0, omega (arith, rest.0.1), rest.0.2), rest.1)
 ]
 
 -- the own stamp

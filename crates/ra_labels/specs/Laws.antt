@@ -1,9 +1,10 @@
 -- Words of the laws above the definitions.
-use Rattle.std.specs.Prelude.{◌≡◌, ℕ, zero, suc, ◌<◌, ◌≤◌, ◌⊎◌, ◌==◌, nat_lt, Bool, true, false, not, List, [], ◌∷◌, ◌++◌, Contains, Option, Some, None, option_map}
+use Rattle.std.specs.Prelude.{◌≡◌, ℕ, zero, suc, ◌<◌, ◌≤◌, ◌⊎◌, ◌==◌, nat_lt, Bool, true, false, not, ◌&&◌, List, [], ◌∷◌, ◌++◌, Contains, map, Option, Some, None, option_map}
 use Rattle.std.specs.List.{list_all}
 use Rattle.ra_labels.specs.declared.kind.Kind.{Kind}
 use Rattle.ra_labels.specs.declared.kind.Kind.TheVariants.{Counter, Register, LwwSet, OrSet, Rga}
 use Rattle.ra_labels.specs.declared.operation.Op.{Op}
+use Rattle.ra_labels.specs.declared.operation.Op.TheVariants as op
 use Rattle.ra_labels.specs.declared.operation.Update.{Update}
 use Rattle.ra_labels.specs.declared.operation.Update.TheVariants.{Inc, Dec, Write, LwwAdd, LwwRemove, OrAdd, TakeOut, After, RgaRemove}
 use Rattle.ra_labels.specs.declared.operation.Query.{Query}
@@ -15,6 +16,7 @@ use Rattle.ra_labels.specs.declared.command.Command.TheVariants.{Operate, Delive
 use Rattle.ra_labels.specs.declared.reply.Fault.{Fault}
 use Rattle.ra_labels.specs.declared.reply.Reply.{Reply}
 use Rattle.ra_labels.specs.declared.reply.Reply.TheVariants as reply
+use Rattle.ra_labels.specs.Lists.{is_among}
 use Rattle.ra_labels.specs.Specification.{State, Number, Written, Members, Pairs, Listed, answers, state_after}
 use Rattle.ra_labels.specs.Records.{Records, label_count, labels_of, replica_count, stamp_at, records_to}
 use Rattle.ra_labels.specs.Visibility.{is_update, is_update_at, had, sees}
@@ -63,6 +65,37 @@ acts_on x _ = false
 
 abbrev pub NoneActsOn : ℕ → List Update → Type 0
 NoneActsOn x updates = list_all (λ update. not (acts_on x update)) updates ≡ true
+
+-- does the update take out the pair of the element and the identifier?
+abbrev pub takes_out : ℕ → ℕ → Update → Bool
+takes_out x id (TakeOut y ids) = y == x && is_among id ids
+takes_out x id _ = false
+
+abbrev pub NoneTakesOut : ℕ → ℕ → List Update → Type 0
+NoneTakesOut x id updates = list_all (λ update. not (takes_out x id update)) updates ≡ true
+
+-- the pair was added, and not taken out since
+abbrev pub WasAddedAndStays : ℕ → ℕ → List Update → Type 0
+WasAddedAndStays x id updates =
+    (first later : List Update) × (updates ≡ first ++ OrAdd x id ∷ later) × NoneTakesOut x id later
+
+-- the elements of an RGA's list, in their order, shown or not
+abbrev pub elements_in : List (ℕ × Bool) → List ℕ
+elements_in list = map (λ entry. entry.0) list
+
+-- the root stands first, and is not shown
+abbrev pub RootFirst : List (ℕ × Bool) → Type 0
+RootFirst list = (rest : List (ℕ × Bool)) × (list ≡ (0, false) ∷ rest)
+
+-- the next list is this one with x, shown, directly behind the anchor
+abbrev pub IsPutBehind : ℕ → ℕ → List (ℕ × Bool) → List (ℕ × Bool) → Type 0
+IsPutBehind anchor x list next =
+    (before behind : List (ℕ × Bool)) × (is_shown : Bool) × (list ≡ before ++ (anchor, is_shown) ∷ behind)
+    × (next ≡ before ++ (anchor, is_shown) ∷ (x, true) ∷ behind)
+
+-- one of the updates puts the element in
+abbrev pub WasPutIn : ℕ → List Update → Type 0
+WasPutIn x updates = (anchor : ℕ) × Contains updates (After anchor x)
 
 -- the updates lead to a state, and the query is answered yes there
 abbrev pub IsAnsweredAfter : Kind → List Update → Query → Type 0
@@ -167,6 +200,19 @@ EachLabelFits kind replicas records =
 abbrev pub StampsAreOneLabels : Records → Type 0
 StampsAreOneLabels records = (l m : Label) (stamp : Stamp) → Contains (labels_of records) l
     → Contains (labels_of records) m → l.stamp ≡ Some stamp → m.stamp ≡ Some stamp → l ≡ m
+
+-- the operation gives an identifier to an element
+abbrev pub Gives : Op → ℕ → Type 0
+Gives operation id = (x : ℕ) × (operation ≡ op.OrAdd x id)
+
+-- an identifier that a label gave
+abbrev pub IsOwnIdentifier : Records → ℕ → Type 0
+IsOwnIdentifier records id = (label : Label) × Contains (labels_of records) label × Gives label.op id
+
+-- no two labels gave one identifier
+abbrev pub IdentifiersAreOneLabels : Records → Type 0
+IdentifiersAreOneLabels records = (l m : Label) (id : ℕ) → Contains (labels_of records) l
+    → Contains (labels_of records) m → Gives l.op id → Gives m.op id → l ≡ m
 
 -- n - 1, .., 1, 0
 abbrev pub numbers_below : ℕ → List ℕ

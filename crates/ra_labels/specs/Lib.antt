@@ -10,4 +10,6 @@ pub mod Fault
 pub mod Answer
 pub mod Worked
 pub mod WorkedTimestamps
+pub mod WorkedOrSets
+pub mod WorkedRgas
 pub mod Laws

@@ -5,7 +5,7 @@ ghost use Rattle.std.specs.Cmp.Lexicographic.{pointwise, lists_per, lists_equiv}
 use std::alloc::AllocError;
 use std::marker::Model;
 
-/// A list of elements, as a read of a set returned it. Contracts see the list.
+/// A list of elements, as a read returned it, or of identifiers, as a removal did. Contracts see the list.
 #[derive(Debug, Drop)]
 pub struct Elements {
     items: Vec<u32>,

@@ -3,9 +3,12 @@
 pub mod answer;
 pub mod counts;
 pub mod fault;
+pub mod identifiers;
 pub mod linearization;
 pub mod lists;
+pub mod or_set;
 pub mod records;
+pub mod rga;
 pub mod sequence;
 pub mod specification;
 pub mod timestamps;

@@ -95,8 +95,12 @@ fn carries_stamp(op: &Op) -> bool
 {
     match op {
         Op::Write(_) | Op::LwwAdd(_) | Op::LwwRemove(_) | Op::After { .. } => true,
-        Op::Inc | Op::Dec | Op::Count(_) | Op::Last(_) | Op::LwwRead(_) => false,
-        Op::OrAdd { .. }
+        Op::Inc
+        | Op::Dec
+        | Op::Count(_)
+        | Op::Last(_)
+        | Op::LwwRead(_)
+        | Op::OrAdd { .. }
         | Op::OrRemove { .. }
         | Op::OrRead(_)
         | Op::RgaRemove(_)

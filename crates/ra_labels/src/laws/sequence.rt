@@ -1,5 +1,5 @@
 //! The labels, the named order and the named sequence.
-ghost use Rattle.std.specs.Prelude.{◌≡◌, ◌↔◌, ◌⊎◌, ℕ, ◌<◌, ◌≤◌, List, map, reverse, Contains, flat_map, IsPermutation, IsSorted, Some, None};
+ghost use Rattle.std.specs.Prelude.{◌≡◌, ◌↔◌, ◌⊎◌, true, ℕ, ◌<◌, ◌≤◌, List, map, reverse, Contains, flat_map, IsPermutation, IsSorted, Some, None};
 ghost use Rattle.ra_labels.specs.declared.kind.Kind.{Kind};
 ghost use Rattle.ra_labels.specs.declared.kind.Kind.TheVariants as kind;
 ghost use Rattle.std.specs.declared.cmp.Ordering.TheVariants.{Less, Equal};
@@ -8,7 +8,7 @@ ghost use Rattle.ra_labels.specs.declared.label.Label.{Label};
 ghost use Rattle.ra_labels.specs.contracts.label.StampOrd.TheImpl as derived;
 ghost use Rattle.ra_labels.specs.Records.{Records, label_count, label_at, labels_of};
 ghost use Rattle.ra_labels.specs.Rewriting.{parts_of};
-ghost use Rattle.ra_labels.specs.Linearization.{parts_in};
+ghost use Rattle.ra_labels.specs.Linearization.{parts_in, extends_visibility};
 ghost use Rattle.ra_labels.specs.NamedOrder.{stamp_cmp, label_cmp, named_labels, named_sequence, rank_of, lowest_rank};
 ghost use Rattle.ra_labels.specs.Laws.{numbers_below, IsStampBelow};
 
@@ -71,4 +71,12 @@ pub fn named_in_order_of_execution()
         ≡ flat_map parts_of (reverse (labels_of records)) }
     ensures or_set { (records : Records) → named_sequence kind.OrSet records
         ≡ flat_map parts_of (reverse (labels_of records)) }
+{}
+
+/// The order of execution extends visibility, whatever the records are.
+pub fn the_order_of_execution_extends_visibility()
+    ensures labels { (kind : Kind) (records : Records) → ((label : Label) → rank_of kind records label ≡ lowest_rank)
+        → extends_visibility records (named_sequence kind records) ≡ true }
+    ensures counter { (records : Records) → extends_visibility records (named_sequence kind.Counter records) ≡ true }
+    ensures or_set { (records : Records) → extends_visibility records (named_sequence kind.OrSet records) ≡ true }
 {}
