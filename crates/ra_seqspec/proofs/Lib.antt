@@ -1,1 +1,7 @@
+pub mod Asked
 pub mod Keys
+pub mod Links
+pub mod Nodes
+pub mod PairKeys
+pub mod Reading
+pub mod Removing

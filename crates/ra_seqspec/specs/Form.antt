@@ -1,17 +1,22 @@
 -- The state that the fields of a `State` stand for, and what is kept true of them.
 use Rattle.std.specs.Ordering.{nat_cmp}
 use Rattle.std.specs.BTreeSet.{IsOrdered}
-use Rattle.ra_labels.specs.Specification.{State, Number, Written, Members}
+use Rattle.ra_labels.specs.Lists.{pair_cmp}
+use Rattle.ra_labels.specs.Specification.{State, Number, Written, Members, Pairs, Listed}
 use Rattle.ra_seqspec.specs.declared.state.Form.{Form}
-use Rattle.ra_seqspec.specs.declared.state.Form.TheVariants.{Counter, Register, LwwSet}
+use Rattle.ra_seqspec.specs.declared.state.Form.TheVariants.{Counter, Register, LwwSet, OrSet, Rga}
 
 abbrev pub state_of : Form → State
 state_of (Counter n) = Number n
 state_of (Register last) = Written last
 state_of (LwwSet set) = Members set.keys
+state_of (OrSet set) = Pairs set.keys
+state_of (Rga list) = Listed list
 
--- a set's elements rise
+-- a set's elements rise, and so do its pairs
 abbrev pub StateKept : Form → Type 0
 StateKept (Counter n) = Unit {0}
 StateKept (Register last) = Unit {0}
 StateKept (LwwSet set) = IsOrdered nat_cmp set
+StateKept (OrSet set) = IsOrdered pair_cmp set
+StateKept (Rga list) = Unit {0}

@@ -2,3 +2,5 @@ pub mod Range
 pub mod Memory
 pub mod Form
 pub mod Asked
+pub mod Rga
+pub mod Pairs

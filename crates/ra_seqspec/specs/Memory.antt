@@ -1,17 +1,22 @@
 -- What takes memory.
-use Rattle.std.specs.Prelude.{Bool, true, false, not}
+use Rattle.std.specs.Prelude.{Bool, true, false, not, ◌==◌, ◌&&◌}
+use Rattle.std.specs.List.{list_any}
 use Rattle.ra_labels.specs.declared.operation.Update.{Update}
-use Rattle.ra_labels.specs.declared.operation.Update.TheVariants.{LwwAdd}
-use Rattle.ra_labels.specs.Lists.{is_among}
-use Rattle.ra_labels.specs.Specification.{State, Number, Written, Members}
+use Rattle.ra_labels.specs.declared.operation.Update.TheVariants.{LwwAdd, OrAdd, After}
+use Rattle.ra_labels.specs.Lists.{is_among, is_in_list}
+use Rattle.ra_labels.specs.Specification.{State, Number, Written, Members, Pairs, Listed}
 
 -- does a state of this form take memory to be copied? A number and a value do not
 abbrev pub takes_memory : State → Bool
 takes_memory (Number n) = false
 takes_memory (Written last) = false
 takes_memory (Members xs) = true
+takes_memory (Pairs pairs) = true
+takes_memory (Listed list) = true
 
--- does the update take memory in this state? Only a new element does
+-- does the update take memory in this state? Only a new element does, and a new pair
 abbrev pub update_takes_memory : State → Update → Bool
 update_takes_memory (Members xs) (LwwAdd x) = not (is_among x xs)
+update_takes_memory (Pairs pairs) (OrAdd x id) = not (list_any (λ pair. x == pair.0 && id == pair.1) pairs)
+update_takes_memory (Listed list) (After anchor x) = is_in_list anchor list && not (is_in_list x list)
 update_takes_memory state update = false

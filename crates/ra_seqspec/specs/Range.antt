@@ -1,6 +1,6 @@
 -- How far a counter's number may go.
 use Rattle.std.specs.Prelude.{pos, neg_ℤ, ◌≤ℤ◌}
-use Rattle.ra_labels.specs.Specification.{State, Number, Written, Members}
+use Rattle.ra_labels.specs.Specification.{State, Number, Written, Members, Pairs, Listed}
 use Rattle.ra_seqspec.specs.declared.TheConstants.{FARTHEST_COUNT}
 
 -- a counter's number is from -FARTHEST_COUNT to FARTHEST_COUNT
@@ -8,3 +8,5 @@ abbrev pub IsInRange : State → Type 0
 IsInRange (Number n) = (neg_ℤ (pos FARTHEST_COUNT) ≤ℤ n) × (n ≤ℤ pos FARTHEST_COUNT)
 IsInRange (Written last) = Unit {0}
 IsInRange (Members xs) = Unit {0}
+IsInRange (Pairs pairs) = Unit {0}
+IsInRange (Listed list) = Unit {0}

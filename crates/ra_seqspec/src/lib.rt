@@ -4,6 +4,8 @@
 //! answer (`ra_labels/specs/Specification`).
 #![tactic(auto)]
 
+mod pairs;
+mod rga;
 mod state;
 
 pub use state::State;

@@ -6,6 +6,8 @@ ghost use Rattle.ra_seqspec.specs.Asked.{asks_rising};
 ghost use Rattle.ra_seqspec.specs.Range.{IsInRange};
 ghost use Rattle.ra_seqspec.specs.Memory.{takes_memory, update_takes_memory};
 
+use crate::pairs;
+use crate::rga::RgaList;
 use ra_labels::{Kind, NoMemory, Query, Update};
 use std::alloc::Global;
 use std::collections::BTreeSet;
@@ -26,6 +28,10 @@ enum Form {
     Register(Option<u32>),
     // The elements.
     LwwSet(BTreeSet<u32>),
+    // Each element with each identifier that it is there under.
+    OrSet(BTreeSet<(u32, u32)>),
+    // The list.
+    Rga(RgaList),
 }
 
 impl Model for State {
@@ -50,6 +56,8 @@ impl State {
             Kind::Counter => Form::Counter(0),
             Kind::Register => Form::Register(None),
             Kind::LwwSet => Form::LwwSet(BTreeSet::new(alloc)),
+            Kind::OrSet => Form::OrSet(BTreeSet::new(alloc)),
+            Kind::Rga => Form::Rga(RgaList::new(alloc)),
         };
         Ok(State { form })
     }
@@ -63,12 +71,14 @@ impl State {
             Form::Counter(number) => Form::Counter(*number),
             Form::Register(last) => Form::Register(*last),
             Form::LwwSet(elements) => Form::LwwSet(elements.clone()?),
+            Form::OrSet(pairs) => Form::OrSet(pairs.clone()?),
+            Form::Rga(list) => Form::Rga(list.copy()?),
         };
         Ok(State { form })
     }
 
     /// Makes the update and answers true, or changes nothing and answers false where the state does not admit it. Costs
-    /// a search among a set's elements.
+    /// a search among a set's elements, or pairs, for each element or identifier that it names, and of an RGA two look-ups.
     pub fn apply(&mut self, update: &Update) -> Result<bool, NoMemory>
         requires { IfSome (step_of self.old update.now) IsInRange }
         ensures admitted { IfOk result (λ is_admitted. is_admitted ≡ is_some (step_of self.old update.now)) }
@@ -84,13 +94,26 @@ impl State {
                 elements.insert(*element)?;
             }
             (Form::LwwSet(elements), Update::LwwRemove(element)) => take_out(elements, *element),
+            (Form::OrSet(pairs), Update::OrAdd { element, id }) => {
+                pairs.insert((*element, *id))?;
+            }
+            (Form::OrSet(pairs), Update::TakeOut { element, ids }) => pairs::take_out(
+                pairs,
+                *element,
+                ids.as_slice(),
+            ),
+            (Form::Rga(list), Update::After { anchor, element }) => return list.insert_after(
+                *anchor, *element,
+            ),
+            (Form::Rga(list), Update::RgaRemove(element)) => return Ok(list.hide(*element)),
             _ => return Ok(false),
         }
         Ok(true)
     }
 
-    /// Is the query's answer that of this state? It takes no memory and always answers. Costs as much as a read of a set
-    /// is long.
+    /// Is the query's answer that of this state? It takes no memory and always answers. A read of a set costs as
+    /// much as the list is long, that of an OR-Set as many pairs as there are, that of identifiers a search and their
+    /// number, that of an RGA as many elements as there are, shown or not.
     pub fn admits(&self, query: &Query) -> bool
         requires { asks_rising query.now ≡ true }
         ensures { result ≡ answers self.now query.now }
@@ -102,6 +125,16 @@ impl State {
                 elements,
                 answer.as_slice(),
             ),
+            (Form::OrSet(pairs), Query::ReadIds { element, ids }) => pairs::are_identifiers(
+                pairs,
+                *element,
+                ids.as_slice(),
+            ),
+            (Form::OrSet(pairs), Query::OrRead(answer)) => pairs::are_elements(
+                pairs,
+                answer.as_slice(),
+            ),
+            (Form::Rga(list), Query::RgaRead(answer)) => list.shows(answer.as_slice()),
             _ => false,
         }
     }

@@ -1,0 +1,44 @@
+-- What is left of keys in order when one is removed, by any order.
+use Rattle.std.proofs.Common.{◌≡◌, Bool, true, cond, List, [], ◌∷◌, filter, refl, sym, ap, ◌∙◌, inl, inr, Ordering}
+use Rattle.std.specs.Prelude.{not}
+use Rattle.std.specs.Cmp.{IsTotalOrder}
+use Rattle.std.specs.List.{AllByRecursion}
+use Rattle.std.specs.List.Sorted.{IsStrictlySortedBy}
+use Rattle.std.specs.Ordering.{is_eq}
+use Rattle.std.specs.declared.cmp.Ordering.TheVariants.{Less, Equal, Greater}
+use Rattle.std.specs.BTreeMap.{is_at}
+use Rattle.std.specs.Set.{remove_key}
+use Rattle.std.proofs.lemmas.Bool.{cases_Bool, cond-true, cond-false, not_from_true, not_from_false}
+
+pub filter_same : {K : Type 0} (p q : K → Bool) → ((k : K) → p k ≡ q k) → (ks : List K) → filter p ks ≡ filter q ks
+filter_same p q same [] = refl
+filter_same p q same (k ∷ ks) = ap (λ b. cond b (k ∷ filter p ks) (filter p ks)) (same k) ∙ ap (λ zs. cond (q k) (k ∷ zs) zs) (filter_same p q same ks)
+
+pub filter_none_left : {K : Type 0} (p : K → Bool) (ks : List K) → AllByRecursion (λ k. p k ≡ true) ks → filter p ks ≡ ks
+filter_none_left p [] all = refl
+filter_none_left p (k ∷ ks) all = cond-true (p k) (k ∷ filter p ks) (filter p ks) all.0 ∙ ap (λ zs. k ∷ zs) (filter_none_left p ks all.1)
+
+tests : (o : Ordering) → is_eq o ≡ true → o ≡ Equal
+tests Less is = absurd (cc is)
+tests Equal is = refl
+tests Greater is = absurd (cc is)
+
+-- what is above an equal key is not that key
+above_stay : {K : Type 0} {cmp : K → K → Ordering} → IsTotalOrder cmp → (k head : K) (ks : List K) → cmp k head ≡ Equal → AllByRecursion (λ y. cmp head y ≡ Less) ks → AllByRecursion (λ y. not (is_at (cmp k) y) ≡ true) ks
+above_stay order k head [] same all = all
+above_stay order k head (y ∷ ys) same all = (ap (λ o. not (is_eq o)) (order.congr k head y same ∙ all.0), above_stay order k head ys same all.1)
+
+-- a key removed from keys in order is left out of them
+pub removed : {K : Type 0} {cmp : K → K → Ordering} → IsTotalOrder cmp → (k : K) (ks : List K) → IsStrictlySortedBy cmp ks → remove_key (is_at (cmp k)) ks ≡ filter (λ y. not (is_at (cmp k) y)) ks
+unfolding IsStrictlySortedBy
+removed order k [] ordered = refl
+removed {K} {cmp} order k (y ∷ ys) ordered = elim (cases_Bool (is_at (cmp k) y)) [
+  | inl here ↦
+      cond-true (is_at (cmp k) y) ys (y ∷ remove_key (is_at (cmp k)) ys) here
+      ∙ sym (filter_none_left (λ z. not (is_at (cmp k) z)) ys (above_stay order k y ys (tests (cmp k y) here) ordered.0))
+      ∙ sym (cond-false (not (is_at (cmp k) y)) (y ∷ filter (λ z. not (is_at (cmp k) z)) ys) (filter (λ z. not (is_at (cmp k) z)) ys) (not_from_true (is_at (cmp k) y) here))
+  | inr other ↦
+      cond-false (is_at (cmp k) y) ys (y ∷ remove_key (is_at (cmp k)) ys) other
+      ∙ ap (λ zs. y ∷ zs) (removed order k ys ordered.1)
+      ∙ sym (cond-true (not (is_at (cmp k) y)) (y ∷ filter (λ z. not (is_at (cmp k) z)) ys) (filter (λ z. not (is_at (cmp k) z)) ys) (not_from_false (is_at (cmp k) y) other))
+]

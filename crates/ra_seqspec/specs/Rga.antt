@@ -1,0 +1,75 @@
+-- The list that the nodes of an `RgaList` stand for, and what is kept true of them.
+use Rattle.std.specs.Prelude.{◌≡◌, ℕ, zero, suc, ◌<◌, nat_lt, Bool, true, false, List, [], ◌∷◌, ◌++◌, length, map, slice_index_or, slice_set, Option, Some, option_map, ◌==◌, if◌then◌else◌}
+use Rattle.ra_labels.specs.Lists.{is_among}
+use Rattle.ra_seqspec.specs.declared.rga.Node.{Node}
+use Rattle.ra_seqspec.specs.declared.rga.Place.{Place}
+use Rattle.ra_seqspec.specs.declared.rga.Place.TheVariants.{First, Behind}
+
+-- the node in the slot
+abbrev pub node_at : List Node → ℕ → Node
+node_at nodes slot = slice_index_or nodes slot (record { element = 0; is_shown = false; next = 0 })
+
+-- n slots along the links, from this one on
+abbrev pub along : (ℕ → ℕ) → ℕ → ℕ → List ℕ
+along next zero slot = []
+along next (suc n) slot = slot ∷ along next n (next slot)
+
+-- the slots of all nodes along the links
+abbrev pub slots_of : ℕ → List Node → List ℕ
+slots_of first nodes = along (λ slot. (node_at nodes slot).next) (length nodes) first
+
+-- what the list has of the node in the slot
+abbrev pub entry_at : List Node → ℕ → ℕ × Bool
+entry_at nodes slot = ((node_at nodes slot).element, (node_at nodes slot).is_shown)
+
+-- the list: the root, which is not shown, and the nodes along the links
+abbrev pub entries_of : ℕ → List Node → List (ℕ × Bool)
+entries_of first nodes = (0, false) ∷ map (entry_at nodes) (slots_of first nodes)
+
+-- no slot stands twice
+abbrev pub AreDistinct : List ℕ → Type 0
+AreDistinct [] = Unit {0}
+AreDistinct (slot ∷ slots) = (is_among slot slots ≡ false) × AreDistinct slots
+
+-- the links lead through each node once, and the index has each node's slot under its element, and no other
+pub record RgaListKept (first : ℕ) (nodes : List Node) (slot_of : ℕ → Option ℕ) : Type 0 where
+  pub distinct : AreDistinct (slots_of first nodes)
+  pub all : (slot : ℕ) → is_among slot (slots_of first nodes) ≡ nat_lt slot (length nodes)
+  pub found : (slot : ℕ) → slot < length nodes → slot_of (node_at nodes slot).element ≡ Some slot
+  pub there : (x slot : ℕ) → slot_of x ≡ Some slot → (slot < length nodes) × ((node_at nodes slot).element ≡ x)
+
+-- is there a node in the slot behind which this place is?
+abbrev pub IsThere : Place → ℕ → Type 0
+IsThere First n = Unit {0}
+IsThere (Behind slot) n = slot < n
+
+-- a node that is shown
+abbrev pub shown_node : ℕ → ℕ → Node
+shown_node x next = record { element = x; is_shown = true; next = next }
+
+-- the place directly behind the element, which the index has in this slot
+abbrev pub place_behind : ℕ → Option ℕ → Option Place
+place_behind x slot = if x == 0 then Some First else option_map Behind slot
+
+-- the node with another link
+abbrev pub linked_to : ℕ → Node → Node
+linked_to next node = record { element = node.element; is_shown = node.is_shown; next = next }
+
+-- the slot of the first node, once a new one is put there
+abbrev pub first_after : Place → ℕ → List Node → ℕ
+first_after First first nodes = length nodes
+first_after (Behind slot) first nodes = first
+
+-- the nodes then
+abbrev pub nodes_after : Place → ℕ → List Node → ℕ → List Node
+nodes_after First first nodes x = nodes ++ shown_node x first ∷ []
+nodes_after (Behind slot) first nodes x =
+    slice_set nodes slot (linked_to (length nodes) (node_at nodes slot)) ++ shown_node x (node_at nodes slot).next ∷ []
+
+-- the node, shown no more
+abbrev pub hidden : Node → Node
+hidden node = record { element = node.element; is_shown = false; next = node.next }
+
+-- the nodes, once the one in the slot is shown no more
+abbrev pub nodes_hiding : ℕ → List Node → List Node
+nodes_hiding slot nodes = slice_set nodes slot (hidden (node_at nodes slot))

@@ -1,0 +1,53 @@
+//! The pairs of an OR-Set, which rise by element and then by identifier.
+ghost use Rattle.std.specs.Prelude.{◌≡◌, ◌↔◌, IsTrue};
+ghost use Rattle.std.specs.BTreeSet.{IsOrdered};
+ghost use Rattle.ra_labels.specs.Lists.{pair_cmp, identifiers_of, elements_of, without_pairs};
+ghost use Rattle.ra_seqspec.specs.Pairs.{distinct_elements};
+
+use std::collections::BTreeSet;
+
+/// Takes the pairs of the element with one of the identifiers out. Costs a search for each identifier.
+pub fn take_out(pairs: &mut BTreeSet<(u32, u32)>, element: u32, ids: &[u32])
+    requires { IsOrdered pair_cmp pairs.old }
+    ensures left { pairs.new.keys ≡ without_pairs element ids.now pairs.old.keys }
+    ensures ordered { IsOrdered pair_cmp pairs.new }
+{
+    for id in ids {
+        pairs.remove(&(element, *id));
+    }
+}
+
+/// Are these the identifiers that the element is paired with, rising? Costs a search and the identifiers.
+pub fn are_identifiers(pairs: &BTreeSet<(u32, u32)>, element: u32, ids: &[u32]) -> bool
+    ensures { IsTrue result ↔ (ids.now ≡ identifiers_of element pairs.now.keys) }
+{
+    let mut left = ids;
+    for pair in pairs.range((element, 0)..) {
+        if pair.0 != element {
+            break;
+        }
+        match left.split_first() {
+            Some((id, rest)) if *id == pair.1 => left = rest,
+            _ => return false,
+        }
+    }
+    left.is_empty()
+}
+
+/// Are these the elements that are paired, rising? Costs as much as there are pairs.
+pub fn are_elements(pairs: &BTreeSet<(u32, u32)>, list: &[u32]) -> bool
+    ensures { IsTrue result ↔ (list.now ≡ distinct_elements pairs.now.keys) }
+{
+    let mut left = list;
+    let mut last = None;
+    for pair in pairs {
+        if last != Some(pair.0) {
+            match left.split_first() {
+                Some((element, rest)) if *element == pair.0 => left = rest,
+                _ => return false,
+            }
+            last = Some(pair.0);
+        }
+    }
+    left.is_empty()
+}
