@@ -29,7 +29,7 @@ use Rattle.ra_visibility.proofs.TheLaws.{what_a_label_sees, a_label_comes_to_its
 use Rattle.ra_monitor.specs.declared.setup.Setup.{Setup}
 use Rattle.ra_monitor.specs.declared.history.History.{History}
 use Rattle.ra_monitor.specs.Order.{listed_in, IsOrderOf, lists_named, keeps_delivered}
-use Rattle.ra_monitor.specs.Taken.{IsTakenIn}
+use Rattle.ra_monitor.specs.Taken.{Taken, IsTakenIn}
 use Rattle.ra_monitor.specs.History.{StandsFor, HasNewest}
 use Rattle.ra_monitor.proofs.Named.{labels_counted, counted_in_turn}
 
@@ -167,6 +167,10 @@ pub taken_known : (history : History) (setup : Setup) (records : Records) → St
     → fault_of setup.kind records ≡ None → IsTakenIn records history.taken
 taken_known history setup records stands none = rw (none_lost setup.kind records none) at stands.taken
 
+-- a delivery takes nothing
+taken_delivered : (records : Records) (to label : ℕ) (taken : Taken) → IsTakenIn records taken → IsTakenIn (Deliver to label ∷ records) taken
+taken_delivered records to label taken known = record { stamps = known.stamps; identifiers = known.identifiers }
+
 -- the history after a delivery
 pub stands_delivered : (old new : History) (setup : Setup) (records : Records) (to label : ℕ)
     → StandsFor old setup records → fault_of setup.kind records ≡ None
@@ -179,7 +183,7 @@ stands_delivered old new setup records to label stands none tracker causal label
   labels = ap (λ ls. ls.items) labels ∙ stands.labels;
   order = rw (none_lost setup.kind (Deliver to label ∷ records) none, order)
       (keeps_delivered old.order setup.kind setup.replicas records to label (rw (none_lost setup.kind records none) at stands.order));
-  taken = rw (none_lost setup.kind (Deliver to label ∷ records) none, taken) (taken_known old setup records stands none);
+  taken = rw (none_lost setup.kind (Deliver to label ∷ records) none, taken) (taken_delivered records to label old.taken (taken_known old setup records stands none));
   fault = fault ∙ stands.fault;
 }
 

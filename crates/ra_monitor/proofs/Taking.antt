@@ -1,7 +1,11 @@
 -- What is taken, as it is looked up.
-use Rattle.std.proofs.Common.{◌≡◌, ℕ, Bool, true, false, List, [], ◌∷◌, Option, Some, None, refl, sym, ap, ◌∙◌, subst}
-use Rattle.std.specs.Prelude.{◌||◌, ◌==◌}
+use Rattle.std.proofs.Common.{◌≡◌, ℕ, ◌<◌, Bool, true, false, List, [], ◌∷◌, Option, Some, None, refl, sym, ap, ◌∙◌, subst, arith, Ordering}
+use Rattle.std.specs.Prelude.{◌||◌, ◌==◌, cond}
 use Rattle.std.specs.Option.{option_map_or}
+use Rattle.std.specs.Ordering.{MatchOrdering, is_eq, nat_cmp}
+use Rattle.std.specs.declared.cmp.Ordering.TheVariants.{Less, Equal, Greater}
+use Rattle.std.proofs.lemmas.Bool.{eq-eqb, ne_eqb}
+use Rattle.std.proofs.lemmas.Cmp.{ranked}
 use Rattle.ra_labels.specs.declared.kind.Kind.{Kind}
 use Rattle.ra_labels.specs.declared.operation.Op.{Op}
 use Rattle.ra_labels.specs.declared.operation.Op.TheVariants as op
@@ -9,17 +13,19 @@ use Rattle.ra_labels.specs.declared.label.Stamp.{Stamp}
 use Rattle.ra_labels.specs.declared.label.Label.{Label}
 use Rattle.ra_labels.specs.declared.command.Command.TheVariants.{Operate}
 use Rattle.ra_labels.specs.Records.{Records, next_label}
-use Rattle.ra_labels.specs.Answer.{misfit_of, carries_stamp, identifier_of, is_identifier_taken}
+use Rattle.ra_labels.specs.NamedOrder.{stamp_cmp}
+use Rattle.ra_labels.specs.Answer.{misfit_of, carries_stamp, has_stamp, identifier_of, is_identifier_taken}
 use Rattle.ra_labels.proofs.TheLaws.{forms_that_deserve_no_refusal}
-use Rattle.ra_monitor.specs.Taken.{Taken, is_stamp_in, is_identifier_in, is_own, IsTakenIn}
+use Rattle.ra_monitor.specs.Taken.{Taken, is_stamp_in, is_identifier_in, Brings, IsTakenIn}
 
--- what the label brings to what is taken: the identifier that it gives, or else its own stamp
-pub record Brings (label : Label) (old new : Taken) : Type 0 where
-  pub identifier : (given : ℕ) → identifier_of label.op ≡ Some given → (identifier : ℕ)
-      → is_identifier_in new identifier ≡ (given == identifier || is_identifier_in old identifier)
-  pub no_identifier : identifier_of label.op ≡ None → new.identifiers ≡ old.identifiers
-  pub stamp : identifier_of label.op ≡ None → (stamp : Stamp) → is_stamp_in new stamp ≡ (is_own label.stamp stamp || is_stamp_in old stamp)
-  pub no_stamp : (given : ℕ) → identifier_of label.op ≡ Some given → new.stamps ≡ old.stamps
+cmp_tests : (x y : ℕ) (o : Ordering) → MatchOrdering o (x < y) (x ≡ y) (y < x) → is_eq o ≡ (x == y)
+cmp_tests x y Less known = sym (ne_eqb x y (λ same. absurd (omega arith)))
+cmp_tests x y Equal known = sym (eq-eqb x y known)
+cmp_tests x y Greater known = sym (ne_eqb x y (λ same. absurd (omega arith)))
+
+-- numbers are the same where they compare so
+is_eq-nat_cmp : (x y : ℕ) → is_eq (nat_cmp x y) ≡ (x == y)
+is_eq-nat_cmp x y = cmp_tests x y (nat_cmp x y) (ranked x y _ refl)
 
 -- an operation that gives an identifier carries no stamp
 carries_none : (op : Op) (given : ℕ) → identifier_of op ≡ Some given → carries_stamp op ≡ false
@@ -51,7 +57,8 @@ identifier_more old new records by op given gives brings known = record {
   stamps = λ stamp. ap (λ stamps. is_stamp_in (record { stamps = stamps; identifiers = [] }) stamp) (brings.no_stamp given gives) ∙ known.stamps stamp;
   identifiers = λ identifier.
       brings.identifier given gives identifier
-      ∙ ap (λ b. given == identifier || b) (known.identifiers identifier)
+      ∙ ap (λ b. is_eq (nat_cmp given identifier) || b) (known.identifiers identifier)
+      ∙ ap (λ b. b || is_identifier_taken records identifier) (is_eq-nat_cmp given identifier)
       ∙ ap (λ (o : Option ℕ). option_map_or (λ own. own == identifier) o false || is_identifier_taken records identifier) (sym gives);
 }
 
@@ -60,7 +67,7 @@ stamp_more : (old new : Taken) (records : Records) (by : ℕ) (op : Op) (clock :
     → identifier_of op ≡ None → Brings (next_label records by op clock) old new → IsTakenIn records old
     → IsTakenIn (Operate by op clock ∷ records) new
 stamp_more old new records by op clock none brings known = record {
-  stamps = λ stamp. brings.stamp none stamp ∙ ap (λ b. is_own (next_label records by op clock).stamp stamp || b) (known.stamps stamp);
+  stamps = λ stamp. brings.stamp none stamp ∙ ap (λ b. has_stamp stamp (next_label records by op clock) || b) (known.stamps stamp);
   identifiers = λ identifier.
       ap (λ identifiers. is_identifier_in (record { stamps = []; identifiers = identifiers }) identifier) (brings.no_identifier none)
       ∙ known.identifiers identifier
@@ -82,3 +89,45 @@ pub taken_more : (kind : Kind) (old new : Taken) (records : Records) (by : ℕ) 
     → Brings label old new → IsTakenIn records old → IsTakenIn (Operate by op clock ∷ records) new
 taken_more kind old new records by op clock label fits is brings known =
     any_more kind old new records by op clock (identifier_of op) fits refl (subst (λ (l : Label). Brings l old new) is brings) known
+
+one_some : {A : Type 0} (x : A) → Some x ≡ None → ⊥
+one_some x e = absurd (cc e)
+
+one_given : (x y : ℕ) → Some x ≡ Some y → x ≡ y
+one_given x y e = cc
+
+-- what a label brings that gives an identifier
+pub brings_identifier : (label : Label) (old new : Taken) (given : ℕ) → identifier_of label.op ≡ Some given
+    → ((other : ℕ) → is_identifier_in new other ≡ (is_eq (nat_cmp given other) || is_identifier_in old other))
+    → new.stamps ≡ old.stamps → Brings label old new
+brings_identifier label old new given gives kept same = record {
+  identifier = λ own is other. subst (λ (g : ℕ). is_identifier_in new other ≡ (is_eq (nat_cmp g other) || is_identifier_in old other)) (one_given given own (sym gives ∙ is)) (kept other);
+  no_identifier = λ none. absurd (one_some given (sym gives ∙ none));
+  stamp = λ none. absurd (one_some given (sym gives ∙ none));
+  no_stamp = λ own is. same;
+}
+
+-- one that has a stamp of its own
+pub brings_stamp : (label : Label) (old new : Taken) (stamp : Stamp) → identifier_of label.op ≡ None → label.stamp ≡ Some stamp
+    → ((other : Stamp) → is_stamp_in new other ≡ (is_eq (stamp_cmp stamp other) || is_stamp_in old other))
+    → new.identifiers ≡ old.identifiers → Brings label old new
+brings_stamp label old new stamp none has kept same = record {
+  identifier = λ own is. absurd (one_some own (sym is ∙ none));
+  no_identifier = λ _. same;
+  stamp = λ _ other. kept other ∙ ap (λ (o : Option Stamp). option_map_or (λ own. is_eq (stamp_cmp own other)) o false || is_stamp_in old other) (sym has);
+  no_stamp = λ own is. absurd (one_some own (sym is ∙ none));
+}
+
+-- and one that has neither
+pub brings_nothing : (label : Label) (taken : Taken) → identifier_of label.op ≡ None → label.stamp ≡ None → Brings label taken taken
+brings_nothing label taken none bare = record {
+  identifier = λ own is. absurd (one_some own (sym is ∙ none));
+  no_identifier = λ _. refl;
+  stamp = λ _ other. ap (λ (o : Option Stamp). option_map_or (λ own. is_eq (stamp_cmp own other)) o false || is_stamp_in taken other) (sym bare);
+  no_stamp = λ own is. refl;
+}
+
+-- as std says what a set has with one more
+pub or_cond : (b c : Bool) → cond b true c ≡ (b || c)
+or_cond true c = refl
+or_cond false c = refl

@@ -1,7 +1,9 @@
-ghost use Rattle.std.specs.Prelude.{◌≡◌, ℕ, ◌||◌, ◌==◌, [], Some, None, OnOk, OnErr};
+ghost use Rattle.std.specs.Prelude.{◌≡◌, ℕ, ◌||◌, [], OnOk, OnErr};
+ghost use Rattle.std.specs.Ordering.{is_eq, nat_cmp};
 ghost use Rattle.ra_labels.specs.declared.label.Stamp.{Stamp};
+ghost use Rattle.ra_labels.specs.NamedOrder.{stamp_cmp};
 ghost use Rattle.ra_labels.specs.Answer.{identifier_of};
-ghost use Rattle.ra_monitor.specs.Taken.{is_stamp_in, is_identifier_in, is_own};
+ghost use Rattle.ra_monitor.specs.Taken.{is_stamp_in, is_identifier_in, Brings};
 
 use ra_labels::{Label, NoMemory, Op, Stamp};
 use std::alloc::Global;
@@ -51,26 +53,33 @@ impl Taken {
 
     /// Takes what the label has: the identifier that it gives, or else its own stamp, if it has one. Costs a search.
     pub fn keep(&mut self, label: &Label) -> Result<(), NoMemory>
-        ensures identifier { OnOk result ((given : ℕ) → identifier_of label.now.op ≡ Some given
-            → (identifier : ℕ) → is_identifier_in self.new identifier
-            ≡ (given == identifier || is_identifier_in self.old identifier)) }
-        ensures no_identifier { OnOk result (identifier_of label.now.op ≡ None
-            → self.new.identifiers ≡ self.old.identifiers) }
-        ensures stamp { OnOk result (identifier_of label.now.op ≡ None → (stamp : Stamp)
-            → is_stamp_in self.new stamp ≡ (is_own label.now.stamp stamp || is_stamp_in self.old stamp)) }
-        ensures no_stamp { OnOk result ((given : ℕ) → identifier_of label.now.op ≡ Some given
-            → self.new.stamps ≡ self.old.stamps) }
+        ensures kept { OnOk result (Brings label.now self.old self.new) }
         ensures same { OnErr result (self.new ≡ self.old) }
     {
         match (identifier_of(&label.op), label.stamp) {
-            (Some(given), _) => {
-                self.identifiers.insert(given)?;
-            }
-            (None, Some(stamp)) => {
-                self.stamps.insert(stamp)?;
-            }
-            (None, None) => {}
+            (Some(identifier), _) => self.keep_identifier(identifier),
+            (None, Some(stamp)) => self.keep_stamp(stamp),
+            (None, None) => Ok(()),
         }
+    }
+
+    fn keep_identifier(&mut self, identifier: u32) -> Result<(), NoMemory>
+        ensures kept { OnOk result ((other : ℕ)
+            → is_identifier_in self.new other ≡ (is_eq (nat_cmp identifier other) || is_identifier_in self.old other)) }
+        ensures stamps { self.new.stamps ≡ self.old.stamps }
+        ensures same { OnErr result (self.new ≡ self.old) }
+    {
+        self.identifiers.insert(identifier)?;
+        Ok(())
+    }
+
+    fn keep_stamp(&mut self, stamp: Stamp) -> Result<(), NoMemory>
+        ensures kept { OnOk result ((other : Stamp)
+            → is_stamp_in self.new other ≡ (is_eq (stamp_cmp stamp other) || is_stamp_in self.old other)) }
+        ensures identifiers { self.new.identifiers ≡ self.old.identifiers }
+        ensures same { OnErr result (self.new ≡ self.old) }
+    {
+        self.stamps.insert(stamp)?;
         Ok(())
     }
 }

@@ -17,8 +17,8 @@ returns-in_ok-new-in-Register c =
     let by_timestamp : IsByTimestamp c.args.kind = elim c.in-Register.is [
       | inl register ↦ subst IsByTimestamp (sym register) kinds_by_timestamp-register
       | inr other ↦ elim other [
-          | inl lww_set ↦ subst IsByTimestamp (sym lww_set) kinds_by_timestamp-lww_set
-          | inr rga ↦ subst IsByTimestamp (sym rga) kinds_by_timestamp-rga
-        ]
+        | inl lww_set ↦ subst IsByTimestamp (sym lww_set) kinds_by_timestamp-lww_set
+        | inr rga ↦ subst IsByTimestamp (sym rga) kinds_by_timestamp-rga
+      ]
     ] in
     c.in_ok-new-in-Register.ensures.stands c.args.kind by_timestamp
