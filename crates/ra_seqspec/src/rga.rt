@@ -11,7 +11,7 @@ use std::collections::HashMap;
 use std::marker::Model;
 use std::mem;
 
-/// The element before all others, which is never shown.
+// The element before all others, which is never shown.
 const ROOT: u32 = 0;
 
 /// The elements of an RGA in their order, the root first, each with whether a read shows it.
@@ -98,8 +98,8 @@ impl RgaList {
         Ok(true)
     }
 
-    /// Shows the element no more and answers true, or changes nothing and answers false where it is the root or is not in
-    /// the list. Costs a look-up.
+    /// Shows the element no more and answers true, or changes nothing and answers false where it is the root or not in the
+    /// list. Costs a look-up.
     pub fn hide(&mut self, element: u32) -> bool
         ensures done { result ≡ may_hide element self.old }
         ensures list { self.new ≡ (if result then hide element self.old else self.old) }
@@ -165,6 +165,7 @@ fn link(first: &mut usize, nodes: &mut Vec<Node>, place: Place, element: u32)
     });
 }
 
+// Shows the node in the slot no more.
 fn hide_node(nodes: &mut Vec<Node>, slot: usize)
     requires { slot < length nodes.old.items }
     ensures { nodes.new.items ≡ nodes_hiding slot nodes.old.items }
