@@ -13,7 +13,8 @@ use Rattle.ra_seqspec.specs.declared.state.Form.TheVariants.{OrSet}
 use Rattle.ra_seqspec.specs.Form.{state_of, StateKept}
 use Rattle.ra_seqspec.specs.Asked.{asks_rising}
 use Rattle.ra_seqspec.specs.Pairs.{distinct_elements}
-use Rattle.ra_seqspec.proofs.PairKeys.{identifiers_rise, distinct_rise, distinct_same, is_answer}
+use Rattle.ra_seqspec.proofs.Rising.{is_answer}
+use Rattle.ra_seqspec.proofs.PairKeys.{identifiers_rise, distinct_rise, distinct_same}
 
 pub asked_identifiers : (form : Form) (pairs : BTreeSet (ℕ × ℕ)) (now : State) (query : Query) (x : ℕ) (list shown : List ℕ) (r : Bool) → StateKept form → state_of form ≡ now → form ≡ OrSet pairs → query ≡ ReadIds x list → asks_rising query ≡ true
     → shown ≡ list → IsTrue r ↔ (shown ≡ identifiers_of x pairs.keys) → r ≡ answers now query

@@ -5,3 +5,4 @@ pub mod Nodes
 pub mod PairKeys
 pub mod Reading
 pub mod Removing
+pub mod Rising

@@ -1,6 +1,6 @@
 -- Pairs that rise: what is taken out of them, and what is read from them.
 use Rattle.std.proofs.Common.{◌≡◌, ℕ, ◌<◌, ◌≤◌, Bool, true, false, cond, List, [], ◌∷◌, ◌++◌, filter, map, Option, None, Some, refl, sym, ap, ◌∙◌, inl, inr, arith, Ordering}
-use Rattle.std.specs.Prelude.{◌↔◌, IsTrue, ◌==◌, nat_lt, not, ◌&&◌, ◌||◌, Contains}
+use Rattle.std.specs.Prelude.{◌==◌, nat_lt, not, ◌&&◌, ◌||◌}
 use Rattle.std.specs.Cmp.{IsTotalOrder}
 use Rattle.std.specs.List.{AllByRecursion, list_all}
 use Rattle.std.specs.List.Sorted.{IsStrictlySortedBy}
@@ -11,25 +11,18 @@ use Rattle.std.specs.declared.ops.Bound.TheVariants.{Included, Unbounded}
 use Rattle.std.specs.BTreeMap.{is_at}
 use Rattle.std.specs.BTreeMap.Range.{range_contains}
 use Rattle.std.specs.Set.{remove_key}
-use Rattle.std.specs.Cmp.{nat_eq_equiv}
 use Rattle.std.proofs.lemmas.Cmp.{ranked, nat_cmp_total, on_total, then_total}
-use Rattle.std.proofs.lemmas.Map.Views.{list_any-from_Contains, Contains-from_any}
 use Rattle.std.proofs.lemmas.Bool.{cases_Bool, cases_order, cond-true, cond-false, eqb-true, eqb-false, eq-eqb, ne_eqb, lt-ltb, le-ltb, ltb-true, and_from, and_parts, and_right, not_from_true, not_from_false}
 use Rattle.std.proofs.lemmas.Bool.Decides.{nat_tests}
-use Rattle.ra_labels.specs.Lists.{is_among, have_same, rises, pair_cmp, identifiers_of, elements_of, without_pairs}
-use Rattle.ra_labels.proofs.TheLaws.{lists_have_the_same_elements-rising, lists_have_the_same_elements-elements}
+use Rattle.ra_labels.specs.Lists.{is_among, rises, pair_cmp, identifiers_of, elements_of, without_pairs}
 use Rattle.ra_seqspec.specs.Pairs.{identifiers_in_front, elements_behind, distinct_elements}
+use Rattle.ra_seqspec.proofs.Keys.{equal_test}
 use Rattle.ra_seqspec.proofs.Removing.{removed, filter_none_left}
 
 pub pairs_total : IsTotalOrder pair_cmp
 pairs_total = then_total (on_total (λ p. p.0) nat_cmp_total) (on_total (λ p. p.1) nat_cmp_total)
 
--- a number compared, and a pair
-equal_test : (x y : ℕ) (o : Ordering) → MatchOrdering o (x < y) (x ≡ y) (y < x) → is_eq o ≡ (x == y)
-equal_test x y Less known = sym (ne_eqb x y (λ same. absurd (omega arith)))
-equal_test x y Equal known = sym (eq-eqb x y known)
-equal_test x y Greater known = sym (ne_eqb x y (λ same. absurd (omega arith)))
-
+-- a pair compared
 then_test : (a b : Ordering) → is_eq (ordering_then a b) ≡ (is_eq a && is_eq b)
 then_test Less b = refl
 then_test Equal b = refl
@@ -258,33 +251,6 @@ behind_rise last (p ∷ ps) ordered =
 
 pub distinct_rise : (pairs : List (ℕ × ℕ)) → IsStrictlySortedBy pair_cmp pairs → rises (distinct_elements pairs) ≡ true
 distinct_rise pairs ordered = behind_rise None pairs ordered
-
--- what is in a list
-among_contains : (xs : List ℕ) (x : ℕ) → (is_among x xs ≡ true) ↔ Contains xs x
-among_contains xs x = (Contains-from_any eqb-true x xs, list_any-from_Contains nat_eq_equiv x xs)
-
-decided : (r same : Bool) → (r ≡ true → same ≡ true) → (same ≡ true → r ≡ true) → r ≡ same
-decided true same to from = sym (to refl)
-decided false true to from = from refl
-decided false false to from = refl
-
--- a list that rises has the same elements as these where it is the list that has them once each
-pub is_answer : (list once these : List ℕ) (r : Bool) → rises list ≡ true → rises once ≡ true → ((x : ℕ) → is_among x once ≡ is_among x these) → IsTrue r ↔ (list ≡ once) → r ≡ have_same list these
-is_answer list once these r up also same answer =
-    let equal = lists_have_the_same_elements-rising list once up also in
-    let ours = lists_have_the_same_elements-elements list once in
-    let theirs = lists_have_the_same_elements-elements list these in
-    decided r (have_same list these)
-    (λ holds. theirs.1 (λ x.
-    let both = ours.0 (equal.1 (answer.0 holds)) x in (
-      (λ there. (among_contains these x).0 (sym (same x) ∙ (among_contains once x).1 (both.0 there))),
-      (λ there. both.1 ((among_contains once x).0 (same x ∙ (among_contains these x).1 there))),
-    )))
-    (λ holds. answer.1 (equal.0 (ours.1 (λ x.
-    let both = theirs.0 holds x in (
-      (λ there. (among_contains once x).0 (same x ∙ (among_contains these x).1 (both.0 there))),
-      (λ there. both.1 ((among_contains these x).0 (sym (same x) ∙ (among_contains once x).1 there))),
-    )))))
 
 none_named : (x : ℕ) (pairs : List (ℕ × ℕ)) → AllByRecursion (λ q. not (x == q.0 && false) ≡ true) pairs
 none_named x [] = tt

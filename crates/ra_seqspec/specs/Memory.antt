@@ -3,8 +3,9 @@ use Rattle.std.specs.Prelude.{Bool, true, false, not, ◌==◌, ◌&&◌}
 use Rattle.std.specs.List.{list_any}
 use Rattle.ra_labels.specs.declared.operation.Update.{Update}
 use Rattle.ra_labels.specs.declared.operation.Update.TheVariants.{LwwAdd, OrAdd, After}
-use Rattle.ra_labels.specs.Lists.{is_among, is_in_list}
+use Rattle.ra_labels.specs.Lists.{is_among}
 use Rattle.ra_labels.specs.Specification.{State, Number, Written, Members, Pairs, Listed}
+use Rattle.ra_seqspec.specs.Rga.{may_insert}
 
 -- does a state of this form take memory to be copied? A number and a value do not
 abbrev pub takes_memory : State → Bool
@@ -18,5 +19,5 @@ takes_memory (Listed list) = true
 abbrev pub update_takes_memory : State → Update → Bool
 update_takes_memory (Members xs) (LwwAdd x) = not (is_among x xs)
 update_takes_memory (Pairs pairs) (OrAdd x id) = not (list_any (λ pair. x == pair.0 && id == pair.1) pairs)
-update_takes_memory (Listed list) (After anchor x) = is_in_list anchor list && not (is_in_list x list)
+update_takes_memory (Listed list) (After anchor x) = may_insert anchor x list
 update_takes_memory state update = false

@@ -1,6 +1,6 @@
 -- The list that the nodes of an `RgaList` stand for, and what is kept true of them.
-use Rattle.std.specs.Prelude.{◌≡◌, ℕ, zero, suc, ◌<◌, nat_lt, Bool, true, false, List, [], ◌∷◌, ◌++◌, length, map, slice_index_or, slice_set, Option, Some, option_map, ◌==◌, if◌then◌else◌}
-use Rattle.ra_labels.specs.Lists.{is_among}
+use Rattle.std.specs.Prelude.{◌≡◌, ℕ, zero, suc, ◌<◌, nat_lt, Bool, true, false, List, [], ◌∷◌, ◌++◌, length, map, slice_index_or, slice_set, Option, Some, option_map, ◌==◌, if◌then◌else◌, not, ◌&&◌}
+use Rattle.ra_labels.specs.Lists.{is_among, is_in_list}
 use Rattle.ra_seqspec.specs.declared.rga.Node.{Node}
 use Rattle.ra_seqspec.specs.declared.rga.Place.{Place}
 use Rattle.ra_seqspec.specs.declared.rga.Place.TheVariants.{First, Behind}
@@ -42,6 +42,14 @@ pub record RgaListKept (first : ℕ) (nodes : List Node) (slot_of : ℕ → Opti
 abbrev pub IsThere : Place → ℕ → Type 0
 IsThere First n = Unit {0}
 IsThere (Behind slot) n = slot < n
+
+-- is the anchor in the list, and x not?
+abbrev pub may_insert : ℕ → ℕ → List (ℕ × Bool) → Bool
+may_insert anchor x list = is_in_list anchor list && not (is_in_list x list)
+
+-- is x in the list, and not the root?
+abbrev pub may_hide : ℕ → List (ℕ × Bool) → Bool
+may_hide x list = is_in_list x list && not (x == 0)
 
 -- a node that is shown
 abbrev pub shown_node : ℕ → ℕ → Node

@@ -7,6 +7,8 @@
 mod pairs;
 mod rga;
 mod state;
+#[cfg(test)]
+mod tests;
 
 pub use state::State;
 

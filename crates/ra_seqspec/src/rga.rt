@@ -2,8 +2,8 @@
 ghost use Rattle.std.specs.Prelude.{◌≡◌, ◌↔◌, ℕ, ◌<◌, ◌&&◌, ◌||◌, ◌==◌, nat_eq, is_some, ◌∷◌, [], length, true, false, not, IsTrue, IfOk, IsOk, IfSome, OnErr, if◌then◌else◌};
 ghost use Rattle.std.specs.Vec.{vec_len, vec_capacity};
 ghost use Rattle.std.specs.HashMap.{get};
-ghost use Rattle.ra_labels.specs.Lists.{is_among, is_in_list, insert_after, hide, shown};
-ghost use Rattle.ra_seqspec.specs.Rga.{place_behind, IsThere, first_after, nodes_after, nodes_hiding, slots_of, entries_of};
+ghost use Rattle.ra_labels.specs.Lists.{is_among, insert_after, hide, shown};
+ghost use Rattle.ra_seqspec.specs.Rga.{may_insert, may_hide, place_behind, IsThere, first_after, nodes_after, nodes_hiding, slots_of, entries_of};
 
 use ra_labels::NoMemory;
 use std::alloc::Global;
@@ -11,7 +11,7 @@ use std::collections::HashMap;
 use std::marker::Model;
 use std::mem;
 
-/// The element before all others, which is never shown.
+// The element before all others, which is never shown.
 const ROOT: u32 = 0;
 
 /// The elements of an RGA in their order, the root first, each with whether a read shows it.
@@ -80,10 +80,11 @@ impl RgaList {
     /// Puts the element directly behind the anchor and answers true, or changes nothing and answers false where the
     /// anchor is not in the list or the element is. Costs two look-ups.
     pub fn insert_after(&mut self, anchor: u32, element: u32) -> Result<bool, NoMemory>
-        ensures done { IfOk result (λ is_done. is_done ≡ (is_in_list anchor self.old && not (is_in_list element self.old))) }
-        ensures list { IfOk result (λ is_done. self.new ≡ (if is_done then insert_after anchor element self.old else self.old)) }
+        ensures done { IfOk result (λ is_done. is_done ≡ may_insert anchor element self.old) }
+        ensures list { IfOk result (λ is_done.
+            self.new ≡ (if is_done then insert_after anchor element self.old else self.old)) }
         ensures err { OnErr result (self.new ≡ self.old) }
-        ensures memory { (is_in_list anchor self.old && not (is_in_list element self.old)) ≡ false → IsOk result }
+        ensures memory { may_insert anchor element self.old ≡ false → IsOk result }
     {
         let Some(place) = place_behind(&self.slots, anchor) else {
             return Ok(false);
@@ -97,10 +98,10 @@ impl RgaList {
         Ok(true)
     }
 
-    /// Shows the element no more and answers true, or changes nothing and answers false where it is the root or is not in
-    /// the list. Costs a look-up.
+    /// Shows the element no more and answers true, or changes nothing and answers false where it is the root or not in the
+    /// list. Costs a look-up.
     pub fn hide(&mut self, element: u32) -> bool
-        ensures done { result ≡ (is_in_list element self.old && not (element == 0)) }
+        ensures done { result ≡ may_hide element self.old }
         ensures list { self.new ≡ (if result then hide element self.old else self.old) }
     {
         if element == ROOT {
@@ -164,6 +165,7 @@ fn link(first: &mut usize, nodes: &mut Vec<Node>, place: Place, element: u32)
     });
 }
 
+// Shows the node in the slot no more.
 fn hide_node(nodes: &mut Vec<Node>, slot: usize)
     requires { slot < length nodes.old.items }
     ensures { nodes.new.items ≡ nodes_hiding slot nodes.old.items }

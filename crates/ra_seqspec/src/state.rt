@@ -78,7 +78,7 @@ impl State {
     }
 
     /// Makes the update and answers true, or changes nothing and answers false where the state does not admit it. Costs
-    /// a search among a set's elements, or pairs, for each element or identifier that it names, and of an RGA two look-ups.
+    /// a search in a set, which is one for each identifier that is taken out, and two look-ups in an RGA.
     pub fn apply(&mut self, update: &Update) -> Result<bool, NoMemory>
         requires { IfSome (step_of self.old update.now) IsInRange }
         ensures admitted { IfOk result (λ is_admitted. is_admitted ≡ is_some (step_of self.old update.now)) }
@@ -97,23 +97,21 @@ impl State {
             (Form::OrSet(pairs), Update::OrAdd { element, id }) => {
                 pairs.insert((*element, *id))?;
             }
-            (Form::OrSet(pairs), Update::TakeOut { element, ids }) => pairs::take_out(
-                pairs,
-                *element,
-                ids.as_slice(),
-            ),
-            (Form::Rga(list), Update::After { anchor, element }) => return list.insert_after(
-                *anchor, *element,
-            ),
+            (Form::OrSet(pairs), Update::TakeOut { element, ids }) => {
+                pairs::take_out(pairs, *element, ids.as_slice());
+            }
+            (Form::Rga(list), Update::After { anchor, element }) => {
+                return list.insert_after(*anchor, *element);
+            }
             (Form::Rga(list), Update::RgaRemove(element)) => return Ok(list.hide(*element)),
             _ => return Ok(false),
         }
         Ok(true)
     }
 
-    /// Is the query's answer that of this state? It takes no memory and always answers. A read of a set costs as
-    /// much as the list is long, that of an OR-Set as many pairs as there are, that of identifiers a search and their
-    /// number, that of an RGA as many elements as there are, shown or not.
+    /// Is the query's answer that of this state? It takes no memory and always answers. A read costs a pass over an LWW
+    /// set's elements, an OR-Set's pairs, or an RGA's elements, shown or not; one of identifiers costs a search and
+    /// those of the element.
     pub fn admits(&self, query: &Query) -> bool
         requires { asks_rising query.now ≡ true }
         ensures { result ≡ answers self.now query.now }
@@ -125,15 +123,12 @@ impl State {
                 elements,
                 answer.as_slice(),
             ),
-            (Form::OrSet(pairs), Query::ReadIds { element, ids }) => pairs::are_identifiers(
-                pairs,
-                *element,
-                ids.as_slice(),
-            ),
-            (Form::OrSet(pairs), Query::OrRead(answer)) => pairs::are_elements(
-                pairs,
-                answer.as_slice(),
-            ),
+            (Form::OrSet(pairs), Query::ReadIds { element, ids }) => {
+                pairs::are_identifiers(pairs, *element, ids.as_slice())
+            }
+            (Form::OrSet(pairs), Query::OrRead(answer)) => {
+                pairs::are_elements(pairs, answer.as_slice())
+            }
             (Form::Rga(list), Query::RgaRead(answer)) => list.shows(answer.as_slice()),
             _ => false,
         }
