@@ -236,7 +236,8 @@ impl History {
         requires rising { AllRise self.old.labels.items }
         requires room { 0 < room_in self.old.order }
         ensures answered { (records : Records) (by : ℕ) (op : Op) (clock : Option ℕ)
-            → HasNewest self.old setup.now records by op clock → IsTakenIn records self.old.taken → IfOk result (λ reply.
+            → HasNewest self.old setup.now records by op clock → IsTakenIn records self.old.taken
+            → IfOk result (λ reply.
             (reply ≡ answer_to_accepted setup.now.kind records (Command.Operate by op clock))
             × StandsFor self.new setup.now (Command.Operate by op clock ∷ records)) }
         ensures labels { self.new.labels ≡ self.old.labels }

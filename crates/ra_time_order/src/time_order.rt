@@ -78,8 +78,8 @@ impl NamedOrder for TimeOrder {
         self.sorted.spare()
     }
 
-    /// Costs a binary search and a move within a run, and a look-up for each replica where the label has no stamp of its
-    /// own.
+    /// Costs a binary search and a move within a run, and a look-up for each replica where the label has no stamp of
+    /// its own.
     fn put(&mut self, label: &Label, seen: &Seen<'_>, _place: Place) {
         let rank = self.replicas.rank(label.stamp, seen);
         self.sorted.insert(Entry {
