@@ -15,7 +15,7 @@ takes_memory (Members xs) = true
 takes_memory (Pairs pairs) = true
 takes_memory (Listed list) = true
 
--- does the update take memory in this state? Only a new element does, and a new pair
+-- does the update take memory in this state? Only a new element or pair does, and what an RGA admits to be put in
 abbrev pub update_takes_memory : State → Update → Bool
 update_takes_memory (Members xs) (LwwAdd x) = not (is_among x xs)
 update_takes_memory (Pairs pairs) (OrAdd x id) = not (list_any (λ pair. x == pair.0 && id == pair.1) pairs)

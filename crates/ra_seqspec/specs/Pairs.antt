@@ -7,11 +7,13 @@ abbrev pub identifiers_in_front : ℕ → List (ℕ × ℕ) → List ℕ
 identifiers_in_front x [] = []
 identifiers_in_front x (pair ∷ pairs) = if pair.0 == x then pair.1 ∷ identifiers_in_front x pairs else []
 
--- the elements, each once, without the last one of the pairs before
+-- the elements of pairs that rise, each once, where the last of the pairs before them is named already
 abbrev pub elements_behind : Option ℕ → List (ℕ × ℕ) → List ℕ
 elements_behind last [] = []
 elements_behind last (pair ∷ pairs) =
-    if option_eq (λ x y. x == y) last (Some pair.0) then elements_behind last pairs else pair.0 ∷ elements_behind (Some pair.0) pairs
+    if option_eq (λ x y. x == y) last (Some pair.0)
+    then elements_behind last pairs
+    else pair.0 ∷ elements_behind (Some pair.0) pairs
 
 abbrev pub distinct_elements : List (ℕ × ℕ) → List ℕ
 distinct_elements pairs = elements_behind None pairs

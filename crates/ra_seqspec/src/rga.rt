@@ -98,8 +98,8 @@ impl RgaList {
         Ok(true)
     }
 
-    /// Shows the element no more and answers true, or changes nothing and answers false where it is the root or not in the
-    /// list. Costs a look-up.
+    /// Shows the element no more and answers true, or changes nothing and answers false where it is the root or not in
+    /// the list. Costs a look-up.
     pub fn hide(&mut self, element: u32) -> bool
         ensures done { result ≡ may_hide element self.old }
         ensures list { self.new ≡ (if result then hide element self.old else self.old) }
