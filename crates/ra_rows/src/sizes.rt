@@ -1,11 +1,12 @@
 //! Tens of thousands of labels, and thousands of elements with stamps that come late.
 
-ghost use Rattle.std.specs.Prelude.{◌≡◌, ◌+◌, ◌<◌, length};
+ghost use Rattle.std.specs.Prelude.{◌≡◌, ◌+◌, ◌<◌, ◌≤◌, length};
 ghost use Rattle.ra_visibility.specs.Tracked.{labels_in, replicas_in};
 
 use crate::commands::reply_to_command;
-use ra_labels::{Command, Elements, Kind, Label, Op, Refusal, Reply, Stamp};
+use ra_labels::{Command, Elements, Kind, Label, Op, Query, Refusal, Reply, Stamp, Update};
 use ra_monitor::Monitor;
+use ra_seqspec::State;
 use ra_time_order::TimeOrder;
 use ra_visibility::{MOST_LABELS, NamedOrder, Tracker};
 use std::process::Abort;
@@ -37,7 +38,8 @@ fn many_labels_stand_by_their_stamps(rt: HostRuntime) -> Result<(), Fail> {
 // The first half of the labels has the even clocks, and the other replica's half comes late, with the odd ones.
 fn stamp_of(number: u32) -> Stamp
     requires { number < MANY }
-    ensures { result.replica < 2 }
+    ensures replica { result.replica < 2 }
+    ensures clock { 1 ≤ result.clock }
 {
     let half = MANY / 2;
     if number < half {
@@ -124,4 +126,37 @@ fn add(replica: u8, element: u32, clock: u32) -> Command {
         op: Op::LwwAdd(element),
         stamp: Some(clock),
     }
+}
+
+#[test]
+fn an_or_set_has_many_pairs(rt: HostRuntime) -> Result<(), Fail> {
+    let mut set = State::new(rt.alloc(), Kind::OrSet)?;
+    for n in 1..=MANY {
+        let put_in = Update::OrAdd { element: n, id: n };
+        assert!(rt; set.apply(&put_in)?, "at {n}");
+    }
+    let copy = set.copy()?;
+    let read = Query::ReadIds {
+        element: MANY,
+        ids: Elements::new(vec![in rt.alloc(); MANY]?),
+    };
+    assert!(rt; copy.admits(&read));
+    Ok(())
+}
+
+#[test]
+fn an_rga_has_many_elements(rt: HostRuntime) -> Result<(), Fail> {
+    let mut list = State::new(rt.alloc(), Kind::Rga)?;
+    let mut elements = Vec::new(rt.alloc());
+    for n in 1..=MANY {
+        let put_in = Update::After {
+            anchor: n - 1,
+            element: n,
+        };
+        assert!(rt; list.apply(&put_in)?, "at {n}");
+        elements.push(n)?;
+    }
+    let copy = list.copy()?;
+    assert!(rt; copy.admits(&Query::RgaRead(Elements::new(elements))));
+    Ok(())
 }

@@ -7,8 +7,6 @@
 mod pairs;
 mod rga;
 mod state;
-#[cfg(test)]
-mod tests;
 
 pub use state::State;
 
