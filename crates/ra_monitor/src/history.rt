@@ -56,7 +56,8 @@ impl History {
         })
     }
 
-    /// All parts in the named order, of the labels before the fault. Costs as much as there are labels.
+    /// All parts in the named order, of the labels before the fault. Costs a step for each label, and by
+    /// timestamps one for each 512 labels before it.
     pub fn sequence(&self) -> Result<Vec<PartRef>, NoMemory>
         ensures { (setup : Setup) (records : Records) → StandsFor self.now setup records → IfOk result (λ parts.
             parts.items ≡ map ref_of (named_sequence setup.kind (records_before_fault setup.kind records))) }

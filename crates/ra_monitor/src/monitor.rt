@@ -83,7 +83,7 @@ impl Monitor {
     }
 
     /// All parts in the named order: of the labels before a fault, or of all where there is none.
-    /// Costs as much as there are labels.
+    /// Costs a step for each label, and by timestamps one for each 512 labels before it.
     pub fn sequence(&self) -> Result<Vec<PartRef>, NoMemory>
         ensures named { IfOk result (λ parts. parts.items
             ≡ map ref_of (named_sequence self.now.setup.kind (records_before_fault_in self.now.setup self.now.log))) }
