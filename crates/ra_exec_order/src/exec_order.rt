@@ -1,4 +1,4 @@
-ghost use Rattle.std.specs.Prelude.{◌≡◌, ℕ, []};
+ghost use Rattle.std.specs.Prelude.{◌≡◌, ℕ, [], IsOk};
 ghost use Rattle.ra_labels.specs.declared.kind.Kind.{Kind};
 ghost use Rattle.ra_labels.specs.Records.{label_count};
 ghost use Rattle.ra_visibility.specs.Order.{IsByExecution};
@@ -49,7 +49,11 @@ impl NamedOrder for ExecOrder {
         }
     }
 
-    fn spare(&mut self) -> Result<(), NoMemory> {
+    /// It never answers `NoMemory`.
+    fn spare(&mut self) -> Result<(), NoMemory>
+        ensures made { IsOk result }
+        ensures same { self.new ≡ self.old }
+    {
         Ok(())
     }
 

@@ -26,11 +26,11 @@ pub enum Op {
         /// The addition's identifier.
         id: u32,
     },
-    /// OR-Set: this element is taken out as far as it was there, which returned the identifiers that it was there under.
+    /// OR-Set: this element is taken out, as far as the replica had it.
     OrRemove {
         /// The element.
         element: u32,
-        /// The identifiers of the additions that are taken out.
+        /// The identifiers that the replica had it under, which the removal returned.
         ids: Elements,
     },
     /// OR-Set: a read, which returned these elements.

@@ -1,6 +1,6 @@
 -- The fold of the updates of labels, label by label.
 use Rattle.std.proofs.Common.{◌≡◌, ℕ, ◌+◌, ◌<◌, ◌≤◌, pos, neg_ℤ, ◌≤ℤ◌, Bool, true, false, cond, List, [], ◌∷◌, ◌++◌, map, length, get_or, take, drop, Option, Some, None, refl, sym, ap, ◌∙◌, subst, arith}
-use Rattle.std.specs.Prelude.{filter, filter_map, flat_map, fold, option_and_then, IfSome}
+use Rattle.std.specs.Prelude.{◌==◌, ◌&&◌, not, if◌then◌else◌, filter, filter_map, flat_map, fold, option_and_then, IfSome}
 use Rattle.std.specs.List.{cons_option, slice_get}
 use Rattle.std.proofs.lemmas.Int.{ints}
 use Rattle.std.proofs.lemmas.List.{append-nil, take_more, take-append-drop}
@@ -8,18 +8,28 @@ use Rattle.std.proofs.lemmas.List.Elements.{filter-append, filter_map-append}
 use Rattle.std.proofs.lemmas.Grind.{flat_map-append}
 use Rattle.ra_labels.specs.declared.kind.Kind.{Kind}
 use Rattle.ra_labels.specs.declared.label.Label.{Label}
+use Rattle.ra_labels.specs.declared.operation.Op.{Op}
+use Rattle.ra_labels.specs.declared.operation.Op.TheVariants as op
 use Rattle.ra_labels.specs.declared.operation.Update.{Update}
-use Rattle.ra_labels.specs.declared.operation.Update.TheVariants.{Inc, Dec, Write, LwwAdd, LwwRemove}
-use Rattle.ra_labels.specs.Specification.{State, Number, Written, Members, start_of, step_of, state_after}
+use Rattle.ra_labels.specs.declared.operation.Update.TheVariants.{Inc, Dec, Write, LwwAdd, LwwRemove, OrAdd, TakeOut, After, RgaRemove}
+use Rattle.ra_labels.specs.Lists.{is_in_list, insert_after, hide}
+use Rattle.ra_labels.specs.Specification.{State, Number, Written, Members, Pairs, Listed, start_of, step_of, state_after}
 use Rattle.ra_labels.specs.Rewriting.{Half, Act, Part, acts_of, part_of, parts_of, update_of, updates_of}
 use Rattle.ra_seqspec.specs.Range.{IsInRange}
-use Rattle.ra_monitor.specs.Fold.{updates_in, labels_at, updates_within}
+use Rattle.ra_monitor.specs.Fold.{updates_in, state_with, labels_at, updates_within}
 
 -- a counter's number is at most n from 0
 abbrev pub IsWithin : ℕ → State → Type 0
 IsWithin n (Number z) = (neg_ℤ (pos n) ≤ℤ z) × (z ≤ℤ pos n)
 IsWithin n (Written last) = Unit {0}
 IsWithin n (Members xs) = Unit {0}
+IsWithin n (Pairs pairs) = Unit {0}
+IsWithin n (Listed list) = Unit {0}
+
+-- a list is no number
+listed_within : (n : ℕ) (b : Bool) (list : List (ℕ × Bool)) → IfSome (if b then Some (Listed list) else None) (IsWithin n)
+listed_within n true list = tt
+listed_within n false list = tt
 
 -- one step moves it by at most one
 stepped_within : (n : ℕ) (s : State) (u : Update) → IsWithin n s → IfSome (step_of s u) (IsWithin (n + 1))
@@ -28,36 +38,84 @@ stepped_within n (Number z) Dec h = (omega (arith, ints), omega (arith, ints))
 stepped_within n (Number z) (Write value) h = tt
 stepped_within n (Number z) (LwwAdd x) h = tt
 stepped_within n (Number z) (LwwRemove x) h = tt
+stepped_within n (Number z) (OrAdd x id) h = tt
+stepped_within n (Number z) (TakeOut x ids) h = tt
+stepped_within n (Number z) (After anchor x) h = tt
+stepped_within n (Number z) (RgaRemove x) h = tt
 stepped_within n (Written last) Inc h = tt
 stepped_within n (Written last) Dec h = tt
 stepped_within n (Written last) (Write value) h = tt
 stepped_within n (Written last) (LwwAdd x) h = tt
 stepped_within n (Written last) (LwwRemove x) h = tt
+stepped_within n (Written last) (OrAdd x id) h = tt
+stepped_within n (Written last) (TakeOut x ids) h = tt
+stepped_within n (Written last) (After anchor x) h = tt
+stepped_within n (Written last) (RgaRemove x) h = tt
 stepped_within n (Members xs) Inc h = tt
 stepped_within n (Members xs) Dec h = tt
 stepped_within n (Members xs) (Write value) h = tt
 stepped_within n (Members xs) (LwwAdd x) h = tt
 stepped_within n (Members xs) (LwwRemove x) h = tt
-
-pub step_within : (n : ℕ) (s t : State) (u : Update) → IsWithin n s → step_of s u ≡ Some t → IsWithin (n + 1) t
-step_within n s t u h e = subst (λ (o : Option State). IfSome o (IsWithin (n + 1))) e (stepped_within n s u h)
+stepped_within n (Members xs) (OrAdd x id) h = tt
+stepped_within n (Members xs) (TakeOut x ids) h = tt
+stepped_within n (Members xs) (After anchor x) h = tt
+stepped_within n (Members xs) (RgaRemove x) h = tt
+stepped_within n (Pairs pairs) Inc h = tt
+stepped_within n (Pairs pairs) Dec h = tt
+stepped_within n (Pairs pairs) (Write value) h = tt
+stepped_within n (Pairs pairs) (LwwAdd x) h = tt
+stepped_within n (Pairs pairs) (LwwRemove x) h = tt
+stepped_within n (Pairs pairs) (OrAdd x id) h = tt
+stepped_within n (Pairs pairs) (TakeOut x ids) h = tt
+stepped_within n (Pairs pairs) (After anchor x) h = tt
+stepped_within n (Pairs pairs) (RgaRemove x) h = tt
+stepped_within n (Listed list) Inc h = tt
+stepped_within n (Listed list) Dec h = tt
+stepped_within n (Listed list) (Write value) h = tt
+stepped_within n (Listed list) (LwwAdd x) h = tt
+stepped_within n (Listed list) (LwwRemove x) h = tt
+stepped_within n (Listed list) (OrAdd x id) h = tt
+stepped_within n (Listed list) (TakeOut x ids) h = tt
+stepped_within n (Listed list) (After anchor x) h = listed_within (n + 1) (is_in_list anchor list && not (is_in_list x list)) (insert_after anchor x list)
+stepped_within n (Listed list) (RgaRemove x) h = listed_within (n + 1) (is_in_list x list && not (x == 0)) (hide x list)
 
 pub in_range : (n : ℕ) (s : State) → IsWithin n s → n ≤ 1048576 → IsInRange s
 in_range n (Number z) h l = (omega (arith, ints), omega (arith, ints))
 in_range n (Written last) h l = tt
 in_range n (Members xs) h l = tt
+in_range n (Pairs pairs) h l = tt
+in_range n (Listed list) h l = tt
 
 all_in_range : (n : ℕ) (o : Option State) → IfSome o (IsWithin n) → n ≤ 1048576 → IfSome o IsInRange
 all_in_range n None h l = tt
 all_in_range n (Some s) h l = in_range n s h l
 
-pub step_in_range : (n : ℕ) (s : State) (u : Update) → IsWithin n s → n < 1048576 → IfSome (step_of s u) IsInRange
-step_in_range n s u h l = all_in_range (n + 1) (step_of s u) (stepped_within n s u h) (omega (arith, l))
-
-pub within_more : (n : ℕ) (s : State) → IsWithin n s → IsWithin (n + 1) s
+within_more : (n : ℕ) (s : State) → IsWithin n s → IsWithin (n + 1) s
 within_more n (Number z) h = (omega (arith, ints), omega (arith, ints))
 within_more n (Written last) h = tt
 within_more n (Members xs) h = tt
+within_more n (Pairs pairs) h = tt
+within_more n (Listed list) h = tt
+
+-- and so does what an operation does, if anything
+taken_within : (n : ℕ) (s : State) (operation : Op) → IsWithin n s → IfSome (state_with s operation) (IsWithin (n + 1))
+taken_within n s op.Inc h = stepped_within n s Inc h
+taken_within n s op.Dec h = stepped_within n s Dec h
+taken_within n s (op.Count v) h = within_more n s h
+taken_within n s (op.Write value) h = stepped_within n s (Write value) h
+taken_within n s (op.Last value) h = within_more n s h
+taken_within n s (op.LwwAdd x) h = stepped_within n s (LwwAdd x) h
+taken_within n s (op.LwwRemove x) h = stepped_within n s (LwwRemove x) h
+taken_within n s (op.LwwRead list) h = within_more n s h
+taken_within n s (op.OrAdd x id) h = stepped_within n s (OrAdd x id) h
+taken_within n s (op.OrRemove x ids) h = stepped_within n s (TakeOut x ids) h
+taken_within n s (op.OrRead list) h = within_more n s h
+taken_within n s (op.After anchor x) h = stepped_within n s (After anchor x) h
+taken_within n s (op.RgaRemove x) h = stepped_within n s (RgaRemove x) h
+taken_within n s (op.RgaRead list) h = within_more n s h
+
+pub taken_in_range : (n : ℕ) (s : State) (operation : Op) → IsWithin n s → n < 1048576 → IfSome (state_with s operation) IsInRange
+taken_in_range n s operation h l = all_in_range (n + 1) (state_with s operation) (taken_within n s operation h) (omega (arith, l))
 
 -- the parts of one label are let through together
 pub filter_one : (test : ℕ → Bool) (l : Label) (acts : List (Half × Act)) (b : Bool) → test l.number ≡ b
@@ -152,27 +210,13 @@ pub kept_hidden : (kind : Kind) (test : ℕ → Bool) (labels : List Label) (num
 kept_hidden kind test labels numbers i l s below found hidden kept =
     (within_more i s kept.0, state_more kind test labels numbers i l false below found hidden ∙ kept.1)
 
--- and so does one that does nothing
-pub kept_without : (kind : Kind) (test : ℕ → Bool) (labels : List Label) (numbers : List ℕ) (i : ℕ) (l : Label) (s : State)
-    → i < length numbers → slice_get labels (get_or numbers i 0) ≡ Some l → test l.number ≡ true → [] ≡ updates_in l.op
-    → IsSoFar kind test labels numbers i s → IsSoFar kind test labels numbers (i + 1) s
-kept_without kind test labels numbers i l s below found seen none kept = (
-  within_more i s kept.0,
-  state_more kind test labels numbers i l true below found seen
-      ∙ ap (fold advance (state_after kind (updates_within test (labels_at labels (take i numbers))))) (sym none)
-      ∙ kept.1,
-)
-
--- a label that makes an update makes its step
-pub kept_by_update : (kind : Kind) (test : ℕ → Bool) (labels : List Label) (numbers : List ℕ) (i : ℕ) (l : Label) (s t : State) (u : Update)
-    → i < length numbers → slice_get labels (get_or numbers i 0) ≡ Some l → test l.number ≡ true → u ∷ [] ≡ updates_in l.op → step_of s u ≡ Some t
+-- a label that is let through makes its update, if it makes one
+pub kept_taken : (kind : Kind) (test : ℕ → Bool) (labels : List Label) (numbers : List ℕ) (i : ℕ) (l : Label) (s t : State)
+    → i < length numbers → slice_get labels (get_or numbers i 0) ≡ Some l → test l.number ≡ true → state_with s l.op ≡ Some t
     → IsSoFar kind test labels numbers i s → IsSoFar kind test labels numbers (i + 1) t
-kept_by_update kind test labels numbers i l s t u below found seen one step kept = (
-  step_within i s t u kept.0 step,
-  state_more kind test labels numbers i l true below found seen
-      ∙ ap (fold advance (state_after kind (updates_within test (labels_at labels (take i numbers))))) (sym one)
-      ∙ ap (λ o. advance o u) kept.1
-      ∙ step,
+kept_taken kind test labels numbers i l s t below found seen taken kept = (
+  subst (λ (o : Option State). IfSome o (IsWithin (i + 1))) taken (taken_within i s l.op kept.0),
+  state_more kind test labels numbers i l true below found seen ∙ ap (λ o. fold advance o (updates_in l.op)) kept.1 ∙ taken,
 )
 
 -- the updates of labels, and of others behind them
@@ -196,14 +240,11 @@ stuck_after kind test labels first rest none =
     ∙ stuck later
 
 -- a label whose update is not admitted leaves no state
-pub none_by_update : (kind : Kind) (test : ℕ → Bool) (labels : List Label) (numbers : List ℕ) (i : ℕ) (l : Label) (s : State) (u : Update)
-    → i < length numbers → slice_get labels (get_or numbers i 0) ≡ Some l → test l.number ≡ true → u ∷ [] ≡ updates_in l.op → step_of s u ≡ None
+pub none_taken : (kind : Kind) (test : ℕ → Bool) (labels : List Label) (numbers : List ℕ) (i : ℕ) (l : Label) (s : State)
+    → i < length numbers → slice_get labels (get_or numbers i 0) ≡ Some l → test l.number ≡ true → state_with s l.op ≡ None
     → IsSoFar kind test labels numbers i s → state_after kind (updates_within test (labels_at labels numbers)) ≡ None
-none_by_update kind test labels numbers i l s u below found seen one step kept =
+none_taken kind test labels numbers i l s below found seen none kept =
     let here : state_after kind (updates_within test (labels_at labels (take (i + 1) numbers))) ≡ None =
-    state_more kind test labels numbers i l true below found seen
-    ∙ ap (fold advance (state_after kind (updates_within test (labels_at labels (take i numbers))))) (sym one)
-    ∙ ap (λ o. advance o u) kept.1
-    ∙ step in
+    state_more kind test labels numbers i l true below found seen ∙ ap (λ o. fold advance o (updates_in l.op)) kept.1 ∙ none in
     ap (λ ns. state_after kind (updates_within test (labels_at labels ns))) (sym (take-append-drop (i + 1) numbers))
     ∙ stuck_after kind test labels (take (i + 1) numbers) (drop (i + 1) numbers) here

@@ -29,7 +29,7 @@ use Rattle.ra_visibility.proofs.TheLaws.{what_a_label_sees, a_label_comes_to_its
 use Rattle.ra_monitor.specs.declared.setup.Setup.{Setup}
 use Rattle.ra_monitor.specs.declared.history.History.{History}
 use Rattle.ra_monitor.specs.Order.{listed_in, IsOrderOf, lists_named, keeps_delivered}
-use Rattle.ra_monitor.specs.Stamps.{AreStampsOf}
+use Rattle.ra_monitor.specs.Taken.{Taken, IsTakenIn}
 use Rattle.ra_monitor.specs.History.{StandsFor, HasNewest}
 use Rattle.ra_monitor.proofs.Named.{labels_counted, counted_in_turn}
 
@@ -119,10 +119,10 @@ before_failed kind records by op clock why none because =
 pub stands_taken : (old new : History) (setup : Setup) (records : Records) (by : ℕ) (op : Op) (clock : Option ℕ)
     → HasNewest old setup records by op clock → None ≡ cause_of setup.kind (Operate by op clock ∷ records)
     → IsOrderOf new.order setup.kind setup.replicas (Operate by op clock ∷ records)
-    → AreStampsOf new.stamps (Operate by op clock ∷ records)
+    → IsTakenIn (Operate by op clock ∷ records) new.taken
     → new.labels ≡ old.labels → new.tracker ≡ old.tracker → new.fault ≡ old.fault
     → StandsFor new setup (Operate by op clock ∷ records)
-stands_taken old new setup records by op clock newest because order stamps labels tracker fault =
+stands_taken old new setup records by op clock newest because order taken labels tracker fault =
     let now = Operate by op clock ∷ records in
     let none : fault_of setup.kind now ≡ None = fault_with setup.kind records by op clock None newest.none because in
     record {
@@ -130,22 +130,22 @@ stands_taken old new setup records by op clock newest because order stamps label
       causal = newest.causal;
       labels = ap (λ ls. ls.items) labels ∙ newest.labels;
       order = rw (none_lost setup.kind now none) order;
-      stamps = rw (none_lost setup.kind now none) stamps;
+      taken = rw (none_lost setup.kind now none) taken;
       fault = fault ∙ newest.fault ∙ newest.none ∙ sym none;
     }
 
 -- or it fails
 pub stands_failed : (old new : History) (setup : Setup) (records : Records) (by : ℕ) (op : Op) (clock : Option ℕ) (why : Cause) (n : ℕ)
-    → HasNewest old setup records by op clock → AreStampsOf old.stamps records
+    → HasNewest old setup records by op clock → IsTakenIn records old.taken
     → Some why ≡ cause_of setup.kind (Operate by op clock ∷ records) → n ≡ label_count records
-    → new.order ≡ old.order → new.stamps ≡ old.stamps → new.labels ≡ old.labels → new.tracker ≡ old.tracker → new.fault ≡ Some (fault_at n why)
+    → new.order ≡ old.order → new.taken ≡ old.taken → new.labels ≡ old.labels → new.tracker ≡ old.tracker → new.fault ≡ Some (fault_at n why)
     → StandsFor new setup (Operate by op clock ∷ records)
-stands_failed old new setup records by op clock why n newest taken because is order stamps labels tracker fault = record {
+stands_failed old new setup records by op clock why n newest known because is order taken labels tracker fault = record {
   tracker = rw tracker newest.tracker;
   causal = newest.causal;
   labels = ap (λ ls. ls.items) labels ∙ newest.labels;
   order = rw (before_failed setup.kind records by op clock why newest.none because, order) newest.order;
-  stamps = rw (before_failed setup.kind records by op clock why newest.none because, stamps) taken;
+  taken = rw (before_failed setup.kind records by op clock why newest.none because, taken) known;
   fault = fault ∙ ap (λ (k : ℕ). Some (fault_at k why)) is ∙ sym (fault_with setup.kind records by op clock (Some why) newest.none because);
 }
 
@@ -162,24 +162,28 @@ reply_to kind records by op clock why n none because is =
     ∙ mapped (label_count records) why
     ∙ sym (ap (λ o. option_map_or no_at o (Ok (label_count records))) (fault_with kind records by op clock why none because))
 
--- where nothing failed, the stamps are those of all labels
-pub stamps_known : (history : History) (setup : Setup) (records : Records) → StandsFor history setup records
-    → fault_of setup.kind records ≡ None → AreStampsOf history.stamps records
-stamps_known history setup records stands none = rw (none_lost setup.kind records none) at stands.stamps
+-- where nothing failed, what is taken is what all labels have
+pub taken_known : (history : History) (setup : Setup) (records : Records) → StandsFor history setup records
+    → fault_of setup.kind records ≡ None → IsTakenIn records history.taken
+taken_known history setup records stands none = rw (none_lost setup.kind records none) at stands.taken
+
+-- a delivery takes nothing
+taken_delivered : (records : Records) (to label : ℕ) (taken : Taken) → IsTakenIn records taken → IsTakenIn (Deliver to label ∷ records) taken
+taken_delivered records to label taken known = record { stamps = known.stamps; identifiers = known.identifiers }
 
 -- the history after a delivery
 pub stands_delivered : (old new : History) (setup : Setup) (records : Records) (to label : ℕ)
     → StandsFor old setup records → fault_of setup.kind records ≡ None
     → IsVisibilityOf new.tracker.now setup.replicas (Deliver to label ∷ records) → IsCausal (Deliver to label ∷ records)
-    → new.labels ≡ old.labels → new.order ≡ old.order → new.stamps ≡ old.stamps → new.fault ≡ old.fault
+    → new.labels ≡ old.labels → new.order ≡ old.order → new.taken ≡ old.taken → new.fault ≡ old.fault
     → StandsFor new setup (Deliver to label ∷ records)
-stands_delivered old new setup records to label stands none tracker causal labels order stamps fault = record {
+stands_delivered old new setup records to label stands none tracker causal labels order taken fault = record {
   tracker = tracker;
   causal = causal;
   labels = ap (λ ls. ls.items) labels ∙ stands.labels;
   order = rw (none_lost setup.kind (Deliver to label ∷ records) none, order)
       (keeps_delivered old.order setup.kind setup.replicas records to label (rw (none_lost setup.kind records none) at stands.order));
-  stamps = rw (none_lost setup.kind (Deliver to label ∷ records) none, stamps) (stamps_known old setup records stands none);
+  taken = rw (none_lost setup.kind (Deliver to label ∷ records) none, taken) (taken_delivered records to label old.taken (taken_known old setup records stands none));
   fault = fault ∙ stands.fault;
 }
 
@@ -202,9 +206,9 @@ newest_stands old new setup records by op clock label stands none tracker is lab
   fits = fits;
 }
 
--- the newest label does not depend on the stamps
+-- the newest label does not depend on what is taken
 pub newest_kept : (old new : History) (setup : Setup) (records : Records) (by : ℕ) (op : Op) (clock : Option ℕ)
-    → HasNewest old setup records by op clock → new ≡ record old { stamps = new.stamps } → HasNewest new setup records by op clock
+    → HasNewest old setup records by op clock → new ≡ record old { taken = new.taken } → HasNewest new setup records by op clock
 newest_kept old new setup records by op clock newest same = rw same (record {
   tracker = newest.tracker;
   causal = newest.causal;
@@ -220,14 +224,14 @@ newest_kept old new setup records by op clock newest same = rw same (record {
 pub stands_same : (old new : History) (setup : Setup) (records : Records) → StandsFor old setup records
     → new.tracker.now ≡ old.tracker.now → new.labels.items ≡ old.labels.items
     → IsOrderOf new.order setup.kind setup.replicas (records_before_fault setup.kind records)
-    → new.stamps ≡ old.stamps → new.fault ≡ old.fault
+    → new.taken ≡ old.taken → new.fault ≡ old.fault
     → StandsFor new setup records
-stands_same old new setup records stands tracker labels order stamps fault = record {
+stands_same old new setup records stands tracker labels order taken fault = record {
   tracker = rw tracker stands.tracker;
   causal = stands.causal;
   labels = labels ∙ stands.labels;
   order = order;
-  stamps = rw stamps stands.stamps;
+  taken = rw taken stands.taken;
   fault = fault ∙ stands.fault;
 }
 

@@ -3,7 +3,7 @@ pub mod Folding
 pub mod Named
 pub mod Queries
 pub mod Rising
-pub mod Stamping
+pub mod Taking
 pub mod Growth
 pub mod Legal
 pub mod Keeping

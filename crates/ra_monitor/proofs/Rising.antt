@@ -8,7 +8,7 @@ use Rattle.std.proofs.lemmas.List.Elements.{All-weaker, All-contains_itself}
 use Rattle.std.proofs.lemmas.List.Sums.{list_all-from_AllPass}
 use Rattle.std.proofs.lemmas.List.Folds.{list_all-append}
 use Rattle.ra_labels.specs.declared.operation.Op.{Op}
-use Rattle.ra_labels.specs.declared.operation.Op.TheVariants.{Inc, Dec, Count, Write, Last, LwwAdd, LwwRemove, LwwRead}
+use Rattle.ra_labels.specs.declared.operation.Op.TheVariants.{Inc, Dec, Count, Write, Last, LwwAdd, LwwRemove, LwwRead, OrAdd, OrRemove, OrRead, After, RgaRemove, RgaRead}
 use Rattle.ra_labels.specs.declared.operation.Query.{Query}
 use Rattle.ra_labels.specs.declared.label.Label.{Label}
 use Rattle.ra_labels.specs.Records.{labels_of}
@@ -32,6 +32,12 @@ first_rises (Last value) rising = refl
 first_rises (LwwAdd x) rising = refl
 first_rises (LwwRemove x) rising = refl
 first_rises (LwwRead list) rising = rising
+first_rises (OrAdd x id) rising = refl
+first_rises (OrRemove x ids) rising = rising
+first_rises (OrRead list) rising = rising
+first_rises (After anchor x) rising = refl
+first_rises (RgaRemove x) rising = refl
+first_rises (RgaRead list) rising = refl
 
 -- what an operation asks asks for a list that rises, where its own does
 query_rises : (op : Op) (query : Query) → query ∷ [] ≡ queries_in op → has_rising_list op ≡ true → asks_rising query ≡ true

@@ -4,7 +4,6 @@ pub mod Limits
 pub mod Kept
 pub mod Sequence
 pub mod Order
-pub mod Stamps
+pub mod Taken
 pub mod History
-pub mod Parts
 pub mod Fold

@@ -1,4 +1,4 @@
-ghost use Rattle.std.specs.Prelude.{◌≡◌, ◌≤◌, ℕ, true, length, reverse, IfOk};
+ghost use Rattle.std.specs.Prelude.{◌≡◌, ◌≤◌, ℕ, true, length, reverse, is_some, unwrap_or, IfOk, IfSome};
 ghost use Rattle.ra_labels.specs.Specification.{state_after, is_answered_after};
 ghost use Rattle.ra_labels.specs.Records.{Records, labels_of};
 ghost use Rattle.ra_labels.specs.Linearization.{extends_visibility};
@@ -7,12 +7,13 @@ ghost use Rattle.ra_labels.specs.Fault.{cause_of};
 ghost use Rattle.ra_visibility.specs.Seen.{is_in};
 ghost use Rattle.ra_visibility.specs.Tracked.{labels_in, IsVisibilityOf};
 ghost use Rattle.ra_visibility.specs.Order.{numbers_in};
-ghost use Rattle.ra_monitor.specs.Fold.{labels_at, updates_within, includes, AllRise};
+ghost use Rattle.ra_monitor.specs.Fold.{labels_at, updates_within, includes, state_with, AllRise};
 ghost use Rattle.ra_seqspec.specs.Asked.{asks_rising};
+ghost use Rattle.ra_seqspec.specs.Range.{IsInRange};
 
-use crate::rewriting::parts;
 use crate::scope::Scope;
 use ra_labels::{Cause, Kind, Label, NoMemory, Query};
+use ra_rewrite::parts;
 use ra_seqspec::State;
 use ra_ticket::MOST_ENTRIES;
 use ra_visibility::{Seen, Tracker};
@@ -39,13 +40,24 @@ fn state_after(
         if !scope.includes(label.number) {
             continue;
         }
-        if let Some(update) = parts(label)?.into_update() {
-            if !state.apply(&update)? {
-                return Ok(None);
-            }
+        if !take_in(&mut state, label)? {
+            return Ok(None);
         }
     }
     Ok(Some(state))
+}
+
+// Makes the label's update, if it makes one, and answers true; or changes nothing and answers false where the state does
+// not admit it.
+fn take_in(state: &mut State, label: &Label) -> Result<bool, NoMemory>
+    requires { IfSome (state_with state.old label.now.op) IsInRange }
+    ensures admitted { IfOk result (λ is_admitted. is_admitted ≡ is_some (state_with state.old label.now.op)) }
+    ensures step { IfOk result (λ is_admitted. state.new ≡ unwrap_or (state_with state.old label.now.op) state.old) }
+{
+    match parts(label)?.into_update() {
+        Some(update) => state.apply(&update),
+        None => Ok(true),
+    }
 }
 
 // Are the updates that are seen admitted, and is the query's answer that of the state after them?

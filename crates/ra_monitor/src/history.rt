@@ -4,11 +4,11 @@ ghost use Rattle.ra_labels.specs.declared.operation.Op.{Op};
 ghost use Rattle.ra_labels.specs.Records.{Records, label_count, next_label};
 ghost use Rattle.ra_labels.specs.NamedOrder.{named_sequence};
 ghost use Rattle.ra_labels.specs.Fault.{fault_of, cause_of, records_before_fault};
-ghost use Rattle.ra_labels.specs.Answer.{no_at, when, misfit_of, refusal_of, refusal_at, answer_of, answer_to_accepted, has_rising_list, records_after};
+ghost use Rattle.ra_labels.specs.Answer.{no_at, when, misfit_of, comes_with_taken, gives_taken, refusal_of, refusal_at, answer_of, answer_to_accepted, has_rising_list, records_after};
 ghost use Rattle.ra_visibility.specs.Order.{IsPlaceOf};
 ghost use Rattle.ra_visibility.specs.Tracked.{labels_in, replicas_in};
 ghost use Rattle.ra_monitor.specs.Order.{listed_in, room_in, IsOrderOf};
-ghost use Rattle.ra_monitor.specs.Stamps.{is_kept, AreStampsOf};
+ghost use Rattle.ra_monitor.specs.Taken.{IsTakenIn};
 ghost use Rattle.ra_monitor.specs.Fold.{AllRise};
 ghost use Rattle.ra_monitor.specs.Sequence.{ref_of};
 ghost use Rattle.ra_monitor.specs.History.{IsAtReplica, StandsFor, HasNewest, refusal_after_form, refusal_left};
@@ -17,11 +17,11 @@ ghost use Rattle.ra_monitor.specs.declared.setup.Setup.{Setup};
 use crate::fold::cause_of;
 use crate::order::Order;
 use crate::part_ref::PartRef;
-use crate::rewriting::parts;
 use crate::sequence::part_refs;
 use crate::setup::Setup;
-use crate::stamps::Stamps;
+use crate::taken::{Taken, identifier_of};
 use ra_labels::{Cause, Command, Fault, Label, NoMemory, Op, Refusal, Reply, Stamp, fits};
+use ra_rewrite::parts;
 use ra_ticket::MOST_ENTRIES;
 use ra_visibility::{DeliverFault, NamedOrder, Place, Tracker};
 use std::alloc::Global;
@@ -35,8 +35,8 @@ pub struct History {
     pub tracker: Tracker,
     /// Where the labels before the fault stand.
     pub order: Order,
-    /// The stamps of their own that these have.
-    pub stamps: Stamps,
+    /// What these have that no other label may have.
+    pub taken: Taken,
     /// The first label at which the named order failed.
     pub fault: Option<Fault>,
 }
@@ -51,7 +51,7 @@ impl History {
             labels: Vec::new(alloc),
             tracker,
             order: Order::of(alloc, setup.kind, setup.replicas)?,
-            stamps: Stamps::new(alloc),
+            taken: Taken::new(alloc),
             fault: None,
         })
     }
@@ -98,7 +98,7 @@ impl History {
     // The first refusal that the command deserves, if any, but for those of a delivery to a replica that is there: the
     // tracker tells them.
     fn refusal_of(&self, setup: &Setup, command: &Command) -> Option<Refusal>
-        ensures first { (records : Records) → AreStampsOf self.now.stamps records
+        ensures first { (records : Records) → IsTakenIn records self.now.taken
             → refusal_of setup.now.kind setup.now.replicas records command.now
             ≡ option_or result (refusal_left records command.now) }
         ensures known { result ≡ None → IsAtReplica setup.now.replicas command.now }
@@ -106,37 +106,47 @@ impl History {
     {
         match self.refusal_of_form(setup, command) {
             Some(refusal) => Some(refusal),
-            None => self.refusal_of_stamp(command),
+            None => self.refusal_of_taken(command),
         }
     }
 
-    // The refusal that the command deserves where its stamp is taken.
-    fn refusal_of_stamp(&self, command: &Command) -> Option<Refusal>
-        ensures { (records : Records) → AreStampsOf self.now.stamps records
+    // The refusal that the command deserves where its stamp or its identifier is taken.
+    fn refusal_of_taken(&self, command: &Command) -> Option<Refusal>
+        ensures { (records : Records) → IsTakenIn records self.now.taken
             → refusal_after_form records command.now ≡ option_or result (refusal_left records command.now) }
     {
         match command {
-            Command::Operate {
-                replica,
-                stamp: Some(clock),
-                ..
-            } => self.refusal_at_stamp(Stamp {
-                clock: *clock,
-                replica: *replica,
-            }),
-            Command::Operate { stamp: None, .. } | Command::Deliver { .. } | Command::Verdict =>
-                None,
+            Command::Operate { replica, op, stamp } => {
+                if self.has_stamp_at(*replica, *stamp) {
+                    Some(Refusal::StampTaken)
+                } else if self.has_given(op) {
+                    Some(Refusal::IdTaken)
+                } else {
+                    None
+                }
+            }
+            Command::Deliver { .. } | Command::Verdict => None,
         }
     }
 
-    // The refusal of a stamp that is taken.
-    fn refusal_at_stamp(&self, stamp: Stamp) -> Option<Refusal>
-        ensures { result ≡ when (is_kept self.now.stamps stamp) Refusal.StampTaken }
+    // Is the stamp taken that has this clock, if one came?
+    fn has_stamp_at(&self, replica: u8, clock: Option<u32>) -> bool
+        ensures { (records : Records) → IsTakenIn records self.now.taken
+            → result ≡ comes_with_taken records replica clock }
     {
-        if self.stamps.has(stamp) {
-            Some(Refusal::StampTaken)
-        } else {
-            None
+        match clock {
+            Some(clock) => self.taken.has_stamp(Stamp { clock, replica }),
+            None => false,
+        }
+    }
+
+    // Is the identifier taken that the operation gives, if it gives one?
+    fn has_given(&self, op: &Op) -> bool
+        ensures { (records : Records) → IsTakenIn records self.now.taken → result ≡ gives_taken records op.now }
+    {
+        match identifier_of(op) {
+            Some(identifier) => self.taken.has_identifier(identifier),
+            None => false,
         }
     }
 
@@ -226,7 +236,8 @@ impl History {
         requires rising { AllRise self.old.labels.items }
         requires room { 0 < room_in self.old.order }
         ensures answered { (records : Records) (by : ℕ) (op : Op) (clock : Option ℕ)
-            → HasNewest self.old setup.now records by op clock → AreStampsOf self.old.stamps records → IfOk result (λ reply.
+            → HasNewest self.old setup.now records by op clock → IsTakenIn records self.old.taken
+            → IfOk result (λ reply.
             (reply ≡ answer_to_accepted setup.now.kind records (Command.Operate by op clock))
             × StandsFor self.new setup.now (Command.Operate by op clock ∷ records)) }
         ensures labels { self.new.labels ≡ self.old.labels }
@@ -236,7 +247,7 @@ impl History {
         let place = self.place_of(number);
         match self.cause_at(setup, number, place)? {
             None => {
-                self.keep_stamp(number)?;
+                self.keep_taken(number)?;
                 self.put(number, place);
                 Ok(Reply::Ok(number))
             }
@@ -263,18 +274,17 @@ impl History {
         self.order.place(&self.labels[newest as usize], &seen)
     }
 
-    // Keeps the newest label's stamp, if it has one of its own.
-    fn keep_stamp(&mut self, newest: u32) -> Result<(), NoMemory>
+    // Keeps what the newest label has that no other may have.
+    fn keep_taken(&mut self, newest: u32) -> Result<(), NoMemory>
         requires { newest < vec_len self.old.labels }
-        ensures stamps { OnOk result ((setup : Setup) (records : Records) (by : ℕ) (op : Op) (clock : Option ℕ)
+        ensures taken { OnOk result ((setup : Setup) (records : Records) (by : ℕ) (op : Op) (clock : Option ℕ)
             → HasNewest self.old setup records by op clock → newest ≡ label_count records
-            → AreStampsOf self.old.stamps records
-            → AreStampsOf self.new.stamps (Command.Operate by op clock ∷ records)) }
-        ensures same { self.new ≡ record self.old { stamps = self.new.stamps } }
+            → IsTakenIn records self.old.taken
+            → IsTakenIn (Command.Operate by op clock ∷ records) self.new.taken) }
+        ensures same { self.new ≡ record self.old { taken = self.new.taken } }
         ensures err { OnErr result (self.new ≡ self.old) }
     {
-        let own = self.labels[newest as usize].stamp;
-        self.stamps.keep(own)
+        self.taken.keep(&self.labels[newest as usize])
     }
 
     // Takes the newest label into the order, at its place.

@@ -7,8 +7,8 @@
 //! lock; a `Desk` is one behind that lock, and `laws` says what its replies are.
 //!
 //! Its history is taken apart as the definitions are: what replicas had and labels see is a `Tracker`'s to say
-//! (`ra_visibility`), where labels stand the order's that the kind names (`order`). What a label is rewritten into is
-//! asked in one place (`rewriting`), and queries are folded afresh (`fold`).
+//! (`ra_visibility`), where labels stand the order's that the kind names (`order`), what a label is rewritten into is
+//! the rewriting's (`ra_rewrite`), and queries are folded afresh (`fold`).
 #![tactic(auto)]
 
 mod desk;
@@ -19,14 +19,12 @@ pub mod laws;
 mod limits;
 mod monitor;
 mod order;
-mod part;
 mod part_ref;
 mod report;
-mod rewriting;
 mod scope;
 mod sequence;
 mod setup;
-mod stamps;
+mod taken;
 
 pub use desk::Desk;
 pub use faults::NewFault;

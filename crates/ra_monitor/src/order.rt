@@ -12,9 +12,9 @@ use std::alloc::Global;
 /// The order that a kind names.
 #[derive(Debug, Drop)]
 pub enum Order {
-    /// Of a counter: that of execution.
+    /// Of a counter and of an OR-Set: that of execution.
     Execution(ExecOrder),
-    /// Of a register and of an LWW set: that of timestamps.
+    /// Of a register, of an LWW set and of an RGA: that of timestamps.
     Time(TimeOrder),
 }
 
@@ -24,8 +24,10 @@ impl Order {
         ensures { IfOk result (λ order. IsOrderOf order kind replicas []) }
     {
         match kind {
-            Kind::Counter => Ok(Order::Execution(ExecOrder::new())),
-            Kind::Register | Kind::LwwSet => Ok(Order::Time(TimeOrder::new(alloc, replicas)?)),
+            Kind::Counter | Kind::OrSet => Ok(Order::Execution(ExecOrder::new())),
+            Kind::Register | Kind::LwwSet | Kind::Rga => {
+                Ok(Order::Time(TimeOrder::new(alloc, replicas)?))
+            }
         }
     }
 

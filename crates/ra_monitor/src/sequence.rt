@@ -3,10 +3,9 @@ ghost use Rattle.ra_labels.specs.Rewriting.{parts_of};
 ghost use Rattle.ra_monitor.specs.Fold.{labels_at};
 ghost use Rattle.ra_monitor.specs.Sequence.{ref_of};
 
-use crate::part::Parts;
 use crate::part_ref::{Half, PartRef};
-use crate::rewriting::parts;
 use ra_labels::{Label, NoMemory};
+use ra_rewrite::{Parts, parts};
 use std::alloc::Global;
 
 /// The parts of the labels with these numbers, in their order.

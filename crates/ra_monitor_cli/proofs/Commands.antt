@@ -6,9 +6,9 @@ use Rattle.std.proofs.lemmas.Bool.{eqb-true}
 use Rattle.std.proofs.lemmas.Option.{option_and_then_some}
 use Rattle.std.proofs.lemmas.Slice.Eq.{bytes_eq-Decides}
 use Rattle.ra_labels.specs.declared.kind.Kind.{Kind}
-use Rattle.ra_labels.specs.declared.kind.Kind.TheVariants.{Counter, Register, LwwSet}
+use Rattle.ra_labels.specs.declared.kind.Kind.TheVariants.{Counter, Register, LwwSet, OrSet, Rga}
 use Rattle.ra_labels.specs.declared.operation.Op.{Op}
-use Rattle.ra_labels.specs.declared.operation.Op.TheVariants.{Inc, Dec, Count, Write, Last, LwwAdd, LwwRemove, LwwRead}
+use Rattle.ra_labels.specs.declared.operation.Op.TheVariants.{Inc, Dec, Count, Write, Last, LwwAdd, LwwRemove, LwwRead, OrAdd, OrRemove, OrRead, After, RgaRemove, RgaRead}
 use Rattle.ra_labels.specs.declared.command.Command.{Command}
 use Rattle.ra_labels.specs.declared.command.Command.TheVariants.{Operate, Deliver, Verdict}
 use Rattle.ra_monitor_cli.specs.Grammar.{is_name, place_of, fields_of, is_read, has_words, operation_fields, clock_fields, HasSmallNumbers, NamesReplica, AreFieldsOf, Spells}
@@ -87,6 +87,8 @@ word_found : (kind : Kind) (names : List (List ℕ)) (name : List ℕ) (replica 
     → NamesReplica names name replica → word_read kind replica word fields ≡ Some c → AreFieldsOf kind names (name ∷ word ∷ fields) c
 word_found Register names name replica word fields c who e = absurd cc
 word_found LwwSet names name replica word fields c who e = absurd cc
+word_found OrSet names name replica word fields c who e = absurd cc
+word_found Rga names name replica word fields c who e = absurd cc
 word_found Counter names name replica word fields c who e =
     let at = λ (text : List ℕ) (is : bytes_eq word text ≡ true) (found : AreFieldsOf Counter names (name ∷ text ∷ fields) c).
     at_word Counter names name word text fields c is found in
@@ -139,6 +141,8 @@ words_of_counters : (kind : Kind) (op : Op) → has_words kind op ≡ true → i
 words_of_counters Counter op own = refl
 words_of_counters Register op own = own
 words_of_counters LwwSet op own = own
+words_of_counters OrSet op own = own
+words_of_counters Rga op own = own
 
 operation_only : (kind : Kind) (replica : ℕ) (op : Op) (clock : Option ℕ) (names : List (List ℕ)) (name : List ℕ) → NamesReplica names name replica → has_words kind op ≡ true → HasSmallNumbers op
     → IfSome clock (λ at. at < 2 ^ 32) → command_read kind names (name ∷ (operation_fields op ++ clock_fields clock)) ≡ Some (Operate replica op clock)
@@ -154,8 +158,16 @@ operation_only Counter replica (Last value) clock names name who own small small
 operation_only Counter replica (LwwAdd x) clock names name who own small small_clock = absurd cc
 operation_only Counter replica (LwwRemove x) clock names name who own small small_clock = absurd cc
 operation_only Counter replica (LwwRead list) clock names name who own small small_clock = absurd cc
+operation_only Counter replica (OrAdd x id) clock names name who own small small_clock = absurd cc
+operation_only Counter replica (OrRemove x ids) clock names name who own small small_clock = absurd cc
+operation_only Counter replica (OrRead list) clock names name who own small small_clock = absurd cc
+operation_only Counter replica (After anchor x) clock names name who own small small_clock = absurd cc
+operation_only Counter replica (RgaRemove x) clock names name who own small small_clock = absurd cc
+operation_only Counter replica (RgaRead list) clock names name who own small small_clock = absurd cc
 operation_only Register replica op clock names name who own small small_clock = absurd (let never : is_read Register ≡ true = words_of_counters Register op own in cc)
 operation_only LwwSet replica op clock names name who own small small_clock = absurd (let never : is_read LwwSet ≡ true = words_of_counters LwwSet op own in cc)
+operation_only OrSet replica op clock names name who own small small_clock = absurd (let never : is_read OrSet ≡ true = words_of_counters OrSet op own in cc)
+operation_only Rga replica op clock names name who own small small_clock = absurd (let never : is_read Rga ≡ true = words_of_counters Rga op own in cc)
 
 delivery_only : (kind : Kind) (replica label : ℕ) (names : List (List ℕ)) (name : List ℕ) → NamesReplica names name replica → label < 2 ^ 32
     → command_read kind names (name ∷ codes "got" ∷ decimal label ∷ []) ≡ Some (Deliver replica label)

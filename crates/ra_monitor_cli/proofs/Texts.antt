@@ -6,7 +6,7 @@ use Rattle.std.proofs.lemmas.Bool.{ne_eqb}
 use Rattle.std.proofs.lemmas.List.{append_assoc, same_from_push}
 use Rattle.std.proofs.lemmas.List.Splits.{slice_split_at}
 use Rattle.ra_labels.specs.declared.kind.Kind.{Kind}
-use Rattle.ra_labels.specs.declared.kind.Kind.TheVariants.{Counter, Register, LwwSet}
+use Rattle.ra_labels.specs.declared.kind.Kind.TheVariants.{Counter, Register, LwwSet, OrSet, Rga}
 use Rattle.ra_labels.specs.declared.command.Command.{Command}
 use Rattle.ra_monitor.specs.declared.report.Report.{Report}
 use Rattle.ra_monitor_cli.specs.Grammar.{IsLine, bytes_of, fields_of, first_line, SpellEach, Says}
@@ -29,12 +29,28 @@ pub one_kind : (kind other : Kind) → first_line kind ≡ first_line other → 
 one_kind Counter Counter same = refl
 one_kind Register Register same = refl
 one_kind LwwSet LwwSet same = refl
+one_kind OrSet OrSet same = refl
+one_kind Rga Rga same = refl
 one_kind Counter Register same = absurd cc
 one_kind Counter LwwSet same = absurd cc
+one_kind Counter OrSet same = absurd cc
+one_kind Counter Rga same = absurd cc
 one_kind Register Counter same = absurd cc
 one_kind Register LwwSet same = absurd cc
+one_kind Register OrSet same = absurd cc
+one_kind Register Rga same = absurd cc
 one_kind LwwSet Counter same = absurd cc
 one_kind LwwSet Register same = absurd cc
+one_kind LwwSet OrSet same = absurd cc
+one_kind LwwSet Rga same = absurd cc
+one_kind OrSet Counter same = absurd cc
+one_kind OrSet Register same = absurd cc
+one_kind OrSet LwwSet same = absurd cc
+one_kind OrSet Rga same = absurd cc
+one_kind Rga Counter same = absurd cc
+one_kind Rga Register same = absurd cc
+one_kind Rga LwwSet same = absurd cc
+one_kind Rga OrSet same = absurd cc
 
 pub one_list : (kind : Kind) (names lines : List (List ℕ)) (commands others : List Command) → SpellEach kind names lines commands → SpellEach kind names lines others → commands ≡ others
 one_list kind names [] [] [] p q = refl

@@ -6,7 +6,7 @@ use Rattle.std.specs.Int.{w32}
 use Rattle.std.specs.List.{list_all, slice_split, flat_map, IsDistinct, AllByRecursion}
 use Rattle.ra_monitor_cli.specs.declared.limits.TheConstants.{LONGEST_LINE, LONGEST_NAME, MOST_COMMANDS, MOST_NAMES}
 use Rattle.ra_labels.specs.declared.kind.Kind.{Kind}
-use Rattle.ra_labels.specs.declared.kind.Kind.TheVariants.{Counter, Register, LwwSet}
+use Rattle.ra_labels.specs.declared.kind.Kind.TheVariants.{Counter, Register, LwwSet, OrSet, Rga}
 use Rattle.ra_labels.specs.declared.operation.Op.{Op}
 use Rattle.ra_labels.specs.declared.operation.Op.TheVariants.{Inc, Dec, Count}
 use Rattle.ra_labels.specs.declared.command.Command.{Command}
@@ -64,12 +64,13 @@ abbrev pub kind_word : Kind → List ℕ
 kind_word Counter = codes "counter"
 kind_word Register = codes "register"
 kind_word LwwSet = codes "lwwset"
+kind_word OrSet = codes "orset"
+kind_word Rga = codes "rga"
 
 -- are texts of the kind read? Of the others none are yet
 abbrev pub is_read : Kind → Bool
 is_read Counter = true
-is_read Register = false
-is_read LwwSet = false
+is_read _ = false
 
 abbrev pub first_line : Kind → List ℕ
 first_line kind = codes "RAH 1 " ++ kind_word kind

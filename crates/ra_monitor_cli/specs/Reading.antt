@@ -5,7 +5,7 @@ use Rattle.std.specs.Char.{is_ascii_digit}
 use Rattle.std.specs.Fmt.{signed_decimal}
 use Rattle.std.specs.Str.Parse.{digits_value, signed_digits_value}
 use Rattle.ra_labels.specs.declared.kind.Kind.{Kind}
-use Rattle.ra_labels.specs.declared.kind.Kind.TheVariants.{Counter, Register, LwwSet}
+use Rattle.ra_labels.specs.declared.kind.Kind.TheVariants.{Counter}
 use Rattle.ra_labels.specs.declared.operation.Op.{Op}
 use Rattle.ra_labels.specs.declared.operation.Op.TheVariants.{Inc, Dec, Count}
 use Rattle.ra_labels.specs.declared.command.Command.{Command}
@@ -66,8 +66,7 @@ word_read Counter replica word fields =
     else if bytes_eq word (codes "dec") then operation_read replica Dec fields
     else if bytes_eq word (codes "read") then count_read replica fields
     else None
-word_read Register replica word fields = None
-word_read LwwSet replica word fields = None
+word_read _ replica word fields = None
 
 -- the command of a replica, by the word behind its name
 abbrev pub replica_command_read : Kind → ℕ → List ℕ → List (List ℕ) → Option Command

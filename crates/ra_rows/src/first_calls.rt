@@ -1,6 +1,6 @@
 //! Each public call of the libraries once, with ample memory.
 
-use ra_labels::{Command, Kind, NoMemory, Op, Query, Refusal, Reply, Update, fits};
+use ra_labels::{Command, Elements, Kind, NoMemory, Op, Query, Refusal, Reply, Update, fits};
 use ra_monitor::Monitor;
 use ra_seqspec::State;
 use ra_ticket::Journal;
@@ -24,6 +24,33 @@ fn a_counter_counts(rt: HostRuntime) -> Result<(), Fail> {
         Err(_) => panic!(rt; "no memory"),
     };
     assert!(rt; copy.admits(&Query::Count(-1)));
+    Ok(())
+}
+
+#[test]
+fn a_register_and_a_set_are_copied(rt: HostRuntime) -> Result<(), Fail> {
+    let (Ok(mut register), Ok(mut set)) = (
+        State::new(rt.alloc(), Kind::Register),
+        State::new(rt.alloc(), Kind::LwwSet),
+    ) else {
+        panic!(rt; "no memory");
+    };
+    let written = register.apply(&Update::Write(7));
+    assert!(rt; matches!(&written, Ok(true)));
+    let added = set.apply(&Update::LwwAdd(4));
+    assert!(rt; matches!(&added, Ok(true)));
+    let (Ok(same_register), Ok(same_set)) = (register.copy(), set.copy()) else {
+        panic!(rt; "no memory");
+    };
+    let removed = set.apply(&Update::LwwRemove(4));
+    assert!(rt; matches!(&removed, Ok(true)));
+    let Ok(four) = Vec::from_slice(rt.alloc(), &[4]) else {
+        panic!(rt; "no memory");
+    };
+    let four = Query::LwwRead(Elements::new(four));
+    assert!(rt; same_register.admits(&Query::Last(Some(7))));
+    assert!(rt; same_set.admits(&four));
+    assert!(rt; !set.admits(&four));
     Ok(())
 }
 

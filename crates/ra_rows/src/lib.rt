@@ -13,7 +13,15 @@ mod histories;
 #[cfg(test)]
 mod limits;
 #[cfg(test)]
+mod lists;
+#[cfg(test)]
 mod lock;
+#[cfg(test)]
+mod or_sets;
+#[cfg(test)]
+mod rows;
+#[cfg(test)]
+mod sizes;
 #[cfg(test)]
 mod timestamps;
 #[cfg(test)]

@@ -1,75 +1,8 @@
-//! Worked histories of the kinds that stand by timestamps, as rows of one table: what is said, and what is answered.
+//! Worked histories of registers and LWW sets, which stand by timestamps.
 
-use crate::commands::reply_to_command;
-use ra_labels::{Cause, Command, Elements, Fault, Kind, Op, Refusal, Reply};
-use ra_monitor::{Half, Monitor, PartRef, Report};
-use std::alloc::Global;
-use std::process::Abort;
+use crate::rows::{Row, Say, are_answered};
+use ra_labels::{Cause, Fault, Kind, Refusal, Reply};
 use std::test::Fail;
-
-// What a replica reports in a row, or what is asked. The first number is the replica's, and the last one that of an
-// update the clock that it comes with.
-#[derive(Clone, Copy, Debug)]
-enum Say {
-    Inc(u8),
-    Write(u8, u32, u32),
-    // A write that comes with no clock.
-    WriteBare(u8, u32),
-    Last(u8, Option<u32>),
-    // A read that comes with this clock.
-    LastAt(u8, Option<u32>, u32),
-    Add(u8, u32, u32),
-    Remove(u8, u32, u32),
-    Elements(u8, &'static [u32]),
-    Got(u8, u32),
-    Verdict,
-}
-
-// The command of what is said.
-fn command_of(rt: &impl Abort, alloc: Global, say: Say) -> Command {
-    match say {
-        Say::Inc(replica) => operation(replica, Op::Inc, None),
-        Say::Write(replica, value, clock) => operation(replica, Op::Write(value), Some(clock)),
-        Say::WriteBare(replica, value) => operation(replica, Op::Write(value), None),
-        Say::Last(replica, answer) => operation(replica, Op::Last(answer), None),
-        Say::LastAt(replica, answer, clock) => operation(replica, Op::Last(answer), Some(clock)),
-        Say::Add(replica, element, clock) => operation(replica, Op::LwwAdd(element), Some(clock)),
-        Say::Remove(replica, element, clock) => {
-            operation(replica, Op::LwwRemove(element), Some(clock))
-        }
-        Say::Elements(replica, answer) => {
-            let elements = elements_of(rt, alloc, answer);
-            operation(replica, Op::LwwRead(elements), None)
-        }
-        Say::Got(replica, label) => Command::Deliver { replica, label },
-        Say::Verdict => Command::Verdict,
-    }
-}
-
-fn operation(replica: u8, op: Op, stamp: Option<u32>) -> Command {
-    Command::Operate { replica, op, stamp }
-}
-
-fn elements_of(rt: &impl Abort, alloc: Global, list: &[u32]) -> Elements {
-    match Vec::from_slice(alloc, list) {
-        Ok(items) => Elements::new(items),
-        Err(_) => panic!(rt; "no memory"),
-    }
-}
-
-// A history of three replicas.
-#[derive(Clone, Copy)]
-struct Row {
-    // What it shows.
-    name: &'static str,
-    kind: Kind,
-    steps: &'static [(Say, Reply)],
-    labels: u32,
-    refused: u32,
-    fault: Option<Fault>,
-    // The labels in the sequence, each of one part.
-    sequence: &'static [u32],
-}
 
 const STAMPED: [Row; 10] = [
     Row {
@@ -289,43 +222,6 @@ const STAMPED: [Row; 10] = [
 
 #[test]
 fn stamped_histories_are_answered(rt: HostRuntime) -> Result<(), Fail> {
-    for row in STAMPED {
-        let Ok(mut monitor) = Monitor::new(rt.alloc(), row.kind, 3, 100) else {
-            panic!(rt; "no monitor");
-        };
-        for (say, want) in row.steps {
-            let command = command_of(&rt, rt.alloc(), *say);
-            let reply = reply_to_command(&rt, &mut monitor, command);
-            assert_eq!(rt; reply, *want, "{}, at {say:?}", row.name);
-        }
-        let report = Report {
-            kind: row.kind,
-            calls: row.steps.len() as u32,
-            labels: row.labels,
-            refused: row.refused,
-            fault: row.fault,
-        };
-        assert_eq!(rt; monitor.report(), report, "{}", row.name);
-        let Ok(sequence) = monitor.sequence() else {
-            panic!(rt; "no memory");
-        };
-        assert!(rt;
-            are_whole(sequence.as_slice(), row.sequence),
-            "{}",
-            row.name
-        );
-    }
+    are_answered(&rt, rt.alloc(), &STAMPED);
     Ok(())
-}
-
-fn are_whole(parts: &[PartRef], labels: &[u32]) -> bool {
-    if parts.len() != labels.len() {
-        return false;
-    }
-    for (part, label) in parts.iter().zip(labels) {
-        if part.label != *label || part.half != Half::Whole {
-            return false;
-        }
-    }
-    true
 }

@@ -51,6 +51,12 @@ carrier_updates (op.Last value) carries = carries
 carrier_updates (op.LwwAdd x) carries = refl
 carrier_updates (op.LwwRemove x) carries = refl
 carrier_updates (op.LwwRead list) carries = carries
+carrier_updates (op.OrAdd x id) carries = refl
+carrier_updates (op.OrRemove x ids) carries = refl
+carrier_updates (op.OrRead list) carries = carries
+carrier_updates (op.After anchor x) carries = refl
+carrier_updates (op.RgaRemove x) carries = refl
+carrier_updates (op.RgaRead list) carries = carries
 
 stamp_carries : (records : Records) (by : ℕ) (operation : Op) (clock : Option ℕ) (stamp : Stamp) → (carries_stamp operation ≡ false → clock ≡ None)
     → (next_label records by operation clock).stamp ≡ Some stamp → carries_stamp operation ≡ true

@@ -78,8 +78,8 @@ impl NamedOrder for TimeOrder {
         self.sorted.spare()
     }
 
-    /// Costs a binary search and a move within a run, and a look-up for each replica where the label has no stamp of its
-    /// own.
+    /// Costs a binary search and a move within a run, and a look-up for each replica where the label has no stamp of
+    /// its own.
     fn put(&mut self, label: &Label, seen: &Seen<'_>, _place: Place) {
         let rank = self.replicas.rank(label.stamp, seen);
         self.sorted.insert(Entry {
@@ -105,8 +105,11 @@ fn is_update(op: &Op) -> bool
     ensures { result ≡ is_update op.now }
 {
     match op {
-        Op::Inc | Op::Dec | Op::Write(_) | Op::LwwAdd(_) | Op::LwwRemove(_) => true,
-        Op::Count(_) | Op::Last(_) | Op::LwwRead(_) => false,
+        Op::Inc | Op::Dec | Op::Write(_) => true,
+        Op::LwwAdd(_) | Op::LwwRemove(_) => true,
+        Op::OrAdd { .. } | Op::OrRemove { .. } => true,
+        Op::After { .. } | Op::RgaRemove(_) => true,
+        Op::Count(_) | Op::Last(_) | Op::LwwRead(_) | Op::OrRead(_) | Op::RgaRead(_) => false,
     }
 }
 

@@ -3,7 +3,7 @@ use Rattle.std.proofs.Common.{◌≡◌, ℕ, ◌<◌, true, false, [], ◌∷�
 use Rattle.std.specs.Prelude.{◌⊎◌, ◌==◌, ◌&&◌, ◌||◌, not, nat_lt, take, drop, flat_map, is_some, Contains}
 use Rattle.std.specs.List.{insert, list_all}
 use Rattle.std.specs.Option.{option_map_or}
-use Rattle.std.proofs.lemmas.Bool.{and_from, or_cases, or_left, or_right, eq-eqb, lt-ltb, false_from_ne_true}
+use Rattle.std.proofs.lemmas.Bool.{and_from, or_cases, or_left, or_right, eq-eqb, le-ltb, lt-ltb, false_from_ne_true}
 use Rattle.ra_labels.specs.declared.operation.Op.{Op}
 use Rattle.ra_labels.specs.declared.operation.Op.TheVariants as op
 use Rattle.ra_labels.specs.declared.label.Label.{Label}
@@ -22,6 +22,10 @@ part_is_of label part found =
     let from = mapped_from (part_of label) (acts_of label.op) part found in
     sym (ap (λ (p : Part). p.label) from.2)
 
+-- no label sees itself
+sees_not_itself : (records : Records) (n : ℕ) → sees records n n ≡ false
+sees_not_itself records n = false_from_ne_true (sees records n n) (λ itself. absurd (omega (arith, sees_earlier_updates-earlier records n n itself)))
+
 -- the parts of one label extend the order
 pub parts_extend : (records : Records) (label : Label) (operation : Op) → extends (must_precede records) (Rattle.std.specs.Prelude.map (part_of label) (acts_of operation)) ≡ true
 parts_extend records label op.Inc = refl
@@ -32,6 +36,12 @@ parts_extend records label (op.Last value) = refl
 parts_extend records label (op.LwwAdd x) = refl
 parts_extend records label (op.LwwRemove x) = refl
 parts_extend records label (op.LwwRead list) = refl
+parts_extend records label (op.OrAdd x id) = refl
+parts_extend records label (op.OrRemove x ids) = rw (sees_not_itself records label.number, le-ltb label.number label.number (omega arith), eq-eqb label.replica label.replica refl, eq-eqb label.number label.number refl) refl
+parts_extend records label (op.OrRead list) = refl
+parts_extend records label (op.After anchor x) = refl
+parts_extend records label (op.RgaRemove x) = refl
+parts_extend records label (op.RgaRead list) = refl
 
 -- each label has a part
 some_act : (operation : Op) → (act : Half × Act) × Contains (acts_of operation) act
@@ -43,6 +53,12 @@ some_act (op.Last value) = (_, (0, omega arith, refl))
 some_act (op.LwwAdd x) = (_, (0, omega arith, refl))
 some_act (op.LwwRemove x) = (_, (0, omega arith, refl))
 some_act (op.LwwRead list) = (_, (0, omega arith, refl))
+some_act (op.OrAdd x id) = (_, (0, omega arith, refl))
+some_act (op.OrRemove x ids) = (_, (0, omega arith, refl))
+some_act (op.OrRead list) = (_, (0, omega arith, refl))
+some_act (op.After anchor x) = (_, (0, omega arith, refl))
+some_act (op.RgaRemove x) = (_, (0, omega arith, refl))
+some_act (op.RgaRead list) = (_, (0, omega arith, refl))
 
 pub some_part : (label : Label) → (part : Part) × Contains (parts_of label) part
 some_part label =

@@ -11,7 +11,7 @@ use Rattle.std.proofs.lemmas.List.Elements.{All-nil, All-cons, All-head, All-tai
 use Rattle.std.proofs.lemmas.List.Edits.{length-insert, get_or-insert_below, get_or-insert_above}
 use Rattle.std.proofs.lemmas.List.Sorted.{All-permutation, Contains-permutation, IsPermutation-sym}
 use Rattle.ra_labels.specs.declared.kind.Kind.{Kind}
-use Rattle.ra_labels.specs.declared.kind.Kind.TheVariants.{Counter, Register, LwwSet}
+use Rattle.ra_labels.specs.declared.kind.Kind.TheVariants.{Counter, Register, LwwSet, OrSet, Rga}
 use Rattle.ra_labels.specs.declared.operation.Op.{Op}
 use Rattle.ra_labels.specs.declared.label.Stamp.{Stamp}
 use Rattle.ra_labels.specs.declared.label.Label.{Label}
@@ -90,6 +90,8 @@ pub rank_later : (kind : Kind) (command : Command) (records : Records) (label : 
 rank_later Counter command records label found = refl
 rank_later Register command records label found = timestamp_later command records label found
 rank_later LwwSet command records label found = timestamp_later command records label found
+rank_later OrSet command records label found = refl
+rank_later Rga command records label found = timestamp_later command records label found
 
 cmp_later : (kind : Kind) (command : Command) (records : Records) (l m : Label) → Contains (labels_of records) l → Contains (labels_of records) m
     → label_cmp kind (command ∷ records) l m ≡ label_cmp kind records l m

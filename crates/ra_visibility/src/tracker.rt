@@ -1,10 +1,12 @@
-ghost use Rattle.std.specs.Prelude.{◌≡◌, ℕ, ◌+◌, ◌<◌, ◌∷◌, [], IfOk, IfErr, OnErr, OnOk, IsSome, Option, Some, None, true};
+ghost use Rattle.std.specs.Prelude.{◌≡◌, ℕ, ◌+◌, ◌<◌, ◌≤◌, ◌∷◌, [], IfOk, IfErr, OnErr, OnOk, IsSome, Option, Some, None, true};
 ghost use Rattle.ra_labels.specs.Records.{Records};
 ghost use Rattle.ra_labels.specs.Visibility.{is_update, IsCausal};
 ghost use Rattle.ra_labels.specs.declared.operation.Op.{Op};
 ghost use Rattle.ra_labels.specs.declared.command.Command.TheVariants.{Operate, Deliver as Delivered};
 ghost use Rattle.ra_labels.specs.declared.refusal.Refusal.{Refusal};
 ghost use Rattle.ra_visibility.specs.declared.fault.DeliverFault.TheVariants.{Refused};
+ghost use Rattle.ra_visibility.specs.Seen.{count_in};
+ghost use Rattle.ra_visibility.specs.Kept.{issued_count};
 ghost use Rattle.ra_visibility.specs.Tracked.{replicas_in, labels_in, had_in, seen_in, refusal_in, IsVisibilityOf};
 
 use crate::fault::DeliverFault;
@@ -77,10 +79,12 @@ impl Tracker {
         self.tracked.sees(replica, label)
     }
 
-    /// What the label sees. It takes no memory, and costs a look-up.
+    /// What the label sees: of each replica no more updates than it issued. It takes no memory, and costs a look-up.
     pub fn vis(&self, label: u32) -> Seen<'_>
         requires { label < labels_in self.now.now }
-        ensures { result ≡ seen_in self.now.now label }
+        ensures seen { result ≡ seen_in self.now.now label }
+        ensures issued { (of : ℕ) → of < replicas_in self.now.now
+            → count_in result of ≤ issued_count self.now.now of }
     {
         self.tracked.vis(label)
     }

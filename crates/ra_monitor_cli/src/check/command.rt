@@ -63,7 +63,7 @@ fn word_command(kind: Kind, replica: u8, word: &[u8], fields: Fields<'_>) -> Opt
                 None
             }
         }
-        Kind::Register | Kind::LwwSet => None,
+        Kind::Register | Kind::LwwSet | Kind::OrSet | Kind::Rga => None,
     }
 }
 

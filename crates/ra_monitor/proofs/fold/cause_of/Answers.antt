@@ -38,7 +38,7 @@ returns-then-not-branch c = λ first records visible in_turn in_order extends.
     let answered = is_answered_at c.args.kind labels c.args.numbers.now c.args.tracker.now.now in
     let found = label_there labels _ c.in-Some.label.now c.in-Some.ensures.lookup.0 c.in-Some.ensures.lookup.1 in
     let asks = c.in-Some-into_query.ensures ∙ ap (filter_map (λ (a : Half × Act). query_of a.1)) c.in_ok-parts.ensures in
-    let here = answers_its_query c.args.kind labels c.args.numbers.now c.args.tracker.now.now _ c.in-Some.label.now c.in-Some-into_query.query _ found asks (c.in_ok-is_answered.ensures ∙ ap (said_with c.args.kind labels c.args.numbers.now c.in-Some-into_query.query) c.vis-seen.ensures) ∙ c.if-not-branch.true in
+    let here = answers_its_query c.args.kind labels c.args.numbers.now c.args.tracker.now.now _ c.in-Some.label.now c.in-Some-into_query.query _ found asks (c.in_ok-is_answered.ensures ∙ ap (said_with c.args.kind labels c.args.numbers.now c.in-Some-into_query.query) c.vis-seen.ensures.seen) ∙ c.if-not-branch.true in
     let one = one_unanswered answered c.args.numbers.now c.loop-number.number-index c.loop-number-test.true here in
     sym (cause_is c.args.kind labels c.args.numbers.now c.args.tracker.now.now first records
     (record { in_turn = in_turn; in_order = in_order; visible = visible; count = c.requires.tracked })
@@ -55,7 +55,7 @@ loop-number-preserved c =
     let more = answered_more (is_answered_at c.args.kind labels numbers tracked) numbers c.loop-number.number-index c.loop-number-test.true c.loop-number.invariant in
     elim c.match-into_query.branch [
       | in-Some-into_query+in_ok-is_answered+else-not-branch w ↦
-          more (answers_its_query c.args.kind labels numbers tracked _ label w.in-Some-into_query.query _ found (w.in-Some-into_query.ensures ∙ parts) (w.in_ok-is_answered.ensures ∙ ap (said_with c.args.kind labels numbers w.in-Some-into_query.query) w.vis-seen.ensures) ∙ w.if-not-branch.false)
+          more (answers_its_query c.args.kind labels numbers tracked _ label w.in-Some-into_query.query _ found (w.in-Some-into_query.ensures ∙ parts) (w.in_ok-is_answered.ensures ∙ ap (said_with c.args.kind labels numbers w.in-Some-into_query.query) w.vis-seen.ensures.seen) ∙ w.if-not-branch.false)
       | in_default-into_query w ↦ more (asks_nothing c.args.kind labels numbers tracked _ label found (w.in_default-into_query.ensures ∙ parts))
     ]
 

@@ -11,7 +11,7 @@ use Rattle.ra_labels.specs.Answer.{has_rising_list}
 use Rattle.ra_labels.proofs.TheLaws.{update_where_a_part_is_one}
 use Rattle.ra_visibility.specs.Tracked.{Tracked}
 use Rattle.ra_monitor.specs.declared.history.History.{History}
-use Rattle.ra_monitor.proofs.Growth.{stands_same, newest_stands, stamps_known}
+use Rattle.ra_monitor.proofs.Growth.{stands_same, newest_stands, taken_known}
 use Rattle.ra_monitor.proofs.Rising.{rise-push}
 use Rattle.ra_monitor.proofs.history.History.accept.Goals as goal
 
@@ -50,7 +50,7 @@ returns-in-Ok-clause-taken c = λ records stands none fits.
     (c.in_ok-issue.ensures.stands setup.replicas records op clock stands.tracker update) is
     (c.push_reserved.ensures.items ∙ ap (λ (ls : List Label). ls ++ label ∷ []) c.in_ok-reserve.ensures.items)
     (c.spare.ensures.stands setup.kind setup.replicas (records_before_fault setup.kind records) stands.order) refl known fits)
-    (stamps_known self setup records stands none)
+    (taken_known self setup records stands none)
 
 -- an element that was pushed is taken back
 pushed_and_popped : (xs ys zs : List Label) (x : Label) (n : ℕ) → ys ≡ xs ++ x ∷ [] → zs ≡ take n ys → n ≡ length xs → zs ≡ xs
@@ -64,7 +64,7 @@ pub returns-in-Err-clause-err : goal.returns-in-Err-clause-err
 returns-in-Err-clause-err c = λ records stands.
     let setup = c.args.setup.now in
     let self = c.args.self.now in
-    let kept : History = record { labels = c.push_reserved.new.self; tracker = c.issue.new.self; order = c.spare.new.self; stamps = self.stamps; fault = self.fault } in
+    let kept : History = record { labels = c.push_reserved.new.self; tracker = c.issue.new.self; order = c.spare.new.self; taken = self.taken; fault = self.fault } in
     let same : c.answer.new.self ≡ kept = c.in-Err.ensures.same in
     let tracker : c.withdraw.new.self.now ≡ self.tracker.now =
     same_tracked c.withdraw.new.self.now self.tracker.now (c.withdraw.ensures.now ∙ ap (λ (h : History). h.tracker.before) same ∙ c.in_ok-issue.ensures.before) in
@@ -75,7 +75,7 @@ returns-in-Err-clause-err c = λ records stands.
     (omega (arith, count, c.push_reserved.ensures.len, c.in_ok-reserve.ensures.len, self.labels.ok.0)) in
     stands_same self _ setup records stands tracker back
     (rw (ap (λ (h : History). h.order) same) (c.spare.ensures.stands setup.kind setup.replicas (records_before_fault setup.kind records) stands.order))
-    (ap (λ (h : History). h.stamps) same) (ap (λ (h : History). h.fault) same)
+    (ap (λ (h : History). h.taken) same) (ap (λ (h : History). h.fault) same)
 
 pub answer-requires-clause-rising : goal.answer-requires-clause-rising
 answer-requires-clause-rising c =

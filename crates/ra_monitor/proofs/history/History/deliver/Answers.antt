@@ -20,7 +20,7 @@ returns-in-Ok-clause-taken c = λ setup records stands none.
     let old = c.args.self.now in
     let to = c.args.replica in
     let label = c.args.label in
-    let new : History = record { labels = old.labels; tracker = c.deliver.new.self; order = old.order; stamps = old.stamps; fault = old.fault } in
+    let new : History = record { labels = old.labels; tracker = c.deliver.new.self; order = old.order; taken = old.taken; fault = old.fault } in
     let accepted : refusal_at records to label ≡ None = sym (refused_as_the_records_say old.tracker.now setup.replicas records to label stands.tracker c.requires) ∙ c.in-Ok.ensures.taken in
     let delivered = stands_delivered old new setup records to label stands none
     (c.in-Ok.ensures.stands setup.replicas records stands.tracker) (c.in-Ok.ensures.causal setup.replicas records stands.tracker stands.causal) refl refl refl refl in
@@ -33,7 +33,7 @@ returns-in-Err-Refused-clause-taken c = λ setup records stands none.
     let to = c.args.replica in
     let label = c.args.label in
     let why = c.in-Err-Refused.refusal in
-    let new : History = record { labels = old.labels; tracker = c.deliver.new.self; order = old.order; stamps = old.stamps; fault = old.fault } in
+    let new : History = record { labels = old.labels; tracker = c.deliver.new.self; order = old.order; taken = old.taken; fault = old.fault } in
     let said = rw c.in-Err-Refused.field-0-is at c.in-Err-Refused.ensures.refused in
     let refused : refusal_at records to label ≡ Some why =
     sym (refused_as_the_records_say old.tracker.now setup.replicas records to label stands.tracker c.requires) ∙ said.2 ∙ ap Some (sym (same_refusal why said.0 said.1)) in
@@ -42,7 +42,7 @@ returns-in-Err-Refused-clause-taken c = λ setup records stands none.
       causal = stands.causal;
       labels = stands.labels;
       order = stands.order;
-      stamps = stands.stamps;
+      taken = stands.taken;
       fault = stands.fault;
     } in
     subst (λ (o : Option Refusal). (reply.Refused why ≡ option_map_or reply.Refused o (reply.Got label))

@@ -1,5 +1,7 @@
 use Rattle.std.proofs.Common.{refl, ap}
-use Rattle.ra_monitor.specs.Stamps.{is_kept}
+use Rattle.std.specs.List.{list_any}
+use Rattle.std.specs.Ordering.{is_eq, nat_cmp}
+use Rattle.ra_labels.specs.NamedOrder.{stamp_cmp}
 use Rattle.ra_monitor.proofs.history.History.new.Goals as goal
 
 pub returns : goal.returns
@@ -8,6 +10,9 @@ returns c = record {
   causal = tt;
   labels = c.new-2.ensures.items;
   order = c.in_ok-of.ensures;
-  stamps = λ stamp. ap (λ stamps. is_kept stamps stamp) c.new-3.ensures;
+  taken = record {
+    stamps = λ stamp. ap (list_any (λ own. is_eq (stamp_cmp stamp own))) c.new-3.ensures.stamps;
+    identifiers = λ identifier. ap (list_any (λ given. is_eq (nat_cmp identifier given))) c.new-3.ensures.identifiers;
+  };
   fault = refl;
 }

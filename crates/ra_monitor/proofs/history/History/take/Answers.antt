@@ -13,7 +13,7 @@ use Rattle.ra_labels.specs.Fault.{fault_of}
 use Rattle.ra_labels.specs.Answer.{no_at, misfit_of, refusal_of, refusal_at, answer_of, answer_to_accepted, records_after}
 use Rattle.ra_labels.proofs.TheLaws.{forms_that_deserve_no_refusal}
 use Rattle.ra_monitor.specs.History.{StandsFor, refusal_left}
-use Rattle.ra_monitor.proofs.Growth.{stamps_known}
+use Rattle.ra_monitor.proofs.Growth.{taken_known}
 use Rattle.ra_monitor.proofs.history.History.take.Goals as goal
 
 -- where nothing failed and nothing is refused, an operation joins the records
@@ -43,7 +43,7 @@ returns-in-Operate-clause-taken c = λ records stands.
     let clock = c.in-Operate.stamp in
     let none : fault_of setup.kind records ≡ None = sym stands.fault ∙ c.in_default.is in
     let accepted : refusal_of setup.kind setup.replicas records command ≡ None =
-    c.in_default-refusal_of.ensures.first records (stamps_known c.args.self.now setup records stands none) ∙ nothing_left records command by op clock c.in-Operate.is in
+    c.in_default-refusal_of.ensures.first records (taken_known c.args.self.now setup records stands none) ∙ nothing_left records command by op clock c.in-Operate.is in
     let fits = ap (misfit_of setup.kind) (sym c.in-Operate.is) ∙ c.in_default-refusal_of.ensures.fits refl in
     let taken = c.accept.ensures.taken records stands none fits in
     let replied = subst (λ (r : Reply). IfOk c.accept.result (λ reply. (reply ≡ r) × StandsFor c.accept.new.self setup (Operate by op clock ∷ records)))
@@ -68,7 +68,7 @@ returns-in-Some-refusal_of-clause-taken c = λ records stands.
     let self = c.args.self.now in
     let none : fault_of setup.kind records ≡ None = sym stands.fault ∙ c.in_default.is in
     let is : refusal_of setup.kind setup.replicas records command ≡ Some c.in-Some-refusal_of.refusal =
-    c.refusal_of.ensures.first records (stamps_known self setup records stands none)
+    c.refusal_of.ensures.first records (taken_known self setup records stands none)
     ∙ ap (λ o. option_or o (refusal_left records command)) c.in-Some-refusal_of.is in
     let both = refused setup.kind setup.replicas records command c.in-Some-refusal_of.refusal none is in
     (both.0, subst (StandsFor self setup) both.1 stands)
@@ -96,7 +96,7 @@ returns-in-Deliver-clause-taken c = λ records stands.
     let label = c.in-Deliver.label in
     let none : fault_of setup.kind records ≡ None = sym stands.fault ∙ c.in_default.is in
     let same : refusal_of setup.kind setup.replicas records command ≡ refusal_at records to label =
-    c.in_default-refusal_of.ensures.first records (stamps_known c.args.self.now setup records stands none)
+    c.in_default-refusal_of.ensures.first records (taken_known c.args.self.now setup records stands none)
     ∙ ap (refusal_left records) c.in-Deliver.is in
     let taken = c.deliver.ensures.taken setup records stands none in
     let replied = subst (λ (r : Reply). IfOk c.deliver.result (λ reply. (reply ≡ r)

@@ -1,7 +1,7 @@
 ghost use Rattle.std.specs.Prelude.{◌≡◌, option_to_list, filter_map, is_some};
 ghost use Rattle.std.specs.List.{list_any};
 ghost use Rattle.ra_labels.specs.Rewriting.{update_of, query_of};
-ghost use Rattle.ra_monitor.specs.Parts.{acts_in};
+ghost use Rattle.ra_rewrite.specs.Parts.{acts_in};
 
 use ra_labels::{Query, Update};
 
@@ -39,8 +39,9 @@ impl Parts {
         ensures { option_to_list result ≡ filter_map (λ act. update_of act.1) (acts_in self) }
     {
         match self {
-            Parts::One(Part::Query(_)) => None,
-            Parts::One(Part::Update(update)) | Parts::Two(_, update) => Some(update),
+            Parts::One(Part::Query(_asked)) => None,
+            Parts::One(Part::Update(update)) => Some(update),
+            Parts::Two(_asked, update) => Some(update),
         }
     }
 
@@ -49,8 +50,9 @@ impl Parts {
         ensures { option_to_list result ≡ filter_map (λ act. query_of act.1) (acts_in self) }
     {
         match self {
-            Parts::One(Part::Update(_)) => None,
-            Parts::One(Part::Query(query)) | Parts::Two(query, _) => Some(query),
+            Parts::One(Part::Update(_done)) => None,
+            Parts::One(Part::Query(query)) => Some(query),
+            Parts::Two(query, _done) => Some(query),
         }
     }
 }

@@ -1,10 +1,10 @@
 -- What the parts of a label do and ask, as the definitions have it.
 use Rattle.std.specs.Prelude.{List, [], ◌∷◌}
 use Rattle.ra_labels.specs.Rewriting.{Half, Whole, QueryHalf, UpdateHalf, Act, Does, Asks}
-use Rattle.ra_monitor.specs.declared.part.Parts.{Parts}
-use Rattle.ra_monitor.specs.declared.part.Parts.TheVariants.{One, Two}
-use Rattle.ra_monitor.specs.declared.part.Part.{Part}
-use Rattle.ra_monitor.specs.declared.part.Part.TheVariants as part
+use Rattle.ra_rewrite.specs.declared.part.Parts.{Parts}
+use Rattle.ra_rewrite.specs.declared.part.Parts.TheVariants.{One, Two}
+use Rattle.ra_rewrite.specs.declared.part.Part.{Part}
+use Rattle.ra_rewrite.specs.declared.part.Part.TheVariants as part
 
 abbrev pub act_in : Part → Act
 act_in (part.Query query) = Asks query

@@ -1,0 +1,52 @@
+ghost use Rattle.std.specs.Prelude.{◌≡◌, IfOk};
+ghost use Rattle.ra_labels.specs.declared.operation.Op.TheVariants.{OrRemove};
+ghost use Rattle.ra_labels.specs.Rewriting.{acts_of};
+ghost use Rattle.ra_rewrite.specs.Parts.{acts_in};
+
+use crate::part::{Part, Parts};
+use ra_labels::{Elements, Label, NoMemory, Op, Query, Update};
+
+/// The parts of the label. It is out of memory where a growth is refused: a read of a set or a list asks for one, as
+/// long as its list, and a remove of an OR-Set for two, as long as its identifiers.
+pub fn parts(label: &Label) -> Result<Parts, NoMemory>
+    ensures { IfOk result (λ parts. acts_in parts ≡ acts_of label.now.op) }
+{
+    let part = match &label.op {
+        Op::Inc => Part::Update(Update::Inc),
+        Op::Dec => Part::Update(Update::Dec),
+        Op::Count(answer) => Part::Query(Query::Count(*answer)),
+        Op::Write(value) => Part::Update(Update::Write(*value)),
+        Op::Last(answer) => Part::Query(Query::Last(*answer)),
+        Op::LwwAdd(element) => Part::Update(Update::LwwAdd(*element)),
+        Op::LwwRemove(element) => Part::Update(Update::LwwRemove(*element)),
+        Op::LwwRead(answer) => Part::Query(Query::LwwRead(answer.clone()?)),
+        Op::OrAdd { element, id } => Part::Update(Update::OrAdd {
+            element: *element,
+            id: *id,
+        }),
+        Op::OrRemove { element, ids } => return halves(*element, ids),
+        Op::OrRead(answer) => Part::Query(Query::OrRead(answer.clone()?)),
+        Op::After { anchor, element } => Part::Update(Update::After {
+            anchor: *anchor,
+            element: *element,
+        }),
+        Op::RgaRemove(element) => Part::Update(Update::RgaRemove(*element)),
+        Op::RgaRead(answer) => Part::Query(Query::RgaRead(answer.clone()?)),
+    };
+    Ok(Parts::One(part))
+}
+
+// The halves of a remove: which identifiers the element has, and that it loses these.
+fn halves(element: u32, ids: &Elements) -> Result<Parts, NoMemory>
+    ensures { IfOk result (λ parts. acts_in parts ≡ acts_of (OrRemove element ids.now)) }
+{
+    let asked = Query::ReadIds {
+        element,
+        ids: ids.clone()?,
+    };
+    let taken = Update::TakeOut {
+        element,
+        ids: ids.clone()?,
+    };
+    Ok(Parts::Two(asked, taken))
+}

@@ -1,0 +1,162 @@
+//! Worked histories of any kind, as rows of a table: what is said, and what is answered.
+
+use crate::commands::reply_to_command;
+use ra_labels::{Command, Elements, Fault, Kind, Op, Reply};
+use ra_monitor::{Half, Monitor, PartRef, Report};
+use std::alloc::Global;
+use std::process::Abort;
+
+/// What a replica reports in a row, or what is asked. The first number is the replica's, and the last one that of an
+/// operation with a stamp the clock that it comes with.
+#[derive(Clone, Copy, Debug)]
+pub enum Say {
+    Inc(u8),
+    Write(u8, u32, u32),
+    /// A write that comes with no clock.
+    WriteBare(u8, u32),
+    Last(u8, Option<u32>),
+    /// A read that comes with this clock.
+    LastAt(u8, Option<u32>, u32),
+    Add(u8, u32, u32),
+    Remove(u8, u32, u32),
+    Elements(u8, &'static [u32]),
+    /// An element under an identifier.
+    OrAdd(u8, u32, u32),
+    /// The same, with this clock.
+    OrAddAt(u8, u32, u32, u32),
+    /// An element, and the identifiers that it had.
+    OrRemove(u8, u32, &'static [u32]),
+    OrRead(u8, &'static [u32]),
+    /// Behind an anchor, an element.
+    After(u8, u32, u32, u32),
+    /// The same, with no clock.
+    AfterBare(u8, u32, u32),
+    RgaRemove(u8, u32),
+    /// A removal that comes with this clock.
+    RgaRemoveAt(u8, u32, u32),
+    RgaRead(u8, &'static [u32]),
+    Got(u8, u32),
+    Verdict,
+}
+
+// The command of what is said.
+fn command_of(rt: &impl Abort, alloc: Global, say: Say) -> Command {
+    match say {
+        Say::Inc(replica) => operation(replica, Op::Inc, None),
+        Say::Write(replica, value, clock) => operation(replica, Op::Write(value), Some(clock)),
+        Say::WriteBare(replica, value) => operation(replica, Op::Write(value), None),
+        Say::Last(replica, answer) => operation(replica, Op::Last(answer), None),
+        Say::LastAt(replica, answer, clock) => operation(replica, Op::Last(answer), Some(clock)),
+        Say::Add(replica, element, clock) => operation(replica, Op::LwwAdd(element), Some(clock)),
+        Say::Remove(replica, element, clock) => {
+            operation(replica, Op::LwwRemove(element), Some(clock))
+        }
+        Say::OrAdd(replica, element, id) => operation(replica, Op::OrAdd { element, id }, None),
+        Say::OrAddAt(replica, element, id, clock) => {
+            operation(replica, Op::OrAdd { element, id }, Some(clock))
+        }
+        Say::After(replica, anchor, element, clock) => {
+            operation(replica, Op::After { anchor, element }, Some(clock))
+        }
+        Say::AfterBare(replica, anchor, element) => {
+            operation(replica, Op::After { anchor, element }, None)
+        }
+        Say::RgaRemove(replica, element) => operation(replica, Op::RgaRemove(element), None),
+        Say::RgaRemoveAt(replica, element, clock) => {
+            operation(replica, Op::RgaRemove(element), Some(clock))
+        }
+        Say::Got(replica, label) => Command::Deliver { replica, label },
+        Say::Verdict => Command::Verdict,
+        Say::Elements(replica, list) => {
+            operation(replica, Op::LwwRead(elements_of(rt, alloc, list)), None)
+        }
+        Say::OrRead(replica, list) => {
+            operation(replica, Op::OrRead(elements_of(rt, alloc, list)), None)
+        }
+        Say::RgaRead(replica, list) => {
+            operation(replica, Op::RgaRead(elements_of(rt, alloc, list)), None)
+        }
+        Say::OrRemove(replica, element, list) => {
+            let ids = elements_of(rt, alloc, list);
+            operation(replica, Op::OrRemove { element, ids }, None)
+        }
+    }
+}
+
+fn operation(replica: u8, op: Op, stamp: Option<u32>) -> Command {
+    Command::Operate { replica, op, stamp }
+}
+
+fn elements_of(rt: &impl Abort, alloc: Global, list: &[u32]) -> Elements {
+    match Vec::from_slice(alloc, list) {
+        Ok(items) => Elements::new(items),
+        Err(_) => panic!(rt; "no memory"),
+    }
+}
+
+/// A history of three replicas.
+#[derive(Clone, Copy)]
+pub struct Row {
+    /// What it shows.
+    pub name: &'static str,
+    pub kind: Kind,
+    pub steps: &'static [(Say, Reply)],
+    pub labels: u32,
+    pub refused: u32,
+    pub fault: Option<Fault>,
+    /// The labels in the sequence, one of two halves twice.
+    pub sequence: &'static [u32],
+}
+
+/// Each row is answered as it says.
+pub fn are_answered(rt: &impl Abort, alloc: Global, rows: &[Row]) {
+    for row in rows {
+        let Ok(mut monitor) = Monitor::new(alloc, row.kind, 3, 100) else {
+            panic!(rt; "no monitor");
+        };
+        for (say, want) in row.steps {
+            let command = command_of(rt, alloc, *say);
+            let reply = reply_to_command(rt, &mut monitor, command);
+            assert_eq!(rt; reply, *want, "{}, at {say:?}", row.name);
+        }
+        let report = Report {
+            kind: row.kind,
+            calls: row.steps.len() as u32,
+            labels: row.labels,
+            refused: row.refused,
+            fault: row.fault,
+        };
+        assert_eq!(rt; monitor.report(), report, "{}", row.name);
+        let Ok(sequence) = monitor.sequence() else {
+            panic!(rt; "no memory");
+        };
+        assert!(rt;
+            are_parts(sequence.as_slice(), row.sequence),
+            "{}",
+            row.name
+        );
+    }
+}
+
+// Are these the parts of the labels: of one that is there twice the query half and then the update half?
+fn are_parts(parts: &[PartRef], labels: &[u32]) -> bool {
+    if parts.len() != labels.len() {
+        return false;
+    }
+    let mut before = None;
+    for (at, part) in parts.iter().enumerate() {
+        let label = Some(&part.label);
+        let half = if before == label {
+            Half::UpdateHalf
+        } else if labels.get(at + 1) == label {
+            Half::QueryHalf
+        } else {
+            Half::Whole
+        };
+        if labels.get(at) != label || part.half != half {
+            return false;
+        }
+        before = label;
+    }
+    true
+}

@@ -1,0 +1,127 @@
+//! Tens of thousands of labels, and thousands of elements with stamps that come late.
+
+ghost use Rattle.std.specs.Prelude.{◌≡◌, ◌+◌, ◌<◌, length};
+ghost use Rattle.ra_visibility.specs.Tracked.{labels_in, replicas_in};
+
+use crate::commands::reply_to_command;
+use ra_labels::{Command, Elements, Kind, Label, Op, Refusal, Reply, Stamp};
+use ra_monitor::Monitor;
+use ra_time_order::TimeOrder;
+use ra_visibility::{MOST_LABELS, NamedOrder, Tracker};
+use std::process::Abort;
+use std::test::Fail;
+
+// More than 65,536.
+const MANY: u32 = 70_000;
+
+#[test]
+fn many_labels_stand_by_their_stamps(rt: HostRuntime) -> Result<(), Fail> {
+    let Ok(mut tracker) = Tracker::new(rt.alloc(), 2) else {
+        panic!(rt; "no memory");
+    };
+    let Ok(mut order) = TimeOrder::new(rt.alloc(), 2) else {
+        panic!(rt; "no memory");
+    };
+    for number in 0..MANY {
+        let stamp = stamp_of(number);
+        stand(&rt, &mut tracker, &mut order, stamp);
+    }
+    for number in 0..MANY {
+        let at = stamp_of(number).clock as usize - 1;
+        assert_eq!(rt; order.at(at), Some(number));
+    }
+    assert_eq!(rt; order.at(MANY as usize), None);
+    Ok(())
+}
+
+// The first half of the labels has the even clocks, and the other replica's half comes late, with the odd ones.
+fn stamp_of(number: u32) -> Stamp
+    requires { number < MANY }
+    ensures { result.replica < 2 }
+{
+    let half = MANY / 2;
+    if number < half {
+        Stamp {
+            clock: 2 * number + 2,
+            replica: 0,
+        }
+    } else {
+        Stamp {
+            clock: 2 * (number - half) + 1,
+            replica: 1,
+        }
+    }
+}
+
+// A write with this stamp comes into the order.
+fn stand(rt: &impl Abort, tracker: &mut Tracker, order: &mut TimeOrder, stamp: Stamp)
+    requires replica { stamp.replica < replicas_in tracker.old.now }
+    requires few { labels_in tracker.old.now < MOST_LABELS }
+    requires listed { length (⟦<TimeOrder as NamedOrder>⟧.listed order.old) ≡ labels_in tracker.old.now }
+    ensures replicas { replicas_in tracker.new.now ≡ replicas_in tracker.old.now }
+    ensures labels { labels_in tracker.new.now ≡ labels_in tracker.old.now + 1 }
+    ensures listed { length (⟦<TimeOrder as NamedOrder>⟧.listed order.new) ≡ labels_in tracker.new.now }
+{
+    let number = match tracker.issue(stamp.replica, true) {
+        Ok(number) => number,
+        Err(_) => panic!(rt; "no memory"),
+    };
+    if order.spare().is_err() {
+        panic!(rt; "no memory");
+    }
+    let label = Label {
+        number,
+        replica: stamp.replica,
+        op: Op::Write(number),
+        stamp: Some(stamp),
+    };
+    let seen = tracker.vis(number);
+    let place = order.place(&label, &seen);
+    assert!(rt; place.fits);
+    order.put(&label, &seen, place);
+}
+
+#[test]
+fn thousands_of_elements_are_put_in(rt: HostRuntime) -> Result<(), Fail> {
+    let Ok(mut monitor) = Monitor::new(rt.alloc(), Kind::LwwSet, 3, 1_048_576) else {
+        panic!(rt; "no monitor");
+    };
+    let mut all = Vec::new(rt.alloc());
+    for number in 0..4_200u32 {
+        let replica = (number / 2_100) as u8;
+        let clock = 2 * (number % 2_100) + 2 - replica as u32;
+        let reply = reply_to_command(&rt, &mut monitor, add(replica, number ^ 1, clock));
+        assert_eq!(rt; reply, Reply::Ok(number));
+        if number < 2_100 && all.push(number).is_err() {
+            panic!(rt; "no memory");
+        }
+    }
+    for (replica, clock) in [(0, 2), (0, 4_200), (1, 1), (1, 4_199)] {
+        let reply = reply_to_command(&rt, &mut monitor, add(replica, 0, clock));
+        assert_eq!(rt; reply, Reply::Refused(Refusal::StampTaken));
+    }
+    let read = Command::Operate {
+        replica: 0,
+        op: Op::LwwRead(Elements::new(all)),
+        stamp: None,
+    };
+    let reply = reply_to_command(&rt, &mut monitor, read);
+    assert_eq!(rt; reply, Reply::Ok(4_200));
+    let Ok(sequence) = monitor.sequence() else {
+        panic!(rt; "no memory");
+    };
+    assert_eq!(rt; sequence.len(), 4_201);
+    for (at, part) in sequence.iter().enumerate() {
+        let first = if at % 2 == 0 { 2_100 } else { 0 };
+        assert_eq!(rt; part.label as usize, first + at / 2);
+    }
+    Ok(())
+}
+
+fn add(replica: u8, element: u32, clock: u32) -> Command {
+    Command::Operate {
+        replica,
+        op: Op::LwwAdd(element),
+        stamp: Some(clock),
+    }
+}
