@@ -47,8 +47,8 @@ fn state_after(
     Ok(Some(state))
 }
 
-// Makes the label's update, if it makes one, and answers true; or changes nothing and answers false where the state does
-// not admit it.
+// Makes the label's update, if it makes one, and answers true; or changes nothing and answers false where the state
+// does not admit it.
 fn take_in(state: &mut State, label: &Label) -> Result<bool, NoMemory>
     requires { IfSome (state_with state.old label.now.op) IsInRange }
     ensures admitted { IfOk result (λ is_admitted. is_admitted ≡ is_some (state_with state.old label.now.op)) }

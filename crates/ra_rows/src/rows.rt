@@ -119,9 +119,12 @@ pub fn are_answered(rt: &impl Abort, alloc: Global, rows: &[Row]) {
             let reply = reply_to_command(rt, &mut monitor, command);
             assert_eq!(rt; reply, *want, "{}, at {say:?}", row.name);
         }
+        let Ok(calls) = u32::try_from(row.steps.len()) else {
+            panic!(rt; "too many steps");
+        };
         let report = Report {
             kind: row.kind,
-            calls: row.steps.len() as u32,
+            calls,
             labels: row.labels,
             refused: row.refused,
             fault: row.fault,

@@ -5,6 +5,6 @@ use Rattle.ra_rows.proofs.sizes.many_labels_stand_by_their_stamps.Given as goal
 
 -- a label a turn, in both
 abbrev pub invariant-loop-number : goal.invariant-loop-number
-invariant-loop-number l =
-    (labels_in l.tracker.now ≡ l.counter) × (replicas_in l.tracker.now ≡ 2)
-    × (length (timed.ghosts.listed l.order) ≡ l.counter)
+invariant-loop-number g l =
+    (labels_in l.tracker.now ≡ l.number) × (replicas_in l.tracker.now ≡ 2)
+    × (length (timed.ghosts.listed l.order) ≡ l.number)
