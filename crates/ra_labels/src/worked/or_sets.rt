@@ -51,8 +51,8 @@ pub fn a_taken_identifier_is_refused()
         ≡ reply.Ok 0 ∷ reply.Refused refusal.IdTaken ∷ reply.Ok 1 ∷ reply.Refused refusal.BadList ∷ reply.Yes 2 ∷ [] }
 {}
 
-/// Each refusal that a command of an OR-Set can meet. Where two apply, the earlier one is given. A removal is an update,
-/// and is delivered.
+/// Each refusal that a command of an OR-Set can meet. Where two apply, the earlier one is given. A removal is an
+/// update, and is delivered.
 pub fn each_refusal_of_an_or_set_in_its_order()
     ensures { answers_of_or_set each_refusal_of_an_or_set
         ≡ reply.Refused refusal.UnknownReplica ∷ reply.Refused refusal.WrongKind ∷ reply.Refused refusal.WrongKind
