@@ -1,5 +1,5 @@
 -- What is taken, as it is looked up.
-use Rattle.std.proofs.Common.{◌≡◌, ℕ, ◌<◌, Bool, true, false, List, [], ◌∷◌, Option, Some, None, refl, sym, ap, ◌∙◌, subst, arith, Ordering}
+use Rattle.std.proofs.Common.{◌≡◌, ℕ, ◌<◌, Bool, true, false, [], ◌∷◌, Option, Some, None, refl, sym, ap, ◌∙◌, subst, arith, Ordering}
 use Rattle.std.specs.Prelude.{◌||◌, ◌==◌, cond}
 use Rattle.std.specs.Option.{option_map_or}
 use Rattle.std.specs.Ordering.{MatchOrdering, is_eq, nat_cmp}
