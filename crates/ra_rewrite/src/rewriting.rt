@@ -1,7 +1,8 @@
-ghost use Rattle.std.specs.Prelude.{◌≡◌, IfOk};
+ghost use Rattle.std.specs.Prelude.{◌≡◌, false, IfOk, IsOk};
 ghost use Rattle.ra_labels.specs.declared.operation.Op.TheVariants.{OrRemove};
 ghost use Rattle.ra_labels.specs.Rewriting.{acts_of};
 ghost use Rattle.ra_rewrite.specs.Parts.{acts_in};
+ghost use Rattle.ra_rewrite.specs.Memory.{takes_memory};
 
 use crate::part::{Part, Parts};
 use ra_labels::{Elements, Label, NoMemory, Op, Query, Update};
@@ -9,7 +10,8 @@ use ra_labels::{Elements, Label, NoMemory, Op, Query, Update};
 /// The parts of the label. It is out of memory where a growth is refused: a read of a set or a list asks for one, as
 /// long as its list, and a remove of an OR-Set for two, as long as its identifiers.
 pub fn parts(label: &Label) -> Result<Parts, NoMemory>
-    ensures { IfOk result (λ parts. acts_in parts ≡ acts_of label.now.op) }
+    ensures acts { IfOk result (λ parts. acts_in parts ≡ acts_of label.now.op) }
+    ensures memory { takes_memory label.now.op ≡ false → IsOk result }
 {
     let part = match &label.op {
         Op::Inc => Part::Update(Update::Inc),

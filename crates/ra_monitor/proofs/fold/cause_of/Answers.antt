@@ -37,7 +37,7 @@ returns-then-not-branch c = λ first records visible in_turn in_order extends.
     let labels = c.args.labels.now in
     let answered = is_answered_at c.args.kind labels c.args.numbers.now c.args.tracker.now.now in
     let found = label_there labels _ c.in-Some.label.now c.in-Some.ensures.lookup.0 c.in-Some.ensures.lookup.1 in
-    let asks = c.in-Some-into_query.ensures ∙ ap (filter_map (λ (a : Half × Act). query_of a.1)) c.in_ok-parts.ensures in
+    let asks = c.in-Some-into_query.ensures ∙ ap (filter_map (λ (a : Half × Act). query_of a.1)) c.in_ok-parts.ensures.acts in
     let here = answers_its_query c.args.kind labels c.args.numbers.now c.args.tracker.now.now _ c.in-Some.label.now c.in-Some-into_query.query _ found asks (c.in_ok-is_answered.ensures ∙ ap (said_with c.args.kind labels c.args.numbers.now c.in-Some-into_query.query) c.vis-seen.ensures.seen) ∙ c.if-not-branch.true in
     let one = one_unanswered answered c.args.numbers.now c.loop-number.number-index c.loop-number-test.true here in
     sym (cause_is c.args.kind labels c.args.numbers.now c.args.tracker.now.now first records
@@ -51,7 +51,7 @@ loop-number-preserved c =
     let tracked = c.args.tracker.now.now in
     let label = c.in-Some.label.now in
     let found = label_there labels _ label c.in-Some.ensures.lookup.0 c.in-Some.ensures.lookup.1 in
-    let parts = ap (filter_map (λ (a : Half × Act). query_of a.1)) c.in_ok-parts.ensures in
+    let parts = ap (filter_map (λ (a : Half × Act). query_of a.1)) c.in_ok-parts.ensures.acts in
     let more = answered_more (is_answered_at c.args.kind labels numbers tracked) numbers c.loop-number.number-index c.loop-number-test.true c.loop-number.invariant in
     elim c.match-into_query.branch [
       | in-Some-into_query+in_ok-is_answered+else-not-branch w ↦
@@ -72,5 +72,5 @@ pub is_answered-requires-clause-rising : goal.is_answered-requires-clause-rising
 is_answered-requires-clause-rising c =
     let labels = c.args.labels.now in
     let found = label_there labels _ c.in-Some.label.now c.in-Some.ensures.lookup.0 c.in-Some.ensures.lookup.1 in
-    let asks = c.in-Some-into_query.ensures ∙ ap (filter_map (λ (a : Half × Act). query_of a.1)) c.in_ok-parts.ensures in
+    let asks = c.in-Some-into_query.ensures ∙ ap (filter_map (λ (a : Half × Act). query_of a.1)) c.in_ok-parts.ensures.acts in
     asked_rises labels _ c.in-Some.label.now c.in-Some-into_query.query c.requires.rising found asks

@@ -42,7 +42,7 @@ returns-in-Ok-clause-taken c = λ records stands none fits.
     let label = c.in_ok-label.label in
     let numbered : c.len.result ≡ label_count records = omega (arith, c.len.ensures, c.requires.labels, stands.tracker.labels) in
     let is : label ≡ next_label records by op clock = c.in_ok-label.ensures.next records numbered in
-    let acts = c.in_ok-parts.ensures ∙ ap (λ l. acts_of l.op) is in
+    let acts = c.in_ok-parts.ensures.acts ∙ ap (λ l. acts_of l.op) is in
     let update : is_update op ≡ c.has_update-is_update.result =
     update_where_a_part_is_one op ∙ sym (c.has_update-is_update.ensures ∙ ap (list_any (λ (act : Half × Act). is_some (update_of act.1))) acts) in
     let known : by < setup.replicas = omega (arith, c.requires.replica, stands.tracker.replicas) in

@@ -1,0 +1,12 @@
+-- What takes memory.
+use Rattle.std.specs.Prelude.{Bool, true, false}
+use Rattle.ra_labels.specs.declared.operation.Op.{Op}
+use Rattle.ra_labels.specs.declared.operation.Op.TheVariants.{LwwRead, OrRemove, OrRead, RgaRead}
+
+-- do the parts of the operation take memory? Only where it has a list
+abbrev pub takes_memory : Op → Bool
+takes_memory (LwwRead list) = true
+takes_memory (OrRemove x ids) = true
+takes_memory (OrRead list) = true
+takes_memory (RgaRead list) = true
+takes_memory _ = false
