@@ -23,4 +23,5 @@ pub mod Missing
 pub mod Timestamps
 pub mod Stamps
 pub mod Identifiers
+pub mod Ranking
 pub mod TheLaws

@@ -1,5 +1,5 @@
 -- What an OR-Set has.
-use Rattle.std.proofs.Common.{◌≡◌, ℕ, ◌<◌, true, false, List, [], ◌∷◌, ◌++◌, filter, Option, Some, None, refl, sym, ap, ◌∙◌, subst, inl, inr, arith, Ordering}
+use Rattle.std.proofs.Common.{◌≡◌, ℕ, ◌<◌, true, List, [], ◌∷◌, filter, Option, Some, None, refl, sym, ap, ◌∙◌, subst, inl, inr, arith}
 use Rattle.std.specs.Prelude.{◌↔◌, ◌⊎◌, ◌==◌, ◌&&◌, not, option_and_then, Contains}
 use Rattle.std.specs.List.{list_all}
 use Rattle.std.specs.List.Sorted.{IsStrictlySortedBy}
@@ -8,8 +8,8 @@ use Rattle.std.specs.declared.cmp.Ordering.TheVariants.{Less, Equal}
 use Rattle.std.specs.BTreeSet.{insert_key}
 use Rattle.std.specs.Cmp.{IsTotalOrder}
 use Rattle.std.proofs.lemmas.Cmp.{ranked, on_total, then_total, nat_cmp_total}
-use Rattle.std.proofs.lemmas.Bool.{false≢true, and_parts, and_from, eqb-true, eq-eqb, not-true, not_from_false, not_from_true, false_from_ne_true}
-use Rattle.std.proofs.lemmas.Option.{none-some, same_Some}
+use Rattle.std.proofs.lemmas.Bool.{false≢true, and_parts, and_from, eqb-true, eq-eqb, not-true, not_from_false, false_from_ne_true}
+use Rattle.std.proofs.lemmas.Option.{none-some}
 use Rattle.std.proofs.lemmas.List.Sums.{fold-append}
 use Rattle.std.proofs.lemmas.List.Kept.{IsStrictlySortedBy-filter}
 use Rattle.ra_labels.specs.declared.kind.Kind.TheVariants.{OrSet}
@@ -19,7 +19,7 @@ use Rattle.ra_labels.specs.declared.operation.Query.TheVariants.{ReadIds, OrRead
 use Rattle.ra_labels.specs.Lists.{is_among, pair_cmp, identifiers_of, elements_of, without_pairs}
 use Rattle.ra_labels.specs.Specification.{State, Number, Written, Members, Pairs, Listed, step_of, answers, state_after}
 use Rattle.ra_labels.specs.Laws.{takes_out, NoneTakesOut, WasAddedAndStays}
-use Rattle.ra_labels.proofs.Places.{Contains-cons_cases, kept-there, there-kept, reached, from_where}
+use Rattle.ra_labels.proofs.Places.{kept-there, there-kept, reached, from_where}
 use Rattle.ra_labels.proofs.Lists.{among-exactly, same-exactly}
 use Rattle.ra_labels.proofs.Order.{ranked_less, ranked_same}
 use Rattle.ra_labels.proofs.Keys.{inserted-exactly, inserted-sorted}
