@@ -24,4 +24,5 @@ pub mod Timestamps
 pub mod Stamps
 pub mod Identifiers
 pub mod Ranking
+pub mod Insertion
 pub mod TheLaws

@@ -57,6 +57,8 @@ pub use Rattle.ra_labels.proofs.Timestamps.{timestamp-own as a_timestamp_is_the_
 pub use Rattle.ra_labels.proofs.Stamps.{taken-exactly as a_stamp_is_taken_where_a_label_has_it, stamps-once as stamps_are_given_once-one, stamps-once_all as stamps_are_given_once-all, fits-exactly as forms_that_deserve_no_refusal, stamp_taken-exactly as operations_with_a_taken_stamp_are_refused, id_taken-exactly as operations_with_a_taken_identifier_are_refused, operated-exactly as operations_are_accepted_where_nothing_is_taken, labels-fit as accepted_labels_fit-one, labels-fit_all as accepted_labels_fit-all}
 -- laws::identifiers
 pub use Rattle.ra_labels.proofs.Identifiers.{identifier-exactly as an_identifier_is_taken_where_an_addition_has_it-taken, gives-exactly as an_identifier_is_taken_where_an_addition_has_it-gives, identifiers-once as identifiers_are_given_once-one, identifiers-once_all as identifiers_are_given_once-all}
+-- laws::insertion
+pub use Rattle.ra_labels.proofs.Insertion.{order-inserted as a_new_label_leaves_the_order_of_the_others, others-see as a_new_label_leaves_what_the_others_see-others, own-sees as a_new_label_leaves_what_the_others_see-own, decides-order as a_new_label_alone_decides-order, decides-query as a_new_label_alone_decides-query, decides-all as a_new_label_alone_decides-all}
 -- laws::linearization
 pub use Rattle.ra_labels.proofs.Exactly.{visible-exactly as must_precede_in_three_cases-visible, earlier-exactly as must_precede_in_three_cases-earlier, halves-exactly as must_precede_in_three_cases-halves, must_precede-exactly as must_precede_in_three_cases-cases, updates_of-append as updates_stand_in_order-all, visible_updates-append as updates_stand_in_order-visible, updates-exactly as updates_admitted_where_they_lead_to_a_state, queries-exactly as queries_admitted_where_each_is_answered}
 pub use Rattle.ra_labels.proofs.Standing.{must_precede-irreflexive as no_part_precedes_itself, extends-stands as extending_puts_before-stands, stands-extends as extending_puts_before-extends, linearization_by-stands as linearization_by_an_order_puts_before, linearization_by-weaker as linearization_by_a_weaker_order, linearization-stands as linearization_puts_before, is_update-acts as update_where_a_part_is_one}

@@ -13,3 +13,4 @@ pub mod WorkedTimestamps
 pub mod WorkedOrSets
 pub mod WorkedRgas
 pub mod Laws
+pub mod Insertion

@@ -4,6 +4,7 @@ pub mod answer;
 pub mod counts;
 pub mod fault;
 pub mod identifiers;
+pub mod insertion;
 pub mod linearization;
 pub mod lists;
 pub mod or_set;
