@@ -25,4 +25,5 @@ pub mod Stamps
 pub mod Identifiers
 pub mod Ranking
 pub mod Insertion
+pub mod Commuting
 pub mod TheLaws

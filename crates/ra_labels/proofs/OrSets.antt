@@ -26,7 +26,7 @@ use Rattle.ra_labels.proofs.Keys.{inserted-exactly, inserted-sorted}
 use Rattle.ra_labels.proofs.Stepping.{state_from, stuck}
 
 -- the order of pairs
-pair_total : IsTotalOrder pair_cmp
+pub pair_total : IsTotalOrder pair_cmp
 pair_total = then_total (on_total (λ (p : ℕ × ℕ). p.0) nat_cmp_total) (on_total (λ (p : ℕ × ℕ). p.1) nat_cmp_total)
 
 pub pair_below : (p q : ℕ × ℕ) → (pair_cmp p q ≡ Less) ↔ ((p.0 < q.0) ⊎ ((p.0 ≡ q.0) × (p.1 < q.1)))
@@ -40,7 +40,7 @@ pair_same p q =
       (λ same. both.1 (ap (λ r. r.0) same, ap (λ r. r.1) same)),
     )
 
-put : (p q : ℕ × ℕ) (pairs : List (ℕ × ℕ)) → Contains (insert_key pair_cmp pairs p) q ↔ ((q ≡ p) ⊎ Contains pairs q)
+pub put : (p q : ℕ × ℕ) (pairs : List (ℕ × ℕ)) → Contains (insert_key pair_cmp pairs p) q ↔ ((q ≡ p) ⊎ Contains pairs q)
 put p q pairs = inserted-exactly pair_cmp (λ x y tie. (pair_same x y).0 tie) p q pairs
 
 -- one addition, and one removal
@@ -141,7 +141,7 @@ sorted_from ps (LwwRemove y ∷ us) qs up is = absurd (none-some (Pairs qs) (sym
 sorted_from ps (After a y ∷ us) qs up is = absurd (none-some (Pairs qs) (sym (stuck us) ∙ is))
 sorted_from ps (RgaRemove y ∷ us) qs up is = absurd (none-some (Pairs qs) (sym (stuck us) ∙ is))
 
-nothing_sorted : IsStrictlySortedBy pair_cmp []
+pub nothing_sorted : IsStrictlySortedBy pair_cmp []
 unfolding IsStrictlySortedBy
 nothing_sorted = tt
 

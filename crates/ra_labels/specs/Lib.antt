@@ -14,3 +14,4 @@ pub mod WorkedOrSets
 pub mod WorkedRgas
 pub mod Laws
 pub mod Insertion
+pub mod Commuting
