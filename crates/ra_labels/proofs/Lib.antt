@@ -26,4 +26,5 @@ pub mod Identifiers
 pub mod Ranking
 pub mod Insertion
 pub mod Commuting
+pub mod Overriding
 pub mod TheLaws

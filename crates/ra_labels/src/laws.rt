@@ -9,6 +9,7 @@ pub mod insertion;
 pub mod linearization;
 pub mod lists;
 pub mod or_set;
+pub mod overriding;
 pub mod records;
 pub mod rga;
 pub mod sequence;
