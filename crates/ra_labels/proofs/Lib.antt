@@ -27,4 +27,6 @@ pub mod Ranking
 pub mod Insertion
 pub mod Commuting
 pub mod Overriding
+pub mod Late
+pub mod Keeping
 pub mod TheLaws

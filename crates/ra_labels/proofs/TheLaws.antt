@@ -38,6 +38,9 @@ pub use Rattle.ra_labels.proofs.Overriding.{writes-last as writes_lead_to_the_la
 -- laws::rga
 pub use Rattle.ra_labels.proofs.Rgas.{after-admitted as an_element_is_put_behind_one_that_is_there-admitted, after-puts as an_element_is_put_behind_one_that_is_there-behind, removed-admitted as an_element_is_removed_that_is_there-admitted, removed-places as an_element_is_removed_that_is_there-places, removed-shown as an_element_is_removed_that_is_there-shown, removed-anchor as a_removed_element_stays-anchor, removed-again as a_removed_element_stays-again, removed-twice as a_removed_element_stays-twice, list-exactly as a_list_has_what_was_put_in-elements, list-root as a_list_has_what_was_put_in-root, list-once as a_list_has_what_was_put_in-once, list-stays as a_list_has_what_was_put_in-stays, shown-append as elements_are_shown_in_their_order-all, answers-shown as a_list_is_answered_where_it_is_shown}
 pub use Rattle.ra_labels.proofs.Showing.{list-shown as a_list_has_what_was_put_in-shown}
+-- laws::late
+pub use Rattle.ra_labels.proofs.Late.{newest-behind as a_new_element_stands_behind_its_anchor, late-later as a_late_and_a_later_update_commute-insertions, late-hidden as a_late_and_a_later_update_commute-late_removed, inserted-hidden as a_late_and_a_later_update_commute-removed, hidden-hidden as a_late_and_a_later_update_commute-removals, late-insertion as a_late_insertion_goes_past_the_greater, late-one as a_late_insertion_is_one_step, late-removal as a_late_removal_counts_as_the_last}
+pub use Rattle.ra_labels.proofs.Keeping.{kept-inserted as what_is_kept_keeps_its_order-kept, kept-dropped as what_is_kept_keeps_its_order-dropped, kept-hidden as what_is_kept_keeps_its_order-removed, kept-nearest as an_element_comes_in_behind_the_nearest_before_it}
 -- laws::lists
 pub use Rattle.ra_labels.proofs.Lists.{rises-exactly as a_list_rises_where_each_is_below_the_later-places, rises-sorted as a_list_rises_where_each_is_below_the_later-sorted, same-exactly as lists_have_the_same_elements-elements, rising-same as lists_have_the_same_elements-rising}
 -- laws::records

@@ -15,3 +15,4 @@ pub mod WorkedRgas
 pub mod Laws
 pub mod Insertion
 pub mod Commuting
+pub mod Late

@@ -6,6 +6,7 @@ pub mod counts;
 pub mod fault;
 pub mod identifiers;
 pub mod insertion;
+pub mod late;
 pub mod linearization;
 pub mod lists;
 pub mod or_set;
