@@ -25,6 +25,7 @@ pub mod Stamps
 pub mod Identifiers
 pub mod Ranking
 pub mod Insertion
+pub mod Having
 pub mod Commuting
 pub mod Overriding
 pub mod Late

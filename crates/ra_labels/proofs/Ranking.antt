@@ -152,7 +152,7 @@ part_must records m n there (inr earlier) q is_n =
       ))),
     )
 
-everyone : {A : Type 0} (P : A → Type 0) (xs : List A) (y : A) → AllByRecursion P xs → Contains xs y → P y
+pub everyone : {A : Type 0} (P : A → Type 0) (xs : List A) (y : A) → AllByRecursion P xs → Contains xs y → P y
 everyone P [] y all there = absurd (omega (arith, there.1))
 everyone P (x ∷ xs) y all there = elim (Contains-cons_cases x xs y there) [
   | inl here ↦ subst P here all.0
@@ -163,7 +163,7 @@ for_everyone : {A : Type 0} (P : A → Type 0) (xs : List A) → All P xs → Al
 for_everyone P [] all = tt
 for_everyone P (x ∷ xs) all = (All-head P x xs all, for_everyone P xs (All-tail P x xs all))
 
-abbrev have_one_number : Label → Label → Bool
+abbrev pub have_one_number : Label → Label → Bool
 have_one_number l m = l.number == m.number
 
 number_flips : (m n : ℕ) → (m == n) ≡ (n == m)

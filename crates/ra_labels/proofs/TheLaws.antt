@@ -66,6 +66,7 @@ pub use Rattle.ra_labels.proofs.Stamps.{taken-exactly as a_stamp_is_taken_where_
 pub use Rattle.ra_labels.proofs.Identifiers.{identifier-exactly as an_identifier_is_taken_where_an_addition_has_it-taken, gives-exactly as an_identifier_is_taken_where_an_addition_has_it-gives, identifiers-once as identifiers_are_given_once-one, identifiers-once_all as identifiers_are_given_once-all}
 -- laws::insertion
 pub use Rattle.ra_labels.proofs.Insertion.{order-inserted as a_new_label_leaves_the_order_of_the_others, others-see as a_new_label_leaves_what_the_others_see-others, own-sees as a_new_label_leaves_what_the_others_see-own, decides-order as a_new_label_alone_decides-order, decides-query as a_new_label_alone_decides-query, decides-all as a_new_label_alone_decides-all}
+pub use Rattle.ra_labels.proofs.Having.{operation-own as an_operation_puts_its_update_in-own, operation-query as an_operation_puts_its_update_in-query, operation-others as an_operation_puts_its_update_in-others, delivery-own as a_delivery_puts_its_update_in-own, delivery-order as a_delivery_puts_its_update_in-order, delivery-others as a_delivery_puts_its_update_in-others}
 -- laws::linearization
 pub use Rattle.ra_labels.proofs.Exactly.{visible-exactly as must_precede_in_three_cases-visible, earlier-exactly as must_precede_in_three_cases-earlier, halves-exactly as must_precede_in_three_cases-halves, must_precede-exactly as must_precede_in_three_cases-cases, updates_of-append as updates_stand_in_order-all, visible_updates-append as updates_stand_in_order-visible, updates-exactly as updates_admitted_where_they_lead_to_a_state, queries-exactly as queries_admitted_where_each_is_answered}
 pub use Rattle.ra_labels.proofs.Standing.{must_precede-irreflexive as no_part_precedes_itself, extends-stands as extending_puts_before-stands, stands-extends as extending_puts_before-extends, linearization_by-stands as linearization_by_an_order_puts_before, linearization_by-weaker as linearization_by_a_weaker_order, linearization-stands as linearization_puts_before, is_update-acts as update_where_a_part_is_one}

@@ -19,8 +19,8 @@ pub fn steps_of_an_or_set_commute()
         → then_step (step_of (Pairs pairs) u) v ≡ then_step (step_of (Pairs pairs) v) u }
 {}
 
-/// An update that comes late counts as the last one: of a counter each; of an OR-Set one that adds no pair which a later
-/// update takes out, and takes out none which a later one adds.
+/// An update that comes late counts as the last one: of a counter each; of an OR-Set one that adds no pair which a
+/// later update takes out, and takes out none which a later one adds.
 pub fn a_late_update_counts_as_the_last()
     ensures counter { (first later : List Update) (update : Update) → state_after Counter (first ++ update ∷ later)
         ≡ then_step (state_after Counter (first ++ later)) update }

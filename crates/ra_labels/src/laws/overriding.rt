@@ -17,8 +17,8 @@ pub fn writes_lead_to_the_last()
         ≡ then_step (state_after Register (first ++ later)) (Write last) }
 {}
 
-/// A set has exactly the elements on which the last update put them in. Updates whose last on each element agree lead to
-/// the same set. One that comes late leads where the last one on its element leads that stands behind it or is it.
+/// A set has exactly the elements that the last update on them put in. Updates whose last on each element agree lead
+/// to the same set. One that comes late leads where the last one on its element leads that stands behind it or is it.
 pub fn of_each_element_the_last_update_counts()
     ensures has { (updates : List Update) (xs : List ℕ) (x : ℕ) → state_after LwwSet updates ≡ Some (Members xs)
         → Contains xs x ↔ (last_on x updates ≡ Some (LwwAdd x)) }
