@@ -113,7 +113,7 @@ had_of-none records replica label fails =
     ]))
 
 -- a label of a list in which numbers differ, and those round it
-differ_round : (before behind : List Label) (x : Label) → IsDistinct have_one_number (before ++ x ∷ behind) → ((y : Label) → Contains before y → ¬ (y.number ≡ x.number)) × ((y : Label) → Contains behind y → ¬ (y.number ≡ x.number))
+pub differ_round : (before behind : List Label) (x : Label) → IsDistinct have_one_number (before ++ x ∷ behind) → ((y : Label) → Contains before y → ¬ (y.number ≡ x.number)) × ((y : Label) → Contains behind y → ¬ (y.number ≡ x.number))
 unfolding IsDistinct
 differ_round [] behind x differ = (
   (λ y there. absurd (omega (arith, there.1))),

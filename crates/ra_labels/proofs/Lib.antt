@@ -29,5 +29,6 @@ pub mod Having
 pub mod Commuting
 pub mod Overriding
 pub mod Late
+pub mod OneStep
 pub mod Keeping
 pub mod TheLaws

@@ -33,6 +33,8 @@ pub use Rattle.ra_labels.proofs.OfKind.{answers-of_kind as queries_of_another_ki
 pub use Rattle.ra_labels.proofs.OrSets.{pair_below as pairs_by_element_and_then_by_identifier-less, pair_same as pairs_by_element_and_then_by_identifier-equal, pairs-exactly as an_or_set_has_what_was_added_and_stays-pairs, pairs-rise as an_or_set_has_what_was_added_and_stays-rises, added-exactly as an_addition_adds_its_pair, taken_out-exactly as a_removal_takes_out_only_what_it_names, answers-ids as identifiers_are_answered_where_they_are_the_elements, answers-pairs as elements_are_answered_where_they_are_paired}
 -- laws::commuting
 pub use Rattle.ra_labels.proofs.Commuting.{counter-steps as steps_of_a_counter_commute, or_set-steps as steps_of_an_or_set_commute, counter-late as a_late_update_counts_as_the_last-counter, or_set-late as a_late_update_counts_as_the_last-or_set}
+-- laws::one_step
+pub use Rattle.ra_labels.proofs.OneStep.{removal-sees as a_removal_sees_what_it_takes_out, counter-delivered as a_delivery_is_one_step-counter, or_set-delivered as a_delivery_is_one_step-or_set}
 -- laws::overriding
 pub use Rattle.ra_labels.proofs.Overriding.{writes-last as writes_lead_to_the_last-last, writes-late as writes_lead_to_the_last-late, set-has as of_each_element_the_last_update_counts-has, set-same as of_each_element_the_last_update_counts-same, set-late as of_each_element_the_last_update_counts-late}
 -- laws::rga

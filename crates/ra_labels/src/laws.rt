@@ -9,6 +9,7 @@ pub mod insertion;
 pub mod late;
 pub mod linearization;
 pub mod lists;
+pub mod one_step;
 pub mod or_set;
 pub mod overriding;
 pub mod records;

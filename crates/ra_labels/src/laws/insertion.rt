@@ -49,8 +49,8 @@ pub fn a_new_label_alone_decides()
         × IsAnsweredItself kind now (next_label records by op clock) sequence) }
 {}
 
-/// With one more operation its replica had its update too, put in among those that it had before. Where it is no update,
-/// and of other replicas, what they had is as before.
+/// With one more operation its replica had its update too, put in among those that it had before. Where it is no
+/// update, and of other replicas, what they had is as before.
 pub fn an_operation_puts_its_update_in()
     ensures own { (kind : Kind) (records : Records) (by : ℕ) (op : Op) (clock : Option ℕ) (update : Update)
         → Makes op update → let now = Operate by op clock ∷ records in (before behind : List Label)
