@@ -92,7 +92,7 @@ issued-sees records n m (later, before, by, op, clock, is, number, had_it) =
 pub sees-exactly : (records : Records) (n m : ℕ) → Decides (sees records n m) (WasIssuedHaving records n m)
 sees-exactly records n m = (sees-issued records n m, issued-sees records n m)
 
-acts : (act : Act) → Decides (is_some (update_of act)) ((update : Update) × (act ≡ Does update))
+pub acts : (act : Act) → Decides (is_some (update_of act)) ((update : Update) × (act ≡ Does update))
 acts (Does update) = (λ is. (update, refl), λ known. refl)
 acts (Asks query) = (λ is. absurd (false≢true is), λ known. absurd (cc (known.1)))
 

@@ -1,5 +1,5 @@
 -- The order of execution extends visibility.
-use Rattle.std.proofs.Common.{◌≡◌, ℕ, suc, ◌<◌, Bool, true, false, List, [], ◌∷◌, ◌++◌, Option, refl, sym, ap, ◌∙◌, subst, arith, reverse}
+use Rattle.std.proofs.Common.{◌≡◌, ℕ, suc, ◌<◌, Bool, true, false, List, [], ◌∷◌, ◌++◌, refl, ap, ◌∙◌, arith, reverse}
 use mathlib.Core.List.{reverse-cons}
 use Rattle.std.specs.Prelude.{◌==◌, ◌&&◌, ◌||◌, not, nat_lt, All, Contains, flat_map, map, is_some}
 use Rattle.std.specs.List.{list_all}
@@ -19,7 +19,7 @@ use Rattle.ra_labels.specs.Records.{Records, label_count, labels_of, next_label}
 use Rattle.ra_labels.specs.Visibility.{sees}
 use Rattle.ra_labels.specs.Rewriting.{Half, QueryHalf, UpdateHalf, Act, Does, Asks, Part, acts_of, part_of, parts_of, update_of}
 use Rattle.ra_labels.specs.Linearization.{extends, must_precede, are_halves, is_visible_to, is_earlier_there, is_query_half_of, extends_visibility}
-use Rattle.ra_labels.specs.NamedOrder.{lowest_rank, rank_of, named_labels, named_sequence}
+use Rattle.ra_labels.specs.NamedOrder.{lowest_rank, rank_of, named_sequence}
 use Rattle.ra_labels.proofs.Places.{list_all-contains}
 use Rattle.ra_labels.proofs.Seen.{sees_earlier}
 use Rattle.ra_labels.proofs.Standing.{list_all-from_contains, sees_not_itself}
@@ -32,7 +32,7 @@ all-append p (x ∷ xs) ys first then =
     let parts = and_parts (p x) (list_all p xs) first in
     and_from (p x) (list_all p (xs ++ ys)) parts.0 (all-append p xs ys parts.1 then)
 
-extends-append : {A : Type 0} (precedes : A → A → Bool) (xs ys : List A) → extends precedes xs ≡ true → extends precedes ys ≡ true → ((x y : A) → Contains xs x → Contains ys y → precedes y x ≡ false) → extends precedes (xs ++ ys) ≡ true
+pub extends-append : {A : Type 0} (precedes : A → A → Bool) (xs ys : List A) → extends precedes xs ≡ true → extends precedes ys ≡ true → ((x y : A) → Contains xs x → Contains ys y → precedes y x ≡ false) → extends precedes (xs ++ ys) ≡ true
 extends-append precedes [] ys first then apart = then
 extends-append precedes (x ∷ xs) ys first then apart =
     let parts = and_parts (list_all (λ q. not (precedes q x)) xs) (extends precedes xs) first in
@@ -70,7 +70,7 @@ not_own records label does asks =
     (and_right (label.replica == label.replica) (nat_lt label.number label.number) (le-ltb label.number label.number (omega arith))))
     (and_right (label.number == label.number) false refl)
 
-own_parts : (records : Records) (label : Label) (op : Op) → extends (must_precede records) (map (part_of label) (acts_of op) ++ []) ≡ true
+pub own_parts : (records : Records) (label : Label) (op : Op) → extends (must_precede records) (map (part_of label) (acts_of op) ++ []) ≡ true
 own_parts records label (OrRemove x ids) = ap (λ b. (not b && true) && true) (not_own records label (Does (TakeOut x ids)) (Asks (ReadIds x ids)))
 own_parts records label Inc = refl
 own_parts records label Dec = refl

@@ -1,15 +1,18 @@
 -- A key that is inserted at its place in the order.
-use Rattle.std.proofs.Common.{◌≡◌, List, [], ◌∷◌, refl, sym, ap, ◌∙◌, subst, inl, inr, arith, Ordering}
+use Rattle.std.proofs.Common.{◌≡◌, List, [], ◌∷◌, refl, sym, ap, ◌∙◌, inl, inr, arith, Ordering}
 use Rattle.std.specs.Prelude.{◌⊎◌, Contains, All}
-use Rattle.std.specs.List.{AllByRecursion}
 use Rattle.std.specs.List.Sorted.{IsStrictlySortedBy}
 use Rattle.std.specs.Ordering.{match_ordering, ordering_reverse}
 use Rattle.std.specs.declared.cmp.Ordering.TheVariants.{Less, Equal, Greater}
-use Rattle.std.specs.BTreeSet.{insert_key}
+use Rattle.std.specs.List.{list_any}
+use Rattle.std.specs.BTreeMap.{is_at}
+use Rattle.std.specs.BTreeSet.{BTreeSet, insert_key}
 use Rattle.std.specs.Cmp.{IsTotalOrder}
 use Rattle.std.proofs.lemmas.List.Elements.{All-contains, All-contains_itself, All-weaker, All-cons, All-from_recursion, recursion_from_All}
-use Rattle.std.proofs.lemmas.Map.Views.{All-insert_key}
+use Rattle.std.proofs.lemmas.Map.Views.{All-insert_key, btree_set_contains_iff}
+use Rattle.std.proofs.lemmas.Map.Lookups.{CmpEqualImpliesEq, btree_set_from_contains}
 use Rattle.ra_labels.proofs.Places.{Contains-cons_cases, at_head, behind_head}
+use Rattle.ra_labels.proofs.Lists.{bool_same}
 
 module _ {K : Type 0} (cmp : K → K → Ordering) where
   -- what is there after it
@@ -57,3 +60,15 @@ module _ {K : Type 0} (cmp : K → K → Ordering) where
       by Greater is rest =
           let below : cmp x k ≡ Less = total.antisymm x k ∙ ap ordering_reverse is in
           (recursion_from_All (λ y. cmp x y ≡ Less) (insert_key cmp xs k) (All-insert_key cmp k (λ y. cmp x y ≡ Less) xs above below), rest)
+
+  -- sorted lists with the same keys are the same
+  pub sorted_same : IsTotalOrder cmp → CmpEqualImpliesEq cmp → (xs ys : List K) → IsStrictlySortedBy cmp xs → IsStrictlySortedBy cmp ys
+      → ((q : K) → (Contains xs q → Contains ys q) × (Contains ys q → Contains xs q)) → xs ≡ ys
+  sorted_same total exact xs ys sorted also same =
+      let s : BTreeSet K = record { keys = xs } in
+      let t : BTreeSet K = record { keys = ys } in
+      btree_set_from_contains total s t sorted also
+      (λ q. bool_same (list_any (is_at (cmp q)) xs) (list_any (is_at (cmp q)) ys)
+      (λ there. (btree_set_contains_iff total exact t q).1 ((same q).0 ((btree_set_contains_iff total exact s q).0 there)))
+      (λ there. (btree_set_contains_iff total exact s q).1 ((same q).1 ((btree_set_contains_iff total exact t q).0 there))))
+      exact

@@ -23,4 +23,12 @@ pub mod Missing
 pub mod Timestamps
 pub mod Stamps
 pub mod Identifiers
+pub mod Ranking
+pub mod Insertion
+pub mod Having
+pub mod Commuting
+pub mod Overriding
+pub mod Late
+pub mod OneStep
+pub mod Keeping
 pub mod TheLaws

@@ -140,7 +140,7 @@ bool_same true b to from = sym (to refl)
 bool_same false true to from = from refl
 bool_same false false to from = refl
 
-rising_same : (xs ys : List ℕ) → rises xs ≡ true → rises ys ≡ true → have_same xs ys ≡ true → xs ≡ ys
+pub rising_same : (xs ys : List ℕ) → rises xs ≡ true → rises ys ≡ true → have_same xs ys ≡ true → xs ≡ ys
 rising_same xs ys up also same =
     let s : BTreeSet ℕ = record { keys = xs } in
     let t : BTreeSet ℕ = record { keys = ys } in

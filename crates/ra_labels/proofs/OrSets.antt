@@ -1,5 +1,5 @@
 -- What an OR-Set has.
-use Rattle.std.proofs.Common.{◌≡◌, ℕ, ◌<◌, true, false, List, [], ◌∷◌, ◌++◌, filter, Option, Some, None, refl, sym, ap, ◌∙◌, subst, inl, inr, arith, Ordering}
+use Rattle.std.proofs.Common.{◌≡◌, ℕ, ◌<◌, true, List, [], ◌∷◌, filter, Option, Some, None, refl, sym, ap, ◌∙◌, subst, inl, inr, arith}
 use Rattle.std.specs.Prelude.{◌↔◌, ◌⊎◌, ◌==◌, ◌&&◌, not, option_and_then, Contains}
 use Rattle.std.specs.List.{list_all}
 use Rattle.std.specs.List.Sorted.{IsStrictlySortedBy}
@@ -8,8 +8,8 @@ use Rattle.std.specs.declared.cmp.Ordering.TheVariants.{Less, Equal}
 use Rattle.std.specs.BTreeSet.{insert_key}
 use Rattle.std.specs.Cmp.{IsTotalOrder}
 use Rattle.std.proofs.lemmas.Cmp.{ranked, on_total, then_total, nat_cmp_total}
-use Rattle.std.proofs.lemmas.Bool.{false≢true, and_parts, and_from, eqb-true, eq-eqb, not-true, not_from_false, not_from_true, false_from_ne_true}
-use Rattle.std.proofs.lemmas.Option.{none-some, same_Some}
+use Rattle.std.proofs.lemmas.Bool.{false≢true, and_parts, and_from, eqb-true, eq-eqb, not-true, not_from_false, false_from_ne_true}
+use Rattle.std.proofs.lemmas.Option.{none-some}
 use Rattle.std.proofs.lemmas.List.Sums.{fold-append}
 use Rattle.std.proofs.lemmas.List.Kept.{IsStrictlySortedBy-filter}
 use Rattle.ra_labels.specs.declared.kind.Kind.TheVariants.{OrSet}
@@ -19,14 +19,14 @@ use Rattle.ra_labels.specs.declared.operation.Query.TheVariants.{ReadIds, OrRead
 use Rattle.ra_labels.specs.Lists.{is_among, pair_cmp, identifiers_of, elements_of, without_pairs}
 use Rattle.ra_labels.specs.Specification.{State, Number, Written, Members, Pairs, Listed, step_of, answers, state_after}
 use Rattle.ra_labels.specs.Laws.{takes_out, NoneTakesOut, WasAddedAndStays}
-use Rattle.ra_labels.proofs.Places.{Contains-cons_cases, kept-there, there-kept, reached, from_where}
+use Rattle.ra_labels.proofs.Places.{kept-there, there-kept, reached, from_where}
 use Rattle.ra_labels.proofs.Lists.{among-exactly, same-exactly}
 use Rattle.ra_labels.proofs.Order.{ranked_less, ranked_same}
 use Rattle.ra_labels.proofs.Keys.{inserted-exactly, inserted-sorted}
 use Rattle.ra_labels.proofs.Stepping.{state_from, stuck}
 
 -- the order of pairs
-pair_total : IsTotalOrder pair_cmp
+pub pair_total : IsTotalOrder pair_cmp
 pair_total = then_total (on_total (λ (p : ℕ × ℕ). p.0) nat_cmp_total) (on_total (λ (p : ℕ × ℕ). p.1) nat_cmp_total)
 
 pub pair_below : (p q : ℕ × ℕ) → (pair_cmp p q ≡ Less) ↔ ((p.0 < q.0) ⊎ ((p.0 ≡ q.0) × (p.1 < q.1)))
@@ -40,7 +40,7 @@ pair_same p q =
       (λ same. both.1 (ap (λ r. r.0) same, ap (λ r. r.1) same)),
     )
 
-put : (p q : ℕ × ℕ) (pairs : List (ℕ × ℕ)) → Contains (insert_key pair_cmp pairs p) q ↔ ((q ≡ p) ⊎ Contains pairs q)
+pub put : (p q : ℕ × ℕ) (pairs : List (ℕ × ℕ)) → Contains (insert_key pair_cmp pairs p) q ↔ ((q ≡ p) ⊎ Contains pairs q)
 put p q pairs = inserted-exactly pair_cmp (λ x y tie. (pair_same x y).0 tie) p q pairs
 
 -- one addition, and one removal
@@ -141,7 +141,7 @@ sorted_from ps (LwwRemove y ∷ us) qs up is = absurd (none-some (Pairs qs) (sym
 sorted_from ps (After a y ∷ us) qs up is = absurd (none-some (Pairs qs) (sym (stuck us) ∙ is))
 sorted_from ps (RgaRemove y ∷ us) qs up is = absurd (none-some (Pairs qs) (sym (stuck us) ∙ is))
 
-nothing_sorted : IsStrictlySortedBy pair_cmp []
+pub nothing_sorted : IsStrictlySortedBy pair_cmp []
 unfolding IsStrictlySortedBy
 nothing_sorted = tt
 

@@ -1,12 +1,12 @@
 -- The list of an RGA.
-use Rattle.std.proofs.Common.{◌≡◌, ℕ, Bool, true, false, cond, List, [], ◌∷◌, ◌++◌, filter, Option, Some, None, refl, sym, ap, ◌∙◌, subst, inl, inr, arith}
-use Rattle.std.specs.Prelude.{◌↔◌, ◌⊎◌, ◌==◌, ◌&&◌, ◌||◌, not, nat_eq, map, option_and_then, is_some, Contains, if◌then◌else◌}
-use Rattle.std.specs.Cmp.Lexicographic.{pointwise, pointwise_decides}
+use Rattle.std.proofs.Common.{◌≡◌, ℕ, Bool, true, false, cond, List, [], ◌∷◌, ◌++◌, filter, Some, None, refl, sym, ap, ◌∙◌, subst, inl, inr, arith}
+use Rattle.std.specs.Prelude.{◌↔◌, ◌⊎◌, ◌==◌, ◌&&◌, not, map, option_and_then, is_some, Contains, if◌then◌else◌}
+use Rattle.std.specs.Cmp.Lexicographic.{pointwise_decides}
 use Rattle.std.specs.Cmp.{unsigned_Decides}
-use Rattle.std.proofs.lemmas.Bool.{false≢true, cases_Bool, cond-true, cond-false, cond_both, and_parts, and_from, or_cases, or_left, or_right, eqb-true, eq-eqb, not-true, not_from_false, not_from_true, false_from_ne_true}
-use Rattle.std.proofs.lemmas.Option.{none-some, same_Some}
+use Rattle.std.proofs.lemmas.Bool.{false≢true, cases_Bool, cond-true, cond-false, cond_both, and_parts, and_from, or_cases, or_left, or_right, eqb-true, eq-eqb, not-true, not_from_false, false_from_ne_true}
+use Rattle.std.proofs.lemmas.Option.{none-some}
 use Rattle.std.proofs.lemmas.List.{map-append}
-use Rattle.std.proofs.lemmas.List.Elements.{filter-append, Contains-append_left, Contains-append_right, Contains-append_cases}
+use Rattle.std.proofs.lemmas.List.Elements.{filter-append, Contains-append_right}
 use Rattle.std.proofs.lemmas.List.Sums.{fold-append}
 use Rattle.ra_labels.specs.declared.kind.Kind.TheVariants.{Rga}
 use Rattle.ra_labels.specs.declared.operation.Update.{Update}
@@ -16,7 +16,7 @@ use Rattle.ra_labels.specs.Lists.{is_in_list, insert_after, hide, shown}
 use Rattle.ra_labels.specs.Specification.{State, Number, Written, Members, Pairs, Listed, step_of, answers, state_after}
 use Rattle.ra_labels.specs.Laws.{elements_in, RootFirst, IsPutBehind, NoneTwice, WasPutIn, kind_of_state}
 use Rattle.ra_labels.proofs.OfKind.{if_some}
-use Rattle.ra_labels.proofs.Places.{Contains-cons_cases, at_head, behind_head, kept-there, there-kept}
+use Rattle.ra_labels.proofs.Places.{Contains-cons_cases, at_head, behind_head}
 use Rattle.ra_labels.proofs.Stepping.{state_from, stuck}
 
 -- what the list has
@@ -33,7 +33,7 @@ in-exactly x (entry ∷ list) = (
   ]),
 )
 
-not_in : (x : ℕ) (list : List (ℕ × Bool)) → (not (is_in_list x list) ≡ true) ↔ (¬ Contains (elements_in list) x)
+pub not_in : (x : ℕ) (list : List (ℕ × Bool)) → (not (is_in_list x list) ≡ true) ↔ (¬ Contains (elements_in list) x)
 not_in x list = (
   (λ is there. false≢true (sym (not-true (is_in_list x list) is) ∙ (in-exactly x list).1 there)),
   (λ out. not_from_false (is_in_list x list) (false_from_ne_true (is_in_list x list) (λ is. out ((in-exactly x list).0 is)))),
@@ -55,7 +55,7 @@ after-admitted list anchor x =
     )
 
 -- and when one is removed
-not_root : (x : ℕ) → (not (x == 0) ≡ true) ↔ (¬ (x ≡ 0))
+pub not_root : (x : ℕ) → (not (x == 0) ≡ true) ↔ (¬ (x ≡ 0))
 not_root x = (
   (λ is root. false≢true (sym (not-true (x == 0) is) ∙ eq-eqb x 0 root)),
   (λ other. not_from_false (x == 0) (false_from_ne_true (x == 0) (λ is. other (eqb-true x 0 is)))),
@@ -71,14 +71,14 @@ removed-admitted list x =
     )
 
 -- what each step is, where there is one
-after_is : (list next : List (ℕ × Bool)) (anchor x : ℕ) → step_of (Listed list) (After anchor x) ≡ Some (Listed next) → (is_in_list anchor list ≡ true) × (¬ Contains (elements_in list) x) × (insert_after anchor x list ≡ next)
+pub after_is : (list next : List (ℕ × Bool)) (anchor x : ℕ) → step_of (Listed list) (After anchor x) ≡ Some (Listed next) → (is_in_list anchor list ≡ true) × (¬ Contains (elements_in list) x) × (insert_after anchor x list ≡ next)
 after_is list next anchor x is =
     let known = if_some (is_in_list anchor list && not (is_in_list x list)) (Listed (insert_after anchor x list)) (Listed next) is in
     let parts = and_parts (is_in_list anchor list) (not (is_in_list x list)) known.0 in
     let same = known.1 in
     (parts.0, (not_in x list).0 parts.1, cc (same))
 
-removed_is : (list next : List (ℕ × Bool)) (x : ℕ) → step_of (Listed list) (RgaRemove x) ≡ Some (Listed next) → Contains (elements_in list) x × (¬ (x ≡ 0)) × (hide x list ≡ next)
+pub removed_is : (list next : List (ℕ × Bool)) (x : ℕ) → step_of (Listed list) (RgaRemove x) ≡ Some (Listed next) → Contains (elements_in list) x × (¬ (x ≡ 0)) × (hide x list ≡ next)
 removed_is list next x is =
     let known = if_some (is_in_list x list && not (x == 0)) (Listed (hide x list)) (Listed next) is in
     let parts = and_parts (is_in_list x list) (not (x == 0)) known.0 in
@@ -86,10 +86,10 @@ removed_is list next x is =
     ((in-exactly x list).0 parts.0, (not_root x).0 parts.1, cc (same))
 
 -- an insertion stops behind the anchor, or goes on
-insert_here : (anchor x : ℕ) (entry : ℕ × Bool) (list : List (ℕ × Bool)) → (anchor == entry.0) ≡ true → insert_after anchor x (entry ∷ list) ≡ entry ∷ (x, true) ∷ list
+pub insert_here : (anchor x : ℕ) (entry : ℕ × Bool) (list : List (ℕ × Bool)) → (anchor == entry.0) ≡ true → insert_after anchor x (entry ∷ list) ≡ entry ∷ (x, true) ∷ list
 insert_here anchor x entry list here = cond-true (anchor == entry.0) (entry ∷ (x, true) ∷ list) (entry ∷ insert_after anchor x list) here
 
-insert_on : (anchor x : ℕ) (entry : ℕ × Bool) (list : List (ℕ × Bool)) → (anchor == entry.0) ≡ false → insert_after anchor x (entry ∷ list) ≡ entry ∷ insert_after anchor x list
+pub insert_on : (anchor x : ℕ) (entry : ℕ × Bool) (list : List (ℕ × Bool)) → (anchor == entry.0) ≡ false → insert_after anchor x (entry ∷ list) ≡ entry ∷ insert_after anchor x list
 insert_on anchor x entry list other = cond-false (anchor == entry.0) (entry ∷ (x, true) ∷ list) (entry ∷ insert_after anchor x list) other
 
 pub put_behind : (anchor x : ℕ) (list : List (ℕ × Bool)) → is_in_list anchor list ≡ true → IsPutBehind anchor x list (insert_after anchor x list)
@@ -112,7 +112,7 @@ after-puts list next anchor x is =
     subst (IsPutBehind anchor x list) known.2 (put_behind anchor x list known.0)
 
 -- a removal leaves each element its place
-hide-places : (x : ℕ) (list : List (ℕ × Bool)) → elements_in (hide x list) ≡ elements_in list
+pub hide-places : (x : ℕ) (list : List (ℕ × Bool)) → elements_in (hide x list) ≡ elements_in list
 hide-places x [] = refl
 hide-places x (entry ∷ list) = ap (λ xs. entry.0 ∷ xs) (hide-places x list)
 
@@ -143,7 +143,7 @@ pub answers-shown : (list : List (ℕ × Bool)) (asked : List ℕ) → (answers 
 answers-shown list asked = pointwise_decides unsigned_Decides asked (shown list)
 
 -- what an insertion leaves
-insert-only : (anchor x y : ℕ) (list : List (ℕ × Bool)) → Contains (elements_in (insert_after anchor x list)) y → (x ≡ y) ⊎ Contains (elements_in list) y
+pub insert-only : (anchor x y : ℕ) (list : List (ℕ × Bool)) → Contains (elements_in (insert_after anchor x list)) y → (x ≡ y) ⊎ Contains (elements_in list) y
 insert-only anchor x y [] there = inr there
 insert-only anchor x y (entry ∷ list) there = elim (cases_Bool (anchor == entry.0)) [
   | inl here ↦ elim (Contains-cons_cases entry.0 (x ∷ elements_in list) y (subst (λ es. Contains (elements_in es) y) (insert_here anchor x entry list here) there)) [
@@ -162,7 +162,7 @@ insert-only anchor x y (entry ∷ list) there = elim (cases_Bool (anchor == entr
   ]
 ]
 
-insert-keeps : (anchor x y : ℕ) (list : List (ℕ × Bool)) → Contains (elements_in list) y → Contains (elements_in (insert_after anchor x list)) y
+pub insert-keeps : (anchor x y : ℕ) (list : List (ℕ × Bool)) → Contains (elements_in list) y → Contains (elements_in (insert_after anchor x list)) y
 insert-keeps anchor x y [] there = there
 insert-keeps anchor x y (entry ∷ list) there = elim (cases_Bool (anchor == entry.0)) [
   | inl here ↦ subst (λ es. Contains (elements_in es) y) (sym (insert_here anchor x entry list here)) (elim (Contains-cons_cases entry.0 (elements_in list) y there) [
@@ -248,7 +248,7 @@ first_step ls (OrAdd x id) us qs is = absurd (none-some (Listed qs) (sym (stuck 
 first_step ls (TakeOut x ids) us qs is = absurd (none-some (Listed qs) (sym (stuck us) ∙ is))
 
 -- what each step keeps is kept
-kept : (P : List (ℕ × Bool) → Type 0) → ((ls next : List (ℕ × Bool)) (update : Update) → Steps ls update next → P ls → P next)
+pub kept : (P : List (ℕ × Bool) → Type 0) → ((ls next : List (ℕ × Bool)) (update : Update) → Steps ls update next → P ls → P next)
     → (ls : List (ℕ × Bool)) (us : List Update) (qs : List (ℕ × Bool)) → state_from (Some (Listed ls)) us ≡ Some (Listed qs) → P ls → P qs
 kept P keeps ls [] qs is before = let same : ls ≡ qs = cc (is) in subst P same before
 kept P keeps ls (update ∷ us) qs is before =
@@ -277,7 +277,7 @@ pub there-step : (y : ℕ) (ls next : List (ℕ × Bool)) (update : Update) → 
 there-step y ls next update (inl (anchor, x, which, there, out, same)) found = subst (λ es. Contains (elements_in es) y) same (insert-keeps anchor x y ls found)
 there-step y ls next update (inr (x, which, there, same)) found = subst (λ es. Contains (elements_in es) y) same (subst (λ els. Contains els y) (sym (hide-places x ls)) found)
 
-is_listed : (state : State) → kind_of_state state ≡ Rga → (list : List (ℕ × Bool)) × (state ≡ Listed list)
+pub is_listed : (state : State) → kind_of_state state ≡ Rga → (list : List (ℕ × Bool)) × (state ≡ Listed list)
 is_listed (Number n) is = absurd (cc (is))
 is_listed (Written last) is = absurd (cc (is))
 is_listed (Members xs) is = absurd (cc (is))

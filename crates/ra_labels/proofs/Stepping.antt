@@ -13,7 +13,6 @@ use Rattle.ra_labels.specs.declared.kind.Kind.{Kind}
 use Rattle.ra_labels.specs.declared.kind.Kind.TheVariants.{Register, LwwSet, Rga}
 use Rattle.ra_labels.specs.declared.operation.Update.{Update}
 use Rattle.ra_labels.specs.declared.operation.Update.TheVariants.{Inc, Dec, Write, LwwAdd, LwwRemove, OrAdd, TakeOut, After, RgaRemove}
-use Rattle.ra_labels.specs.declared.operation.Query.{Query}
 use Rattle.ra_labels.specs.declared.operation.Query.TheVariants.{Last, LwwRead}
 use Rattle.ra_labels.specs.Lists.{is_among, rises}
 use Rattle.ra_labels.specs.Specification.{State, Number, Written, Members, Pairs, Listed, start_of, step_of, answers, state_after, is_admitted}
@@ -106,7 +105,7 @@ answers-last last value = option_same value last
 pub answers-elements : (xs list : List ℕ) → (answers (Members xs) (LwwRead list) ≡ true) ↔ ((x : ℕ) → Contains list x ↔ Contains xs x)
 answers-elements xs list = same-exactly list xs
 
-other_way : (x y : ℕ) → (x == y) ≡ false → (y == x) ≡ false
+pub other_way : (x y : ℕ) → (x == y) ≡ false → (y == x) ≡ false
 other_way x y other = false_from_ne_true (y == x) (λ is. false≢true (sym other ∙ eq-eqb x y (sym (eqb-true y x is))))
 
 -- updates that do not act on an element leave it where it is

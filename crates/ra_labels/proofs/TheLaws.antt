@@ -31,9 +31,18 @@ pub use Rattle.ra_labels.proofs.Stepping.{state-of_kind as states_are_of_their_k
 pub use Rattle.ra_labels.proofs.OfKind.{answers-of_kind as queries_of_another_kind_are_answered_no, acts-of_kind as parts_are_of_their_kind}
 -- laws::or_set
 pub use Rattle.ra_labels.proofs.OrSets.{pair_below as pairs_by_element_and_then_by_identifier-less, pair_same as pairs_by_element_and_then_by_identifier-equal, pairs-exactly as an_or_set_has_what_was_added_and_stays-pairs, pairs-rise as an_or_set_has_what_was_added_and_stays-rises, added-exactly as an_addition_adds_its_pair, taken_out-exactly as a_removal_takes_out_only_what_it_names, answers-ids as identifiers_are_answered_where_they_are_the_elements, answers-pairs as elements_are_answered_where_they_are_paired}
+-- laws::commuting
+pub use Rattle.ra_labels.proofs.Commuting.{counter-steps as steps_of_a_counter_commute, or_set-steps as steps_of_an_or_set_commute, counter-late as a_late_update_counts_as_the_last-counter, or_set-late as a_late_update_counts_as_the_last-or_set}
+-- laws::one_step
+pub use Rattle.ra_labels.proofs.OneStep.{removal-sees as a_removal_sees_what_it_takes_out, counter-delivered as a_delivery_is_one_step-counter, or_set-delivered as a_delivery_is_one_step-or_set}
+-- laws::overriding
+pub use Rattle.ra_labels.proofs.Overriding.{writes-last as writes_lead_to_the_last-last, writes-late as writes_lead_to_the_last-late, set-has as of_each_element_the_last_update_counts-has, set-same as of_each_element_the_last_update_counts-same, set-late as of_each_element_the_last_update_counts-late}
 -- laws::rga
 pub use Rattle.ra_labels.proofs.Rgas.{after-admitted as an_element_is_put_behind_one_that_is_there-admitted, after-puts as an_element_is_put_behind_one_that_is_there-behind, removed-admitted as an_element_is_removed_that_is_there-admitted, removed-places as an_element_is_removed_that_is_there-places, removed-shown as an_element_is_removed_that_is_there-shown, removed-anchor as a_removed_element_stays-anchor, removed-again as a_removed_element_stays-again, removed-twice as a_removed_element_stays-twice, list-exactly as a_list_has_what_was_put_in-elements, list-root as a_list_has_what_was_put_in-root, list-once as a_list_has_what_was_put_in-once, list-stays as a_list_has_what_was_put_in-stays, shown-append as elements_are_shown_in_their_order-all, answers-shown as a_list_is_answered_where_it_is_shown}
 pub use Rattle.ra_labels.proofs.Showing.{list-shown as a_list_has_what_was_put_in-shown}
+-- laws::late
+pub use Rattle.ra_labels.proofs.Late.{newest-behind as a_new_element_stands_behind_its_anchor, late-later as a_late_and_a_later_update_commute-insertions, late-hidden as a_late_and_a_later_update_commute-late_removed, inserted-hidden as a_late_and_a_later_update_commute-removed, hidden-hidden as a_late_and_a_later_update_commute-removals, late-insertion as a_late_insertion_goes_past_the_greater, late-one as a_late_insertion_is_one_step, late-removal as a_late_removal_counts_as_the_last}
+pub use Rattle.ra_labels.proofs.Keeping.{kept-inserted as what_is_kept_keeps_its_order-kept, kept-dropped as what_is_kept_keeps_its_order-dropped, kept-hidden as what_is_kept_keeps_its_order-removed, kept-nearest as an_element_comes_in_behind_the_nearest_before_it}
 -- laws::lists
 pub use Rattle.ra_labels.proofs.Lists.{rises-exactly as a_list_rises_where_each_is_below_the_later-places, rises-sorted as a_list_rises_where_each_is_below_the_later-sorted, same-exactly as lists_have_the_same_elements-elements, rising-same as lists_have_the_same_elements-rising}
 -- laws::records
@@ -51,11 +60,15 @@ pub use Rattle.ra_labels.proofs.Unique.{label_found as each_number_has_its_label
 pub use Rattle.ra_labels.proofs.Holding.{IsPermutation-named_sequence as each_part_once}
 pub use Rattle.ra_labels.proofs.Order.{stamp_below as stamps_by_clock_and_then_by_replica-less, stamp_same as stamps_by_clock_and_then_by_replica-equal, lowest_below as the_lowest_rank_is_below_each_stamp, label_below as labels_by_rank_and_then_by_number, IsPermutation-named_labels as named_labels_are_sorted-same, IsSorted-named_labels as named_labels_are_sorted-sorted, named_labels-by_number as named_in_order_of_execution-labels}
 pub use Rattle.ra_labels.proofs.Extending.{execution-extends as the_order_of_execution_extends_visibility-labels, counter-extends as the_order_of_execution_extends_visibility-counter, or_set-extends as the_order_of_execution_extends_visibility-or_set}
+pub use Rattle.ra_labels.proofs.Ranking.{ranks-extend as visibility_is_extended_where_ranks_say_so}
 -- laws::timestamps
 pub use Rattle.ra_labels.proofs.Timestamps.{timestamp-own as a_timestamp_is_the_greatest_seen-own, timestamp-reached as a_timestamp_is_the_greatest_seen-seen, timestamp-bounds as a_timestamp_is_the_greatest_seen-greatest, timestamp-append as a_timestamp_is_kept}
 pub use Rattle.ra_labels.proofs.Stamps.{taken-exactly as a_stamp_is_taken_where_a_label_has_it, stamps-once as stamps_are_given_once-one, stamps-once_all as stamps_are_given_once-all, fits-exactly as forms_that_deserve_no_refusal, stamp_taken-exactly as operations_with_a_taken_stamp_are_refused, id_taken-exactly as operations_with_a_taken_identifier_are_refused, operated-exactly as operations_are_accepted_where_nothing_is_taken, labels-fit as accepted_labels_fit-one, labels-fit_all as accepted_labels_fit-all}
 -- laws::identifiers
 pub use Rattle.ra_labels.proofs.Identifiers.{identifier-exactly as an_identifier_is_taken_where_an_addition_has_it-taken, gives-exactly as an_identifier_is_taken_where_an_addition_has_it-gives, identifiers-once as identifiers_are_given_once-one, identifiers-once_all as identifiers_are_given_once-all}
+-- laws::insertion
+pub use Rattle.ra_labels.proofs.Insertion.{order-inserted as a_new_label_leaves_the_order_of_the_others, others-see as a_new_label_leaves_what_the_others_see-others, own-sees as a_new_label_leaves_what_the_others_see-own, decides-order as a_new_label_alone_decides-order, decides-query as a_new_label_alone_decides-query, decides-all as a_new_label_alone_decides-all}
+pub use Rattle.ra_labels.proofs.Having.{operation-own as an_operation_puts_its_update_in-own, operation-query as an_operation_puts_its_update_in-query, operation-others as an_operation_puts_its_update_in-others, delivery-own as a_delivery_puts_its_update_in-own, delivery-order as a_delivery_puts_its_update_in-order, delivery-others as a_delivery_puts_its_update_in-others}
 -- laws::linearization
 pub use Rattle.ra_labels.proofs.Exactly.{visible-exactly as must_precede_in_three_cases-visible, earlier-exactly as must_precede_in_three_cases-earlier, halves-exactly as must_precede_in_three_cases-halves, must_precede-exactly as must_precede_in_three_cases-cases, updates_of-append as updates_stand_in_order-all, visible_updates-append as updates_stand_in_order-visible, updates-exactly as updates_admitted_where_they_lead_to_a_state, queries-exactly as queries_admitted_where_each_is_answered}
 pub use Rattle.ra_labels.proofs.Standing.{must_precede-irreflexive as no_part_precedes_itself, extends-stands as extending_puts_before-stands, stands-extends as extending_puts_before-extends, linearization_by-stands as linearization_by_an_order_puts_before, linearization_by-weaker as linearization_by_a_weaker_order, linearization-stands as linearization_puts_before, is_update-acts as update_where_a_part_is_one}

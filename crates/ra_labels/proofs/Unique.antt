@@ -48,11 +48,11 @@ module _ {A : Type 0} (cmp : A → A → Ordering) (total : IsTotalOrder cmp) wh
   ]
 
   -- in a list in order nothing is below the head
-  head_least : (x : A) (xs : List A) → IsSorted cmp (x ∷ xs) → (w : A) → Contains (x ∷ xs) w → is_lt (cmp w x) ≡ false
+  pub head_least : (x : A) (xs : List A) → IsSorted cmp (x ∷ xs) → (w : A) → Contains (x ∷ xs) w → is_lt (cmp w x) ≡ false
   head_least x xs sorted w (k, within, is) =
       subst (λ v. is_lt (cmp v x) ≡ false) is (sorted_far (λ v u. is_lt (cmp v u)) (ranks_by total (λ v. v)) (x ∷ xs) sorted 0 k w (omega arith) within)
 
-  sorted_behind : (x : A) (xs : List A) → IsSorted cmp (x ∷ xs) → IsSorted cmp xs
+  pub sorted_behind : (x : A) (xs : List A) → IsSorted cmp (x ∷ xs) → IsSorted cmp xs
   sorted_behind x xs sorted k d low high =
       let further : suc k + 1 ≡ suc (k + 1) = omega arith in
       let next = sorted (suc k) d (omega arith) (omega arith) in

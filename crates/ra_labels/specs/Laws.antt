@@ -158,6 +158,11 @@ abbrev pub AreHalvesOfOneLabel : Part → Part → Type 0
 AreHalvesOfOneLabel p q =
     (p.label.number ≡ q.label.number) × (p.half ≡ QueryHalf) × (q.half ≡ UpdateHalf)
 
+-- label m must stand before label n: n sees it, or it is an earlier one of n's replica
+abbrev pub MustStandBefore : Records → Label → Label → Type 0
+MustStandBefore records m n =
+    (sees records n.number m.number ≡ true) ⊎ ((m.replica ≡ n.replica) × (m.number < n.number))
+
 -- each query of the sequence is answered yes after the updates that its label sees, in the sequence's order
 abbrev pub EachQueryIsAnswered : Kind → Records → List Part → Type 0
 EachQueryIsAnswered kind records sequence =

@@ -13,3 +13,6 @@ pub mod WorkedTimestamps
 pub mod WorkedOrSets
 pub mod WorkedRgas
 pub mod Laws
+pub mod Insertion
+pub mod Commuting
+pub mod Late

@@ -1,12 +1,17 @@
 //! Laws above the definitions, each the clause of a function that does nothing. Proofs of the crates above cite them,
 //! under these names, from `proofs/TheLaws`.
 pub mod answer;
+pub mod commuting;
 pub mod counts;
 pub mod fault;
 pub mod identifiers;
+pub mod insertion;
+pub mod late;
 pub mod linearization;
 pub mod lists;
+pub mod one_step;
 pub mod or_set;
+pub mod overriding;
 pub mod records;
 pub mod rga;
 pub mod sequence;

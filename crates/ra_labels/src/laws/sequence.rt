@@ -10,7 +10,7 @@ ghost use Rattle.ra_labels.specs.Records.{Records, label_count, label_at, labels
 ghost use Rattle.ra_labels.specs.Rewriting.{parts_of};
 ghost use Rattle.ra_labels.specs.Linearization.{parts_in, extends_visibility};
 ghost use Rattle.ra_labels.specs.NamedOrder.{stamp_cmp, label_cmp, named_labels, named_sequence, rank_of, lowest_rank};
-ghost use Rattle.ra_labels.specs.Laws.{numbers_below, IsStampBelow};
+ghost use Rattle.ra_labels.specs.Laws.{numbers_below, IsStampBelow, MustStandBefore};
 
 /// Labels are numbered in turn: the newest by their number less one, the oldest by 0.
 pub fn labels_are_numbered_in_turn()
@@ -79,4 +79,11 @@ pub fn the_order_of_execution_extends_visibility()
         → extends_visibility records (named_sequence kind records) ≡ true }
     ensures counter { (records : Records) → extends_visibility records (named_sequence kind.Counter records) ≡ true }
     ensures or_set { (records : Records) → extends_visibility records (named_sequence kind.OrSet records) ≡ true }
+{}
+
+/// The named sequence extends visibility exactly where no label that must stand before another one has a greater rank.
+pub fn visibility_is_extended_where_ranks_say_so()
+    ensures { (kind : Kind) (records : Records) → (extends_visibility records (named_sequence kind records) ≡ true)
+        ↔ ((m n : Label) → Contains (labels_of records) m → Contains (labels_of records) n
+        → MustStandBefore records m n → ¬ IsStampBelow (rank_of kind records n) (rank_of kind records m)) }
 {}

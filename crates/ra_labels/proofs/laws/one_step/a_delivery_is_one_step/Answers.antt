@@ -1,0 +1,8 @@
+use Rattle.ra_labels.proofs.TheLaws.{a_delivery_is_one_step-counter, a_delivery_is_one_step-or_set}
+use Rattle.ra_labels.proofs.laws.one_step.a_delivery_is_one_step.Goals as goal
+
+pub returns-clause-counter : goal.returns-clause-counter
+returns-clause-counter c = a_delivery_is_one_step-counter
+
+pub returns-clause-or_set : goal.returns-clause-or_set
+returns-clause-or_set c = a_delivery_is_one_step-or_set

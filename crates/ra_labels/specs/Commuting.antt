@@ -1,0 +1,38 @@
+-- Words of the laws of updates that come late.
+use Rattle.std.specs.Prelude.{◌≡◌, ℕ, Bool, true, false, not, List, [], ◌∷◌, filter, filter_map, Option, Some, None, option_and_then}
+use Rattle.std.specs.List.{list_all}
+use Rattle.std.specs.Option.{option_or}
+use Rattle.ra_labels.specs.declared.operation.Update.{Update}
+use Rattle.ra_labels.specs.declared.operation.Update.TheVariants.{Write, OrAdd}
+use Rattle.ra_labels.specs.Specification.{State, step_of}
+use Rattle.ra_labels.specs.Laws.{acts_on, takes_out}
+
+-- the state after one more update; none where there was none, or where it does not admit it
+abbrev pub then_step : Option State → Update → Option State
+then_step state update = option_and_then (λ s. step_of s update) state
+
+-- does one of the two add a pair that the other takes out?
+abbrev pub clash : Update → Update → Bool
+clash (OrAdd x id) other = takes_out x id other
+clash update (OrAdd x id) = takes_out x id update
+clash _ _ = false
+
+abbrev pub NoneClashes : Update → List Update → Type 0
+NoneClashes update updates = list_all (λ other. not (clash update other)) updates ≡ true
+
+abbrev pub last_of : {A : Type 0} → List A → Option A
+last_of [] = None
+last_of (x ∷ xs) = option_or (last_of xs) (Some x)
+
+-- the value that the update writes
+abbrev pub written_by : Update → Option ℕ
+written_by (Write value) = Some value
+written_by _ = None
+
+-- the value that the updates wrote last
+abbrev pub last_written : List Update → Option ℕ
+last_written updates = last_of (filter_map written_by updates)
+
+-- the last of the updates that puts the element in or takes it out
+abbrev pub last_on : ℕ → List Update → Option Update
+last_on x updates = last_of (filter (acts_on x) updates)

@@ -1,0 +1,81 @@
+//! What one more label or delivery changes, and what it leaves as it was.
+ghost use Rattle.std.specs.Prelude.{◌≡◌, ◌↔◌, true, false, ℕ, ◌<◌, List, ◌∷◌, ◌++◌, Contains, Option};
+ghost use Rattle.ra_labels.specs.declared.kind.Kind.{Kind};
+ghost use Rattle.ra_labels.specs.declared.operation.Op.{Op};
+ghost use Rattle.ra_labels.specs.declared.operation.Update.{Update};
+ghost use Rattle.ra_labels.specs.declared.label.Label.{Label};
+ghost use Rattle.ra_labels.specs.declared.command.Command.TheVariants.{Operate, Deliver};
+ghost use Rattle.ra_labels.specs.Records.{Records, label_count, labels_of, next_label};
+ghost use Rattle.ra_labels.specs.Visibility.{is_update, had};
+ghost use Rattle.ra_labels.specs.Linearization.{extends_visibility, visible_updates, updates_admitted, queries_admitted};
+ghost use Rattle.ra_labels.specs.NamedOrder.{named_labels, named_sequence};
+ghost use Rattle.ra_labels.specs.Fault.{Holds};
+ghost use Rattle.ra_labels.specs.Insertion.{updates_had_of, updates_had, Makes, StandsWhereItMust, IsAnsweredItself};
+
+/// With one more label the named order is the one before, with the label put in somewhere.
+pub fn a_new_label_leaves_the_order_of_the_others()
+    ensures { (kind : Kind) (records : Records) (by : ℕ) (op : Op) (clock : Option ℕ) → (before behind : List Label)
+        × (named_labels kind records ≡ before ++ behind) × (named_labels kind (Operate by op clock ∷ records)
+        ≡ before ++ next_label records by op clock ∷ behind) }
+{}
+
+/// With one more label the others see the same updates, in the same order, and it sees those that its replica had.
+pub fn a_new_label_leaves_what_the_others_see()
+    ensures others { (kind : Kind) (records : Records) (by : ℕ) (op : Op) (clock : Option ℕ) (n : ℕ)
+        → n < label_count records → let now = Operate by op clock ∷ records in
+        visible_updates now (named_sequence kind now) n ≡ visible_updates records (named_sequence kind records) n }
+    ensures own { (kind : Kind) (records : Records) (by : ℕ) (op : Op) (clock : Option ℕ)
+        → let now = Operate by op clock ∷ records in
+        visible_updates now (named_sequence kind now) (label_count records) ≡ updates_had kind records by }
+{}
+
+/// Where records hold, a new label alone decides whether they hold with it: they do exactly where its parts stand
+/// behind all that must stand before them, the updates of all labels are admitted in the named order, and its queries
+/// are answered yes after the updates that it sees. Labels before it need not be tested again.
+pub fn a_new_label_alone_decides()
+    ensures order { (kind : Kind) (records : Records) (by : ℕ) (op : Op) (clock : Option ℕ)
+        → extends_visibility records (named_sequence kind records) ≡ true
+        → let now = Operate by op clock ∷ records in let sequence = named_sequence kind now in
+        (extends_visibility now sequence ≡ true) ↔ StandsWhereItMust now (next_label records by op clock) sequence }
+    ensures query { (kind : Kind) (records : Records) (by : ℕ) (op : Op) (clock : Option ℕ)
+        → queries_admitted kind records (named_sequence kind records) ≡ true
+        → let now = Operate by op clock ∷ records in let sequence = named_sequence kind now in
+        (queries_admitted kind now sequence ≡ true)
+        ↔ IsAnsweredItself kind now (next_label records by op clock) sequence }
+    ensures all { (kind : Kind) (records : Records) (by : ℕ) (op : Op) (clock : Option ℕ) → Holds kind records
+        → let now = Operate by op clock ∷ records in let sequence = named_sequence kind now in
+        Holds kind now ↔ (StandsWhereItMust now (next_label records by op clock) sequence
+        × (updates_admitted kind sequence ≡ true)
+        × IsAnsweredItself kind now (next_label records by op clock) sequence) }
+{}
+
+/// With one more operation its replica had its update too, put in among those that it had before. Where it is no
+/// update, and of other replicas, what they had is as before.
+pub fn an_operation_puts_its_update_in()
+    ensures own { (kind : Kind) (records : Records) (by : ℕ) (op : Op) (clock : Option ℕ) (update : Update)
+        → Makes op update → let now = Operate by op clock ∷ records in (before behind : List Label)
+        × (named_labels kind records ≡ before ++ behind)
+        × (named_labels kind now ≡ before ++ next_label records by op clock ∷ behind)
+        × (updates_had kind records by ≡ updates_had_of records by before ++ updates_had_of records by behind)
+        × (updates_had kind now by ≡ updates_had_of records by before ++ update ∷ updates_had_of records by behind) }
+    ensures query { (kind : Kind) (records : Records) (by : ℕ) (op : Op) (clock : Option ℕ) → is_update op ≡ false
+        → updates_had kind (Operate by op clock ∷ records) by ≡ updates_had kind records by }
+    ensures others { (kind : Kind) (records : Records) (by : ℕ) (op : Op) (clock : Option ℕ) (replica : ℕ)
+        → ¬ (by ≡ replica)
+        → updates_had kind (Operate by op clock ∷ records) replica ≡ updates_had kind records replica }
+{}
+
+/// With one more delivery, of an update that is new to it, the replica had that too, put in among those that it had
+/// before. The named order and what other replicas had are as before.
+pub fn a_delivery_puts_its_update_in()
+    ensures own { (kind : Kind) (records : Records) (to : ℕ) (label : Label) (update : Update)
+        → Contains (labels_of records) label → Makes label.op update → had records to label.number ≡ false
+        → let now = Deliver to label.number ∷ records in (before behind : List Label)
+        × (named_labels kind records ≡ before ++ label ∷ behind)
+        × (updates_had kind records to ≡ updates_had_of records to before ++ updates_had_of records to behind)
+        × (updates_had kind now to ≡ updates_had_of records to before ++ update ∷ updates_had_of records to behind) }
+    ensures order { (kind : Kind) (records : Records) (to n : ℕ)
+        → named_labels kind (Deliver to n ∷ records) ≡ named_labels kind records }
+    ensures others { (kind : Kind) (records : Records) (to n replica : ℕ) → ¬ (to ≡ replica)
+        → updates_had kind (Deliver to n ∷ records) replica ≡ updates_had kind records replica }
+{}
