@@ -85,13 +85,25 @@ fn a_desk_is_worn_after_the_greatest_ticket(rt: HostRuntime) -> Result<(), Fail>
     assert_eq!(rt; desk.submit(&rt, &mut pass, verdict), Ok(Reply::Yes(0)));
     let worn = Err(CallFault::Worn(command_of(Say::Verdict)));
     assert_eq!(rt; desk.submit(&rt, &mut pass, command_of(Say::Verdict)), worn);
-    let worn = Err(CallFault::Worn(command_of(Say::Verdict)));
-    assert_eq!(rt; desk.try_submit(&mut pass, command_of(Say::Verdict)), worn);
     let one = Glance {
         calls: 1,
         fault: None,
     };
     assert_eq!(rt; desk.glance(&mut pass), one);
+    Ok(())
+}
+
+#[test]
+fn a_worn_desk_is_worn_for_an_attempt_too(rt: HostRuntime) -> Result<(), Fail> {
+    let monitor = counter_of(&rt, rt.alloc(), 3, 100);
+    let Ok((desk, mut passes)) = TicketLock::open(rt.alloc(), monitor, 3, GREATEST_TICKET) else {
+        panic!(rt; "no desk");
+    };
+    let mut pass = passes.pop().ok_or("a pass")?;
+    let verdict = command_of(Say::Verdict);
+    assert_eq!(rt; desk.submit(&rt, &mut pass, verdict), Ok(Reply::Yes(0)));
+    let worn = Err(CallFault::Worn(command_of(Say::Verdict)));
+    assert_eq!(rt; desk.try_submit(&mut pass, command_of(Say::Verdict)), worn);
     Ok(())
 }
 
