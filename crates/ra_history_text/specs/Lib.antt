@@ -1,0 +1,3 @@
+pub mod Grammar
+pub mod Fields
+pub mod Reading

@@ -1,0 +1,176 @@
+-- How the line of a command is read, field by field. What is read so is just what is spelled: that is the
+-- contract of `command`, in the words of Grammar alone.
+use Rattle.std.specs.Prelude.{◌≡◌, ℕ, ◌+◌, ◌-◌, ◌*◌, ◌^◌, ◌==◌, nat_lt, Bool, true, false, not, ◌&&◌, List, [], ◌∷◌, length, Option, Some, None, option_map, option_and_then, codes, decimal, bytes_eq, ℤ, if◌then◌else◌}
+use Rattle.std.specs.Char.{is_ascii_digit}
+use Rattle.std.specs.Fmt.{signed_decimal}
+use Rattle.std.specs.Str.Parse.{digits_value, signed_digits_value}
+use Rattle.ra_labels.specs.declared.kind.Kind.{Kind}
+use Rattle.ra_labels.specs.declared.kind.Kind.TheVariants.{Counter, Register, LwwSet, OrSet, Rga}
+use Rattle.ra_labels.specs.declared.operation.Op.{Op}
+use Rattle.ra_labels.specs.declared.operation.Op.TheVariants.{Inc, Dec, Count, Write, Last, LwwAdd, LwwRemove, LwwRead, OrAdd, OrRemove, OrRead, After, RgaRemove, RgaRead}
+use Rattle.ra_labels.specs.declared.command.Command.{Command}
+use Rattle.ra_labels.specs.declared.command.Command.TheVariants.{Operate, Deliver, Verdict}
+use Rattle.ra_history_text.specs.Grammar.{is_name, place_of}
+use Rattle.ra_history_text.specs.Fields.{pieces_at}
+use lib.Signed.{mag}
+
+-- ---- numbers and lists
+
+-- the number that a digit spells behind those that spelled n, where it is of 32 bits
+abbrev pub digit_read : ℕ → ℕ → Option ℕ
+digit_read n byte =
+    if is_ascii_digit byte && nat_lt (n * 10 + (byte - 48)) (2 ^ 32) then Some (n * 10 + (byte - 48)) else None
+
+-- and the number that all of these digits spell behind them
+abbrev pub digits_read : ℕ → List ℕ → Option ℕ
+digits_read n [] = Some n
+digits_read n (byte ∷ bytes) = option_and_then (λ m. digits_read m bytes) (digit_read n byte)
+
+-- does it begin with a zero that does not stand alone?
+abbrev pub has_leading_zero : List ℕ → Bool
+has_leading_zero [] = false
+has_leading_zero (first ∷ more) = first == 48 && not (length more == 0)
+
+-- the number that a field spells
+unfoldable pub number_read : List ℕ → Option ℕ
+number_read field =
+    let n = digits_value 10 field in
+    if bytes_eq field (decimal n) && nat_lt n (2 ^ 32) then Some n else None
+
+-- the number that a field spells, with its sign
+unfoldable pub signed_read : List ℕ → Option ℤ
+signed_read field =
+    let z = signed_digits_value 10 field in
+    if bytes_eq field (signed_decimal z) && nat_lt (mag z) (2 ^ 31) then Some z else None
+
+-- the numbers that the pieces of a list spell
+abbrev pub numbers_read : List (List ℕ) → Option (List ℕ)
+numbers_read [] = Some []
+numbers_read (piece ∷ pieces) =
+    option_and_then (λ n. option_map (λ ns. n ∷ ns) (numbers_read pieces)) (number_read piece)
+
+-- the list that a field spells
+abbrev pub list_read : List ℕ → Option (List ℕ)
+list_read field = if bytes_eq field (codes "-") then Some [] else numbers_read (pieces_at 44 field)
+
+-- the value of a register that a field spells
+abbrev pub value_read : List ℕ → Option (Option ℕ)
+value_read field = if bytes_eq field (codes "none") then Some None else option_map (λ n. Some n) (number_read field)
+
+-- ---- operations, each with the fields behind it
+
+abbrev pub Rest : Type 0 → Type 0
+Rest V = V × List (List ℕ)
+
+-- what was read of fields, with the fields behind it
+abbrev pub Reads : {V : Type 0} → Option (Rest V) → Option V → List (List ℕ) → Type 0
+Reads read None rest = read ≡ None
+Reads read (Some value) rest = read ≡ Some (value, rest)
+
+-- a number
+abbrev pub number_first : List (List ℕ) → Option (Rest ℕ)
+number_first [] = None
+number_first (field ∷ fields) = option_map (λ n. (n, fields)) (number_read field)
+
+-- a field behind a number sign, if one comes
+abbrev pub mark_of : List ℕ → Option (List ℕ)
+mark_of [] = None
+mark_of (mark ∷ word) = if mark == 35 then Some word else None
+
+abbrev pub mark_first : List (List ℕ) → Option (List ℕ)
+mark_first [] = None
+mark_first (field ∷ fields) = mark_of field
+
+abbrev pub behind_first : List (List ℕ) → List (List ℕ)
+behind_first [] = []
+behind_first (field ∷ fields) = fields
+
+-- a kind's own read, by its return value
+abbrev pub query_read : Kind → List ℕ → Option Op
+query_read Counter field = option_map (λ value. Count value) (signed_read field)
+query_read Register field = option_map (λ value. Last value) (value_read field)
+query_read LwwSet field = option_map (λ list. LwwRead list) (list_read field)
+query_read OrSet field = option_map (λ list. OrRead list) (list_read field)
+query_read Rga field = option_map (λ list. RgaRead list) (list_read field)
+
+abbrev pub read_first : Kind → List (List ℕ) → Option (Rest Op)
+read_first kind [] = None
+read_first kind (field ∷ fields) = option_map (λ op. (op, fields)) (query_read kind field)
+
+abbrev pub write_first : List (List ℕ) → Option (Rest Op)
+write_first fields = option_map (λ n. (Write n.0, n.1)) (number_first fields)
+
+-- an addition of x, with an identifier where one comes
+abbrev pub addition_read : ℕ → List (List ℕ) → Option (List ℕ) → Option (Rest Op)
+addition_read x fields None = Some (LwwAdd x, fields)
+addition_read x fields (Some word) = option_map (λ id. (OrAdd x id, behind_first fields)) (number_read word)
+
+abbrev pub add_first : List (List ℕ) → Option (Rest Op)
+add_first fields = option_and_then (λ n. addition_read n.0 n.1 (mark_first n.1)) (number_first fields)
+
+-- a removal of x by its element alone
+abbrev pub plain_removal : Kind → ℕ → Op
+plain_removal Rga x = RgaRemove x
+plain_removal Counter x = LwwRemove x
+plain_removal Register x = LwwRemove x
+plain_removal LwwSet x = LwwRemove x
+plain_removal OrSet x = LwwRemove x
+
+-- a removal of x, with identifiers where they come
+abbrev pub removal_read : Kind → ℕ → List (List ℕ) → Option (List ℕ) → Option (Rest Op)
+removal_read kind x fields None = Some (plain_removal kind x, fields)
+removal_read kind x fields (Some word) = option_map (λ ids. (OrRemove x ids, behind_first fields)) (list_read word)
+
+abbrev pub remove_first : Kind → List (List ℕ) → Option (Rest Op)
+remove_first kind fields = option_and_then (λ n. removal_read kind n.0 n.1 (mark_first n.1)) (number_first fields)
+
+abbrev pub after_first : List (List ℕ) → Option (Rest Op)
+after_first fields = option_and_then (λ n. option_map (λ m. (After n.0 m.0, m.1)) (number_first n.1)) (number_first fields)
+
+-- an operation, by its first word
+abbrev pub word_first : Kind → List ℕ → List (List ℕ) → Option (Rest Op)
+word_first kind word fields =
+    if bytes_eq word (codes "inc") then Some (Inc, fields)
+    else if bytes_eq word (codes "dec") then Some (Dec, fields)
+    else if bytes_eq word (codes "read") then read_first kind fields
+    else if bytes_eq word (codes "write") then write_first fields
+    else if bytes_eq word (codes "add") then add_first fields
+    else if bytes_eq word (codes "remove") then remove_first kind fields
+    else if bytes_eq word (codes "after") then after_first fields
+    else None
+
+-- ---- commands
+
+-- the clock that a field spells
+abbrev pub clock_read : List ℕ → Option ℕ
+clock_read [] = None
+clock_read (mark ∷ digits) = if mark == 64 then number_read digits else None
+
+-- the clock behind an operation, or that none is there
+abbrev pub clock_last : List (List ℕ) → Option (Option ℕ)
+clock_last [] = Some None
+clock_last (field ∷ []) = option_map (λ clock. Some clock) (clock_read field)
+clock_last (field ∷ another ∷ more) = None
+
+-- a delivery, with the fields behind `got`
+abbrev pub delivery_read : ℕ → List (List ℕ) → Option Command
+delivery_read replica [] = None
+delivery_read replica (field ∷ []) = option_map (λ label. Deliver replica label) (number_read field)
+delivery_read replica (field ∷ another ∷ more) = None
+
+-- an operation, by its first word, with the clock behind it
+abbrev pub operation_read : Kind → ℕ → List ℕ → List (List ℕ) → Option Command
+operation_read kind replica word fields =
+    option_and_then (λ op. option_map (λ clock. Operate replica op.0 clock) (clock_last op.1)) (word_first kind word fields)
+
+-- the command of a replica, by the word behind its name
+abbrev pub replica_command_read : Kind → ℕ → List ℕ → List (List ℕ) → Option Command
+replica_command_read kind replica word fields =
+    if bytes_eq word (codes "got") then delivery_read replica fields else operation_read kind replica word fields
+
+-- a command, by the fields of its line
+abbrev pub command_read : Kind → List (List ℕ) → List (List ℕ) → Option Command
+command_read kind names [] = None
+command_read kind names (word ∷ []) = if bytes_eq word (codes "verdict") then Some Verdict else None
+command_read kind names (name ∷ word ∷ fields) =
+    if is_name name then replica_command_read kind (place_of names name) word fields else None
