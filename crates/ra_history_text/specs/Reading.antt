@@ -1,9 +1,7 @@
 -- How the line of a command is read, field by field. What is read so is just what is spelled: that is the
 -- contract of `command`, in the words of Grammar alone.
-use Rattle.std.specs.Prelude.{◌≡◌, ℕ, ◌+◌, ◌-◌, ◌*◌, ◌^◌, ◌==◌, nat_lt, Bool, true, false, not, ◌&&◌, List, [], ◌∷◌, length, Option, Some, None, option_map, option_and_then, codes, decimal, bytes_eq, ℤ, if◌then◌else◌}
+use Rattle.std.specs.Prelude.{◌≡◌, ℕ, ◌+◌, ◌-◌, ◌*◌, ◌^◌, ◌==◌, nat_lt, Bool, true, false, ◌&&◌, List, [], ◌∷◌, length, Option, Some, None, option_map, option_and_then, codes, bytes_eq, zero, suc, ℤ, pos, negsuc, if◌then◌else◌}
 use Rattle.std.specs.Char.{is_ascii_digit}
-use Rattle.std.specs.Fmt.{signed_decimal}
-use Rattle.std.specs.Str.Parse.{digits_value, signed_digits_value}
 use Rattle.ra_labels.specs.declared.kind.Kind.{Kind}
 use Rattle.ra_labels.specs.declared.kind.Kind.TheVariants.{Counter, Register, LwwSet, OrSet, Rga}
 use Rattle.ra_labels.specs.declared.operation.Op.{Op}
@@ -12,7 +10,6 @@ use Rattle.ra_labels.specs.declared.command.Command.{Command}
 use Rattle.ra_labels.specs.declared.command.Command.TheVariants.{Operate, Deliver, Verdict}
 use Rattle.ra_history_text.specs.Grammar.{is_name, place_of}
 use Rattle.ra_history_text.specs.Fields.{pieces_at}
-use lib.Signed.{mag}
 
 -- ---- numbers and lists
 
@@ -26,22 +23,29 @@ abbrev pub digits_read : ℕ → List ℕ → Option ℕ
 digits_read n [] = Some n
 digits_read n (byte ∷ bytes) = option_and_then (λ m. digits_read m bytes) (digit_read n byte)
 
--- does it begin with a zero that does not stand alone?
-abbrev pub has_leading_zero : List ℕ → Bool
-has_leading_zero [] = false
-has_leading_zero (first ∷ more) = first == 48 && not (length more == 0)
+-- does it begin with a digit that is no zero, or is it a zero alone?
+abbrev pub begins_as_number : List ℕ → Bool
+begins_as_number [] = false
+begins_as_number (first ∷ more) = if first == 48 then length more == 0 else is_ascii_digit first
 
 -- the number that a field spells
 unfoldable pub number_read : List ℕ → Option ℕ
-number_read field =
-    let n = digits_value 10 field in
-    if bytes_eq field (decimal n) && nat_lt n (2 ^ 32) then Some n else None
+number_read field = if begins_as_number field then digits_read 0 field else None
+
+-- a number, and one behind a minus
+abbrev pub above_zero : ℕ → Option ℤ
+above_zero n = if nat_lt n (2 ^ 31) then Some (pos n) else None
+
+abbrev pub below_zero : ℕ → Option ℤ
+below_zero zero = None
+below_zero (suc n) = if nat_lt n (2 ^ 31) then Some (negsuc n) else None
 
 -- the number that a field spells, with its sign
-unfoldable pub signed_read : List ℕ → Option ℤ
-signed_read field =
-    let z = signed_digits_value 10 field in
-    if bytes_eq field (signed_decimal z) && nat_lt (mag z) (2 ^ 31) then Some z else None
+abbrev pub signed_read : List ℕ → Option ℤ
+signed_read [] = None
+signed_read (first ∷ more) =
+    if first == 45 then option_and_then below_zero (number_read more)
+    else option_and_then above_zero (number_read (first ∷ more))
 
 -- the numbers that the pieces of a list spell
 abbrev pub numbers_read : List (List ℕ) → Option (List ℕ)

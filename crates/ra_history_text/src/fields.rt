@@ -1,7 +1,8 @@
 //! Bytes, cut into pieces.
 ghost use Rattle.std.specs.Prelude.{◌≡◌, ◌≢◌, ◌∷◌, [], All, MatchOption};
 ghost use Rattle.ra_history_text.specs.Fields.{IsCutAt, pieces_at};
-ghost use Rattle.ra_history_text.specs.Grammar.{fields_of};
+ghost use Rattle.ra_history_text.specs.Reading.{mark_first};
+ghost use Rattle.ra_history_text.specs.Grammar.{fields_of, marked};
 
 use std::marker::Model;
 
@@ -52,6 +53,21 @@ impl<'a> Fields<'a> {
                 self.rest = None;
                 Some(rest)
             }
+        }
+    }
+
+    /// Takes the next field where it begins with a number sign, and gives what stands behind the sign. Else it takes
+    /// nothing. Costs as much as the field is long.
+    pub fn take_marked(&mut self) -> Option<&'a [u8]>
+        ensures { MatchOption result ((mark_first self.old ≡ None) × (self.new ≡ self.old))
+            (λ word. self.old ≡ marked word.now ∷ self.new) }
+    {
+        match self.rest? {
+            [b'#', behind @ ..] => {
+                self.rest = Some(behind);
+                self.take()
+            }
+            _ => None,
         }
     }
 }

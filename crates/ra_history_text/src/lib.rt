@@ -3,3 +3,4 @@
 
 mod fields;
 pub mod limits;
+mod number;
