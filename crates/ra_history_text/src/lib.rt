@@ -3,4 +3,6 @@
 
 mod fields;
 pub mod limits;
+mod list;
 mod number;
+mod operation;
