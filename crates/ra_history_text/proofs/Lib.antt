@@ -1,3 +1,4 @@
 pub mod Cuts
 pub mod Numbers
 pub mod Lists
+pub mod Operations
