@@ -1,4 +1,6 @@
 pub mod Cuts
+pub mod SameKind
 pub mod Numbers
 pub mod Lists
 pub mod Operations
+pub mod Commands

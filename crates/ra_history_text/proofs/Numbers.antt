@@ -94,6 +94,10 @@ digits_only n (b ∷ bs) all small =
 
 -- ---- numbers
 
+pub not_number : (field : List ℕ) → begins_as_number field ≡ false → number_read field ≡ None
+unfolding number_read
+not_number field begins = rw begins refl
+
 pub number_read-decimal : (n : ℕ) → n < 2 ^ 32 → number_read (decimal n) ≡ Some n
 unfolding number_read
 number_read-decimal n small =

@@ -1,8 +1,8 @@
 -- Fields are read as an operation just where they are that operation's.
-use Rattle.std.proofs.Common.{◌≡◌, ℕ, ◌^◌, ◌<◌, ◌⊎◌, inl, inr, Bool, true, false, cond, eqb, List, [], ◌∷◌, ◌++◌, Option, Some, None, refl, sym, ap, subst, ◌∙◌}
+use Rattle.std.proofs.Common.{◌≡◌, ℕ, ◌^◌, ◌<◌, ◌⊎◌, inl, inr, Bool, true, false, not, cond, eqb, List, [], ◌∷◌, ◌++◌, Option, Some, None, refl, sym, ap, subst, ◌∙◌}
 use Rattle.std.specs.Prelude.{bytes_eq, codes, decimal, IfSome, option_map, option_and_then}
 use Rattle.std.specs.Fmt.{signed_decimal}
-use Rattle.std.proofs.lemmas.Bool.{eqb-true}
+use Rattle.std.proofs.lemmas.Bool.{eqb-true, cases_Bool}
 use Rattle.std.proofs.lemmas.Option.{option_and_then_some}
 use Rattle.std.proofs.lemmas.Slice.Eq.{bytes_eq-Decides}
 use Rattle.ra_labels.specs.declared.kind.Kind.{Kind}
@@ -11,7 +11,9 @@ use Rattle.ra_labels.specs.declared.operation.Op.{Op}
 use Rattle.ra_labels.specs.declared.operation.Op.TheVariants.{Inc, Dec, Count, Write, Last, LwwAdd, LwwRemove, LwwRead, OrAdd, OrRemove, OrRead, After, RgaRemove, RgaRead}
 use Rattle.ra_history_text.specs.Grammar.{IsSmall, list_word, value_word, marked, has_words, operation_fields, HasSmallNumbers}
 use Rattle.ra_history_text.specs.Reading.{number_read, signed_read, list_read, value_read, number_first, mark_of, mark_first, behind_first, query_read, read_first, write_first, addition_read, add_first, plain_removal, removal_read, remove_first, after_first, word_first}
-use Rattle.ra_history_text.proofs.Numbers.{number_read-Some, number_read-decimal, signed_read-Some, signed_read-decimal}
+use Rattle.ra_labels.specs.Answer.{is_kind}
+use Rattle.ra_history_text.proofs.SameKind.{same_kind}
+use Rattle.ra_history_text.proofs.Numbers.{not_number, number_read-Some, number_read-decimal, signed_read-Some, signed_read-decimal}
 use Rattle.ra_history_text.proofs.Lists.{mapped, list_read-Some, list_read-word}
 
 pub same_bytes : (word text : List ℕ) → bytes_eq word text ≡ true → word ≡ text
@@ -195,3 +197,93 @@ word_found kind word fields r e =
         ]
       ]
     ]
+
+-- ---- what is spelled is read
+
+-- the first field of an operation, and those behind it
+abbrev pub word_of : Op → List ℕ
+word_of Inc = codes "inc"
+word_of Dec = codes "dec"
+word_of (Count value) = codes "read"
+word_of (Write value) = codes "write"
+word_of (Last value) = codes "read"
+word_of (LwwAdd x) = codes "add"
+word_of (LwwRemove x) = codes "remove"
+word_of (LwwRead list) = codes "read"
+word_of (OrAdd x id) = codes "add"
+word_of (OrRemove x ids) = codes "remove"
+word_of (OrRead list) = codes "read"
+word_of (After anchor x) = codes "after"
+word_of (RgaRemove x) = codes "remove"
+word_of (RgaRead list) = codes "read"
+
+abbrev pub behind_word : Op → List (List ℕ)
+behind_word op = behind_first (operation_fields op)
+
+-- a first field that is no word of another command
+pub word_is : (op : Op) → (operation_fields op ≡ word_of op ∷ behind_word op) × (bytes_eq (word_of op) (codes "got") ≡ false)
+word_is Inc = (refl, refl)
+word_is Dec = (refl, refl)
+word_is (Count value) = (refl, refl)
+word_is (Write value) = (refl, refl)
+word_is (Last value) = (refl, refl)
+word_is (LwwAdd x) = (refl, refl)
+word_is (LwwRemove x) = (refl, refl)
+word_is (LwwRead list) = (refl, refl)
+word_is (OrAdd x id) = (refl, refl)
+word_is (OrRemove x ids) = (refl, refl)
+word_is (OrRead list) = (refl, refl)
+word_is (After anchor x) = (refl, refl)
+word_is (RgaRemove x) = (refl, refl)
+word_is (RgaRead list) = (refl, refl)
+
+value_only : (value : Option ℕ) → IfSome value IsSmall → value_read (value_word value) ≡ Some value
+value_only None small = refl
+value_only (Some n) small =
+    elim (cases_Bool (bytes_eq (decimal n) (codes "none"))) [
+      | inl is_so ↦
+          let same : decimal n ≡ codes "none" = same_bytes (decimal n) (codes "none") is_so in
+          let some : Some n ≡ number_read (codes "none") = sym (number_read-decimal n small) ∙ ap number_read same in
+          let none : number_read (codes "none") ≡ None = not_number (codes "none") refl in
+          absurd cc
+      | inr is_not ↦ rw (is_not, number_read-decimal n small) refl
+    ]
+
+-- how the fields of an operation are read, with others behind them that begin with no number sign
+abbrev pub ReadsAs : Kind → Op → Type 0
+ReadsAs kind op = (rest : List (List ℕ)) → mark_first rest ≡ None → word_first kind (word_of op) (behind_word op ++ rest) ≡ Some (op, rest)
+
+plain_only : (kind : Kind) (x : ℕ) → not (is_kind kind Rga) ≡ true → plain_removal kind x ≡ LwwRemove x
+plain_only Counter x own = refl
+plain_only Register x own = refl
+plain_only LwwSet x own = refl
+plain_only OrSet x own = refl
+plain_only Rga x own = absurd cc
+
+pub word_only : (kind : Kind) (op : Op) → has_words op kind ≡ true → HasSmallNumbers op → ReadsAs kind op
+word_only kind Inc own small rest unmarked = refl
+word_only kind Dec own small rest unmarked = refl
+word_only kind (Count value) own small rest unmarked =
+    subst (λ (k : Kind). word_first k (codes "read") (signed_decimal value ∷ rest) ≡ Some (Count value, rest)) (same_kind kind Counter own)
+    (rw (signed_read-decimal value small) refl)
+word_only kind (Write value) own small rest unmarked = rw (number_read-decimal value small) refl
+word_only kind (Last value) own small rest unmarked =
+    subst (λ (k : Kind). word_first k (codes "read") (value_word value ∷ rest) ≡ Some (Last value, rest)) (same_kind kind Register own)
+    (rw (value_only value small) refl)
+word_only kind (LwwAdd x) own small rest unmarked = rw (number_read-decimal x small, unmarked) refl
+word_only kind (LwwRemove x) own small rest unmarked = rw (number_read-decimal x small, unmarked, plain_only kind x own) refl
+word_only kind (LwwRead list) own small rest unmarked =
+    subst (λ (k : Kind). word_first k (codes "read") (list_word list ∷ rest) ≡ Some (LwwRead list, rest)) (same_kind kind LwwSet own)
+    (rw (list_read-word list small) refl)
+word_only kind (OrAdd x id) own small rest unmarked = rw (number_read-decimal x small.0, number_read-decimal id small.1) refl
+word_only kind (OrRemove x ids) own small rest unmarked = rw (number_read-decimal x small.0, list_read-word ids small.1) refl
+word_only kind (OrRead list) own small rest unmarked =
+    subst (λ (k : Kind). word_first k (codes "read") (list_word list ∷ rest) ≡ Some (OrRead list, rest)) (same_kind kind OrSet own)
+    (rw (list_read-word list small) refl)
+word_only kind (After anchor x) own small rest unmarked = rw (number_read-decimal anchor small.0, number_read-decimal x small.1) refl
+word_only kind (RgaRemove x) own small rest unmarked =
+    subst (λ (k : Kind). word_first k (codes "remove") (decimal x ∷ rest) ≡ Some (RgaRemove x, rest)) (same_kind kind Rga own)
+    (rw (number_read-decimal x small, unmarked) refl)
+word_only kind (RgaRead list) own small rest unmarked =
+    subst (λ (k : Kind). word_first k (codes "read") (list_word list ∷ rest) ≡ Some (RgaRead list, rest)) (same_kind kind Rga own)
+    (rw (list_read-word list small) refl)

@@ -53,7 +53,7 @@ pub record AreNames (names : List (List ℕ)) : Type 0 where
 -- the replica that a name stands for: its place among the names, from 0; the number of names where it is not there
 abbrev pub place_of : List (List ℕ) → List ℕ → ℕ
 place_of [] name = 0
-place_of (first ∷ others) name = if bytes_eq first name then 0 else place_of others name + 1
+place_of (first ∷ others) name = if bytes_eq name first then 0 else place_of others name + 1
 
 -- ---- the two lines before the commands
 
