@@ -1,6 +1,6 @@
 -- A line is read as a command just where it spells that command.
-use Rattle.std.proofs.Common.{◌≡◌, ℕ, ◌+◌, ◌<◌, ◌⊎◌, inl, inr, Bool, true, false, cond, eqb, List, [], ◌∷◌, ◌++◌, length, Option, Some, None, refl, sym, ap, subst, ◌∙◌, arith}
-use Rattle.std.specs.Prelude.{bytes_eq, codes, decimal, IfSome, option_map, option_and_then}
+use Rattle.std.proofs.Common.{◌≡◌, ℕ, ◌+◌, ◌<◌, ◌⊎◌, inl, inr, Bool, true, false, cond, eqb, List, [], ◌∷◌, ◌++◌, length, Option, Some, None, Result, Ok, Err, refl, sym, ap, subst, ◌∙◌, arith}
+use Rattle.std.specs.Prelude.{bytes_eq, codes, decimal, IfSome, IfOk, option_map, option_and_then}
 use Rattle.std.specs.List.{join_with_byte}
 use Rattle.std.proofs.lemmas.Bool.{eqb-true, cases_Bool}
 use Rattle.std.proofs.lemmas.Option.{option_and_then_some}
@@ -177,9 +177,16 @@ one_spelling kind names line other c there p q = same_line line other (same_fiel
 
 -- ---- in the words of the reader's contract
 
-pub reader_found : (kind : Kind) (names : List (List ℕ)) (line : List ℕ) (o : Option Command) → o ≡ command_read kind names (fields_of line) → IfSome o (λ c. Spells kind names line c)
-reader_found kind names line None e = tt
-reader_found kind names line (Some c) e = command_found kind names (fields_of line) c (sym e)
+found_in : (kind : Kind) (names : List (List ℕ)) (line : List ℕ) (o : Option Command) → o ≡ command_read kind names (fields_of line) → IfSome o (λ c. Spells kind names line c)
+found_in kind names line None e = tt
+found_in kind names line (Some c) e = command_found kind names (fields_of line) c (sym e)
 
-pub reader_only : (kind : Kind) (names : List (List ℕ)) (line : List ℕ) (o : Option Command) → o ≡ command_read kind names (fields_of line) → (c : Command) → Spells kind names line c → o ≡ Some c
-reader_only kind names line o e c spelled = e ∙ command_only kind names (fields_of line) c spelled
+pub reader_found : {E : Type 0} (kind : Kind) (names : List (List ℕ)) (line : List ℕ) (r : Result (Option Command) E) → IfOk r (λ o. o ≡ command_read kind names (fields_of line))
+    → IfOk r (λ o. IfSome o (λ c. Spells kind names line c))
+reader_found kind names line (Ok o) e = found_in kind names line o e
+reader_found kind names line (Err fault) e = tt
+
+pub reader_only : {E : Type 0} (kind : Kind) (names : List (List ℕ)) (line : List ℕ) (r : Result (Option Command) E) → IfOk r (λ o. o ≡ command_read kind names (fields_of line))
+    → IfOk r (λ o. (c : Command) → Spells kind names line c → o ≡ Some c)
+reader_only kind names line (Ok o) e = λ c spelled. e ∙ command_only kind names (fields_of line) c spelled
+reader_only kind names line (Err fault) e = tt

@@ -4,3 +4,4 @@ pub mod Numbers
 pub mod Lists
 pub mod Operations
 pub mod Commands
+pub mod NameLists

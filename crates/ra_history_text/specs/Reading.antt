@@ -172,9 +172,13 @@ abbrev pub replica_command_read : Kind → ℕ → List ℕ → List (List ℕ) 
 replica_command_read kind replica word fields =
     if bytes_eq word (codes "got") then delivery_read replica fields else operation_read kind replica word fields
 
+-- the command of a line that has one field
+abbrev pub lone_read : List ℕ → Option Command
+lone_read word = if bytes_eq word (codes "verdict") then Some Verdict else None
+
 -- a command, by the fields of its line
 abbrev pub command_read : Kind → List (List ℕ) → List (List ℕ) → Option Command
 command_read kind names [] = None
-command_read kind names (word ∷ []) = if bytes_eq word (codes "verdict") then Some Verdict else None
+command_read kind names (word ∷ []) = lone_read word
 command_read kind names (name ∷ word ∷ fields) =
     if is_name name then replica_command_read kind (place_of names name) word fields else None
