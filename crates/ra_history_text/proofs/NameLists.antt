@@ -1,15 +1,16 @@
 -- Names that join others, one after another.
-use Rattle.std.proofs.Common.{◌≡◌, ℕ, ◌<◌, Bool, true, false, ◌≤◌, ltb, List, [], ◌∷◌, ◌++◌, map, length, Option, Some, None, Result, Err, refl, sym, ap, subst, ◌∙◌, arith, inl, inr}
+use Rattle.std.proofs.Common.{◌≡◌, ℕ, ◌+◌, ◌<◌, Bool, true, false, ◌≤◌, ltb, List, [], ◌∷◌, ◌++◌, map, length, take, drop, get_or, zero, suc, Option, Some, None, Result, Err, refl, sym, ap, subst, ◌∙◌, arith, inl, inr}
 use Rattle.std.specs.Prelude.{bytes_eq, codes, position, ◌||◌, if◌then◌else◌}
+use Rattle.std.specs.Borrow.{Bor}
 use Rattle.std.specs.Global as global
 use Rattle.std.specs.List.{list_all, list_any, position_or_len, IsDistinct, AllByRecursion}
 use Rattle.std.proofs.lemmas.Bool.{cases_Bool, and_parts, and_from, ltb-false}
 use Rattle.std.proofs.lemmas.Cmp.{nat_list_eq_equiv}
-use Rattle.std.proofs.lemmas.List.{append_assoc, append-nil, length_push, length-append, length-map, map-append}
+use Rattle.std.proofs.lemmas.List.{append_assoc, append-nil, length_push, length-append, length-map, length-take-le, map-append, take_more}
 use Rattle.std.proofs.lemmas.Map.Keys.{IsDistinct-head, IsDistinct-tail, IsDistinct-push}
 use Rattle.ra_history_text.specs.Grammar.{is_name, place_of, fields_of, AreNames, ListsNames}
 use Rattle.ra_history_text.specs.declared.fault.LineFault.{LineFault}
-use Rattle.ra_history_text.specs.Names.{bytes_of_each, MayJoin, AreNamesSoFar, ListsSoFar}
+use Rattle.ra_history_text.specs.Names.{bytes_of_each, texts_of, is_bad_behind, AreDistinctNames, IsFirstBad, MayJoin, AreNamesSoFar, ListsSoFar}
 
 -- ---- places
 
@@ -115,11 +116,65 @@ MayJoin-from_names names rest name are = record {
   new = new_among names rest name are.distinct;
 }
 
--- ---- the front of a line's names
-
 nothing : IsDistinct bytes_eq []
 unfolding IsDistinct
 nothing = tt
+
+-- ---- words that are given as names
+
+pub none_yet : AreDistinctNames []
+none_yet = record { each = refl; distinct = nothing }
+
+-- no bad word behind names: one name more
+pub name_more : (before : List (List ℕ)) (word : List ℕ) → AreDistinctNames before → is_bad_behind before word ≡ false → AreDistinctNames (before ++ word ∷ [])
+name_more before word so_far good =
+    elim (cases_Bool (is_name word)) [
+      | inl form ↦
+          let here : list_any (bytes_eq word) before ≡ false = rw form at good in
+          record { each = list_all-push is_name before word so_far.each form; distinct = IsDistinct-push nat_list_eq_equiv before word so_far.distinct here }
+      | inr other ↦ let bad : true ≡ false = rw other at good in absurd cc
+    ]
+
+-- the words, cut at a place
+pub words_cut : (words : List (Bor (List ℕ))) (i : ℕ) (d : Bor (List ℕ)) → i < length words
+    → texts_of words ≡ texts_of (take i words) ++ (get_or words i d).now ∷ texts_of (drop (suc i) words)
+words_cut [] i d there = absurd (omega arith)
+words_cut (word ∷ words) zero d there = refl
+words_cut (word ∷ words) (suc i) d there = ap (λ (ws : List (List ℕ)). word.now ∷ ws) (words_cut words i d (omega arith))
+
+words_more : (words : List (Bor (List ℕ))) (i : ℕ) (d : Bor (List ℕ)) → i < length words → texts_of (take (i + 1) words) ≡ texts_of (take i words) ++ (get_or words i d).now ∷ []
+words_more words i d there = ap texts_of (take_more words i d there) ∙ map-append (λ (text : Bor (List ℕ)). text.now) (take i words) (get_or words i d ∷ [])
+
+-- one word more that is not bad
+pub names_more_at : (words : List (Bor (List ℕ))) (i : ℕ) (d : Bor (List ℕ)) → i < length words → AreDistinctNames (texts_of (take i words))
+    → is_bad_behind (texts_of (take i words)) (get_or words i d).now ≡ false → AreDistinctNames (texts_of (take (i + 1) words))
+names_more_at words i d there so_far good =
+    subst AreDistinctNames (sym (words_more words i d there)) (name_more (texts_of (take i words)) (get_or words i d).now so_far good)
+
+pub first_bad_at : (words : List (Bor (List ℕ))) (i : ℕ) (d : Bor (List ℕ)) → i < length words → AreDistinctNames (texts_of (take i words))
+    → is_bad_behind (texts_of (take i words)) (get_or words i d).now ≡ true → IsFirstBad (texts_of words) i
+first_bad_at words i d there so_far bad = record {
+  before = texts_of (take i words);
+  word = (get_or words i d).now;
+  later = texts_of (drop (suc i) words);
+  parts = words_cut words i d there;
+  place = sym (length-map (take i words) (λ text. text.now) ∙ length-take-le i words (omega arith));
+  so_far = so_far;
+  bad = bad;
+}
+
+-- names of which each was tested
+pub are_names : (words : List (List ℕ)) → 0 < length words → length words ≤ 16 → AreDistinctNames words → AreNames words
+are_names words some few each = record { some = some; few = few; each = each.each; distinct = each.distinct }
+
+-- each of the names may stand behind those before it
+pub may_join_at : (words : List (Bor (List ℕ))) (i : ℕ) (d : Bor (List ℕ)) (names : List (List ℕ)) → i < length words → names ≡ texts_of (take i words) → AreNames (texts_of words)
+    → MayJoin names (get_or words i d).now
+may_join_at words i d names there front are =
+    subst (λ (ns : List (List ℕ)). MayJoin ns (get_or words i d).now) (sym front)
+    (MayJoin-from_names (texts_of (take i words)) (texts_of (drop (suc i) words)) (get_or words i d).now (subst AreNames (words_cut words i d there) are))
+
+-- ---- the front of a line's names
 
 pub so_far_first : (line : List ℕ) (word : List ℕ) (fields : List (List ℕ)) → fields_of line ≡ word ∷ fields → word ≡ codes "replicas" → ListsSoFar line [] fields
 so_far_first line word fields cut is = record { parts = cut ∙ ap (λ (x : List ℕ). x ∷ fields) is; so_far = record { few = omega arith; each = refl; distinct = nothing } }
@@ -156,3 +211,15 @@ same_fault r x y d p q e = cc
 
 abbrev pub failed : LineFault → Result (Unit {0}) LineFault
 failed fault = Err fault
+
+-- ---- keys of a set as names
+
+pub may_join : (keys : List (global.Vec ℕ)) (names : List (List ℕ)) (name : List ℕ) (place : ℕ) → bytes_of_each keys ≡ names → length keys < 16 → is_name name ≡ true
+    → place ≡ place_of (bytes_of_each keys) name → place ≡ length keys → MayJoin names name
+may_join keys names name place are room form found last =
+    let len : length names ≡ length keys = ap length (sym are) ∙ length-map keys (λ key. key.items) in
+    record { room = omega (arith, len, room); form = form; new = ap (λ (ns : List (List ℕ)). place_of ns name) (sym are) ∙ sym found ∙ last ∙ sym len }
+
+pub joins_last : (keys : List (global.Vec ℕ)) (names : List (List ℕ)) (name : List ℕ) → bytes_of_each keys ≡ names → MayJoin names name → place_of (bytes_of_each keys) name ≡ length keys
+joins_last keys names name are may =
+    ap (λ (ns : List (List ℕ)). place_of ns name) are ∙ may.new ∙ ap length (sym are) ∙ length-map keys (λ key. key.items)

@@ -1,6 +1,7 @@
 -- Names, one after another.
-use Rattle.std.specs.Prelude.{◌≡◌, ℕ, ◌<◌, ◌≤◌, ◌⊎◌, Bool, true, false, List, ◌∷◌, ◌++◌, map, length, bytes_eq, codes}
+use Rattle.std.specs.Prelude.{◌≡◌, ℕ, ◌<◌, ◌≤◌, Bool, true, not, ◌||◌, List, ◌∷◌, ◌++◌, map, length, bytes_eq, codes}
 use Rattle.std.specs.Global as global
+use Rattle.std.specs.Borrow.{Bor}
 use Rattle.std.specs.List.{list_all, list_any, IsDistinct}
 use Rattle.ra_history_text.specs.declared.limits.TheConstants.{MOST_NAMES}
 use Rattle.ra_history_text.specs.declared.fault.NamesFault.{NamesFault}
@@ -30,6 +31,19 @@ pub record ListsSoFar (line : List ℕ) (names fields : List (List ℕ)) : Type 
 
 -- ---- words that are given as names
 
+-- the bytes of each of the texts
+abbrev pub texts_of : List (Bor (List ℕ)) → List (List ℕ)
+texts_of texts = map (λ text. text.now) texts
+
+-- names, and no two the same
+pub record AreDistinctNames (words : List (List ℕ)) : Type 0 where
+  pub each : list_all is_name words ≡ true
+  pub distinct : IsDistinct bytes_eq words
+
+-- is the word no name, or one of those before it?
+abbrev pub is_bad_behind : List (List ℕ) → List ℕ → Bool
+is_bad_behind before word = not (is_name word) || list_any (bytes_eq word) before
+
 -- from one to the most
 abbrev pub IsCount : ℕ → Type 0
 IsCount count = (0 < count) × (count ≤ MOST_NAMES)
@@ -42,9 +56,8 @@ pub record IsFirstBad (words : List (List ℕ)) (at : ℕ) : Type 0 where
   pub later : List (List ℕ)
   pub parts : words ≡ before ++ word ∷ later
   pub place : at ≡ length before
-  pub each : list_all is_name before ≡ true
-  pub distinct : IsDistinct bytes_eq before
-  pub bad : (is_name word ≡ false) ⊎ (list_any (bytes_eq word) before ≡ true)
+  pub so_far : AreDistinctNames before
+  pub bad : is_bad_behind before word ≡ true
 
 -- why the words are not taken as names; memory is asked for only where they are names
 abbrev pub IsFaultOf : List (List ℕ) → NamesFault → Type 0

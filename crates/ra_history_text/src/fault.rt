@@ -1,5 +1,6 @@
 //! Why a line, or a list of names, is not taken.
 ghost use Rattle.ra_history_text.specs.declared.fault.LineFault.TheVariants as line_fault;
+ghost use Rattle.ra_history_text.specs.declared.fault.NamesFault.TheVariants as names_fault;
 ghost use Rattle.std.specs.Prelude.{◌≡◌};
 
 use ra_labels::NoMemory;
@@ -48,4 +49,12 @@ pub enum NamesFault {
     BadName(u32),
     /// A growth was refused for want of memory.
     NoMemory,
+}
+
+impl From<NoMemory> for NamesFault {
+    ghost from_gives = { λ _ fault. fault ≡ names_fault.NoMemory };
+
+    fn from(_refused: NoMemory) -> NamesFault {
+        NamesFault::NoMemory
+    }
 }

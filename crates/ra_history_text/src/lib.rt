@@ -10,3 +10,4 @@ mod list;
 mod name;
 mod number;
 mod operation;
+mod reading;

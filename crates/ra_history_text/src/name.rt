@@ -1,15 +1,17 @@
 //! Names of replicas.
-ghost use Rattle.std.specs.Prelude.{◌≡◌, ◌≤◌, ℕ, ◌++◌, ◌∷◌, ◌||◌, [], List, IfOk, OnOk, OnErr, IsErrOf, length, map};
-ghost use Rattle.std.specs.List.{list_all};
+ghost use Rattle.std.specs.Prelude.{◌≡◌, ◌≤◌, ℕ, ◌++◌, ◌∷◌, ◌||◌, [], List, IfOk, IfErr, IfSome, IsNone, OnOk, OnErr, IsErrOf, length, map, bytes_eq};
+ghost use Rattle.std.specs.List.{list_all, list_any};
 ghost use Rattle.ra_history_text.specs.Grammar as grammar;
 ghost use Rattle.ra_history_text.specs.Grammar.{has_form_of_name, is_reserved, place_of, ListsNames};
-ghost use Rattle.ra_history_text.specs.Names.{MayJoin, bytes_of_each};
+ghost use Rattle.ra_history_text.specs.Grammar.{AreNames};
+ghost use Rattle.ra_history_text.specs.Names.{MayJoin, bytes_of_each, texts_of, is_bad_behind, AreDistinctNames, IsFirstBad, IsFaultOf};
 ghost use Rattle.ra_history_text.specs.declared.fault.LineFault.TheVariants.{Syntax};
 
-use crate::fault::LineFault;
+use crate::fault::{LineFault, NamesFault};
 use crate::fields::Fields;
 use crate::limits::{LONGEST_NAME, MOST_NAMES};
 use indexmap::IndexSet;
+use ra_labels::NoMemory;
 use std::alloc::Global;
 use std::marker::Model;
 
@@ -60,6 +62,35 @@ impl Model for Names {
 }
 
 impl Names {
+    /// These names, in this order. `BadCount` where there are none or more than 16; else `BadName` with the least place
+    /// whose name has another form than names have, is reserved or repeats an earlier one; memory is asked for only
+    /// where there is none. Costs as much as the names are long; each of them is compared with those before it.
+    pub fn new(alloc: Global, names: &[&str]) -> Result<Names, NamesFault>
+        ensures names { IfOk result (λ list. list ≡ texts_of names.now) }
+        ensures good { OnOk result (AreNames (texts_of names.now)) }
+        ensures fault { IfErr result (IsFaultOf (texts_of names.now)) }
+    {
+        if names.is_empty() || names.len() > MOST_NAMES {
+            return Err(NamesFault::BadCount);
+        }
+        if let Some(place) = first_bad(names) {
+            return Err(NamesFault::BadName(place as u32));
+        }
+        Ok(Names::of(alloc, names)?)
+    }
+
+    // These words, which are names.
+    fn of(alloc: Global, names: &[&str]) -> Result<Names, NoMemory>
+        requires { AreNames (texts_of names.now) }
+        ensures { IfOk result (λ list. list ≡ texts_of names.now) }
+    {
+        let mut list = Names::none(alloc);
+        for name in names {
+            list.push(name.as_bytes())?;
+        }
+        Ok(list)
+    }
+
     /// The names that a text's second line lists.
     pub fn read(alloc: Global, line: &[u8]) -> Result<Names, LineFault>
         ensures found { IfOk result (λ names. ListsNames line.now names) }
@@ -114,6 +145,16 @@ impl Names {
         if is_full || !is_name(name) || place_in(&self.set, name) < self.set.len() {
             return Err(LineFault::Syntax);
         }
+        self.push(name)?;
+        Ok(())
+    }
+
+    // The same of a name that may stand there.
+    fn push(&mut self, name: &[u8]) -> Result<(), NoMemory>
+        requires { MayJoin self.old name.now }
+        ensures ok { OnOk result (self.new ≡ self.old ++ name.now ∷ []) }
+        ensures err { OnErr result (self.new ≡ self.old) }
+    {
         let own = Vec::from_slice(*self.set.allocator(), name)?;
         self.set.insert(own)?;
         Ok(())
@@ -128,4 +169,34 @@ fn place_in(set: &IndexSet<Vec<u8>>, name: &[u8]) -> usize
         Some(place) => place,
         None => set.len(),
     }
+}
+
+// The first place whose word is no name or repeats an earlier one.
+fn first_bad(words: &[&str]) -> Option<usize>
+    ensures bad { IfSome result (IsFirstBad (texts_of words.now)) }
+    ensures good { IsNone result → AreDistinctNames (texts_of words.now) }
+{
+    for (place, word) in words.iter().enumerate() {
+        if is_bad_behind(&words[..place], word) {
+            return Some(place);
+        }
+    }
+    None
+}
+
+fn is_bad_behind(before: &[&str], word: &str) -> bool
+    ensures { result ≡ is_bad_behind (texts_of before.now) word.now }
+{
+    !is_name(word.as_bytes()) || is_among(word, before)
+}
+
+fn is_among(word: &str, words: &[&str]) -> bool
+    ensures { result ≡ list_any (bytes_eq word.now) (texts_of words.now) }
+{
+    for other in words {
+        if word == *other {
+            return true;
+        }
+    }
+    false
 }
