@@ -13,7 +13,12 @@ use std::alloc::Global;
 
 /// The command that the line spells in a history of this kind with these names. `None` where it spells none. Costs as
 /// much as the line is long; it takes memory for a list alone.
-pub fn command(alloc: Global, kind: Kind, names: &Names, line: &[u8]) -> Result<Option<Command>, NoMemory>
+pub fn command(
+    alloc: Global,
+    kind: Kind,
+    names: &Names,
+    line: &[u8],
+) -> Result<Option<Command>, NoMemory>
     ensures found { IfOk result (λ found. IfSome found (λ command. Spells kind names.now line.now command)) }
     ensures only { IfOk result (λ found. (command : Command) → Spells kind names.now line.now command →
         found ≡ Some command) }
@@ -21,7 +26,12 @@ pub fn command(alloc: Global, kind: Kind, names: &Names, line: &[u8]) -> Result<
     command_in(alloc, kind, names, Fields::of(line))
 }
 
-fn command_in(alloc: Global, kind: Kind, names: &Names, mut fields: Fields<'_>) -> Result<Option<Command>, NoMemory>
+fn command_in(
+    alloc: Global,
+    kind: Kind,
+    names: &Names,
+    mut fields: Fields<'_>,
+) -> Result<Option<Command>, NoMemory>
     ensures { IfOk result (λ command. command ≡ command_read kind names.now fields.entry) }
 {
     let Some(first) = fields.take() else {

@@ -10,7 +10,12 @@ use std::alloc::Global;
 
 /// The operation that the word and the fields behind it spell in a history of this kind. It takes those fields. `None`
 /// where they spell none. Costs as much as the fields are long, and takes memory for a list alone.
-pub fn operation(alloc: Global, kind: Kind, word: &[u8], fields: &mut Fields<'_>) -> Result<Option<Op>, NoMemory>
+pub fn operation(
+    alloc: Global,
+    kind: Kind,
+    word: &[u8],
+    fields: &mut Fields<'_>,
+) -> Result<Option<Op>, NoMemory>
     ensures { IfOk result (λ op. Reads (word_first kind word.now fields.old) op fields.new) }
 {
     if word == b"inc".as_slice() {
