@@ -1,5 +1,5 @@
 -- A line is read as a command just where it spells that command.
-use Rattle.std.proofs.Common.{◌≡◌, ℕ, ◌+◌, ◌<◌, ◌⊎◌, inl, inr, Bool, true, false, cond, eqb, List, [], ◌∷◌, ◌++◌, length, Option, Some, None, Result, Ok, Err, refl, sym, ap, subst, ◌∙◌, arith}
+use Rattle.std.proofs.Common.{◌≡◌, ℕ, ◌+◌, ◌<◌, inl, inr, eqb, List, [], ◌∷◌, ◌++◌, length, Option, Some, None, Result, Ok, Err, refl, sym, ap, subst, ◌∙◌, arith}
 use Rattle.std.specs.Prelude.{bytes_eq, codes, decimal, IfSome, IfOk, option_map, option_and_then}
 use Rattle.std.specs.List.{join_with_byte}
 use Rattle.std.proofs.lemmas.Bool.{eqb-true, cases_Bool}
@@ -13,7 +13,7 @@ use Rattle.ra_history_text.specs.Reading.{number_read, mark_first, clock_read, c
 use Rattle.ra_history_text.proofs.Cuts.{pieces-joined}
 use Rattle.ra_history_text.proofs.Lists.{mapped}
 use Rattle.ra_history_text.proofs.Numbers.{number_read-Some, number_read-decimal}
-use Rattle.ra_history_text.proofs.Operations.{same_bytes, chosen, AreOf, word_found, word_of, behind_word, word_is, word_only}
+use Rattle.ra_history_text.proofs.Operations.{same_bytes, chosen, word_found, word_of, behind_word, word_is, word_only}
 
 -- ---- what is read is spelled
 

@@ -1,5 +1,5 @@
 -- Bytes that are cut at a byte, and the pieces.
-use Rattle.std.proofs.Common.{◌≡◌, ℕ, ◌≢◌, false, eqb, List, [], ◌∷◌, ◌++◌, map, length, refl, sym, ap, ◌∙◌, All, arith}
+use Rattle.std.proofs.Common.{◌≡◌, ℕ, ◌≢◌, false, eqb, List, [], ◌∷◌, length, refl, ap, ◌∙◌, All, arith}
 use Rattle.std.specs.List.{join_with_byte}
 use Rattle.std.proofs.lemmas.Bool.{ne_eqb, eq-eqb}
 use Rattle.std.proofs.lemmas.List.Splits.{slice_split_at, slice_split_none, length-slice_split, join_with_byte-slice_split}

@@ -1,6 +1,6 @@
 -- Fields are read as an operation just where they are that operation's.
-use Rattle.std.proofs.Common.{◌≡◌, ℕ, ◌^◌, ◌<◌, ◌⊎◌, inl, inr, Bool, true, false, not, cond, eqb, List, [], ◌∷◌, ◌++◌, Option, Some, None, refl, sym, ap, subst, ◌∙◌}
-use Rattle.std.specs.Prelude.{bytes_eq, codes, decimal, IfSome, option_map, option_and_then}
+use Rattle.std.proofs.Common.{◌≡◌, ℕ, ◌⊎◌, inl, inr, Bool, true, false, not, cond, eqb, List, [], ◌∷◌, ◌++◌, Option, Some, None, refl, sym, ap, subst, ◌∙◌}
+use Rattle.std.specs.Prelude.{bytes_eq, codes, decimal, IfSome, option_map}
 use Rattle.std.specs.Fmt.{signed_decimal}
 use Rattle.std.proofs.lemmas.Bool.{eqb-true, cases_Bool}
 use Rattle.std.proofs.lemmas.Option.{option_and_then_some}
@@ -10,7 +10,7 @@ use Rattle.ra_labels.specs.declared.kind.Kind.TheVariants.{Counter, Register, Lw
 use Rattle.ra_labels.specs.declared.operation.Op.{Op}
 use Rattle.ra_labels.specs.declared.operation.Op.TheVariants.{Inc, Dec, Count, Write, Last, LwwAdd, LwwRemove, LwwRead, OrAdd, OrRemove, OrRead, After, RgaRemove, RgaRead}
 use Rattle.ra_history_text.specs.Grammar.{IsSmall, list_word, value_word, marked, has_words, operation_fields, HasSmallNumbers}
-use Rattle.ra_history_text.specs.Reading.{number_read, signed_read, list_read, value_read, number_first, mark_of, mark_first, behind_first, query_read, read_first, write_first, addition_read, add_first, plain_removal, removal_read, remove_first, after_first, word_first}
+use Rattle.ra_history_text.specs.Reading.{number_read, signed_read, list_read, value_read, number_first, mark_first, behind_first, query_read, read_first, write_first, addition_read, add_first, plain_removal, removal_read, remove_first, after_first, word_first}
 use Rattle.ra_labels.specs.Answer.{is_kind}
 use Rattle.ra_history_text.proofs.SameKind.{same_kind}
 use Rattle.ra_history_text.proofs.Numbers.{not_number, number_read-Some, number_read-decimal, signed_read-Some, signed_read-decimal}

@@ -1,6 +1,5 @@
 -- The lines of a text, one after another: what each gives to a reading.
 use Rattle.std.specs.Prelude.{◌≡◌, ℕ, ◌≤◌, List, length}
-use Rattle.ra_labels.specs.declared.kind.Kind.{Kind}
 use Rattle.ra_history_text.specs.declared.limits.TheConstants.{LONGEST_LINE}
 use Rattle.ra_history_text.specs.declared.reading.Header.{Header}
 use Rattle.ra_history_text.specs.declared.reading.Header.TheVariants.{Nothing, OfKind, OfNames}

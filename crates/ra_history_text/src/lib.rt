@@ -24,3 +24,6 @@ mod reading;
 pub use fault::{LineFault, NamesFault};
 pub use name::Names;
 pub use reading::{Header, Item, Reading};
+
+#[cfg(test)]
+mod tests;

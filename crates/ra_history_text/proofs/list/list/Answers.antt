@@ -1,7 +1,7 @@
 use Rattle.std.proofs.Common.{rules, ◌≡◌, false, None, Some, sym, ap, ◌∙◌, ◌∷◌, [], ◌++◌}
 use Rattle.std.specs.Prelude.{bytes_eq, codes}
 use Rattle.ra_history_text.specs.Reading.{number_read}
-use Rattle.ra_history_text.proofs.Lists.{list_of_pieces, goes_on, goes_on_next, goes_on_no_further, goes_on_to_none, goes_on_last}
+use Rattle.ra_history_text.proofs.Lists.{list_of_pieces, goes_on_next, goes_on_no_further, goes_on_to_none, goes_on_last}
 use Rattle.ra_history_text.proofs.list.list.Goals as goal
 
 pub returns-in_default-number : goal.returns-in_default-number
