@@ -22,7 +22,10 @@ fn reads_a_text_line_by_line(rt: HostRuntime) -> Result<(), Fail> {
         op,
         stamp: None,
     };
-    assert_eq!(rt; reading.line(b"c add 4 #9".as_slice()), Ok(Item::CommandLine(command)));
+    assert_eq!(rt;
+        reading.line(b"c add 4 #9".as_slice()),
+        Ok(Item::CommandLine(command))
+    );
     Ok(())
 }
 
