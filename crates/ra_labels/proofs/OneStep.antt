@@ -9,7 +9,7 @@ use Rattle.std.proofs.lemmas.Option.{none-some, same_Some}
 use Rattle.std.proofs.lemmas.List.Elements.{Contains-append_right}
 use Rattle.std.proofs.lemmas.List.Sorted.{Contains-permutation, IsPermutation-sym}
 use Rattle.ra_labels.specs.declared.kind.Kind.{Kind}
-use Rattle.ra_labels.specs.declared.kind.Kind.TheVariants.{Counter, OrSet}
+use Rattle.ra_labels.specs.declared.kind.Kind.TheVariants.{Counter, Register, LwwSet, OrSet}
 use Rattle.ra_labels.specs.declared.operation.Op.{Op}
 use Rattle.ra_labels.specs.declared.operation.Op.TheVariants as op
 use Rattle.ra_labels.specs.declared.operation.Update.{Update}
@@ -22,13 +22,13 @@ use Rattle.ra_labels.specs.Records.{Records, labels_of}
 use Rattle.ra_labels.specs.Visibility.{had, sees, IsCausal}
 use Rattle.ra_labels.specs.Rewriting.{Part, Half, QueryHalf, UpdateHalf, Act, Does, Asks, acts_of, part_of, parts_of, update_of, updates_of}
 use Rattle.ra_labels.specs.Lists.{is_among}
-use Rattle.ra_labels.specs.Specification.{State, Number, Written, Members, Pairs, Listed, answers, state_after}
+use Rattle.ra_labels.specs.Specification.{State, Number, Written, Members, Pairs, Listed, answers, state_after, is_admitted}
 use Rattle.ra_labels.specs.Linearization.{visible_updates}
 use Rattle.ra_labels.specs.NamedOrder.{label_cmp, named_labels, named_sequence}
 use Rattle.ra_labels.specs.Fault.{Holds}
-use Rattle.ra_labels.specs.Laws.{kind_of_state, WasAddedAndStays, IdentifiersAreOneLabels}
+use Rattle.ra_labels.specs.Laws.{kind_of_state, acts_on, WasAddedAndStays, IdentifiersAreOneLabels}
 use Rattle.ra_labels.specs.Insertion.{updates_had_of, updates_had, Makes}
-use Rattle.ra_labels.specs.Commuting.{then_step, clash, NoneClashes}
+use Rattle.ra_labels.specs.Commuting.{then_step, clash, NoneClashes, last_written, last_on}
 use Rattle.ra_labels.proofs.Places.{Contains-cons_cases, at_head, behind_head, there-kept, from_where, reached}
 use Rattle.ra_labels.proofs.Seen.{had_closed, sees_earlier}
 use Rattle.ra_labels.proofs.Standing.{list_all-from_contains}
@@ -40,6 +40,7 @@ use Rattle.ra_labels.proofs.Stepping.{state-of_kind}
 use Rattle.ra_labels.proofs.OrSets.{pairs-exactly, answers-ids}
 use Rattle.ra_labels.proofs.Ranking.{piece_of, in_piece, part_is_of, named_differ, have_one_number}
 use Rattle.ra_labels.proofs.Commuting.{counter-late, or_set-late}
+use Rattle.ra_labels.proofs.Overriding.{writes-late, last_written-behind, set-late, last_on-behind}
 use Rattle.ra_labels.proofs.Having.{differ_round, delivery-own}
 
 -- an update is one of a part
@@ -307,6 +308,28 @@ counter-delivered records to label update there makes new =
     ap (state_after Counter) now
     ∙ counter-late (updates_had_of records to before) (updates_had_of records to behind) update
     ∙ sym (ap (λ us. then_step (state_after Counter us) update) was)
+
+pub register-delivered : (records : Records) (to : ℕ) (label : Label) (value last : ℕ) → Contains (labels_of records) label → Makes label.op (Write value) → had records to label.number ≡ false
+    → is_admitted Register (updates_had Register (Deliver to label.number ∷ records) to) ≡ true → last_written (updates_had Register (Deliver to label.number ∷ records) to) ≡ Some last
+    → state_after Register (updates_had Register (Deliver to label.number ∷ records) to) ≡ then_step (state_after Register (updates_had Register records to)) (Write last)
+register-delivered records to label value last there makes new admitted found =
+    let (before, behind, is, was, now) = delivery-own Register records to label (Write value) there makes new in
+    let first = updates_had_of records to before in
+    let later = updates_had_of records to behind in
+    ap (state_after Register) now
+    ∙ writes-late first later value last (subst (λ us. is_admitted Register us ≡ true) now admitted) (last_written-behind first later value last (subst (λ us. last_written us ≡ Some last) now found))
+    ∙ sym (ap (λ us. then_step (state_after Register us) (Write last)) was)
+
+pub set-delivered : (records : Records) (to : ℕ) (label : Label) (update last : Update) (x : ℕ) → Contains (labels_of records) label → Makes label.op update → had records to label.number ≡ false
+    → is_admitted LwwSet (updates_had LwwSet (Deliver to label.number ∷ records) to) ≡ true → acts_on x update ≡ true → last_on x (updates_had LwwSet (Deliver to label.number ∷ records) to) ≡ Some last
+    → state_after LwwSet (updates_had LwwSet (Deliver to label.number ∷ records) to) ≡ then_step (state_after LwwSet (updates_had LwwSet records to)) last
+set-delivered records to label update last x there makes new admitted acts found =
+    let (before, behind, is, was, now) = delivery-own LwwSet records to label update there makes new in
+    let first = updates_had_of records to before in
+    let later = updates_had_of records to behind in
+    ap (state_after LwwSet) now
+    ∙ set-late first later update last x (subst (λ us. is_admitted LwwSet us ≡ true) now admitted) acts (last_on-behind first later update last x acts (subst (λ us. last_on x us ≡ Some last) now found))
+    ∙ sym (ap (λ us. then_step (state_after LwwSet us) last) was)
 
 pub or_set-delivered : (records : Records) (to : ℕ) (label : Label) (update : Update) → Contains (labels_of records) label → Makes label.op update → Holds OrSet records → IdentifiersAreOneLabels records
     → IsCausal (Deliver to label.number ∷ records) → state_after OrSet (updates_had OrSet (Deliver to label.number ∷ records) to) ≡ then_step (state_after OrSet (updates_had OrSet records to)) update

@@ -234,3 +234,16 @@ set-late first later update last x is acts found =
     let admitted = admitted-of_kind LwwSet ((first ++ later) ++ last ∷ []) no_rga ∙ list_all-append of_kind (first ++ later) (last ∷ []) ∙ and_from (list_all of_kind (first ++ later)) (list_all of_kind (last ∷ [])) others one in
     set-same (first ++ update ∷ later) ((first ++ later) ++ last ∷ []) is admitted (λ y. same_last first later update last x y acts found)
     ∙ fold-append (λ (state : Option State) (u : Update). then_step state u) (Some (Members [])) (first ++ later) (last ∷ [])
+
+-- where one of the updates behind or this one is the last, it is the last of these
+or_some : {A : Type 0} (a : Option A) (x : A) (b : Option A) (y : A) → option_or (option_or a (Some x)) b ≡ Some y → option_or a (Some x) ≡ Some y
+or_some a x b y is = sym (or_again a x b) ∙ is
+
+pub last_written-behind : (first later : List Update) (value last : ℕ) → last_written (first ++ Write value ∷ later) ≡ Some last → last_written (Write value ∷ later) ≡ Some last
+last_written-behind first later value last is =
+    or_some (last_written later) value (last_written first) last (sym (last_written-append first (Write value ∷ later)) ∙ is)
+
+pub last_on-behind : (first later : List Update) (u last : Update) (x : ℕ) → acts_on x u ≡ true → last_on x (first ++ u ∷ later) ≡ Some last → last_on x (u ∷ later) ≡ Some last
+last_on-behind first later u last x acts is =
+    last_on-cons x u later acts
+    ∙ or_some (last_on x later) u (last_on x first) last (ap (λ o. option_or o (last_on x first)) (sym (last_on-cons x u later acts)) ∙ sym (last_on-append x first (u ∷ later)) ∙ is)

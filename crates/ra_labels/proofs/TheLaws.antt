@@ -34,7 +34,7 @@ pub use Rattle.ra_labels.proofs.OrSets.{pair_below as pairs_by_element_and_then_
 -- laws::commuting
 pub use Rattle.ra_labels.proofs.Commuting.{counter-steps as steps_of_a_counter_commute, or_set-steps as steps_of_an_or_set_commute, counter-late as a_late_update_counts_as_the_last-counter, or_set-late as a_late_update_counts_as_the_last-or_set}
 -- laws::one_step
-pub use Rattle.ra_labels.proofs.OneStep.{removal-sees as a_removal_sees_what_it_takes_out, counter-delivered as a_delivery_is_one_step-counter, or_set-delivered as a_delivery_is_one_step-or_set}
+pub use Rattle.ra_labels.proofs.OneStep.{removal-sees as a_removal_sees_what_it_takes_out, counter-delivered as a_delivery_is_one_step-counter, register-delivered as a_delivery_is_one_step-register, set-delivered as a_delivery_is_one_step-lww_set, or_set-delivered as a_delivery_is_one_step-or_set}
 -- laws::overriding
 pub use Rattle.ra_labels.proofs.Overriding.{writes-last as writes_lead_to_the_last-last, writes-late as writes_lead_to_the_last-late, set-has as of_each_element_the_last_update_counts-has, set-same as of_each_element_the_last_update_counts-same, set-late as of_each_element_the_last_update_counts-late}
 -- laws::rga

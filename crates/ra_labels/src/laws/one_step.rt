@@ -1,17 +1,18 @@
 //! One delivery is one step.
-ghost use Rattle.std.specs.Prelude.{◌≡◌, true, false, ℕ, List, ◌∷◌, Contains};
-ghost use Rattle.ra_labels.specs.declared.kind.Kind.TheVariants.{Counter, OrSet};
+ghost use Rattle.std.specs.Prelude.{◌≡◌, true, false, ℕ, List, ◌∷◌, Contains, Some};
+ghost use Rattle.ra_labels.specs.declared.kind.Kind.TheVariants.{Counter, Register, LwwSet, OrSet};
 ghost use Rattle.ra_labels.specs.declared.operation.Op.TheVariants.{OrAdd, OrRemove};
 ghost use Rattle.ra_labels.specs.declared.operation.Update.{Update};
+ghost use Rattle.ra_labels.specs.declared.operation.Update.TheVariants.{Write};
 ghost use Rattle.ra_labels.specs.declared.label.Label.{Label};
 ghost use Rattle.ra_labels.specs.declared.command.Command.TheVariants.{Deliver};
 ghost use Rattle.ra_labels.specs.Records.{Records, labels_of};
 ghost use Rattle.ra_labels.specs.Visibility.{had, sees, IsCausal};
-ghost use Rattle.ra_labels.specs.Specification.{state_after};
+ghost use Rattle.ra_labels.specs.Specification.{state_after, is_admitted};
 ghost use Rattle.ra_labels.specs.Fault.{Holds};
-ghost use Rattle.ra_labels.specs.Laws.{IdentifiersAreOneLabels};
+ghost use Rattle.ra_labels.specs.Laws.{acts_on, IdentifiersAreOneLabels};
 ghost use Rattle.ra_labels.specs.Insertion.{updates_had, Makes};
-ghost use Rattle.ra_labels.specs.Commuting.{then_step};
+ghost use Rattle.ra_labels.specs.Commuting.{then_step, last_written, last_on};
 
 /// Where records hold and no two additions give one identifier, a removal sees each addition that it takes out.
 pub fn a_removal_sees_what_it_takes_out()
@@ -20,13 +21,24 @@ pub fn a_removal_sees_what_it_takes_out()
         → l.op ≡ OrRemove x ids → m.op ≡ OrAdd x id → Contains ids id → sees records l.number m.number ≡ true }
 {}
 
-/// A delivery to a replica of a counter, of an update that is new to it, is one step from where those lead that it had;
-/// and so is one of an OR-Set, where records hold, additions give identifiers of their own, and it is causal.
+/// A delivery to a replica of a counter, of an update that is new to it, is one step from where those lead that it had.
+/// Of a register and an LWW set it is that of the last update, over all or over those on its element. Of an OR-Set it
+/// is one step where records hold, additions give identifiers of their own, and the delivery is causal.
 pub fn a_delivery_is_one_step()
     ensures counter { (records : Records) (to : ℕ) (label : Label) (update : Update)
         → Contains (labels_of records) label → Makes label.op update → had records to label.number ≡ false
         → state_after Counter (updates_had Counter (Deliver to label.number ∷ records) to)
         ≡ then_step (state_after Counter (updates_had Counter records to)) update }
+    ensures register { (records : Records) (to : ℕ) (label : Label) (value last : ℕ)
+        → Contains (labels_of records) label → Makes label.op (Write value) → had records to label.number ≡ false
+        → let now = updates_had Register (Deliver to label.number ∷ records) to in is_admitted Register now ≡ true
+        → last_written now ≡ Some last
+        → state_after Register now ≡ then_step (state_after Register (updates_had Register records to)) (Write last) }
+    ensures lww_set { (records : Records) (to : ℕ) (label : Label) (update last : Update) (x : ℕ)
+        → Contains (labels_of records) label → Makes label.op update → had records to label.number ≡ false
+        → let now = updates_had LwwSet (Deliver to label.number ∷ records) to in is_admitted LwwSet now ≡ true
+        → acts_on x update ≡ true → last_on x now ≡ Some last
+        → state_after LwwSet now ≡ then_step (state_after LwwSet (updates_had LwwSet records to)) last }
     ensures or_set { (records : Records) (to : ℕ) (label : Label) (update : Update)
         → Contains (labels_of records) label → Makes label.op update → Holds OrSet records
         → IdentifiersAreOneLabels records → IsCausal (Deliver to label.number ∷ records)
