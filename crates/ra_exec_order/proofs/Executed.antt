@@ -10,12 +10,10 @@ use Rattle.ra_labels.specs.declared.operation.Op.{Op}
 use Rattle.ra_labels.specs.declared.label.Label.{Label}
 use Rattle.ra_labels.specs.declared.command.Command.TheVariants.{Operate, Deliver, Verdict}
 use Rattle.ra_labels.specs.Records.{Records, label_count, labels_of, next_label}
-use Rattle.ra_labels.specs.Linearization.{extends_visibility}
-use Rattle.ra_labels.specs.NamedOrder.{named_labels, named_sequence}
+use Rattle.ra_labels.specs.NamedOrder.{named_labels}
 use Rattle.ra_labels.proofs.TheLaws.{named_in_order_of_execution-labels}
 use Rattle.ra_visibility.specs.declared.order.Place.{Place}
-use Rattle.ra_visibility.specs.Order.{IsByExecution, IsPlaceOf, EachFitted, must_stand_before}
-use Rattle.ra_visibility.proofs.TheLaws.{visibility_is_extended_where_each_label_fitted}
+use Rattle.ra_visibility.specs.Order.{IsByExecution, IsPlaceOf, must_stand_before}
 
 labels_counted : (records : Records) → length (labels_of records) ≡ label_count records
 labels_counted [] = refl
@@ -42,15 +40,3 @@ last_fits kind records by op clock place by_execution at fits =
       at = ap (λ labels. slice_get labels place.at) named ∙ ap (slice_get (older ++ label ∷ [])) long ∙ get_at_seam older label;
       fits = fits ∙ sym (ap (list_all (λ m. not (must_stand_before now m label))) none);
     }
-
-each_fits : (kind : Kind) → IsByExecution kind → (records : Records) → EachFitted kind records
-each_fits kind by_execution [] = tt
-each_fits kind by_execution (Operate by op clock ∷ before) =
-    let place : Place = record { at = label_count before; fits = true } in
-    ((place, last_fits kind before by op clock place by_execution refl refl, refl), each_fits kind by_execution before)
-each_fits kind by_execution (Deliver to label ∷ before) = each_fits kind by_execution before
-each_fits kind by_execution (Verdict ∷ before) = each_fits kind by_execution before
-
--- the order of execution extends visibility
-pub always_extends : (kind : Kind) → IsByExecution kind → (records : Records) → extends_visibility records (named_sequence kind records) ≡ true
-always_extends kind by_execution records = visibility_is_extended_where_each_label_fitted kind records (each_fits kind by_execution records)

@@ -10,6 +10,7 @@ use Rattle.std.proofs.lemmas.List.Elements.{All-head, All-tail, All-weaker, All-
 use Rattle.std.proofs.lemmas.List.Sorted.{All-permutation, Contains-permutation, IsPermutation-sym}
 use Rattle.std.proofs.lemmas.Map.Keys.{IsDistinct-IsPermutation}
 use Rattle.ra_labels.specs.declared.kind.Kind.{Kind}
+use Rattle.ra_labels.specs.declared.kind.Kind.TheVariants.{Counter, OrSet}
 use Rattle.ra_labels.specs.declared.operation.Op.{Op}
 use Rattle.ra_labels.specs.declared.operation.Op.TheVariants as op
 use Rattle.ra_labels.specs.declared.label.Stamp.{Stamp}
@@ -19,7 +20,7 @@ use Rattle.ra_labels.specs.Records.{Records, label_count, labels_of}
 use Rattle.ra_labels.specs.Visibility.{sees, is_update, is_update_at}
 use Rattle.ra_labels.specs.Rewriting.{Part, Half, Act, acts_of, part_of, parts_of, update_of}
 use Rattle.ra_labels.specs.Linearization.{must_precede, extends, extends_visibility}
-use Rattle.ra_labels.specs.NamedOrder.{rank_of, stamp_cmp, label_cmp, named_labels, named_sequence}
+use Rattle.ra_labels.specs.NamedOrder.{lowest_rank, rank_of, stamp_cmp, label_cmp, named_labels, named_sequence}
 use Rattle.ra_labels.specs.Laws.{IsStampBelow, MustStandBefore}
 use Rattle.ra_labels.proofs.Places.{Contains-cons_cases, list_all-contains, at_head, behind_head, reached, from_where}
 use Rattle.ra_labels.proofs.Seen.{sees_earlier}
@@ -270,3 +271,20 @@ module _ (kind : Kind) (records : Records) where
             none_misplaced-extends records named (named_differ kind records)
             (allowed_by_ranks named sorted (λ m n m_there n_there. allow m n (Contains-permutation named labels m back m_there) (Contains-permutation named labels n back n_there)))),
       )
+
+not_below_itself : (s : Stamp) → ¬ IsStampBelow s s
+not_below_itself s below = elim below [
+  | inl clock ↦ absurd (omega (arith, clock))
+  | inr replica ↦ absurd (omega (arith, replica.1))
+]
+
+-- where all ranks are the lowest, none is greater
+pub execution-extends : (kind : Kind) (records : Records) → ((label : Label) → rank_of kind records label ≡ lowest_rank) → extends_visibility records (named_sequence kind records) ≡ true
+execution-extends kind records lowest =
+    (ranks-extend kind records).1 (λ m n m_there n_there must below. not_below_itself lowest_rank (rw (lowest n, lowest m) at below))
+
+pub counter-extends : (records : Records) → extends_visibility records (named_sequence Counter records) ≡ true
+counter-extends records = execution-extends Counter records (λ label. refl)
+
+pub or_set-extends : (records : Records) → extends_visibility records (named_sequence OrSet records) ≡ true
+or_set-extends records = execution-extends OrSet records (λ label. refl)

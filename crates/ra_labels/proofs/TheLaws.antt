@@ -59,8 +59,7 @@ pub use Rattle.ra_labels.proofs.Numbers.{numbers_of_labels as labels_are_numbere
 pub use Rattle.ra_labels.proofs.Unique.{label_found as each_number_has_its_label-found, named_labels-only as the_order_is_pinned}
 pub use Rattle.ra_labels.proofs.Holding.{IsPermutation-named_sequence as each_part_once}
 pub use Rattle.ra_labels.proofs.Order.{stamp_below as stamps_by_clock_and_then_by_replica-less, stamp_same as stamps_by_clock_and_then_by_replica-equal, lowest_below as the_lowest_rank_is_below_each_stamp, label_below as labels_by_rank_and_then_by_number, IsPermutation-named_labels as named_labels_are_sorted-same, IsSorted-named_labels as named_labels_are_sorted-sorted, named_labels-by_number as named_in_order_of_execution-labels}
-pub use Rattle.ra_labels.proofs.Extending.{execution-extends as the_order_of_execution_extends_visibility-labels, counter-extends as the_order_of_execution_extends_visibility-counter, or_set-extends as the_order_of_execution_extends_visibility-or_set}
-pub use Rattle.ra_labels.proofs.Ranking.{ranks-extend as visibility_is_extended_where_ranks_say_so}
+pub use Rattle.ra_labels.proofs.Ranking.{execution-extends as the_order_of_execution_extends_visibility-labels, counter-extends as the_order_of_execution_extends_visibility-counter, or_set-extends as the_order_of_execution_extends_visibility-or_set, ranks-extend as visibility_is_extended_where_ranks_say_so}
 -- laws::timestamps
 pub use Rattle.ra_labels.proofs.Timestamps.{timestamp-own as a_timestamp_is_the_greatest_seen-own, timestamp-reached as a_timestamp_is_the_greatest_seen-seen, timestamp-bounds as a_timestamp_is_the_greatest_seen-greatest, timestamp-append as a_timestamp_is_kept}
 pub use Rattle.ra_labels.proofs.Stamps.{taken-exactly as a_stamp_is_taken_where_a_label_has_it, stamps-once as stamps_are_given_once-one, stamps-once_all as stamps_are_given_once-all, fits-exactly as forms_that_deserve_no_refusal, stamp_taken-exactly as operations_with_a_taken_stamp_are_refused, id_taken-exactly as operations_with_a_taken_identifier_are_refused, operated-exactly as operations_are_accepted_where_nothing_is_taken, labels-fit as accepted_labels_fit-one, labels-fit_all as accepted_labels_fit-all}

@@ -1,3 +1,6 @@
+ghost use Rattle.std.specs.Prelude.{◌≡◌};
+ghost use Rattle.ra_labels.specs.Visibility.{is_update};
+
 use crate::elements::Elements;
 
 /// An operation as a replica reports it, with its arguments and its return value.
@@ -46,6 +49,21 @@ pub enum Op {
     RgaRemove(u32),
     /// RGA: a read, which returned these elements in this order.
     RgaRead(Elements),
+}
+
+impl Op {
+    /// Does the operation change the state? A removal from an OR-Set does, though it asks too.
+    pub fn is_update(&self) -> bool
+        ensures { result ≡ is_update self.now }
+    {
+        match self {
+            Op::Inc | Op::Dec | Op::Write(_) => true,
+            Op::LwwAdd(_) | Op::LwwRemove(_) => true,
+            Op::OrAdd { .. } | Op::OrRemove { .. } => true,
+            Op::After { .. } | Op::RgaRemove(_) => true,
+            Op::Count(_) | Op::Last(_) | Op::LwwRead(_) | Op::OrRead(_) | Op::RgaRead(_) => false,
+        }
+    }
 }
 
 /// What an operation does to the state of the sequential specification.

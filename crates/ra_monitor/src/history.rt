@@ -21,7 +21,6 @@ use crate::sequence::part_refs;
 use crate::setup::Setup;
 use crate::taken::{Taken, identifier_of};
 use ra_labels::{Cause, Command, Fault, Label, NoMemory, Op, Refusal, Reply, Stamp, fits};
-use ra_rewrite::parts;
 use ra_ticket::MOST_ENTRIES;
 use ra_visibility::{DeliverFault, NamedOrder, Place, Tracker};
 use std::alloc::Global;
@@ -213,7 +212,7 @@ impl History {
         ensures kept { OnErr result (vec_len self.new.labels ≡ vec_len self.old.labels) }
     {
         let label = label_of(self.labels.len() as u32, replica, op, clock)?;
-        let is_update = parts(&label)?.has_update();
+        let is_update = label.op.is_update();
         self.labels.reserve(1)?;
         self.order.spare()?;
         self.tracker.issue(replica, is_update)?;

@@ -1,5 +1,4 @@
-ghost use Rattle.std.specs.Prelude.{◌≡◌, option_to_list, filter_map, is_some};
-ghost use Rattle.std.specs.List.{list_any};
+ghost use Rattle.std.specs.Prelude.{◌≡◌, option_to_list, filter_map};
 ghost use Rattle.ra_labels.specs.Rewriting.{update_of, query_of};
 ghost use Rattle.ra_rewrite.specs.Parts.{acts_in};
 
@@ -24,16 +23,6 @@ pub enum Parts {
 }
 
 impl Parts {
-    /// Is one of them an update?
-    pub fn has_update(&self) -> bool
-        ensures { result ≡ list_any (λ act. is_some (update_of act.1)) (acts_in self.now) }
-    {
-        match self {
-            Parts::One(Part::Query(_)) => false,
-            Parts::One(Part::Update(_)) | Parts::Two(..) => true,
-        }
-    }
-
     /// What they do, if anything.
     pub fn into_update(self) -> Option<Update>
         ensures { option_to_list result ≡ filter_map (λ act. update_of act.1) (acts_in self) }

@@ -8,32 +8,28 @@ use ra_ticket::{Journal, StepFault};
 use std::alloc::Global;
 use std::process::Abort;
 
-/// What a replica reports in a row, or what is asked. The first number is the replica's.
-#[derive(Clone, Copy, Debug)]
-pub enum Say {
-    Inc(u8),
-    Dec(u8),
-    Read(u8, i32),
-    /// An increment that comes with this clock.
-    IncAt(u8, u32),
-    Got(u8, u32),
-    Verdict,
-}
-
-/// The command of what is said.
-pub fn command_of(say: Say) -> Command {
-    match say {
-        Say::Inc(replica) => operation(replica, Op::Inc, None),
-        Say::Dec(replica) => operation(replica, Op::Dec, None),
-        Say::Read(replica, answer) => operation(replica, Op::Count(answer), None),
-        Say::IncAt(replica, clock) => operation(replica, Op::Inc, Some(clock)),
-        Say::Got(replica, label) => Command::Deliver { replica, label },
-        Say::Verdict => Command::Verdict,
+/// What a replica reports: an operation with no clock.
+pub fn bare(replica: u8, op: Op) -> Command {
+    Command::Operate {
+        replica,
+        op,
+        stamp: None,
     }
 }
 
-fn operation(replica: u8, op: Op, stamp: Option<u32>) -> Command {
-    Command::Operate { replica, op, stamp }
+/// An increment.
+pub fn increment(replica: u8) -> Command {
+    bare(replica, Op::Inc)
+}
+
+/// A read of a counter.
+pub fn read(replica: u8, answer: i32) -> Command {
+    bare(replica, Op::Count(answer))
+}
+
+/// A delivery.
+pub fn got(replica: u8, label: u32) -> Command {
+    Command::Deliver { replica, label }
 }
 
 /// A monitor of a counter at this many replicas, whose log may have this many entries.
@@ -52,16 +48,6 @@ pub fn step_by(
     monitor: &mut Monitor,
     pass: u8,
     ticket: u64,
-    say: Say,
-) -> Result<Reply, StepFault<Command>> {
-    step_with(rt, monitor, pass, ticket, command_of(say))
-}
-
-fn step_with(
-    rt: &impl Abort,
-    monitor: &mut Monitor,
-    pass: u8,
-    ticket: u64,
     command: Command,
 ) -> Result<Reply, StepFault<Command>> {
     match monitor.last_ticket() {
@@ -74,14 +60,9 @@ fn step_with(
 }
 
 /// The reply to one command of pass 0, with the number of commands before it as its ticket.
-pub fn reply_to(rt: &impl Abort, monitor: &mut Monitor, say: Say) -> Reply {
-    reply_to_command(rt, monitor, command_of(say))
-}
-
-/// The same, of a command.
-pub fn reply_to_command(rt: &impl Abort, monitor: &mut Monitor, command: Command) -> Reply {
+pub fn reply_to(rt: &impl Abort, monitor: &mut Monitor, command: Command) -> Reply {
     let ticket = monitor.log().len() as u64;
-    match step_with(rt, monitor, 0, ticket, command) {
+    match step_by(rt, monitor, 0, ticket, command) {
         Ok(reply) => reply,
         Err(StepFault::Full(_)) => panic!(rt; "full"),
         Err(StepFault::NoMemory(_)) => panic!(rt; "no memory"),

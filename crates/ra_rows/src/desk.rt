@@ -1,8 +1,8 @@
 //! A monitor behind the ticket lock.
 
-use crate::commands::{Say, command_of, counter_of};
+use crate::commands::{counter_of, got, increment, read};
 use crate::lock::threads::last_pass;
-use ra_labels::{Cause, Reply};
+use ra_labels::{Cause, Command, Reply};
 use ra_monitor::Desk;
 use ra_ticket::{CallFault, GREATEST_TICKET, Glance, TicketLock};
 use std::process::Abort;
@@ -16,13 +16,13 @@ fn a_desk_answers_as_the_monitor(rt: HostRuntime) -> Result<(), Fail> {
     };
     let desk: Desk = desk;
     for mut pass in passes {
-        let (say, want) = match pass.number() {
-            0 => (Say::Inc(0), Ok(Reply::Ok(0))),
-            1 => (Say::Got(1, 0), Ok(Reply::Got(0))),
-            2 => (Say::Read(1, 1), Ok(Reply::Ok(1))),
-            _ => (Say::Verdict, Err(CallFault::Full(command_of(Say::Verdict)))),
+        let (command, want) = match pass.number() {
+            0 => (increment(0), Ok(Reply::Ok(0))),
+            1 => (got(1, 0), Ok(Reply::Got(0))),
+            2 => (read(1, 1), Ok(Reply::Ok(1))),
+            _ => (Command::Verdict, Err(CallFault::Full(Command::Verdict))),
         };
-        assert_eq!(rt; desk.submit(&rt, &mut pass, command_of(say)), want);
+        assert_eq!(rt; desk.submit(&rt, &mut pass, command), want);
     }
     Ok(())
 }
@@ -34,12 +34,12 @@ fn one_pass_fills_a_desk_at_once(rt: HostRuntime) -> Result<(), Fail> {
         panic!(rt; "no desk");
     };
     let mut pass = passes.pop().ok_or("a pass")?;
-    let verdict = command_of(Say::Verdict);
+    let verdict = Command::Verdict;
     assert_eq!(rt; desk.try_submit(&mut pass, verdict), Ok(Reply::Yes(0)));
-    let verdict = command_of(Say::Verdict);
+    let verdict = Command::Verdict;
     assert_eq!(rt; desk.try_submit(&mut pass, verdict), Ok(Reply::Yes(0)));
-    let full = Err(CallFault::Full(command_of(Say::Verdict)));
-    assert_eq!(rt; desk.try_submit(&mut pass, command_of(Say::Verdict)), full);
+    let full = Err(CallFault::Full(Command::Verdict));
+    assert_eq!(rt; desk.try_submit(&mut pass, Command::Verdict), full);
     Ok(())
 }
 
@@ -53,16 +53,16 @@ fn passes_that_meet_see_what_neither_had_seen(rt: HostRuntime) -> Result<(), Fai
     let third = last_pass(&desk, &mut passes).ok_or("a pass")?;
     let mut second = last_pass(&desk, &mut passes).ok_or("a pass")?;
     let mut first = last_pass(&desk, &mut passes).ok_or("a pass")?;
-    let increment = command_of(Say::Inc(0));
+    let increment = increment(0);
     assert_eq!(rt; desk.submit(&rt, &mut first, increment), Ok(Reply::Ok(0)));
     let one = Glance {
         calls: 1,
         fault: None,
     };
     assert_eq!(rt; desk.glance(&mut first), one);
-    let delivery = command_of(Say::Got(1, 0));
+    let delivery = got(1, 0);
     assert_eq!(rt; desk.try_submit(&mut second, delivery), Ok(Reply::Got(0)));
-    let read = command_of(Say::Read(1, 1));
+    let read = read(1, 1);
     assert_eq!(rt; desk.try_submit(&mut second, read), Ok(Reply::Ok(1)));
     let (first, third, calls) = desk.meet(first, third);
     assert_eq!(rt; calls, 3);
@@ -81,10 +81,10 @@ fn a_desk_is_worn_after_the_greatest_ticket(rt: HostRuntime) -> Result<(), Fail>
         panic!(rt; "no desk");
     };
     let mut pass = passes.pop().ok_or("a pass")?;
-    let verdict = command_of(Say::Verdict);
+    let verdict = Command::Verdict;
     assert_eq!(rt; desk.submit(&rt, &mut pass, verdict), Ok(Reply::Yes(0)));
-    let worn = Err(CallFault::Worn(command_of(Say::Verdict)));
-    assert_eq!(rt; desk.submit(&rt, &mut pass, command_of(Say::Verdict)), worn);
+    let worn = Err(CallFault::Worn(Command::Verdict));
+    assert_eq!(rt; desk.submit(&rt, &mut pass, Command::Verdict), worn);
     let one = Glance {
         calls: 1,
         fault: None,
@@ -100,10 +100,10 @@ fn a_worn_desk_is_worn_for_an_attempt_too(rt: HostRuntime) -> Result<(), Fail> {
         panic!(rt; "no desk");
     };
     let mut pass = passes.pop().ok_or("a pass")?;
-    let verdict = command_of(Say::Verdict);
+    let verdict = Command::Verdict;
     assert_eq!(rt; desk.submit(&rt, &mut pass, verdict), Ok(Reply::Yes(0)));
-    let worn = Err(CallFault::Worn(command_of(Say::Verdict)));
-    assert_eq!(rt; desk.try_submit(&mut pass, command_of(Say::Verdict)), worn);
+    let worn = Err(CallFault::Worn(Command::Verdict));
+    assert_eq!(rt; desk.try_submit(&mut pass, Command::Verdict), worn);
     Ok(())
 }
 
@@ -115,13 +115,13 @@ fn a_glance_tells_the_label_of_a_fault(rt: HostRuntime) -> Result<(), Fail> {
     };
     let mut other = passes.pop().ok_or("a pass")?;
     let mut pass = passes.pop().ok_or("a pass")?;
-    let increment = command_of(Say::Inc(0));
+    let increment = increment(0);
     assert_eq!(rt; desk.submit(&rt, &mut pass, increment), Ok(Reply::Ok(0)));
     let no = Reply::No {
         label: 1,
         cause: Cause::Query,
     };
-    let read = command_of(Say::Read(1, 1));
+    let read = read(1, 1);
     assert_eq!(rt; desk.submit(&rt, &mut pass, read), Ok(no));
     let fault = Glance {
         calls: 2,

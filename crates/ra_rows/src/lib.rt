@@ -5,11 +5,11 @@
 #[cfg(test)]
 mod commands;
 #[cfg(test)]
+mod counters;
+#[cfg(test)]
 mod desk;
 #[cfg(test)]
 mod first_calls;
-#[cfg(test)]
-mod histories;
 #[cfg(test)]
 mod limits;
 #[cfg(test)]

@@ -1,9 +1,8 @@
 //! Limits of a monitor, and histories of thousands.
 
-use crate::commands::{Say, command_of, counter_of, reply_to, step_by};
-use crate::histories::stands_in_turn;
-use ra_labels::{Kind, Refusal, Reply};
-use ra_monitor::{Monitor, NewFault};
+use crate::commands::{counter_of, got, increment, read, reply_to, step_by};
+use ra_labels::{Command, Kind, Refusal, Reply};
+use ra_monitor::{Half, Monitor, NewFault, PartRef};
 use ra_ticket::{Journal, StepFault};
 use std::process::Abort;
 use std::test::Fail;
@@ -13,11 +12,11 @@ fn a_full_log_hands_the_command_back(rt: HostRuntime) -> Result<(), Fail> {
     let mut monitor = counter_of(&rt, rt.alloc(), 3, 2);
     assert_eq!(rt; monitor.last_ticket(), None);
     for ticket in [5, 9] {
-        let reply = step_by(&rt, &mut monitor, 0, ticket, Say::Verdict);
+        let reply = step_by(&rt, &mut monitor, 0, ticket, Command::Verdict);
         assert_eq!(rt; reply, Ok(Reply::Yes(0)));
     }
-    let third = step_by(&rt, &mut monitor, 0, 10, Say::Inc(2));
-    assert_eq!(rt; third, Err(StepFault::Full(command_of(Say::Inc(2)))));
+    let third = step_by(&rt, &mut monitor, 0, 10, increment(2));
+    assert_eq!(rt; third, Err(StepFault::Full(increment(2))));
     assert_eq!(rt; monitor.report().calls, 2);
     assert_eq!(rt; monitor.last_ticket(), Some(9));
     Ok(())
@@ -42,12 +41,17 @@ fn replicas_are_one_to_sixteen_and_tested_first(rt: HostRuntime) -> Result<(), F
 #[test]
 fn the_greatest_pass_ticket_and_replica_are_taken(rt: HostRuntime) -> Result<(), Fail> {
     let mut monitor = counter_of(&rt, rt.alloc(), 16, 3);
-    for (pass, ticket, say, want) in [
-        (255, 0, Say::Inc(15), Reply::Ok(0)),
-        (63, 1, Say::Read(15, 1), Reply::Ok(1)),
-        (1, 18_446_744_073_709_551_615, Say::Verdict, Reply::Yes(2)),
+    for (pass, ticket, command, want) in [
+        (255, 0, increment(15), Reply::Ok(0)),
+        (63, 1, read(15, 1), Reply::Ok(1)),
+        (
+            1,
+            18_446_744_073_709_551_615,
+            Command::Verdict,
+            Reply::Yes(2),
+        ),
     ] {
-        let reply = step_by(&rt, &mut monitor, pass, ticket, say);
+        let reply = step_by(&rt, &mut monitor, pass, ticket, command);
         assert_eq!(rt; reply, Ok(want), "at {pass} and {ticket}");
     }
     Ok(())
@@ -57,29 +61,44 @@ fn the_greatest_pass_ticket_and_replica_are_taken(rt: HostRuntime) -> Result<(),
 fn thousands_of_labels_are_taken(rt: HostRuntime) -> Result<(), Fail> {
     let mut monitor = counter_of(&rt, rt.alloc(), 3, 1_048_576);
     for number in 0..5_000u32 {
-        let reply = reply_to(&rt, &mut monitor, Say::Inc((number % 2) as u8));
+        let reply = reply_to(&rt, &mut monitor, increment((number % 2) as u8));
         assert_eq!(rt; reply, Reply::Ok(number));
         if number == 299 {
             stands_in_turn(&rt, &monitor, 300);
         }
     }
     assert_eq!(rt;
-        reply_to(&rt, &mut monitor, Say::Got(2, 4_999)),
+        reply_to(&rt, &mut monitor, got(2, 4_999)),
         Reply::Refused(Refusal::NotCausal(1))
     );
-    assert_eq!(rt; reply_to(&rt, &mut monitor, Say::Got(2, 1)), Reply::Got(1));
+    assert_eq!(rt; reply_to(&rt, &mut monitor, got(2, 1)), Reply::Got(1));
+    assert_eq!(rt; reply_to(&rt, &mut monitor, read(2, 1)), Reply::Ok(5_000));
     assert_eq!(rt;
-        reply_to(&rt, &mut monitor, Say::Read(2, 1)),
-        Reply::Ok(5_000)
-    );
-    assert_eq!(rt;
-        reply_to(&rt, &mut monitor, Say::Read(0, 2_500)),
+        reply_to(&rt, &mut monitor, read(0, 2_500)),
         Reply::Ok(5_001)
     );
     assert_eq!(rt;
-        reply_to(&rt, &mut monitor, Say::Verdict),
+        reply_to(&rt, &mut monitor, Command::Verdict),
         Reply::Yes(5_002)
     );
     stands_in_turn(&rt, &monitor, 5_002);
     Ok(())
+}
+
+// The sequence has this many labels, in the order of their numbers, each of one part.
+fn stands_in_turn(rt: &impl Abort, monitor: &Monitor, labels: u32) {
+    let Ok(sequence) = monitor.sequence() else {
+        panic!(rt; "no memory");
+    };
+    assert_eq!(rt; sequence.len(), labels as usize);
+    assert!(rt; are_whole_in_turn(sequence.as_slice()));
+}
+
+fn are_whole_in_turn(parts: &[PartRef]) -> bool {
+    for (at, part) in parts.iter().enumerate() {
+        if part.label as usize != at || part.half != Half::Whole {
+            return false;
+        }
+    }
+    true
 }

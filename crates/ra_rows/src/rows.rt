@@ -1,6 +1,6 @@
 //! Worked histories of any kind, as rows of a table: what is said, and what is answered.
 
-use crate::commands::reply_to_command;
+use crate::commands::{bare, got, increment, read, reply_to};
 use ra_labels::{Command, Elements, Fault, Kind, Op, Reply};
 use ra_monitor::{Half, Monitor, PartRef, Report};
 use std::alloc::Global;
@@ -11,6 +11,10 @@ use std::process::Abort;
 #[derive(Clone, Copy, Debug)]
 pub enum Say {
     Inc(u8),
+    /// An increment that comes with this clock.
+    IncAt(u8, u32),
+    Dec(u8),
+    Read(u8, i32),
     Write(u8, u32, u32),
     /// A write that comes with no clock.
     WriteBare(u8, u32),
@@ -42,49 +46,46 @@ pub enum Say {
 // The command of what is said.
 fn command_of(rt: &impl Abort, alloc: Global, say: Say) -> Command {
     match say {
-        Say::Inc(replica) => operation(replica, Op::Inc, None),
-        Say::Write(replica, value, clock) => operation(replica, Op::Write(value), Some(clock)),
-        Say::WriteBare(replica, value) => operation(replica, Op::Write(value), None),
-        Say::Last(replica, answer) => operation(replica, Op::Last(answer), None),
-        Say::LastAt(replica, answer, clock) => operation(replica, Op::Last(answer), Some(clock)),
-        Say::Add(replica, element, clock) => operation(replica, Op::LwwAdd(element), Some(clock)),
-        Say::Remove(replica, element, clock) => {
-            operation(replica, Op::LwwRemove(element), Some(clock))
-        }
-        Say::OrAdd(replica, element, id) => operation(replica, Op::OrAdd { element, id }, None),
+        Say::Inc(replica) => increment(replica),
+        Say::IncAt(replica, clock) => stamped(replica, Op::Inc, clock),
+        Say::Dec(replica) => bare(replica, Op::Dec),
+        Say::Read(replica, answer) => read(replica, answer),
+        Say::Write(replica, value, clock) => stamped(replica, Op::Write(value), clock),
+        Say::WriteBare(replica, value) => bare(replica, Op::Write(value)),
+        Say::Last(replica, answer) => bare(replica, Op::Last(answer)),
+        Say::LastAt(replica, answer, clock) => stamped(replica, Op::Last(answer), clock),
+        Say::Add(replica, element, clock) => stamped(replica, Op::LwwAdd(element), clock),
+        Say::Remove(replica, element, clock) => { stamped(replica, Op::LwwRemove(element), clock) }
+        Say::OrAdd(replica, element, id) => bare(replica, Op::OrAdd { element, id }),
         Say::OrAddAt(replica, element, id, clock) => {
-            operation(replica, Op::OrAdd { element, id }, Some(clock))
+            stamped(replica, Op::OrAdd { element, id }, clock)
         }
         Say::After(replica, anchor, element, clock) => {
-            operation(replica, Op::After { anchor, element }, Some(clock))
+            stamped(replica, Op::After { anchor, element }, clock)
         }
-        Say::AfterBare(replica, anchor, element) => {
-            operation(replica, Op::After { anchor, element }, None)
-        }
-        Say::RgaRemove(replica, element) => operation(replica, Op::RgaRemove(element), None),
+        Say::AfterBare(replica, anchor, element) => { bare(replica, Op::After { anchor, element }) }
+        Say::RgaRemove(replica, element) => bare(replica, Op::RgaRemove(element)),
         Say::RgaRemoveAt(replica, element, clock) => {
-            operation(replica, Op::RgaRemove(element), Some(clock))
+            stamped(replica, Op::RgaRemove(element), clock)
         }
-        Say::Got(replica, label) => Command::Deliver { replica, label },
+        Say::Got(replica, label) => got(replica, label),
         Say::Verdict => Command::Verdict,
-        Say::Elements(replica, list) => {
-            operation(replica, Op::LwwRead(elements_of(rt, alloc, list)), None)
-        }
-        Say::OrRead(replica, list) => {
-            operation(replica, Op::OrRead(elements_of(rt, alloc, list)), None)
-        }
-        Say::RgaRead(replica, list) => {
-            operation(replica, Op::RgaRead(elements_of(rt, alloc, list)), None)
-        }
+        Say::Elements(replica, list) => { bare(replica, Op::LwwRead(elements_of(rt, alloc, list))) }
+        Say::OrRead(replica, list) => { bare(replica, Op::OrRead(elements_of(rt, alloc, list))) }
+        Say::RgaRead(replica, list) => { bare(replica, Op::RgaRead(elements_of(rt, alloc, list))) }
         Say::OrRemove(replica, element, list) => {
             let ids = elements_of(rt, alloc, list);
-            operation(replica, Op::OrRemove { element, ids }, None)
+            bare(replica, Op::OrRemove { element, ids })
         }
     }
 }
 
-fn operation(replica: u8, op: Op, stamp: Option<u32>) -> Command {
-    Command::Operate { replica, op, stamp }
+fn stamped(replica: u8, op: Op, clock: u32) -> Command {
+    Command::Operate {
+        replica,
+        op,
+        stamp: Some(clock),
+    }
 }
 
 fn elements_of(rt: &impl Abort, alloc: Global, list: &[u32]) -> Elements {
@@ -116,7 +117,7 @@ pub fn are_answered(rt: &impl Abort, alloc: Global, rows: &[Row]) {
         };
         for (say, want) in row.steps {
             let command = command_of(rt, alloc, *say);
-            let reply = reply_to_command(rt, &mut monitor, command);
+            let reply = reply_to(rt, &mut monitor, command);
             assert_eq!(rt; reply, *want, "{}, at {say:?}", row.name);
         }
         let Ok(calls) = u32::try_from(row.steps.len()) else {

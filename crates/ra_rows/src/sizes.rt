@@ -3,7 +3,7 @@
 ghost use Rattle.std.specs.Prelude.{◌≡◌, ◌+◌, ◌<◌, ◌≤◌, length};
 ghost use Rattle.ra_visibility.specs.Tracked.{labels_in, replicas_in};
 
-use crate::commands::reply_to_command;
+use crate::commands::reply_to;
 use ra_labels::{Command, Elements, Kind, Label, Op, Query, Refusal, Reply, Stamp, Update};
 use ra_monitor::Monitor;
 use ra_seqspec::State;
@@ -92,14 +92,14 @@ fn thousands_of_elements_are_put_in(rt: HostRuntime) -> Result<(), Fail> {
     for number in 0..4_200u32 {
         let replica = (number / 2_100) as u8;
         let clock = 2 * (number % 2_100) + 2 - replica as u32;
-        let reply = reply_to_command(&rt, &mut monitor, add(replica, number ^ 1, clock));
+        let reply = reply_to(&rt, &mut monitor, add(replica, number ^ 1, clock));
         assert_eq!(rt; reply, Reply::Ok(number));
         if number < 2_100 && all.push(number).is_err() {
             panic!(rt; "no memory");
         }
     }
     for (replica, clock) in [(0, 2), (0, 4_200), (1, 1), (1, 4_199)] {
-        let reply = reply_to_command(&rt, &mut monitor, add(replica, 0, clock));
+        let reply = reply_to(&rt, &mut monitor, add(replica, 0, clock));
         assert_eq!(rt; reply, Reply::Refused(Refusal::StampTaken));
     }
     let read = Command::Operate {
@@ -107,7 +107,7 @@ fn thousands_of_elements_are_put_in(rt: HostRuntime) -> Result<(), Fail> {
         op: Op::LwwRead(Elements::new(all)),
         stamp: None,
     };
-    let reply = reply_to_command(&rt, &mut monitor, read);
+    let reply = reply_to(&rt, &mut monitor, read);
     assert_eq!(rt; reply, Reply::Ok(4_200));
     let Ok(sequence) = monitor.sequence() else {
         panic!(rt; "no memory");

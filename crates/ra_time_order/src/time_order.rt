@@ -1,6 +1,5 @@
 ghost use Rattle.std.specs.Prelude.{◌≡◌, ℕ, true, [], map, IfOk};
 ghost use Rattle.ra_labels.specs.declared.kind.Kind.{Kind};
-ghost use Rattle.ra_labels.specs.Visibility.{is_update};
 ghost use Rattle.ra_visibility.specs.Order.{IsByTimestamp};
 ghost use Rattle.ra_time_order.specs.Positions.{IsPastAll};
 
@@ -8,7 +7,7 @@ use crate::entry::Entry;
 use crate::greatest::is_at_most;
 use crate::replicas::Replicas;
 use crate::sorted::Sorted;
-use ra_labels::{Label, NoMemory, Op};
+use ra_labels::{Label, NoMemory};
 use ra_visibility::{NamedOrder, Place, Seen};
 use std::alloc::Global;
 use std::marker::Model;
@@ -87,7 +86,7 @@ impl NamedOrder for TimeOrder {
             label: label.number,
         });
         self.replicas
-            .push(label.replica, is_update(&label.op), label.stamp);
+            .push(label.replica, label.op.is_update(), label.stamp);
     }
 
     /// Costs a step for each run before the position.
@@ -98,19 +97,6 @@ impl NamedOrder for TimeOrder {
     ghost lists = { λ order kind first records stands. listed-named order kind first records stands };
 
     ghost keeps = { λ order kind first records to n stands. stands_delivered order kind first records to n stands };
-}
-
-// Does the operation change the state?
-fn is_update(op: &Op) -> bool
-    ensures { result ≡ is_update op.now }
-{
-    match op {
-        Op::Inc | Op::Dec | Op::Write(_) => true,
-        Op::LwwAdd(_) | Op::LwwRemove(_) => true,
-        Op::OrAdd { .. } | Op::OrRemove { .. } => true,
-        Op::After { .. } | Op::RgaRemove(_) => true,
-        Op::Count(_) | Op::Last(_) | Op::LwwRead(_) | Op::OrRead(_) | Op::RgaRead(_) => false,
-    }
 }
 
 // Has the label a stamp of its own, above those of all labels?

@@ -1,14 +1,11 @@
 use Rattle.std.proofs.Common.{◌≡◌, ℕ, ◌<◌, List, [], ◌∷◌, ◌++◌, length, take, Some, Ok, Err, refl, sym, ap, ◌∙◌, arith}
-use Rattle.std.specs.Prelude.{Result, OnErr, is_some, vec_len}
-use Rattle.std.specs.List.{list_any}
+use Rattle.std.specs.Prelude.{Result, OnErr, vec_len}
 use Rattle.std.proofs.lemmas.List.{take-append-le, take_all}
 use Rattle.ra_labels.specs.declared.label.Label.{Label}
 use Rattle.ra_labels.specs.Records.{label_count, next_label}
 use Rattle.ra_labels.specs.Visibility.{is_update}
-use Rattle.ra_labels.specs.Rewriting.{Half, Act, acts_of, update_of}
 use Rattle.ra_labels.specs.Fault.{records_before_fault}
 use Rattle.ra_labels.specs.Answer.{has_rising_list}
-use Rattle.ra_labels.proofs.TheLaws.{update_where_a_part_is_one}
 use Rattle.ra_visibility.specs.Tracked.{Tracked}
 use Rattle.ra_monitor.specs.declared.history.History.{History}
 use Rattle.ra_monitor.proofs.Growth.{stands_same, newest_stands, taken_known}
@@ -42,9 +39,7 @@ returns-in-Ok-clause-taken c = λ records stands none fits.
     let label = c.in_ok-label.label in
     let numbered : c.len.result ≡ label_count records = omega (arith, c.len.ensures, c.requires.labels, stands.tracker.labels) in
     let is : label ≡ next_label records by op clock = c.in_ok-label.ensures.next records numbered in
-    let acts = c.in_ok-parts.ensures.acts ∙ ap (λ l. acts_of l.op) is in
-    let update : is_update op ≡ c.has_update-is_update.result =
-    update_where_a_part_is_one op ∙ sym (c.has_update-is_update.ensures ∙ ap (list_any (λ (act : Half × Act). is_some (update_of act.1))) acts) in
+    let update : is_update op ≡ c.is_update-is_update.result = sym (c.is_update-is_update.ensures ∙ ap (λ (l : Label). is_update l.op) is) in
     let known : by < setup.replicas = omega (arith, c.requires.replica, stands.tracker.replicas) in
     c.in-Ok.ensures.answered records by op clock (newest_stands self _ setup records by op clock label stands none
     (c.in_ok-issue.ensures.stands setup.replicas records op clock stands.tracker update) is

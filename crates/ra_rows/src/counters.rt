@@ -1,23 +1,8 @@
-//! Worked histories, as rows of one table: what is said, and what is answered.
+//! Worked histories of counters.
 
-use crate::commands::{Say, counter_of, reply_to};
+use crate::rows::{Row, Say, are_answered};
 use ra_labels::{Cause, Fault, Kind, Refusal, Reply};
-use ra_monitor::{Half, Monitor, PartRef, Report};
-use std::process::Abort;
 use std::test::Fail;
-
-// A history of three replicas.
-#[derive(Clone, Copy)]
-struct Row {
-    // What it shows.
-    name: &'static str,
-    steps: &'static [(Say, Reply)],
-    labels: u32,
-    refused: u32,
-    fault: Option<Fault>,
-    // How many labels stand in the sequence, each of one part.
-    sequence: u32,
-}
 
 const NO_AT_ONE: Reply = Reply::No {
     label: 1,
@@ -27,6 +12,7 @@ const NO_AT_ONE: Reply = Reply::No {
 const COUNTERS: [Row; 9] = [
     Row {
         name: "everything was delivered",
+        kind: Kind::Counter,
         steps: &[
             (Say::Inc(0), Reply::Ok(0)),
             (Say::Got(1, 0), Reply::Got(0)),
@@ -35,10 +21,11 @@ const COUNTERS: [Row; 9] = [
         labels: 2,
         refused: 0,
         fault: None,
-        sequence: 2,
+        sequence: &[0, 1],
     },
     Row {
         name: "nothing was delivered",
+        kind: Kind::Counter,
         steps: &[
             (Say::Inc(0), Reply::Ok(0)),
             (Say::Read(1, 1), NO_AT_ONE),
@@ -51,18 +38,20 @@ const COUNTERS: [Row; 9] = [
             label: 1,
             cause: Cause::Query,
         }),
-        sequence: 1,
+        sequence: &[0],
     },
     Row {
         name: "nothing happened",
+        kind: Kind::Counter,
         steps: &[],
         labels: 0,
         refused: 0,
         fault: None,
-        sequence: 0,
+        sequence: &[],
     },
     Row {
         name: "a read is held against what it sees",
+        kind: Kind::Counter,
         steps: &[
             (Say::Inc(0), Reply::Ok(0)),
             (Say::Dec(1), Reply::Ok(1)),
@@ -78,10 +67,11 @@ const COUNTERS: [Row; 9] = [
         labels: 8,
         refused: 0,
         fault: None,
-        sequence: 8,
+        sequence: &[0, 1, 2, 3, 4, 5, 6, 7],
     },
     Row {
         name: "a first read of one fails",
+        kind: Kind::Counter,
         steps: &[(
             Say::Read(0, 1),
             Reply::No {
@@ -95,10 +85,11 @@ const COUNTERS: [Row; 9] = [
             label: 0,
             cause: Cause::Query,
         }),
-        sequence: 0,
+        sequence: &[],
     },
     Row {
         name: "refusals come in their order",
+        kind: Kind::Counter,
         steps: &[
             (Say::IncAt(3, 7), Reply::Refused(Refusal::UnknownReplica)),
             (Say::IncAt(2, 0), Reply::Refused(Refusal::StampUnwanted)),
@@ -115,10 +106,11 @@ const COUNTERS: [Row; 9] = [
         labels: 2,
         refused: 7,
         fault: None,
-        sequence: 2,
+        sequence: &[0, 1],
     },
     Row {
         name: "an update came before one that it saw",
+        kind: Kind::Counter,
         steps: &[
             (Say::Inc(0), Reply::Ok(0)),
             (Say::Got(1, 0), Reply::Got(0)),
@@ -131,10 +123,11 @@ const COUNTERS: [Row; 9] = [
         labels: 3,
         refused: 1,
         fault: None,
-        sequence: 3,
+        sequence: &[0, 1, 2],
     },
     Row {
         name: "of two missing labels the least is named",
+        kind: Kind::Counter,
         steps: &[
             (Say::Inc(0), Reply::Ok(0)),
             (Say::Inc(1), Reply::Ok(1)),
@@ -149,10 +142,11 @@ const COUNTERS: [Row; 9] = [
         labels: 3,
         refused: 2,
         fault: None,
-        sequence: 3,
+        sequence: &[0, 1, 2],
     },
     Row {
         name: "two decrements",
+        kind: Kind::Counter,
         steps: &[
             (Say::Dec(0), Reply::Ok(0)),
             (Say::Dec(0), Reply::Ok(1)),
@@ -161,45 +155,12 @@ const COUNTERS: [Row; 9] = [
         labels: 3,
         refused: 0,
         fault: None,
-        sequence: 3,
+        sequence: &[0, 1, 2],
     },
 ];
 
 #[test]
-fn histories_are_answered(rt: HostRuntime) -> Result<(), Fail> {
-    for row in COUNTERS {
-        let mut monitor = counter_of(&rt, rt.alloc(), 3, 100);
-        for (say, want) in row.steps {
-            let reply = reply_to(&rt, &mut monitor, *say);
-            assert_eq!(rt; reply, *want, "{}, at {say:?}", row.name);
-        }
-        let report = Report {
-            kind: Kind::Counter,
-            calls: row.steps.len() as u32,
-            labels: row.labels,
-            refused: row.refused,
-            fault: row.fault,
-        };
-        assert_eq!(rt; monitor.report(), report, "{}", row.name);
-        stands_in_turn(&rt, &monitor, row.sequence);
-    }
+fn counters_are_answered(rt: HostRuntime) -> Result<(), Fail> {
+    are_answered(&rt, rt.alloc(), &COUNTERS);
     Ok(())
-}
-
-/// The sequence has this many labels, in the order of their numbers, each of one part.
-pub fn stands_in_turn(rt: &impl Abort, monitor: &Monitor, labels: u32) {
-    let Ok(sequence) = monitor.sequence() else {
-        panic!(rt; "no memory");
-    };
-    assert_eq!(rt; sequence.len(), labels as usize);
-    assert!(rt; are_whole_in_turn(sequence.as_slice()));
-}
-
-fn are_whole_in_turn(parts: &[PartRef]) -> bool {
-    for (at, part) in parts.iter().enumerate() {
-        if part.label as usize != at || part.half != Half::Whole {
-            return false;
-        }
-    }
-    true
 }
