@@ -1,0 +1,15 @@
+pub mod Grammar
+pub mod Fields
+pub mod Names
+pub mod Reading
+pub mod Lines
+pub mod Text
+pub mod Output
+pub mod Written
+pub mod Faults
+pub mod History
+pub mod HistoryKept
+pub mod Sessions
+pub mod Run
+pub mod Laws
+pub mod Report
