@@ -35,7 +35,7 @@ pub use fault::{CheckFault, LineFault, NamesFault};
 pub use name::Names;
 pub use outcome::{Outcome, status};
 pub use reading::{Header, Item, Reading};
-pub use report::report_json;
+pub use report::{report_json, write_report};
 pub use run::check;
 pub use session::Session;
 

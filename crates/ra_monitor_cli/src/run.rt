@@ -1,7 +1,7 @@
 //! The program, over the words of its command line, a reader and two writers.
 ghost use Rattle.std.specs.Prelude.{◌≡◌, ◌≢◌, Bool, None, Some, codes};
 ghost use Rattle.ra_history_text.specs.Faults.{check_fault_words};
-ghost use Rattle.ra_monitor_cli.specs.Program.{asked_by, stop_words, ends_with, StopsProgram, ReportsOutcome, ChecksText};
+ghost use Rattle.ra_monitor_cli.specs.Program.{asked_by, stop_words, ends_with, StopsProgram, ReportsOutcome, EndsAnswered, ChecksText};
 ghost use Rattle.ra_monitor_cli.specs.declared.words.Run.TheVariants.{Check};
 
 use crate::words::{Run, WordsFault, run_of_kept};
@@ -65,13 +65,31 @@ fn run_check<R: Read, W: Write, E: Write>(
     ensures silent { result.status ≢ 2 → err.new ≡ err.old }
 {
     match check(alloc, reader, out) {
-        Ok(outcome) if report => end_with_report(alloc, outcome, out, err),
-        Ok(outcome) => end(outcome),
+        Ok(outcome) => end_answered(alloc, report, outcome, out, err),
         Err(fault) => stop(err, fault),
     }
 }
 
 // All was read and answered.
+fn end_answered<W: Write, E: Write>(
+    alloc: Global,
+    report: bool,
+    outcome: Outcome,
+    out: &mut W,
+    err: &mut E,
+) -> Ending
+    ensures ended { EndsAnswered report outcome result (W.contents out.old) (W.contents out.new)
+        (E.contents err.old) (E.contents err.new) }
+    ensures silent { result.status ≢ 2 → err.new ≡ err.old }
+{
+    if report {
+        end_with_report(alloc, outcome, out, err)
+    } else {
+        end(outcome)
+    }
+}
+
+// With nothing to tell.
 fn end(outcome: Outcome) -> Ending
     ensures { result ≡ ends_with outcome }
 {
@@ -81,7 +99,7 @@ fn end(outcome: Outcome) -> Ending
     }
 }
 
-// The same, with the report's object behind the answer.
+// With the report's line behind the answer.
 fn end_with_report<W: Write, E: Write>(
     alloc: Global,
     outcome: Outcome,

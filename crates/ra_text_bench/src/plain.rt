@@ -41,15 +41,15 @@ fn cut_piece(piece: &[u8], partial: &mut Vec<u8>, log: &mut Log) -> Result<()> {
 }
 
 fn log_line(line: &[u8], log: &mut Log) -> Result<()> {
-    let fields = line.split(|byte| *byte == b' ').count();
+    let fields = u32::try_from(line.split(|byte| *byte == b' ').count())?;
     let entry = Entry {
         pass: 0,
         ticket: log.len() as u64,
         command: Command::Deliver {
             replica: 0,
-            label: fields as u32,
+            label: fields,
         },
-        reply: Reply::Yes(fields as u32),
+        reply: Reply::Yes(fields),
     };
     log.push(entry)?;
     Ok(())
