@@ -13,3 +13,4 @@ pub mod Sessions
 pub mod Run
 pub mod Laws
 pub mod Report
+pub mod Spelling

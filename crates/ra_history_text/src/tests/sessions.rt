@@ -1,45 +1,77 @@
-use crate::{Session, report_json};
+use crate::{CheckFault, Session, report_json};
+use ra_monitor::Report;
+use std::alloc::Global;
 use std::test::Fail;
 
-const SETS: &str =
-    "RAH 1 orset\nreplicas a b c\na add 4 #1\nb got 0\nb remove 4 #1\na add 4 #2\nc got 1\nc got 0\nc got 1\nc got 2\nc read 4\n";
+const SETS: &str = "RAH 1 orset
+replicas a b c
+a add 4 #1
+b got 0
+b remove 4 #1
+a add 4 #2
+c got 1
+c got 0
+c got 1
+c got 2
+c read 4
+";
 
-const REPLIES: &str = "ok 0\ngot 0\nok 1\nok 2\nrefused not-causal 0\ngot 0\ngot 1\ngot 2\nok 3\n";
+const REPLIES: &str = "ok 0
+got 0
+ok 1
+ok 2
+refused not-causal 0
+got 0
+got 1
+got 2
+ok 3
+end yes 4
+";
 
-const OBJECT: &str =
-    "{\"calls\":9,\"kind\":\"orset\",\"labels\":4,\"refused\":1,\"verdict\":\"yes\"}";
+// Takes the text in two pieces, the first of so many bytes.
+fn in_two_pieces(
+    alloc: Global,
+    text: &[u8],
+    first: usize,
+    out: &mut String,
+) -> Result<Report, CheckFault> {
+    let (front, behind) = text.split_at(first.min(text.len()));
+    let mut session = Session::new(alloc);
+    session.feed(front, out)?;
+    session.feed(behind, out)?;
+    session.finish(out)
+}
 
-const NO: &str = "RAH 1 register\nreplicas a b\na write 7 @5\na write 8 @4\n";
-
-const NO_OBJECT: &str =
-    "{\"calls\":2,\"cause\":\"order\",\"kind\":\"register\",\"label\":1,\"labels\":2,\"refused\":0,\"verdict\":\"no\"}";
-
-// A text in two pieces, cut after any number of bytes; its report; and that of a no.
 #[test]
-fn pieces_and_reports(rt: HostRuntime) -> Result<(), Fail> {
-    for cut in 0..SETS.len() {
-        let (front, behind) = SETS.as_bytes().split_at(cut);
-        let mut session = Session::new(rt.alloc());
+fn takes_pieces(rt: HostRuntime) -> Result<(), Fail> {
+    for first in 0..SETS.len() {
         let mut out = String::new(rt.alloc());
-        session.feed(front, &mut out)?;
-        session.feed(behind, &mut out)?;
-        assert_eq!(rt; out.as_str(), REPLIES, "cut after {cut} bytes");
-        out.clear();
-        let report = session.finish(&mut out)?;
-        assert_eq!(rt; out.as_str(), "end yes 4\n");
-        assert_eq!(rt;
-            report_json(rt.alloc(), &report).map(|text| text.as_str() == OBJECT),
-            Ok(true)
-        );
+        let report = in_two_pieces(rt.alloc(), SETS.as_bytes(), first, &mut out)?;
+        assert_eq!(rt; report.labels, 4);
+        assert_eq!(rt; out.as_str(), REPLIES);
     }
-    let mut session = Session::new(rt.alloc());
-    let mut out = String::new(rt.alloc());
-    session.feed(NO.as_bytes(), &mut out)?;
-    let report = session.finish(&mut out)?;
-    assert_eq!(rt; out.as_str(), "ok 0\nno 1 order\nend no 1 order\n");
-    assert_eq!(rt;
-        report_json(rt.alloc(), &report).map(|text| text.as_str() == NO_OBJECT),
-        Ok(true)
-    );
+    Ok(())
+}
+
+#[test]
+fn reports(rt: HostRuntime) -> Result<(), Fail> {
+    let no = "RAH 1 register\nreplicas a b\na write 7 @5\na write 8 @4\n";
+    for (text, object) in [
+        (
+            SETS,
+            "{\"calls\":9,\"kind\":\"orset\",\"labels\":4,\"refused\":1,\"verdict\":\"yes\"}",
+        ),
+        (
+            no,
+            "{\"calls\":2,\"cause\":\"order\",\"kind\":\"register\",\"label\":1,\"labels\":2,\"refused\":0,\"verdict\":\"no\"}",
+        ),
+    ] {
+        let mut out = String::new(rt.alloc());
+        let report = in_two_pieces(rt.alloc(), text.as_bytes(), 0, &mut out)?;
+        match report_json(rt.alloc(), &report) {
+            Ok(written) => assert_eq!(rt; written.as_str(), object),
+            Err(_) => panic!(rt; "no memory"),
+        }
+    }
     Ok(())
 }
