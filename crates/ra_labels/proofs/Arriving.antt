@@ -1,5 +1,5 @@
 -- Where labels stand in the named order, and one more label in the list of all labels of an RGA.
-use Rattle.std.proofs.Common.{◌≡◌, ℕ, Bool, true, false, List, [], ◌∷◌, ◌++◌, Option, Some, refl, sym, ap, ◌∙◌, subst, inl, inr, Ordering, append_assoc}
+use Rattle.std.proofs.Common.{◌≡◌, ℕ, Bool, true, false, List, [], ◌∷◌, ◌++◌, Option, Some, refl, sym, ap, ◌∙◌, subst, inl, inr, arith, Ordering, append_assoc}
 use Rattle.std.specs.Prelude.{◌↔◌, ◌⊎◌, not, Contains, IsSorted, flat_map}
 use Rattle.std.specs.List.{IsDistinct, list_all}
 use Rattle.std.specs.Ordering.{is_lt, ordering_reverse}
@@ -15,6 +15,7 @@ use Rattle.ra_labels.specs.declared.operation.Update.TheVariants.{After, RgaRemo
 use Rattle.ra_labels.specs.declared.label.Label.{Label}
 use Rattle.ra_labels.specs.declared.command.Command.TheVariants.{Operate}
 use Rattle.ra_labels.specs.Records.{Records, labels_of, next_label}
+use Rattle.ra_labels.specs.Visibility.{is_update}
 use Rattle.ra_labels.specs.Rewriting.{parts_of, updates_of}
 use Rattle.ra_labels.specs.Lists.{hide}
 use Rattle.ra_labels.specs.Specification.{Listed, state_after}
@@ -28,7 +29,7 @@ use Rattle.ra_labels.proofs.Order.{label_cmp-total, IsSorted-named_labels}
 use Rattle.ra_labels.proofs.Unique.{head_least, neither_below, same_label}
 use Rattle.ra_labels.proofs.Ranking.{named_differ, have_one_number}
 use Rattle.ra_labels.proofs.Insertion.{order-inserted}
-use Rattle.ra_labels.proofs.Having.{differ_round, among-append, among-one}
+use Rattle.ra_labels.proofs.Having.{makes_update, differ_round, among-append, among-one}
 use Rattle.ra_labels.proofs.Rgas.{removed_is, list-exactly}
 use Rattle.ra_labels.proofs.Late.{one_step, late-insertion, late-removal}
 use Rattle.ra_labels.proofs.OneStep.{sorted_from}
@@ -176,3 +177,23 @@ removal-all records by operation clock x all next makes led led_now =
     let both : Some (Listed next) ≡ Some (Listed (hide x all)) =
     sym led_now ∙ ap (state_after Rga) is ∙ late-removal first later x older all led_first (ap (state_after Rga) (sym was) ∙ led) x_in other in
     cc (both)
+
+-- and one that is no update leaves those of all as they were
+no_update : (us : List Update) → ((u : Update) → ¬ Contains us u) → us ≡ []
+no_update [] none = refl
+no_update (u ∷ us) none = absurd (none u (at_head u us u refl))
+
+pub all-without : (kind : Kind) (records : Records) (by : ℕ) (operation : Op) (clock : Option ℕ) → is_update operation ≡ false → updates_of (named_sequence kind (Operate by operation clock ∷ records)) ≡ updates_of (named_sequence kind records)
+all-without kind records by operation clock query =
+    let label = next_label records by operation clock in
+    let (before, behind, was, is) = order-inserted kind records by operation clock in
+    let none : updates_among each (label ∷ []) ≡ [] = no_update (updates_among each (label ∷ [])) (λ u found.
+    let (m, m_there, it, makes) = among-from each (label ∷ []) u found in
+    elim (Contains-cons_cases label [] m m_there) [
+      | inl here ↦ true≢false (sym (makes_update operation u (subst (λ (l : Label). Makes l.op u) (sym here) makes)) ∙ query)
+      | inr nothing ↦ omega (arith, nothing.1)
+    ]) in
+    sym (each_passes (named_labels kind (Operate by operation clock ∷ records))) ∙ ap (updates_among each) is ∙ among-append each before (label ∷ behind)
+    ∙ ap (λ us. updates_among each before ++ us) (among-append each (label ∷ []) behind ∙ ap (λ us. us ++ updates_among each behind) none)
+    ∙ sym (ap (updates_among each) was ∙ among-append each before behind)
+    ∙ each_passes (named_labels kind records)

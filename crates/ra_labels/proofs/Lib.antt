@@ -31,6 +31,7 @@ pub mod Overriding
 pub mod Late
 pub mod OneStep
 pub mod Keeping
+pub mod Removing
 pub mod Kept
 pub mod Passing
 pub mod OneMore

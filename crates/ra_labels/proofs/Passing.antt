@@ -22,7 +22,7 @@ use Rattle.ra_labels.specs.Answer.{is_kind}
 use Rattle.ra_labels.specs.Laws.{kind_of_update, elements_in}
 use Rattle.ra_labels.specs.Insertion.{Makes}
 use Rattle.ra_labels.specs.Late.{kept_entries}
-use Rattle.ra_labels.specs.Waiting.{updates_among, updates_passing, or_label, is_there, needed_by, NoneWaits}
+use Rattle.ra_labels.specs.Waiting.{updates_among, updates_passing, or_label, is_there, shown_by, needed_by, NoneWaits}
 use Rattle.ra_labels.proofs.Places.{Contains-cons_cases, list_all-contains, at_head, behind_head, split_at, there-kept, reached}
 use Rattle.ra_labels.proofs.Standing.{list_all-from_contains}
 use Rattle.ra_labels.proofs.Lists.{bool_same}
@@ -33,6 +33,7 @@ use Rattle.ra_labels.proofs.Ranking.{piece_of, in_piece, part_is_of, named_diffe
 use Rattle.ra_labels.proofs.Insertion.{order-inserted}
 use Rattle.ra_labels.proofs.Having.{filter_all, differ_round, delivery-order, among-append, among-same, among-one, among-not}
 use Rattle.ra_labels.proofs.Rgas.{is_listed}
+use Rattle.ra_labels.proofs.Removing.{list-shown_by, shown_by-same}
 use Rattle.ra_labels.proofs.OneStep.{update_from, part_makes}
 use Rattle.ra_labels.proofs.Kept.{all_marked, kept_marked, marked_as, marked-is_there, mark-kept, kept-goes, there-list, needed-in}
 
@@ -266,6 +267,13 @@ passing-list records passes list all led_all led =
     let both : Some (Listed list) ≡ Some (Listed qs) = sym led ∙ goes in
     let same : list ≡ qs = cc (both) in
     ap elements_in same ∙ is
+
+-- it shows those that they do not remove
+pub passing-shown : (records : Records) (passes : ℕ → Bool) (list all : List (ℕ × Bool)) → state_after Rga (updates_of (named_sequence Rga records)) ≡ Some (Listed all) → state_after Rga (updates_passing Rga records passes) ≡ Some (Listed list)
+    → list ≡ shown_by (updates_passing Rga records passes) (kept_entries (λ x. is_there x (updates_passing Rga records passes)) all)
+passing-shown records passes list all led_all led =
+    let us = updates_passing Rga records passes in
+    list-shown_by us list led ∙ shown_by-same us list (kept_entries (λ x. is_there x us) all) (passing-list records passes list all led_all led)
 
 -- the updates of labels that pass are those of other ones, where on updates the tests agree
 mark_same : (passes others : ℕ → Bool) (parts : List Part) → ((p : Part) (u : Update) → Contains parts p → p.act ≡ Does u → passes p.label.number ≡ others p.label.number) → mark passes parts ≡ mark others parts

@@ -1,5 +1,5 @@
 -- Words of the laws of updates of which some pass a test, and of an RGA's updates that wait for others.
-use Rattle.std.specs.Prelude.{◌≡◌, ℕ, ◌==◌, Bool, true, false, ◌||◌, List, filter, flat_map, Contains}
+use Rattle.std.specs.Prelude.{◌≡◌, ℕ, ◌==◌, Bool, true, false, not, ◌||◌, List, map, filter, flat_map, Contains}
 use Rattle.std.specs.List.{list_any}
 use Rattle.ra_labels.specs.declared.kind.Kind.{Kind}
 use Rattle.ra_labels.specs.declared.kind.Kind.TheVariants.{Rga}
@@ -31,6 +31,16 @@ puts_in x _ = false
 -- is the element the root, or does one of the updates put it in?
 abbrev pub is_there : ℕ → List Update → Bool
 is_there x updates = x == 0 || list_any (puts_in x) updates
+
+-- does the update remove the element?
+abbrev pub removes : ℕ → Update → Bool
+removes x (RgaRemove y) = y == x
+removes x _ = false
+
+-- the same entries, each shown exactly where it is not the root and none of the updates removes it
+abbrev pub shown_by : List Update → List (ℕ × Bool) → List (ℕ × Bool)
+shown_by updates list =
+    map (λ entry. (entry.0, not (entry.0 == 0 || list_any (removes entry.0) updates))) list
 
 -- what an update of an RGA needs in the list: its anchor, or the element that it removes
 abbrev pub needed_by : Update → ℕ

@@ -1,6 +1,7 @@
 //! Laws above the definitions, each the clause of a function that does nothing. Proofs of the crates above cite them,
 //! under these names, from `proofs/TheLaws`.
 pub mod answer;
+pub mod arriving;
 pub mod commuting;
 pub mod counts;
 pub mod fault;

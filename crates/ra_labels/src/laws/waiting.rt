@@ -15,7 +15,7 @@ ghost use Rattle.ra_labels.specs.Laws.{elements_in};
 ghost use Rattle.ra_labels.specs.Insertion.{Makes};
 ghost use Rattle.ra_labels.specs.Commuting.{then_step};
 ghost use Rattle.ra_labels.specs.Late.{kept_entries};
-ghost use Rattle.ra_labels.specs.Waiting.{updates_passing, or_label, is_there, needed_by, NoneWaits};
+ghost use Rattle.ra_labels.specs.Waiting.{updates_passing, or_label, is_there, shown_by, needed_by, NoneWaits};
 
 /// An update is admitted among others exactly where what it needs is there by those before it, and where it puts in
 /// what is there by none of them, or removes another element than the root.
@@ -39,7 +39,7 @@ pub fn an_element_is_there_where_its_label_passes()
 {}
 
 /// The updates of labels that pass are admitted exactly where none of them waits. They lead to the list of all, of
-/// which they keep the elements that are there by them.
+/// which they keep the elements that are there by them, and show those that they do not remove.
 pub fn updates_are_admitted_where_none_waits()
     ensures exactly { (records : Records) (passes : ℕ → Bool)
         → updates_admitted Rga (named_sequence Rga records) ≡ true
@@ -48,6 +48,10 @@ pub fn updates_are_admitted_where_none_waits()
         → state_after Rga (updates_of (named_sequence Rga records)) ≡ Some (Listed all)
         → let updates = updates_passing Rga records passes in state_after Rga updates ≡ Some (Listed list)
         → elements_in list ≡ elements_in (kept_entries (λ x. is_there x updates) all) }
+    ensures shown { (records : Records) (passes : ℕ → Bool) (list all : List (ℕ × Bool))
+        → state_after Rga (updates_of (named_sequence Rga records)) ≡ Some (Listed all)
+        → let updates = updates_passing Rga records passes in state_after Rga updates ≡ Some (Listed list)
+        → list ≡ shown_by updates (kept_entries (λ x. is_there x updates) all) }
 {}
 
 /// One more label that passes, and that does not wait, is one step: its removal; or an insertion behind the nearest
