@@ -111,15 +111,15 @@ written_in (u ∷ us) value there = elim (Contains-cons_cases u us (Write value)
 ]
 
 -- what a label that passes does is among the updates of those behind
-behind_does : (passes : ℕ → Bool) (labels : List Label) (label : Label) (u : Update) → Contains labels label → Makes label.op u → passes label.number ≡ true → Contains (updates_among passes labels) u
-behind_does passes [] label u there makes it = absurd (omega (arith, there.1))
-behind_does passes (l ∷ labels) label u there makes it =
+pub among-does : (passes : ℕ → Bool) (labels : List Label) (label : Label) (u : Update) → Contains labels label → Makes label.op u → passes label.number ≡ true → Contains (updates_among passes labels) u
+among-does passes [] label u there makes it = absurd (omega (arith, there.1))
+among-does passes (l ∷ labels) label u there makes it =
     let split = among-append passes (l ∷ []) labels in
     subst (λ us. Contains us u) (sym split) (elim (Contains-cons_cases l labels label there) [
       | inl here ↦
           let own = among-one passes l u (subst (λ (m : Label). Makes m.op u) (sym here) makes) (ap (λ (m : Label). passes m.number) here ∙ it) in
           subst (λ us. Contains (us ++ updates_among passes labels) u) (sym own) (at_head u (updates_among passes labels) u refl)
-      | inr further ↦ Contains-append_right (updates_among passes (l ∷ [])) (updates_among passes labels) u (behind_does passes labels label u further makes it)
+      | inr further ↦ Contains-append_right (updates_among passes (l ∷ [])) (updates_among passes labels) u (among-does passes labels label u further makes it)
     ])
 
 pub register-overridden : (records : Records) (passes : ℕ → Bool) (before behind : List Label) (label other : Label) (value later_value : ℕ) → named_labels Register records ≡ before ++ label ∷ behind → Makes label.op (Write value) → passes label.number ≡ false
@@ -130,7 +130,7 @@ register-overridden records passes before behind label other value later_value i
     let (was, now) = one-more_at Register records passes before behind label (Write value) is makes new in
     let first = updates_among passes before in
     let later = updates_among passes behind in
-    let (w, last) = last_some (filter_map written_by later) later_value (written_in later later_value (behind_does passes behind other (Write later_value) there also it)) in
+    let (w, last) = last_some (filter_map written_by later) later_value (written_in later later_value (among-does passes behind other (Write later_value) there also it)) in
     let before_it : last_written (updates_passing Register records passes) ≡ Some w =
     ap last_written was ∙ last_written-append first later ∙ ap (λ o. option_or o (last_written first)) last in
     let with_it : last_written (updates_passing Register records (or_label passes label.number)) ≡ Some w =
@@ -147,7 +147,7 @@ set-overridden records passes before behind label other u v x is makes acts new 
     let (was, now) = one-more_at LwwSet records passes before behind label u is makes new in
     let first = updates_among passes before in
     let later = updates_among passes behind in
-    let (w, last) = last_some (filter (acts_on x) later) v (kept-there (acts_on x) later v (behind_does passes behind other v there also it) acts_too) in
+    let (w, last) = last_some (filter (acts_on x) later) v (kept-there (acts_on x) later v (among-does passes behind other v there also it) acts_too) in
     let at_u : (y : ℕ) → acts_on y u ≡ (y == x) = λ y. acts_at x y u acts in
     let same : (y : ℕ) → last_on y (u ∷ later) ≡ last_on y later = λ y. elim (cases_Bool (y == x)) [
       | inl here ↦

@@ -38,4 +38,5 @@ pub mod OneMore
 pub mod Settled
 pub mod Last
 pub mod Arriving
+pub mod Offering
 pub mod TheLaws

@@ -65,12 +65,12 @@ length-more kind records passes label u there makes new =
     ap length now ∙ more ∙ sym (ap (λ us. length us + 1) was)
 
 -- a label makes one update, and has a number of its own
-makes_same : (label : Label) (operation : Op) (u v : Update) → Makes operation u → Makes operation v → u ≡ v
+pub makes_same : (label : Label) (operation : Op) (u v : Update) → Makes operation u → Makes operation v → u ≡ v
 makes_same label operation u v makes also =
     let both : u ∷ [] ≡ v ∷ [] = sym (makes_one label operation u makes) ∙ makes_one label operation v also in
     cc (both)
 
-same_number : (records : Records) (l m : Label) → Contains (labels_of records) l → Contains (labels_of records) m → l.number ≡ m.number → l ≡ m
+pub same_number : (records : Records) (l m : Label) → Contains (labels_of records) l → Contains (labels_of records) m → l.number ≡ m.number → l ≡ m
 same_number records l m l_there m_there is = same_Some l m (sym (label_found records l l_there) ∙ ap (label_at records) is ∙ label_found records m m_there)
 
 -- none waits with one more whose need is there

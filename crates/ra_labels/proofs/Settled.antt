@@ -1,21 +1,23 @@
 -- Updates of an RGA that wait for others, and those that are settled.
-use Rattle.std.proofs.Common.{◌≡◌, ℕ, ◌+◌, ◌≤◌, Bool, true, List, [], ◌∷◌, ◌++◌, refl, sym, ap, ◌∙◌, subst, inl, inr, arith, append_assoc}
+use Rattle.std.proofs.Common.{◌≡◌, ℕ, ◌+◌, ◌≤◌, Bool, true, false, List, [], ◌∷◌, ◌++◌, Option, refl, sym, ap, ◌∙◌, subst, inl, inr, arith, append_assoc}
 use Rattle.std.specs.Prelude.{◌↔◌, ◌⊎◌, ◌==◌, Contains, length}
 use Rattle.std.specs.List.{IsDistinct}
-use Rattle.std.proofs.lemmas.Bool.{false≢true, cases_Bool, or_left, eq-eqb, false_from_ne_true}
+use Rattle.std.proofs.lemmas.Bool.{false≢true, cases_Bool, or_cases, or_left, eqb-true, eq-eqb, false_from_ne_true}
 use Rattle.std.proofs.lemmas.List.{append-nil, length-append}
 use Rattle.std.proofs.lemmas.List.Elements.{Contains-append_left, Contains-append_cases}
 use Rattle.ra_labels.specs.declared.kind.Kind.TheVariants.{Rga}
+use Rattle.ra_labels.specs.declared.operation.Op.{Op}
 use Rattle.ra_labels.specs.declared.operation.Update.{Update}
 use Rattle.ra_labels.specs.declared.operation.Update.TheVariants.{After}
 use Rattle.ra_labels.specs.declared.label.Label.{Label}
-use Rattle.ra_labels.specs.Records.{Records, labels_of}
+use Rattle.ra_labels.specs.declared.command.Command.TheVariants.{Operate, Deliver}
+use Rattle.ra_labels.specs.Records.{Records, label_count, labels_of, next_label}
 use Rattle.ra_labels.specs.Rewriting.{updates_of}
 use Rattle.ra_labels.specs.Specification.{state_after, is_admitted}
 use Rattle.ra_labels.specs.Linearization.{updates_admitted}
 use Rattle.ra_labels.specs.NamedOrder.{named_labels, named_sequence}
 use Rattle.ra_labels.specs.Insertion.{Makes}
-use Rattle.ra_labels.specs.Waiting.{updates_among, updates_passing, or_label, is_there, needed_by, OnePutsIn, AllSettled, IsSettled}
+use Rattle.ra_labels.specs.Waiting.{updates_among, updates_passing, or_label, is_there, needed_by, OnePutsIn, NoneWaits, OthersWait, AllSettled, IsSettled}
 use Rattle.ra_labels.proofs.Places.{Contains-cons_cases, at_head, behind_head}
 use Rattle.ra_labels.proofs.Lists.{bool_same}
 use Rattle.ra_labels.proofs.Ranking.{named_differ, have_one_number}
@@ -23,8 +25,8 @@ use Rattle.ra_labels.proofs.Having.{differ_round, among-append, among-one, among
 use Rattle.ra_labels.proofs.Rgas.{list-exactly}
 use Rattle.ra_labels.proofs.Late.{one_step}
 use Rattle.ra_labels.proofs.Kept.{needed-now}
-use Rattle.ra_labels.proofs.Passing.{in-named, in-labels, others-pass, each, each_passes, passing-admitted, listed-after, there-label, among-from, among-alike, among-fewer}
-use Rattle.ra_labels.proofs.OneMore.{split-led}
+use Rattle.ra_labels.proofs.Passing.{in-named, in-labels, others-pass, each, each_passes, passing-delivery, passing-operation, passing-admitted, listed-after, there-label, among-from, among-alike, among-fewer}
+use Rattle.ra_labels.proofs.OneMore.{split-led, same_number, makes_same}
 
 -- what an update needs was put in before it
 pub needed-before : (records : Records) → updates_admitted Rga (named_sequence Rga records) ≡ true → (first later : List Label) (label : Label) (u : Update) → named_labels Rga records ≡ first ++ label ∷ later → Makes label.op u
@@ -177,3 +179,61 @@ settled-all records had settled admitted is_settled = (
 pub settled-same : (records : Records) (had settled : ℕ → Bool) → updates_admitted Rga (named_sequence Rga records) ≡ true → IsSettled records had settled → is_admitted Rga (updates_passing Rga records had) ≡ true
     → updates_passing Rga records settled ≡ updates_passing Rga records had
 settled-same records had settled admitted is_settled is = all_alike records had settled is_settled ((settled-all records had settled admitted is_settled).0 is)
+
+-- what is settled does not wait, and what else was had does
+pub settled-exactly : (records : Records) (had settled : ℕ → Bool) → IsSettled records had settled ↔ (((n : ℕ) → settled n ≡ true → had n ≡ true) × NoneWaits records settled × OthersWait records had settled)
+settled-exactly records had settled = (
+  (λ is_settled. (
+    is_settled.had_them,
+    (λ l u there makes it. sym (is_settled.where_needed l u there makes (is_settled.had_them l.number it)) ∙ it),
+    (λ l u there makes had_it waits. sym (is_settled.where_needed l u there makes had_it) ∙ waits),
+  )),
+  (λ known. record {
+    had_them = known.0;
+    where_needed = λ l u there makes had_it. elim (cases_Bool (settled l.number)) [
+      | inl it ↦ it ∙ sym (known.1 l u there makes it)
+      | inr other ↦ other ∙ sym (known.2 l u there makes had_it other)
+    ];
+  }),
+)
+
+-- a label that waits leaves the settled ones as they were
+pub settled-waiting : (records : Records) (had settled : ℕ → Bool) (label : Label) (u : Update) → Contains (labels_of records) label → Makes label.op u → had label.number ≡ false → IsSettled records had settled
+    → is_there (needed_by u) (updates_passing Rga records settled) ≡ false → IsSettled records (or_label had label.number) settled
+settled-waiting records had settled label u there makes new is_settled waits = record {
+  had_them = λ n it. or_left (had n) (n == label.number) (is_settled.had_them n it);
+  where_needed = λ l v l_there l_makes had_it. elim (or_cases (had l.number) (l.number == label.number) had_it) [
+    | inl old ↦ is_settled.where_needed l v l_there l_makes old
+    | inr is ↦
+        let same : l ≡ label = same_number records l label l_there there (eqb-true l.number label.number is) in
+        let one : u ≡ v = makes_same label label.op u v makes (subst (λ (m : Label). Makes m.op v) same l_makes) in
+        ap (λ (m : Label). settled m.number) same
+        ∙ false_from_ne_true (settled label.number) (λ it. false≢true (sym new ∙ is_settled.had_them label.number it))
+        ∙ sym (ap (λ w. is_there (needed_by w) (updates_passing Rga records settled)) (sym one) ∙ waits)
+  ];
+}
+
+-- later commands leave it so
+pub settled-delivery : (records : Records) (to n : ℕ) (had settled : ℕ → Bool) → IsSettled records had settled → IsSettled (Deliver to n ∷ records) had settled
+settled-delivery records to n had settled is_settled = record {
+  had_them = is_settled.had_them;
+  where_needed = λ l u there makes had_it. is_settled.where_needed l u there makes had_it ∙ sym (ap (is_there (needed_by u)) (passing-delivery Rga records to n settled));
+}
+
+pub settled-operation : (records : Records) (by : ℕ) (op : Op) (clock : Option ℕ) (had settled : ℕ → Bool) → had (label_count records) ≡ false → IsSettled records had settled → IsSettled (Operate by op clock ∷ records) had settled
+settled-operation records by op clock had settled new is_settled =
+    let not_yet : settled (label_count records) ≡ false = false_from_ne_true (settled (label_count records)) (λ it. false≢true (sym new ∙ is_settled.had_them (label_count records) it)) in
+    let same = passing-operation Rga records by op clock settled not_yet in
+    record {
+      had_them = is_settled.had_them;
+      where_needed = λ l u there makes had_it. elim (Contains-cons_cases (next_label records by op clock) (labels_of records) l there) [
+        | inl here ↦ absurd (false≢true (sym new ∙ ap (λ (m : Label). had m.number) here ∙ had_it))
+        | inr older ↦ is_settled.where_needed l u older makes had_it ∙ sym (ap (is_there (needed_by u)) same)
+      ];
+    }
+
+pub settled-alike : (records : Records) (had others settled : ℕ → Bool) → ((n : ℕ) → had n ≡ others n) → IsSettled records had settled → IsSettled records others settled
+settled-alike records had others settled same is_settled = record {
+  had_them = λ n it. sym (same n) ∙ is_settled.had_them n it;
+  where_needed = λ l u there makes had_it. is_settled.where_needed l u there makes (same l.number ∙ had_it);
+}

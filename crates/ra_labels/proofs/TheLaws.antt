@@ -39,6 +39,7 @@ pub use Rattle.ra_labels.proofs.Commuting.{counter-steps as steps_of_a_counter_c
 -- laws::one_step
 pub use Rattle.ra_labels.proofs.OneStep.{removal-sees as a_removal_sees_what_it_takes_out, counter-delivered as a_delivery_is_one_step-counter, register-delivered as a_delivery_is_one_step-register, set-delivered as a_delivery_is_one_step-lww_set, or_set-delivered as a_delivery_is_one_step-or_set}
 pub use Rattle.ra_labels.proofs.Last.{counter-more as one_more_label_is_one_step-counter, register-more as one_more_label_is_one_step-register, set-more as one_more_label_is_one_step-lww_set, or_set-issued as an_operation_of_an_or_set_is_one_step, register-last_label as the_last_label_has_the_last_update-register, set-last_label as the_last_label_has_the_last_update-lww_set, register-overridden as a_label_before_the_last_changes_nothing-register, set-overridden as a_label_before_the_last_changes_nothing-lww_set}
+pub use Rattle.ra_labels.proofs.Offering.{behind-all as a_label_behind_all_that_pass_is_one_step}
 -- laws::overriding
 pub use Rattle.ra_labels.proofs.Overriding.{writes-last as writes_lead_to_the_last-last, writes-late as writes_lead_to_the_last-late, set-has as of_each_element_the_last_update_counts-has, set-same as of_each_element_the_last_update_counts-same, set-late as of_each_element_the_last_update_counts-late}
 -- laws::rga
@@ -55,9 +56,10 @@ pub use Rattle.ra_labels.proofs.OneMore.{inserted-admitted as an_update_is_admit
 pub use Rattle.ra_labels.proofs.Kept.{there-list as an_element_is_there_where_its_label_passes-list}
 pub use Rattle.ra_labels.proofs.Passing.{there-label as an_element_is_there_where_its_label_passes-label, passing-admitted as updates_are_admitted_where_none_waits-exactly, passing-list as updates_are_admitted_where_none_waits-list, passing-shown as updates_are_admitted_where_none_waits-shown}
 -- laws::settled
-pub use Rattle.ra_labels.proofs.Settled.{needed-before as what_an_update_needs_was_put_in_before_it, settled-admitted as settled_updates_are_admitted-settled, settled-all as settled_updates_are_admitted-all, settled-same as settled_updates_are_admitted-same, settled-once as what_is_settled_follows_from_what_was_had, settled-before as one_more_label_settles_none_before_it-before, settled-count as one_more_label_settles_none_before_it-count}
+pub use Rattle.ra_labels.proofs.Settled.{needed-before as what_an_update_needs_was_put_in_before_it, settled-admitted as settled_updates_are_admitted-settled, settled-all as settled_updates_are_admitted-all, settled-same as settled_updates_are_admitted-same, settled-exactly as what_is_settled_does_not_wait, settled-waiting as settled_labels_stay_settled-waiting, settled-delivery as settled_labels_stay_settled-delivery, settled-operation as settled_labels_stay_settled-operation, settled-alike as settled_labels_stay_settled-alike, settled-once as what_is_settled_follows_from_what_was_had, settled-before as one_more_label_settles_none_before_it-before, settled-count as one_more_label_settles_none_before_it-count}
 -- laws::arriving
 pub use Rattle.ra_labels.proofs.Arriving.{stands-before as a_label_stands_before_those_that_it_is_below-before, stands-behind as a_label_stands_before_those_that_it_is_below-behind, all-with as an_operation_puts_its_update_among_all-update, all-without as an_operation_puts_its_update_among_all-query, there-among as what_is_there_a_label_put_in, insertion-all as a_new_label_in_the_list_of_all-insertion, removal-all as a_new_label_in_the_list_of_all-removal}
+pub use Rattle.ra_labels.proofs.Offering.{offered-insertion as a_new_update_is_admitted_where_a_label_below_it_put_in_what_it_needs-insertion, offered-removal as a_new_update_is_admitted_where_a_label_below_it_put_in_what_it_needs-removal}
 -- laws::lists
 pub use Rattle.ra_labels.proofs.Lists.{rises-exactly as a_list_rises_where_each_is_below_the_later-places, rises-sorted as a_list_rises_where_each_is_below_the_later-sorted, same-exactly as lists_have_the_same_elements-elements, rising-same as lists_have_the_same_elements-rising}
 -- laws::records

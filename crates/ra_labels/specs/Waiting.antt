@@ -1,6 +1,7 @@
 -- Words of the laws of updates of which some pass a test, and of an RGA's updates that wait for others.
 use Rattle.std.specs.Prelude.{◌≡◌, ℕ, ◌==◌, Bool, true, false, not, ◌||◌, List, map, filter, flat_map, Contains}
 use Rattle.std.specs.List.{list_any}
+use Rattle.std.specs.declared.cmp.Ordering.TheVariants.{Less}
 use Rattle.ra_labels.specs.declared.kind.Kind.{Kind}
 use Rattle.ra_labels.specs.declared.kind.Kind.TheVariants.{Rga}
 use Rattle.ra_labels.specs.declared.operation.Update.{Update}
@@ -8,7 +9,7 @@ use Rattle.ra_labels.specs.declared.operation.Update.TheVariants.{After, RgaRemo
 use Rattle.ra_labels.specs.declared.label.Label.{Label}
 use Rattle.ra_labels.specs.Records.{Records, labels_of}
 use Rattle.ra_labels.specs.Rewriting.{parts_of, updates_of}
-use Rattle.ra_labels.specs.NamedOrder.{named_labels}
+use Rattle.ra_labels.specs.NamedOrder.{label_cmp, named_labels}
 use Rattle.ra_labels.specs.Insertion.{Makes}
 
 -- the updates of those of these labels that pass
@@ -53,11 +54,23 @@ abbrev pub OnePutsIn : ℕ → List Label → Type 0
 OnePutsIn x labels =
     (label : Label) × (anchor : ℕ) × Contains labels label × Makes label.op (After anchor x)
 
+-- a label that is below this one puts the element in
+abbrev pub WasPutInBelow : Records → Label → ℕ → Type 0
+WasPutInBelow records label x =
+    (other : Label) × (anchor : ℕ) × Contains (labels_of records) other × Makes other.op (After anchor x)
+    × (label_cmp Rga records other label ≡ Less)
+
 -- what each label that passes needs is there by those that pass
 abbrev pub NoneWaits : Records → (ℕ → Bool) → Type 0
 NoneWaits records passes = (label : Label) (update : Update) → Contains (labels_of records) label
     → Makes label.op update → passes label.number ≡ true
     → is_there (needed_by update) (updates_passing Rga records passes) ≡ true
+
+-- what a label needs that was had and is not settled is not there by settled ones
+abbrev pub OthersWait : Records → (ℕ → Bool) → (ℕ → Bool) → Type 0
+OthersWait records had settled = (label : Label) (update : Update) → Contains (labels_of records) label
+    → Makes label.op update → had label.number ≡ true → settled label.number ≡ false
+    → is_there (needed_by update) (updates_passing Rga records settled) ≡ false
 
 -- each of these labels that makes an update is settled
 abbrev pub AllSettled : Records → (ℕ → Bool) → (ℕ → Bool) → Type 0

@@ -14,10 +14,11 @@ ghost use Rattle.ra_labels.specs.Visibility.{is_update};
 ghost use Rattle.ra_labels.specs.Rewriting.{parts_of, updates_of};
 ghost use Rattle.ra_labels.specs.Lists.{hide};
 ghost use Rattle.ra_labels.specs.Specification.{Listed, state_after};
+ghost use Rattle.ra_labels.specs.Linearization.{updates_admitted};
 ghost use Rattle.ra_labels.specs.NamedOrder.{label_cmp, named_labels, named_sequence};
 ghost use Rattle.ra_labels.specs.Insertion.{Makes};
 ghost use Rattle.ra_labels.specs.Late.{put_after};
-ghost use Rattle.ra_labels.specs.Waiting.{updates_among, is_there, OnePutsIn};
+ghost use Rattle.ra_labels.specs.Waiting.{updates_among, is_there, OnePutsIn, WasPutInBelow};
 
 /// In the named order exactly those labels stand before a label that are below it, and exactly those behind it that it
 /// is below.
@@ -50,6 +51,23 @@ pub fn an_operation_puts_its_update_among_all()
 pub fn what_is_there_a_label_put_in()
     ensures { (passes : ℕ → Bool) (labels : List Label) (x : ℕ) → is_there x (updates_among passes labels) ≡ true
         → (x ≡ 0) ⊎ OnePutsIn x labels }
+{}
+
+/// A new insertion is admitted exactly where its element is new and its anchor is the root, or a label below its own put
+/// it in: one with a lower stamp. A new removal is exactly where its element is not the root, and a label below its own
+/// put it in. It does not matter what stands behind.
+pub fn a_new_update_is_admitted_where_a_label_below_it_put_in_what_it_needs()
+    ensures insertion { (records : Records) (by : ℕ) (op : Op) (clock : Option ℕ) (anchor x : ℕ)
+        → Makes op (After anchor x) → updates_admitted Rga (named_sequence Rga records) ≡ true
+        → let now = Operate by op clock ∷ records in
+        (updates_admitted Rga (named_sequence Rga now) ≡ true)
+        ↔ ((is_there x (updates_of (named_sequence Rga records)) ≡ false)
+        × ((anchor ≡ 0) ⊎ WasPutInBelow now (next_label records by op clock) anchor)) }
+    ensures removal { (records : Records) (by : ℕ) (op : Op) (clock : Option ℕ) (x : ℕ)
+        → Makes op (RgaRemove x) → updates_admitted Rga (named_sequence Rga records) ≡ true
+        → let now = Operate by op clock ∷ records in
+        (updates_admitted Rga (named_sequence Rga now) ≡ true)
+        ↔ ((¬ (x ≡ 0)) × WasPutInBelow now (next_label records by op clock) x) }
 {}
 
 /// In the list of all labels a new element goes behind its anchor, and past those directly behind it whose labels its

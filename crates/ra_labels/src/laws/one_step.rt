@@ -1,5 +1,6 @@
 //! One delivery is one step.
 ghost use Rattle.std.specs.Prelude.{◌≡◌, true, false, ℕ, Bool, List, ◌∷◌, ◌++◌, Contains, Option, Some};
+ghost use Rattle.ra_labels.specs.declared.kind.Kind.{Kind};
 ghost use Rattle.ra_labels.specs.declared.kind.Kind.TheVariants.{Counter, Register, LwwSet, OrSet};
 ghost use Rattle.ra_labels.specs.declared.operation.Op.{Op};
 ghost use Rattle.ra_labels.specs.declared.operation.Op.TheVariants.{OrAdd, OrRemove};
@@ -67,6 +68,15 @@ pub fn one_more_label_is_one_step()
         → let now = updates_passing LwwSet records (or_label passes label.number) in is_admitted LwwSet now ≡ true
         → acts_on x update ≡ true → last_on x now ≡ Some last
         → state_after LwwSet now ≡ then_step (state_after LwwSet (updates_passing LwwSet records passes)) last }
+{}
+
+/// One more label of any kind, behind all that pass, is one step of its own update.
+pub fn a_label_behind_all_that_pass_is_one_step()
+    ensures { (kind : Kind) (records : Records) (passes : ℕ → Bool) (before behind : List Label) (label : Label)
+        (update : Update) → named_labels kind records ≡ before ++ label ∷ behind → Makes label.op update
+        → passes label.number ≡ false → ((other : Label) → Contains behind other → passes other.number ≡ false)
+        → state_after kind (updates_passing kind records (or_label passes label.number))
+        ≡ then_step (state_after kind (updates_passing kind records passes)) update }
 {}
 
 /// An operation of an OR-Set is one step from where those lead that its replica had before: it stands behind them.

@@ -1,15 +1,17 @@
 //! Which of the updates of an RGA that a replica had wait for others, and which are settled; where those of all labels
 //! are admitted, as they are in records that hold.
-ghost use Rattle.std.specs.Prelude.{◌≡◌, ◌↔◌, ◌⊎◌, true, ℕ, Bool, ◌+◌, ◌≤◌, List, ◌∷◌, ◌++◌, length, Contains};
+ghost use Rattle.std.specs.Prelude.{◌≡◌, ◌↔◌, ◌⊎◌, true, false, ℕ, Bool, ◌+◌, ◌≤◌, List, ◌∷◌, ◌++◌, length, Contains, Option};
 ghost use Rattle.ra_labels.specs.declared.kind.Kind.TheVariants.{Rga};
+ghost use Rattle.ra_labels.specs.declared.operation.Op.{Op};
 ghost use Rattle.ra_labels.specs.declared.operation.Update.{Update};
 ghost use Rattle.ra_labels.specs.declared.label.Label.{Label};
-ghost use Rattle.ra_labels.specs.Records.{Records, labels_of};
+ghost use Rattle.ra_labels.specs.declared.command.Command.TheVariants.{Operate, Deliver};
+ghost use Rattle.ra_labels.specs.Records.{Records, label_count, labels_of};
 ghost use Rattle.ra_labels.specs.Specification.{is_admitted};
 ghost use Rattle.ra_labels.specs.Linearization.{updates_admitted};
 ghost use Rattle.ra_labels.specs.NamedOrder.{named_labels, named_sequence};
 ghost use Rattle.ra_labels.specs.Insertion.{Makes};
-ghost use Rattle.ra_labels.specs.Waiting.{updates_among, updates_passing, or_label, needed_by, OnePutsIn, AllSettled, IsSettled};
+ghost use Rattle.ra_labels.specs.Waiting.{updates_among, updates_passing, or_label, is_there, needed_by, OnePutsIn, NoneWaits, OthersWait, AllSettled, IsSettled};
 
 /// What an update needs is the root, or is put in by a label that stands before it in the named order.
 pub fn what_an_update_needs_was_put_in_before_it()
@@ -31,6 +33,29 @@ pub fn settled_updates_are_admitted()
         → updates_admitted Rga (named_sequence Rga records) ≡ true → IsSettled records had settled
         → is_admitted Rga (updates_passing Rga records had) ≡ true
         → updates_passing Rga records settled ≡ updates_passing Rga records had }
+{}
+
+/// Labels are settled exactly where none of them waits, and all others that were had do.
+pub fn what_is_settled_does_not_wait()
+    ensures { (records : Records) (had settled : ℕ → Bool) → IsSettled records had settled
+        ↔ (((n : ℕ) → settled n ≡ true → had n ≡ true) × NoneWaits records settled × OthersWait records had settled) }
+{}
+
+/// One more label that was had, and that waits, leaves the settled ones as they were; and so do later commands, but for
+/// what more was had with them.
+pub fn settled_labels_stay_settled()
+    ensures waiting { (records : Records) (had settled : ℕ → Bool) (label : Label) (update : Update)
+        → Contains (labels_of records) label → Makes label.op update → had label.number ≡ false
+        → IsSettled records had settled
+        → is_there (needed_by update) (updates_passing Rga records settled) ≡ false
+        → IsSettled records (or_label had label.number) settled }
+    ensures delivery { (records : Records) (to n : ℕ) (had settled : ℕ → Bool) → IsSettled records had settled
+        → IsSettled (Deliver to n ∷ records) had settled }
+    ensures operation { (records : Records) (by : ℕ) (op : Op) (clock : Option ℕ) (had settled : ℕ → Bool)
+        → had (label_count records) ≡ false → IsSettled records had settled
+        → IsSettled (Operate by op clock ∷ records) had settled }
+    ensures alike { (records : Records) (had others settled : ℕ → Bool) → ((n : ℕ) → had n ≡ others n)
+        → IsSettled records had settled → IsSettled records others settled }
 {}
 
 /// What was had says which labels are settled.
