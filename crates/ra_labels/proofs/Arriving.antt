@@ -36,6 +36,7 @@ use Rattle.ra_labels.proofs.OneStep.{sorted_from}
 use Rattle.ra_labels.proofs.Kept.{there-exactly}
 use Rattle.ra_labels.proofs.Passing.{in-named, in-labels, each, each_passes, among-from}
 use Rattle.ra_labels.proofs.OneMore.{split-led, inserted_fits}
+use Rattle.ra_labels.proofs.Last.{among-does}
 
 -- a label is below each that stands behind it
 is_less : (o : Ordering) → is_lt o ≡ true → o ≡ Less
@@ -110,6 +111,15 @@ there-among passes labels x is = elim ((there-exactly x (updates_among passes la
       let (m, m_there, it, makes) = among-from passes labels (After anchor x) found in
       inr (m, anchor, m_there, makes)
 ]
+
+pub there-all : (labels : List Label) (x : ℕ) → (is_there x (updates_of (flat_map parts_of labels)) ≡ true) ↔ ((x ≡ 0) ⊎ OnePutsIn x labels)
+there-all labels x = (
+  (λ is. there-among each labels x (ap (is_there x) (each_passes labels) ∙ is)),
+  (λ known. (there-exactly x (updates_of (flat_map parts_of labels))).1 (elim known [
+    | inl root ↦ inl root
+    | inr (m, anchor, m_there, makes) ↦ inr (anchor, subst (λ us. Contains us (After anchor x)) (each_passes labels) (among-does each labels m (After anchor x) m_there makes refl))
+  ])),
+)
 
 -- one more operation puts its update among those of all
 pub all-with : (kind : Kind) (records : Records) (by : ℕ) (operation : Op) (clock : Option ℕ) (u : Update) → Makes operation u → let now = Operate by operation clock ∷ records in let label = next_label records by operation clock in

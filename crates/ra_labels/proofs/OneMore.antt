@@ -32,7 +32,7 @@ use Rattle.ra_labels.proofs.Rgas.{in-exactly, after_is, removed_is, is_listed, l
 use Rattle.ra_labels.proofs.Keeping.{kept-nearest}
 use Rattle.ra_labels.proofs.Late.{after_goes, remove_goes, one_step, stays_in, from_first, late-insertion, late-one, late-removal}
 use Rattle.ra_labels.proofs.Kept.{any-put, put-any, there-list, insert_in, elements-inserted, inserted-same}
-use Rattle.ra_labels.proofs.Passing.{one-more, passing-admitted, passing-list, listed-after}
+use Rattle.ra_labels.proofs.Passing.{one-more, there-label, passing-admitted, passing-list, listed-after}
 
 -- what is there with one more update
 or_moves : (a b c d : Bool) → (a || (b || (c || d))) ≡ ((a || (b || d)) || c)
@@ -72,6 +72,19 @@ makes_same label operation u v makes also =
 
 pub same_number : (records : Records) (l m : Label) → Contains (labels_of records) l → Contains (labels_of records) m → l.number ≡ m.number → l ≡ m
 same_number records l m l_there m_there is = same_Some l m (sym (label_found records l l_there) ∙ ap (label_at records) is ∙ label_found records m m_there)
+
+-- an element is put in by one label alone, and is not the root
+pub put_in-once : (records : Records) (k l : Label) (a b x : ℕ) → updates_admitted Rga (named_sequence Rga records) ≡ true → Contains (labels_of records) k → Contains (labels_of records) l → Makes k.op (After a x) → Makes l.op (After b x) → k ≡ l
+put_in-once records k l a b x admitted k_there l_there makes also =
+    let passes : ℕ → Bool = λ n. n == k.number in
+    let is : (l.number == k.number) ≡ true =
+    sym (there-label records passes l b x admitted l_there also) ∙ there-label records passes k a x admitted k_there makes ∙ eq-eqb k.number k.number refl in
+    sym (same_number records l k l_there k_there (eqb-true l.number k.number is))
+
+pub put_in-other : (records : Records) (k : Label) (a x : ℕ) → updates_admitted Rga (named_sequence Rga records) ≡ true → Contains (labels_of records) k → Makes k.op (After a x) → ¬ (x ≡ 0)
+put_in-other records k a x admitted there makes root =
+    let none : ℕ → Bool = λ n. false in
+    false≢true (sym (there-label records none k a x admitted there makes) ∙ or_left (x == 0) _ (eq-eqb x 0 root))
 
 -- none waits with one more whose need is there
 pub none-waits_more : (records : Records) (passes : ℕ → Bool) (label : Label) (u : Update) → Contains (labels_of records) label → Makes label.op u → passes label.number ≡ false

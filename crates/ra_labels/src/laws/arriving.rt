@@ -47,9 +47,11 @@ pub fn an_operation_puts_its_update_among_all()
         ≡ updates_of (named_sequence kind records) }
 {}
 
-/// What is there by the updates of labels is the root, or one of them put it in.
+/// What is there by the updates of labels is the root, or what one of them puts in.
 pub fn what_is_there_a_label_put_in()
-    ensures { (passes : ℕ → Bool) (labels : List Label) (x : ℕ) → is_there x (updates_among passes labels) ≡ true
+    ensures all { (labels : List Label) (x : ℕ) → (is_there x (updates_of (flat_map parts_of labels)) ≡ true)
+        ↔ ((x ≡ 0) ⊎ OnePutsIn x labels) }
+    ensures passing { (passes : ℕ → Bool) (labels : List Label) (x : ℕ) → is_there x (updates_among passes labels) ≡ true
         → (x ≡ 0) ⊎ OnePutsIn x labels }
 {}
 

@@ -38,6 +38,16 @@ pub fn an_element_is_there_where_its_label_passes()
         → is_there x (updates_passing Rga records passes) ≡ passes label.number }
 {}
 
+/// An element is put in by one label alone, and is not the root.
+pub fn an_element_is_put_in_by_one_label()
+    ensures one { (records : Records) (k l : Label) (a b x : ℕ)
+        → updates_admitted Rga (named_sequence Rga records) ≡ true → Contains (labels_of records) k
+        → Contains (labels_of records) l → Makes k.op (After a x) → Makes l.op (After b x) → k ≡ l }
+    ensures other { (records : Records) (k : Label) (a x : ℕ)
+        → updates_admitted Rga (named_sequence Rga records) ≡ true → Contains (labels_of records) k
+        → Makes k.op (After a x) → ¬ (x ≡ 0) }
+{}
+
 /// The updates of labels that pass are admitted exactly where none of them waits. They lead to the list of all, of
 /// which they keep the elements that are there by them, and show those that they do not remove.
 pub fn updates_are_admitted_where_none_waits()
