@@ -296,6 +296,10 @@ among-alike passes others labels same =
     ap (λ (m : Label). passes m.number) is ∙ same l u found (part_makes l p u of_l does) ∙ sym (ap (λ (m : Label). others m.number) is)))
     ∙ kept_parts others parts
 
+pub passing-alike : (kind : Kind) (records : Records) (passes others : ℕ → Bool) → ((l : Label) (u : Update) → Contains (labels_of records) l → Makes l.op u → passes l.number ≡ others l.number) → updates_passing kind records passes ≡ updates_passing kind records others
+passing-alike kind records passes others same =
+    among-alike passes others (named_labels kind records) (λ l u found makes. same l u (in-labels kind records l found) makes)
+
 -- and no more of them than of those that let more labels pass
 fewer_one : (b c : Bool) (o : Option Update) (rest others : List (Bool × Update)) → (b ≡ true → c ≡ true) → length (kept_marked rest) ≤ length (kept_marked others) → length (kept_marked (mark_one b o rest)) ≤ length (kept_marked (mark_one c o others))
 fewer_one b c None rest others more fewer = fewer

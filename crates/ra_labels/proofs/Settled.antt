@@ -232,8 +232,10 @@ settled-operation records by op clock had settled new is_settled =
       ];
     }
 
-pub settled-alike : (records : Records) (had others settled : ℕ → Bool) → ((n : ℕ) → had n ≡ others n) → IsSettled records had settled → IsSettled records others settled
-settled-alike records had others settled same is_settled = record {
-  had_them = λ n it. sym (same n) ∙ is_settled.had_them n it;
-  where_needed = λ l u there makes had_it. is_settled.where_needed l u there makes (same l.number ∙ had_it);
-}
+pub settled-alike : (records : Records) (had more settled others : ℕ → Bool) → ((n : ℕ) → had n ≡ more n) → ((n : ℕ) → settled n ≡ others n) → IsSettled records had settled → IsSettled records more others
+settled-alike records had more settled others same_had same is_settled =
+    let updates : updates_passing Rga records settled ≡ updates_passing Rga records others = among-alike settled others (named_labels Rga records) (λ l u found makes. same l.number) in
+    record {
+      had_them = λ n it. sym (same_had n) ∙ is_settled.had_them n (same n ∙ it);
+      where_needed = λ l u there makes had_it. sym (same l.number) ∙ is_settled.where_needed l u there makes (same_had l.number ∙ had_it) ∙ ap (is_there (needed_by u)) updates;
+    }

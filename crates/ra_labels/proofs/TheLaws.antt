@@ -49,7 +49,7 @@ pub use Rattle.ra_labels.proofs.Showing.{list-shown as a_list_has_what_was_put_i
 pub use Rattle.ra_labels.proofs.Late.{newest-behind as a_new_element_stands_behind_its_anchor, late-later as a_late_and_a_later_update_commute-insertions, late-hidden as a_late_and_a_later_update_commute-late_removed, inserted-hidden as a_late_and_a_later_update_commute-removed, hidden-hidden as a_late_and_a_later_update_commute-removals, late-insertion as a_late_insertion_goes_past_the_greater, late-one as a_late_insertion_is_one_step, late-removal as a_late_removal_counts_as_the_last}
 pub use Rattle.ra_labels.proofs.Keeping.{kept-inserted as what_is_kept_keeps_its_order-kept, kept-dropped as what_is_kept_keeps_its_order-dropped, kept-hidden as what_is_kept_keeps_its_order-removed, kept-nearest as an_element_comes_in_behind_the_nearest_before_it}
 -- laws::passing
-pub use Rattle.ra_labels.proofs.Passing.{had-delivery as a_replica_had_one_more-delivery, had-operation as a_replica_had_one_more-operation, passing-of_kind as updates_that_pass_are_admitted_where_all_are, passing-delivery as a_later_command_leaves_the_updates_that_pass-delivery, passing-operation as a_later_command_leaves_the_updates_that_pass-operation, one-more as one_more_label_puts_its_update_in-place}
+pub use Rattle.ra_labels.proofs.Passing.{had-delivery as a_replica_had_one_more-delivery, had-operation as a_replica_had_one_more-operation, passing-alike as tests_that_agree_let_the_same_updates_pass, passing-of_kind as updates_that_pass_are_admitted_where_all_are, passing-delivery as a_later_command_leaves_the_updates_that_pass-delivery, passing-operation as a_later_command_leaves_the_updates_that_pass-operation, one-more as one_more_label_puts_its_update_in-place}
 pub use Rattle.ra_labels.proofs.OneMore.{length-more as one_more_label_puts_its_update_in-count, there-more as one_more_label_puts_its_update_in-there}
 -- laws::waiting
 pub use Rattle.ra_labels.proofs.OneMore.{inserted-admitted as an_update_is_admitted_where_what_it_needs_is_there-insertion, removed-admitted as an_update_is_admitted_where_what_it_needs_is_there-removal, put_in-once as an_element_is_put_in_by_one_label-one, put_in-other as an_element_is_put_in_by_one_label-other, insertion-step as one_more_update_is_one_step-insertion, removal-step as one_more_update_is_one_step-removal, none-waits_more as one_more_update_is_one_step-none_waits}

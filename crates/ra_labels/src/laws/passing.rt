@@ -22,6 +22,13 @@ pub fn updates_had_or_seen_are_those_that_pass()
         ≡ updates_passing kind records (sees records n) }
 {}
 
+/// Tests that agree on the labels that make updates let the same updates pass.
+pub fn tests_that_agree_let_the_same_updates_pass()
+    ensures { (kind : Kind) (records : Records) (passes others : ℕ → Bool) → ((label : Label) (update : Update)
+        → Contains (labels_of records) label → Makes label.op update → passes label.number ≡ others label.number)
+        → updates_passing kind records passes ≡ updates_passing kind records others }
+{}
+
 /// Of a kind but an RGA, the updates of labels that pass are admitted where those of all labels are.
 pub fn updates_that_pass_are_admitted_where_all_are()
     ensures { (kind : Kind) (records : Records) (passes : ℕ → Bool) → ¬ (kind ≡ Rga)

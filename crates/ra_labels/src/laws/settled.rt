@@ -42,7 +42,7 @@ pub fn what_is_settled_does_not_wait()
 {}
 
 /// One more label that was had, and that waits, leaves the settled ones as they were; and so do later commands, but for
-/// what more was had with them.
+/// what more was had with them, and tests that say the same.
 pub fn settled_labels_stay_settled()
     ensures waiting { (records : Records) (had settled : ℕ → Bool) (label : Label) (update : Update)
         → Contains (labels_of records) label → Makes label.op update → had label.number ≡ false
@@ -54,8 +54,8 @@ pub fn settled_labels_stay_settled()
     ensures operation { (records : Records) (by : ℕ) (op : Op) (clock : Option ℕ) (had settled : ℕ → Bool)
         → had (label_count records) ≡ false → IsSettled records had settled
         → IsSettled (Operate by op clock ∷ records) had settled }
-    ensures alike { (records : Records) (had others settled : ℕ → Bool) → ((n : ℕ) → had n ≡ others n)
-        → IsSettled records had settled → IsSettled records others settled }
+    ensures alike { (records : Records) (had more settled others : ℕ → Bool) → ((n : ℕ) → had n ≡ more n)
+        → ((n : ℕ) → settled n ≡ others n) → IsSettled records had settled → IsSettled records more others }
 {}
 
 /// What was had says which labels are settled.
