@@ -13,7 +13,8 @@ use Rattle.ra_labels.specs.declared.operation.Update.{Update}
 use Rattle.ra_labels.specs.declared.operation.Update.TheVariants.{After, RgaRemove}
 use Rattle.ra_labels.specs.declared.label.Label.{Label}
 use Rattle.ra_labels.specs.Records.{Records, labels_of, label_at}
-use Rattle.ra_labels.specs.Rewriting.{updates_of}
+use Rattle.ra_labels.specs.Rewriting.{Half, Act, acts_of, update_of, updates_of}
+use Rattle.ra_labels.specs.Visibility.{is_update}
 use Rattle.ra_labels.specs.Lists.{insert_after}
 use Rattle.ra_labels.specs.Specification.{State, Listed, state_after, is_admitted}
 use Rattle.ra_labels.specs.Linearization.{updates_admitted}
@@ -24,10 +25,12 @@ use Rattle.ra_labels.specs.Commuting.{then_step}
 use Rattle.ra_labels.specs.Late.{put_after, kept_entries}
 use Rattle.ra_labels.specs.Waiting.{updates_among, updates_passing, or_label, puts_in, is_there, needed_by, NoneWaits}
 use Rattle.ra_labels.proofs.Places.{Contains-cons_cases, at_head, behind_head, reached}
-use Rattle.ra_labels.proofs.Standing.{list_all-from_contains}
+use Rattle.ra_labels.proofs.Standing.{list_all-from_contains, is_update-acts}
 use Rattle.ra_labels.proofs.Unique.{label_found}
 use Rattle.ra_labels.proofs.Stepping.{state_from, stuck, state-of_kind}
-use Rattle.ra_labels.proofs.Having.{filter_same, makes_one}
+use Rattle.ra_labels.proofs.Having.{filter_same, makes_one, makes_update}
+use Rattle.ra_labels.proofs.Ranking.{list_any_at}
+use Rattle.ra_labels.proofs.Exactly.{acts}
 use Rattle.ra_labels.proofs.Rgas.{in-exactly, after_is, removed_is, is_listed, list-once, came_in, comes_in}
 use Rattle.ra_labels.proofs.Keeping.{kept-nearest}
 use Rattle.ra_labels.proofs.Late.{after_goes, remove_goes, one_step, stays_in, from_first, late-insertion, late-one, late-removal}
@@ -69,6 +72,18 @@ pub makes_same : (label : Label) (operation : Op) (u v : Update) → Makes opera
 makes_same label operation u v makes also =
     let both : u ∷ [] ≡ v ∷ [] = sym (makes_one label operation u makes) ∙ makes_one label operation v also in
     cc (both)
+
+pub made-once : (operation : Op) (u v : Update) → Makes operation u → Makes operation v → u ≡ v
+made-once operation u v makes also = makes_same (record { number = 0; replica = 0; op = operation; stamp = None }) operation u v makes also
+
+pub made-exactly : (operation : Op) → (is_update operation ≡ true) ↔ ((u : Update) × Makes operation u)
+made-exactly operation = (
+  (λ is.
+      let (act, found, does) = list_any_at (λ (a : Half × Act). is_some (update_of a.1)) (acts_of operation) (sym (is_update-acts operation) ∙ is) in
+      let (u, same) = (acts act.1).0 does in
+      (u, (act.0, subst (λ a. Contains (acts_of operation) (act.0, a)) same found))),
+  (λ (u, makes). makes_update operation u makes),
+)
 
 pub same_number : (records : Records) (l m : Label) → Contains (labels_of records) l → Contains (labels_of records) m → l.number ≡ m.number → l ≡ m
 same_number records l m l_there m_there is = same_Some l m (sym (label_found records l l_there) ∙ ap (label_at records) is ∙ label_found records m m_there)

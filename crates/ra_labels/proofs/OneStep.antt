@@ -1,10 +1,10 @@
 -- One delivery is one step.
 use Rattle.std.proofs.Common.{◌≡◌, ℕ, ◌<◌, true, false, List, [], ◌∷◌, ◌++◌, filter, Option, Some, None, refl, sym, ap, ◌∙◌, subst, inl, inr, arith}
-use Rattle.std.specs.Prelude.{◌⊎◌, ◌==◌, not, Contains, IsSorted, flat_map}
+use Rattle.std.specs.Prelude.{◌↔◌, ◌⊎◌, ◌==◌, ◌&&◌, not, Contains, IsSorted, flat_map}
 use Rattle.std.specs.List.{cons_option}
 use Rattle.std.specs.List.{IsDistinct}
 use Rattle.std.specs.Ordering.{is_lt}
-use Rattle.std.proofs.lemmas.Bool.{false≢true, true≢false, false_from_ne_true, and_parts, eqb-true, cases_order, not_from_false}
+use Rattle.std.proofs.lemmas.Bool.{false≢true, true≢false, false_from_ne_true, and_parts, and_from, eq-eqb, eqb-true, cases_order, not_from_false}
 use Rattle.std.proofs.lemmas.Option.{none-some, same_Some}
 use Rattle.std.proofs.lemmas.List.Elements.{Contains-append_right}
 use Rattle.std.proofs.lemmas.List.Sorted.{Contains-permutation, IsPermutation-sym}
@@ -28,7 +28,7 @@ use Rattle.ra_labels.specs.NamedOrder.{label_cmp, named_labels, named_sequence}
 use Rattle.ra_labels.specs.Fault.{Holds}
 use Rattle.ra_labels.specs.Laws.{kind_of_state, acts_on, WasAddedAndStays, IdentifiersAreOneLabels}
 use Rattle.ra_labels.specs.Insertion.{updates_had_of, updates_had, Makes}
-use Rattle.ra_labels.specs.Commuting.{then_step, clash, NoneClashes, last_written, last_on}
+use Rattle.ra_labels.specs.Commuting.{then_step, clash, AddsWhatIsTakenOut, NoneClashes, last_written, last_on}
 use Rattle.ra_labels.proofs.Places.{Contains-cons_cases, at_head, behind_head, there-kept, from_where, reached}
 use Rattle.ra_labels.proofs.Seen.{had_closed, sees_earlier}
 use Rattle.ra_labels.proofs.Standing.{list_all-from_contains}
@@ -275,6 +275,23 @@ clashing (RgaRemove y) (OrAdd z k) is = absurd (false≢true is)
 clashing (RgaRemove y) (TakeOut z ids) is = absurd (false≢true is)
 clashing (RgaRemove y) (After b z) is = absurd (false≢true is)
 clashing (RgaRemove y) (RgaRemove z) is = absurd (false≢true is)
+
+pub clash-exactly : (u v : Update) → (clash u v ≡ true) ↔ (AddsWhatIsTakenOut u v ⊎ AddsWhatIsTakenOut v u)
+clash-exactly u v = (
+  (λ is.
+      let (x, id, ids, listed, which) = clashing u v is in
+      elim which [
+        | inl (adds, removes) ↦ inl (x, id, ids, listed, adds, removes)
+        | inr (removes, adds) ↦ inr (x, id, ids, listed, adds, removes)
+      ]),
+  (λ known. elim known [
+    | inl (x, id, ids, listed, adds, removes) ↦ (λ i. clash (adds i) (removes i)) ∙ taken_out x id ids listed
+    | inr (x, id, ids, listed, adds, removes) ↦ (λ i. clash (removes i) (adds i)) ∙ taken_out x id ids listed
+  ]),
+)
+  where
+    taken_out : (x id : ℕ) (ids : List ℕ) → Contains ids id → (x == x && is_among id ids) ≡ true
+    taken_out x id ids listed = and_from (x == x) (is_among id ids) (eq-eqb x x refl) ((among-exactly id ids).1 listed)
 
 -- what a replica had of labels is an update of one of them
 had_from : (records : Records) (replica : ℕ) (labels : List Label) (u : Update) → Contains (updates_had_of records replica labels) u → (m : Label) × Contains labels m × (had records replica m.number ≡ true) × Makes m.op u

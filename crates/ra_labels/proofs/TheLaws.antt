@@ -37,7 +37,7 @@ pub use Rattle.ra_labels.proofs.OrSets.{pair_below as pairs_by_element_and_then_
 -- laws::commuting
 pub use Rattle.ra_labels.proofs.Commuting.{counter-steps as steps_of_a_counter_commute, or_set-steps as steps_of_an_or_set_commute, counter-late as a_late_update_counts_as_the_last-counter, or_set-late as a_late_update_counts_as_the_last-or_set}
 -- laws::one_step
-pub use Rattle.ra_labels.proofs.OneStep.{removal-sees as a_removal_sees_what_it_takes_out, counter-delivered as a_delivery_is_one_step-counter, register-delivered as a_delivery_is_one_step-register, set-delivered as a_delivery_is_one_step-lww_set, or_set-delivered as a_delivery_is_one_step-or_set}
+pub use Rattle.ra_labels.proofs.OneStep.{clash-exactly as two_updates_clash_where_one_takes_out_what_the_other_adds, removal-sees as a_removal_sees_what_it_takes_out, counter-delivered as a_delivery_is_one_step-counter, register-delivered as a_delivery_is_one_step-register, set-delivered as a_delivery_is_one_step-lww_set, or_set-delivered as a_delivery_is_one_step-or_set}
 pub use Rattle.ra_labels.proofs.Last.{counter-more as one_more_label_is_one_step-counter, register-more as one_more_label_is_one_step-register, set-more as one_more_label_is_one_step-lww_set, or_set-issued as an_operation_of_an_or_set_is_one_step, register-last_label as the_last_label_has_the_last_update-register, set-last_label as the_last_label_has_the_last_update-lww_set, register-overridden as a_label_before_the_last_changes_nothing-register, set-overridden as a_label_before_the_last_changes_nothing-lww_set}
 pub use Rattle.ra_labels.proofs.Offering.{behind-all as a_label_behind_all_that_pass_is_one_step}
 -- laws::overriding
@@ -83,6 +83,7 @@ pub use Rattle.ra_labels.proofs.Stamps.{taken-exactly as a_stamp_is_taken_where_
 -- laws::identifiers
 pub use Rattle.ra_labels.proofs.Identifiers.{identifier-exactly as an_identifier_is_taken_where_an_addition_has_it-taken, gives-exactly as an_identifier_is_taken_where_an_addition_has_it-gives, identifiers-once as identifiers_are_given_once-one, identifiers-once_all as identifiers_are_given_once-all}
 -- laws::insertion
+pub use Rattle.ra_labels.proofs.OneMore.{made-exactly as an_operation_makes_one_update-exactly, made-once as an_operation_makes_one_update-one}
 pub use Rattle.ra_labels.proofs.Insertion.{order-inserted as a_new_label_leaves_the_order_of_the_others, others-see as a_new_label_leaves_what_the_others_see-others, own-sees as a_new_label_leaves_what_the_others_see-own, decides-order as a_new_label_alone_decides-order, decides-query as a_new_label_alone_decides-query, decides-all as a_new_label_alone_decides-all}
 pub use Rattle.ra_labels.proofs.Having.{operation-own as an_operation_puts_its_update_in-own, operation-query as an_operation_puts_its_update_in-query, operation-others as an_operation_puts_its_update_in-others, delivery-own as a_delivery_puts_its_update_in-own, delivery-order as a_delivery_puts_its_update_in-order, delivery-others as a_delivery_puts_its_update_in-others}
 -- laws::linearization
