@@ -2,16 +2,17 @@
 use Rattle.std.proofs.Common.{◌≡◌, ℕ, Bool, true, false, List, [], ◌∷◌, ◌++◌, Option, Some, refl, sym, ap, ◌∙◌, subst, inl, inr, arith, Ordering, append_assoc}
 use Rattle.std.specs.Prelude.{◌↔◌, ◌⊎◌, not, Contains, IsSorted, flat_map}
 use Rattle.std.specs.List.{IsDistinct, list_all}
-use Rattle.std.specs.Ordering.{is_lt, ordering_reverse}
+use Rattle.std.specs.Ordering.{is_lt, nat_cmp, ordering_reverse, ordering_then}
 use Rattle.std.specs.Cmp.{Equal-is}
 use Rattle.std.specs.declared.cmp.Ordering.TheVariants.{Less, Equal, Greater}
 use Rattle.std.proofs.lemmas.Bool.{true≢false, cases_Bool, not_from_false}
 use Rattle.std.proofs.lemmas.List.Elements.{Contains-append_left, Contains-append_right, Contains-append_cases}
 use Rattle.ra_labels.specs.declared.kind.Kind.{Kind}
-use Rattle.ra_labels.specs.declared.kind.Kind.TheVariants.{Rga}
+use Rattle.ra_labels.specs.declared.kind.Kind.TheVariants.{Counter, Register, LwwSet, OrSet, Rga}
 use Rattle.ra_labels.specs.declared.operation.Op.{Op}
 use Rattle.ra_labels.specs.declared.operation.Update.{Update}
 use Rattle.ra_labels.specs.declared.operation.Update.TheVariants.{After, RgaRemove}
+use Rattle.ra_labels.specs.declared.label.Stamp.{Stamp}
 use Rattle.ra_labels.specs.declared.label.Label.{Label}
 use Rattle.ra_labels.specs.declared.command.Command.TheVariants.{Operate}
 use Rattle.ra_labels.specs.Records.{Records, labels_of, next_label}
@@ -19,13 +20,14 @@ use Rattle.ra_labels.specs.Visibility.{is_update}
 use Rattle.ra_labels.specs.Rewriting.{parts_of, updates_of}
 use Rattle.ra_labels.specs.Lists.{hide}
 use Rattle.ra_labels.specs.Specification.{Listed, state_after}
-use Rattle.ra_labels.specs.NamedOrder.{label_cmp, named_labels, named_sequence}
+use Rattle.ra_labels.specs.NamedOrder.{stamp_cmp, timestamp_of, rank_of, label_cmp, named_labels, named_sequence}
 use Rattle.ra_labels.specs.Insertion.{Makes}
 use Rattle.ra_labels.specs.Late.{put_after}
 use Rattle.ra_labels.specs.Waiting.{updates_among, is_there, OnePutsIn}
 use Rattle.ra_labels.proofs.Places.{Contains-cons_cases, at_head, behind_head, split_at, reached}
 use Rattle.ra_labels.proofs.Standing.{list_all-from_contains}
-use Rattle.ra_labels.proofs.Order.{label_cmp-total, IsSorted-named_labels}
+use Rattle.ra_labels.proofs.Order.{stamp_same, label_cmp-total, IsSorted-named_labels}
+use Rattle.ra_labels.proofs.Timestamps.{timestamp-own}
 use Rattle.ra_labels.proofs.Unique.{head_least, neither_below, same_label}
 use Rattle.ra_labels.proofs.Ranking.{named_differ, have_one_number}
 use Rattle.ra_labels.proofs.Insertion.{order-inserted}
@@ -207,3 +209,24 @@ all-without kind records by operation clock query =
     ∙ ap (λ us. updates_among each before ++ us) (among-append each (label ∷ []) behind ∙ ap (λ us. us ++ updates_among each behind) none)
     ∙ sym (ap (updates_among each) was ∙ among-append each before behind)
     ∙ each_passes (named_labels kind records)
+
+-- labels with stamps of their own that differ stand by these, where labels are sorted by timestamps
+by_first : (o p : Ordering) → ¬ (o ≡ Equal) → ordering_then o p ≡ o
+by_first Less p other = refl
+by_first Equal p other = absurd (other refl)
+by_first Greater p other = refl
+
+stamps_decide : (kind : Kind) (records : Records) (l m : Label) (s t : Stamp) → rank_of kind records l ≡ timestamp_of records l → rank_of kind records m ≡ timestamp_of records m → l.stamp ≡ Some s → m.stamp ≡ Some t → ¬ (s ≡ t)
+    → label_cmp kind records l m ≡ stamp_cmp s t
+stamps_decide kind records l m s t l_rank m_rank l_has m_has other =
+    let l_is : rank_of kind records l ≡ s = l_rank ∙ timestamp-own records l s l_has in
+    let m_is : rank_of kind records m ≡ t = m_rank ∙ timestamp-own records m t m_has in
+    (λ i. ordering_then (stamp_cmp (l_is i) (m_is i)) (nat_cmp l.number m.number))
+    ∙ by_first (stamp_cmp s t) (nat_cmp l.number m.number) (λ tie. other ((stamp_same s t).0 tie))
+
+pub own-stamps : (kind : Kind) (records : Records) (l m : Label) (s t : Stamp) → ¬ (kind ≡ Counter) → ¬ (kind ≡ OrSet) → l.stamp ≡ Some s → m.stamp ≡ Some t → ¬ (s ≡ t) → label_cmp kind records l m ≡ stamp_cmp s t
+own-stamps Counter records l m s t not_this nor_this l_has m_has other = absurd (not_this refl)
+own-stamps Register records l m s t not_this nor_this l_has m_has other = stamps_decide Register records l m s t refl refl l_has m_has other
+own-stamps LwwSet records l m s t not_this nor_this l_has m_has other = stamps_decide LwwSet records l m s t refl refl l_has m_has other
+own-stamps OrSet records l m s t not_this nor_this l_has m_has other = absurd (nor_this refl)
+own-stamps Rga records l m s t not_this nor_this l_has m_has other = stamps_decide Rga records l m s t refl refl l_has m_has other

@@ -3,10 +3,11 @@ ghost use Rattle.std.specs.Prelude.{◌≡◌, ◌↔◌, ◌⊎◌, true, false
 ghost use Rattle.std.specs.Ordering.{is_lt};
 ghost use Rattle.std.specs.declared.cmp.Ordering.TheVariants.{Less};
 ghost use Rattle.ra_labels.specs.declared.kind.Kind.{Kind};
-ghost use Rattle.ra_labels.specs.declared.kind.Kind.TheVariants.{Rga};
+ghost use Rattle.ra_labels.specs.declared.kind.Kind.TheVariants.{Counter, OrSet, Rga};
 ghost use Rattle.ra_labels.specs.declared.operation.Op.{Op};
 ghost use Rattle.ra_labels.specs.declared.operation.Update.{Update};
 ghost use Rattle.ra_labels.specs.declared.operation.Update.TheVariants.{After, RgaRemove};
+ghost use Rattle.ra_labels.specs.declared.label.Stamp.{Stamp};
 ghost use Rattle.ra_labels.specs.declared.label.Label.{Label};
 ghost use Rattle.ra_labels.specs.declared.command.Command.TheVariants.{Operate};
 ghost use Rattle.ra_labels.specs.Records.{Records, labels_of, next_label};
@@ -15,7 +16,7 @@ ghost use Rattle.ra_labels.specs.Rewriting.{parts_of, updates_of};
 ghost use Rattle.ra_labels.specs.Lists.{hide};
 ghost use Rattle.ra_labels.specs.Specification.{Listed, state_after};
 ghost use Rattle.ra_labels.specs.Linearization.{updates_admitted};
-ghost use Rattle.ra_labels.specs.NamedOrder.{label_cmp, named_labels, named_sequence};
+ghost use Rattle.ra_labels.specs.NamedOrder.{stamp_cmp, label_cmp, named_labels, named_sequence};
 ghost use Rattle.ra_labels.specs.Insertion.{Makes};
 ghost use Rattle.ra_labels.specs.Late.{put_after};
 ghost use Rattle.ra_labels.specs.Waiting.{updates_among, is_there, OnePutsIn, WasPutInBelow};
@@ -29,6 +30,12 @@ pub fn a_label_stands_before_those_that_it_is_below()
     ensures behind { (kind : Kind) (records : Records) (first later : List Label) (label other : Label)
         → named_labels kind records ≡ first ++ label ∷ later → Contains (labels_of records) other
         → Contains later other ↔ (label_cmp kind records label other ≡ Less) }
+{}
+
+/// Labels with different stamps of their own stand in the order of these, where they are sorted by timestamps.
+pub fn labels_with_stamps_stand_in_their_order()
+    ensures { (kind : Kind) (records : Records) (l m : Label) (s t : Stamp) → ¬ (kind ≡ Counter) → ¬ (kind ≡ OrSet)
+        → l.stamp ≡ Some s → m.stamp ≡ Some t → ¬ (s ≡ t) → label_cmp kind records l m ≡ stamp_cmp s t }
 {}
 
 /// One more operation puts its update among those of all labels, at its place in the named order. One that is no update
