@@ -21,9 +21,9 @@ use Rattle.ra_labels.specs.Rewriting.{parts_of, updates_of}
 use Rattle.ra_labels.specs.Lists.{hide}
 use Rattle.ra_labels.specs.Specification.{Listed, state_after}
 use Rattle.ra_labels.specs.NamedOrder.{stamp_cmp, timestamp_of, rank_of, label_cmp, named_labels, named_sequence}
-use Rattle.ra_labels.specs.Insertion.{Makes}
+use Rattle.ra_labels.specs.Insertion.{updates_among, Makes}
 use Rattle.ra_labels.specs.Late.{put_after}
-use Rattle.ra_labels.specs.Waiting.{updates_among, is_there, OnePutsIn}
+use Rattle.ra_labels.specs.Waiting.{is_there, OnePutsIn}
 use Rattle.ra_labels.proofs.Places.{Contains-cons_cases, at_head, behind_head, split_at, reached}
 use Rattle.ra_labels.proofs.Standing.{list_all-from_contains}
 use Rattle.ra_labels.proofs.Order.{stamp_same, label_cmp-total, IsSorted-named_labels}

@@ -20,8 +20,7 @@ use Rattle.ra_labels.specs.Records.{Records, label_count, labels_of, next_label}
 use Rattle.ra_labels.specs.Visibility.{is_update, is_update_at, had}
 use Rattle.ra_labels.specs.Rewriting.{Part, Half, QueryHalf, UpdateHalf, Act, Does, Asks, acts_of, part_of, parts_of, update_of, updates_of}
 use Rattle.ra_labels.specs.NamedOrder.{named_labels}
-use Rattle.ra_labels.specs.Insertion.{updates_had_of, updates_had, Makes}
-use Rattle.ra_labels.specs.Waiting.{updates_among}
+use Rattle.ra_labels.specs.Insertion.{updates_among, updates_had_of, updates_had, Makes}
 use Rattle.ra_labels.proofs.Places.{Contains-cons_cases, at_head, behind_head, split_at}
 use Rattle.ra_labels.proofs.Seen.{had_update, is_update_at-below}
 use Rattle.ra_labels.proofs.Standing.{is_update-acts}

@@ -18,9 +18,8 @@ use Rattle.ra_labels.specs.Visibility.{had}
 use Rattle.ra_labels.specs.Specification.{Written, state_after, is_admitted}
 use Rattle.ra_labels.specs.NamedOrder.{named_labels}
 use Rattle.ra_labels.specs.Laws.{acts_on}
-use Rattle.ra_labels.specs.Insertion.{updates_had, Makes}
+use Rattle.ra_labels.specs.Insertion.{updates_among, updates_passing, or_label, updates_had, Makes}
 use Rattle.ra_labels.specs.Commuting.{then_step, last_of, written_by, last_written, last_on}
-use Rattle.ra_labels.specs.Waiting.{updates_among, updates_passing, or_label}
 use Rattle.ra_labels.proofs.Places.{Contains-cons_cases, at_head, behind_head, kept-there}
 use Rattle.ra_labels.proofs.Order.{named_labels-by_number}
 use Rattle.ra_labels.proofs.Counting.{state_after-push}

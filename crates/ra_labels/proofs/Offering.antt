@@ -15,9 +15,9 @@ use Rattle.ra_labels.specs.Rewriting.{parts_of, updates_of}
 use Rattle.ra_labels.specs.Specification.{state_after, is_admitted}
 use Rattle.ra_labels.specs.Linearization.{updates_admitted}
 use Rattle.ra_labels.specs.NamedOrder.{named_labels, named_sequence}
-use Rattle.ra_labels.specs.Insertion.{Makes}
+use Rattle.ra_labels.specs.Insertion.{updates_among, updates_passing, or_label, Makes}
 use Rattle.ra_labels.specs.Commuting.{then_step}
-use Rattle.ra_labels.specs.Waiting.{updates_among, updates_passing, or_label, is_there, WasPutInBelow}
+use Rattle.ra_labels.specs.Waiting.{is_there, WasPutInBelow}
 use Rattle.ra_labels.proofs.Counting.{state_after-push}
 use Rattle.ra_labels.proofs.Having.{among-none}
 use Rattle.ra_labels.proofs.Kept.{there-exactly}

@@ -20,10 +20,10 @@ use Rattle.ra_labels.specs.Specification.{State, Listed, state_after, is_admitte
 use Rattle.ra_labels.specs.Linearization.{updates_admitted}
 use Rattle.ra_labels.specs.NamedOrder.{named_sequence}
 use Rattle.ra_labels.specs.Laws.{elements_in}
-use Rattle.ra_labels.specs.Insertion.{Makes}
+use Rattle.ra_labels.specs.Insertion.{updates_among, updates_passing, or_label, Makes}
 use Rattle.ra_labels.specs.Commuting.{then_step}
 use Rattle.ra_labels.specs.Late.{put_after, kept_entries}
-use Rattle.ra_labels.specs.Waiting.{updates_among, updates_passing, or_label, puts_in, is_there, needed_by, NoneWaits}
+use Rattle.ra_labels.specs.Waiting.{puts_in, is_there, needed_by, NoneWaits}
 use Rattle.ra_labels.proofs.Places.{Contains-cons_cases, at_head, behind_head, reached}
 use Rattle.ra_labels.proofs.Standing.{list_all-from_contains, is_update-acts}
 use Rattle.ra_labels.proofs.Unique.{label_found}

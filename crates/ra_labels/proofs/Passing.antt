@@ -20,9 +20,9 @@ use Rattle.ra_labels.specs.Linearization.{updates_admitted}
 use Rattle.ra_labels.specs.NamedOrder.{named_labels, named_sequence}
 use Rattle.ra_labels.specs.Answer.{is_kind}
 use Rattle.ra_labels.specs.Laws.{kind_of_update, elements_in}
-use Rattle.ra_labels.specs.Insertion.{Makes}
+use Rattle.ra_labels.specs.Insertion.{updates_among, updates_passing, or_label, Makes}
 use Rattle.ra_labels.specs.Late.{kept_entries}
-use Rattle.ra_labels.specs.Waiting.{updates_among, updates_passing, or_label, is_there, shown_by, needed_by, NoneWaits}
+use Rattle.ra_labels.specs.Waiting.{is_there, shown_by, needed_by, NoneWaits}
 use Rattle.ra_labels.proofs.Places.{Contains-cons_cases, list_all-contains, at_head, behind_head, split_at, there-kept, reached}
 use Rattle.ra_labels.proofs.Standing.{list_all-from_contains}
 use Rattle.ra_labels.proofs.Lists.{bool_same}

@@ -16,8 +16,8 @@ use Rattle.ra_labels.specs.Rewriting.{updates_of}
 use Rattle.ra_labels.specs.Specification.{state_after, is_admitted}
 use Rattle.ra_labels.specs.Linearization.{updates_admitted}
 use Rattle.ra_labels.specs.NamedOrder.{named_labels, named_sequence}
-use Rattle.ra_labels.specs.Insertion.{Makes}
-use Rattle.ra_labels.specs.Waiting.{updates_among, updates_passing, or_label, is_there, needed_by, OnePutsIn, NoneWaits, OthersWait, AllSettled, IsSettled}
+use Rattle.ra_labels.specs.Insertion.{updates_among, updates_passing, or_label, Makes}
+use Rattle.ra_labels.specs.Waiting.{is_there, needed_by, OnePutsIn, NoneWaits, OthersWait, AllSettled, IsSettled}
 use Rattle.ra_labels.proofs.Places.{Contains-cons_cases, at_head, behind_head}
 use Rattle.ra_labels.proofs.Lists.{bool_same}
 use Rattle.ra_labels.proofs.Ranking.{named_differ, have_one_number}

@@ -21,8 +21,7 @@ use Rattle.ra_labels.specs.NamedOrder.{lowest_rank, stamp_cmp, timestamp_of, ran
 use Rattle.ra_labels.specs.Fault.{Holds, cause_of, fault_of}
 use Rattle.ra_labels.specs.Answer.{misfit_of, refusal_of, records_after_all}
 use Rattle.ra_labels.specs.Laws.{IsLeastFault}
-use Rattle.ra_labels.specs.Insertion.{updates_had}
-use Rattle.ra_labels.specs.Waiting.{updates_passing}
+use Rattle.ra_labels.specs.Insertion.{updates_passing, updates_had}
 use Rattle.ra_labels.proofs.Seen.{sees_earlier}
 use Rattle.ra_labels.proofs.Holding.{holds_from_no_cause, no_cause_from_holds, each_label_holds, no_fault_from_labels, fault_is_least, only_least_fault}
 use Rattle.ra_labels.proofs.Order.{named_labels-by_number}

@@ -1,28 +1,14 @@
--- Words of the laws of updates of which some pass a test, and of an RGA's updates that wait for others.
-use Rattle.std.specs.Prelude.{◌≡◌, ℕ, ◌==◌, Bool, true, false, not, ◌||◌, List, map, filter, flat_map, Contains}
+-- Words of the laws of an RGA's updates that wait for others.
+use Rattle.std.specs.Prelude.{◌≡◌, ℕ, ◌==◌, Bool, true, false, not, ◌||◌, List, map, Contains}
 use Rattle.std.specs.List.{list_any}
 use Rattle.std.specs.declared.cmp.Ordering.TheVariants.{Less}
-use Rattle.ra_labels.specs.declared.kind.Kind.{Kind}
 use Rattle.ra_labels.specs.declared.kind.Kind.TheVariants.{Rga}
 use Rattle.ra_labels.specs.declared.operation.Update.{Update}
 use Rattle.ra_labels.specs.declared.operation.Update.TheVariants.{After, RgaRemove}
 use Rattle.ra_labels.specs.declared.label.Label.{Label}
 use Rattle.ra_labels.specs.Records.{Records, labels_of}
-use Rattle.ra_labels.specs.Rewriting.{parts_of, updates_of}
-use Rattle.ra_labels.specs.NamedOrder.{label_cmp, named_labels}
-use Rattle.ra_labels.specs.Insertion.{Makes}
-
--- the updates of those of these labels that pass
-abbrev pub updates_among : (ℕ → Bool) → List Label → List Update
-updates_among passes labels = updates_of (filter (λ p. passes p.label.number) (flat_map parts_of labels))
-
--- the updates of the labels that pass, in the named order
-abbrev pub updates_passing : Kind → Records → (ℕ → Bool) → List Update
-updates_passing kind records passes = updates_among passes (named_labels kind records)
-
--- does the label pass, or is it label n?
-abbrev pub or_label : (ℕ → Bool) → ℕ → ℕ → Bool
-or_label passes n m = passes m || m == n
+use Rattle.ra_labels.specs.NamedOrder.{label_cmp}
+use Rattle.ra_labels.specs.Insertion.{updates_passing, Makes}
 
 -- does the update put the element in?
 abbrev pub puts_in : ℕ → Update → Bool

@@ -17,9 +17,9 @@ ghost use Rattle.ra_labels.specs.Lists.{hide};
 ghost use Rattle.ra_labels.specs.Specification.{Listed, state_after};
 ghost use Rattle.ra_labels.specs.Linearization.{updates_admitted};
 ghost use Rattle.ra_labels.specs.NamedOrder.{stamp_cmp, label_cmp, named_labels, named_sequence};
-ghost use Rattle.ra_labels.specs.Insertion.{Makes};
+ghost use Rattle.ra_labels.specs.Insertion.{updates_among, Makes};
 ghost use Rattle.ra_labels.specs.Late.{put_after};
-ghost use Rattle.ra_labels.specs.Waiting.{updates_among, is_there, OnePutsIn, WasPutInBelow};
+ghost use Rattle.ra_labels.specs.Waiting.{is_there, OnePutsIn, WasPutInBelow};
 
 /// In the named order exactly those labels stand before a label that are below it, and exactly those behind it that it
 /// is below.
@@ -80,7 +80,8 @@ pub fn a_new_update_is_admitted_where_a_label_below_it_put_in_what_it_needs()
 {}
 
 /// In the list of all labels a new element goes behind its anchor, and past those directly behind it whose labels its
-/// own is below: those with greater stamps. A removal leaves each element its place.
+/// own is below: those with greater stamps. So says `below` of the elements that labels put in, and never of the root.
+/// A removal leaves each element its place.
 pub fn a_new_label_in_the_list_of_all()
     ensures insertion { (records : Records) (by : ℕ) (op : Op) (clock : Option ℕ) (anchor x : ℕ)
         (all next : List (ℕ × Bool)) (below : ℕ → ℕ → Bool) → Makes op (After anchor x)

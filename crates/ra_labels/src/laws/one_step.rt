@@ -1,4 +1,4 @@
-//! One delivery is one step.
+//! One delivery, or one operation, is one step.
 ghost use Rattle.std.specs.Prelude.{◌≡◌, true, false, ℕ, Bool, List, ◌∷◌, ◌++◌, Contains, Option, Some};
 ghost use Rattle.ra_labels.specs.declared.kind.Kind.{Kind};
 ghost use Rattle.ra_labels.specs.declared.kind.Kind.TheVariants.{Counter, Register, LwwSet, OrSet};
@@ -14,9 +14,8 @@ ghost use Rattle.ra_labels.specs.Specification.{state_after, is_admitted};
 ghost use Rattle.ra_labels.specs.NamedOrder.{named_labels};
 ghost use Rattle.ra_labels.specs.Fault.{Holds};
 ghost use Rattle.ra_labels.specs.Laws.{acts_on, IdentifiersAreOneLabels};
-ghost use Rattle.ra_labels.specs.Insertion.{updates_had, Makes};
+ghost use Rattle.ra_labels.specs.Insertion.{updates_passing, or_label, updates_had, Makes};
 ghost use Rattle.ra_labels.specs.Commuting.{then_step, last_written, last_on};
-ghost use Rattle.ra_labels.specs.Waiting.{updates_passing, or_label};
 
 /// Where records hold and no two additions give one identifier, a removal sees each addition that it takes out.
 pub fn a_removal_sees_what_it_takes_out()
@@ -26,8 +25,9 @@ pub fn a_removal_sees_what_it_takes_out()
 {}
 
 /// A delivery to a replica of a counter, of an update that is new to it, is one step from where those lead that it had.
-/// Of a register and an LWW set it is that of the last update, over all or over those on its element. Of an OR-Set it
-/// is one step where records hold, additions give identifiers of their own, and the delivery is causal.
+/// Of a register and an LWW set it is that of the last update, over all or over those on its element; in records that
+/// hold what a replica had is admitted, and there is a last one, since this is one. Of an OR-Set it is one step where
+/// records hold, additions give identifiers of their own, and the delivery is causal.
 pub fn a_delivery_is_one_step()
     ensures counter { (records : Records) (to : ℕ) (label : Label) (update : Update)
         → Contains (labels_of records) label → Makes label.op update → had records to label.number ≡ false
@@ -51,7 +51,8 @@ pub fn a_delivery_is_one_step()
 {}
 
 /// One more label of a counter that passes is one step; one more of a register or an LWW set is one step of the last
-/// update, over all or over those on its element: its own, or once more the one that overrides it.
+/// update, over all or over those on its element: its own, or once more the one that overrides it. In records that
+/// hold they are admitted.
 pub fn one_more_label_is_one_step()
     ensures counter { (records : Records) (passes : ℕ → Bool) (label : Label) (update : Update)
         → Contains (labels_of records) label → Makes label.op update → passes label.number ≡ false
@@ -101,7 +102,8 @@ pub fn the_last_label_has_the_last_update()
         → last_on x (updates_passing LwwSet records passes) ≡ Some update }
 {}
 
-/// One more label changes nothing where one behind it passes, or one on its element.
+/// One more label changes nothing where one behind it passes, or one on its element. In records that hold they are
+/// admitted.
 pub fn a_label_before_the_last_changes_nothing()
     ensures register { (records : Records) (passes : ℕ → Bool) (before behind : List Label) (label other : Label)
         (value later : ℕ) → named_labels Register records ≡ before ++ label ∷ behind → Makes label.op (Write value)

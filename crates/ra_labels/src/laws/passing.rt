@@ -11,8 +11,8 @@ ghost use Rattle.ra_labels.specs.Visibility.{is_update, is_update_at, had, sees}
 ghost use Rattle.ra_labels.specs.Specification.{is_admitted};
 ghost use Rattle.ra_labels.specs.Linearization.{visible_updates, updates_admitted};
 ghost use Rattle.ra_labels.specs.NamedOrder.{named_labels, named_sequence};
-ghost use Rattle.ra_labels.specs.Insertion.{updates_had, Makes};
-ghost use Rattle.ra_labels.specs.Waiting.{updates_among, updates_passing, or_label, puts_in, is_there};
+ghost use Rattle.ra_labels.specs.Insertion.{updates_among, updates_passing, or_label, updates_had, Makes};
+ghost use Rattle.ra_labels.specs.Waiting.{puts_in, is_there};
 
 /// So stand the updates that a replica had, and those that a label sees.
 pub fn updates_had_or_seen_are_those_that_pass()
@@ -29,7 +29,8 @@ pub fn tests_that_agree_let_the_same_updates_pass()
         → updates_passing kind records passes ≡ updates_passing kind records others }
 {}
 
-/// Of a kind but an RGA, the updates of labels that pass are admitted where those of all labels are.
+/// Of a kind but an RGA, the updates of labels that pass are admitted where those of all labels are, as they are in
+/// records that hold.
 pub fn updates_that_pass_are_admitted_where_all_are()
     ensures { (kind : Kind) (records : Records) (passes : ℕ → Bool) → ¬ (kind ≡ Rga)
         → updates_admitted kind (named_sequence kind records) ≡ true

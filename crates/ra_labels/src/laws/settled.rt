@@ -10,8 +10,8 @@ ghost use Rattle.ra_labels.specs.Records.{Records, label_count, labels_of};
 ghost use Rattle.ra_labels.specs.Specification.{is_admitted};
 ghost use Rattle.ra_labels.specs.Linearization.{updates_admitted};
 ghost use Rattle.ra_labels.specs.NamedOrder.{named_labels, named_sequence};
-ghost use Rattle.ra_labels.specs.Insertion.{Makes};
-ghost use Rattle.ra_labels.specs.Waiting.{updates_among, updates_passing, or_label, is_there, needed_by, OnePutsIn, NoneWaits, OthersWait, AllSettled, IsSettled};
+ghost use Rattle.ra_labels.specs.Insertion.{updates_among, updates_passing, or_label, Makes};
+ghost use Rattle.ra_labels.specs.Waiting.{is_there, needed_by, OnePutsIn, NoneWaits, OthersWait, AllSettled, IsSettled};
 
 /// What an update needs is the root, or is put in by a label that stands before it in the named order.
 pub fn what_an_update_needs_was_put_in_before_it()

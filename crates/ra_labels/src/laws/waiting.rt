@@ -12,10 +12,10 @@ ghost use Rattle.ra_labels.specs.Specification.{Listed, state_after, is_admitted
 ghost use Rattle.ra_labels.specs.Linearization.{updates_admitted};
 ghost use Rattle.ra_labels.specs.NamedOrder.{named_sequence};
 ghost use Rattle.ra_labels.specs.Laws.{elements_in};
-ghost use Rattle.ra_labels.specs.Insertion.{Makes};
+ghost use Rattle.ra_labels.specs.Insertion.{updates_passing, or_label, Makes};
 ghost use Rattle.ra_labels.specs.Commuting.{then_step};
 ghost use Rattle.ra_labels.specs.Late.{kept_entries};
-ghost use Rattle.ra_labels.specs.Waiting.{updates_passing, or_label, is_there, shown_by, needed_by, NoneWaits};
+ghost use Rattle.ra_labels.specs.Waiting.{is_there, shown_by, needed_by, NoneWaits};
 
 /// An update is admitted among others exactly where what it needs is there by those before it, and where it puts in
 /// what is there by none of them, or removes another element than the root.
