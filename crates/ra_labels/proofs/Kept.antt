@@ -9,7 +9,7 @@ use Rattle.ra_labels.specs.declared.operation.Update.{Update}
 use Rattle.ra_labels.specs.declared.operation.Update.TheVariants.{Inc, Dec, Write, LwwAdd, LwwRemove, OrAdd, TakeOut, After, RgaRemove}
 use Rattle.ra_labels.specs.Lists.{insert_after, hide}
 use Rattle.ra_labels.specs.Specification.{Listed, step_of, state_after}
-use Rattle.ra_labels.specs.Laws.{elements_in, WasPutIn}
+use Rattle.ra_labels.specs.Laws.{kind_of_update, elements_in, WasPutIn}
 use Rattle.ra_labels.specs.Late.{kept_entries}
 use Rattle.ra_labels.specs.Waiting.{puts_in, is_there, needed_by}
 use Rattle.ra_labels.proofs.Places.{Contains-cons_cases, at_head, behind_head, from_where, there-kept, kept-there, reached}
@@ -78,6 +78,18 @@ which_step ls next (LwwAdd x) is = absurd (none-some (Listed next) is)
 which_step ls next (LwwRemove x) is = absurd (none-some (Listed next) is)
 which_step ls next (OrAdd x id) is = absurd (none-some (Listed next) is)
 which_step ls next (TakeOut x ids) is = absurd (none-some (Listed next) is)
+
+-- what an update of another kind needs is the root
+pub needed-other : (u : Update) → ¬ (kind_of_update u ≡ Rga) → needed_by u ≡ 0
+needed-other (After anchor x) other = absurd (other refl)
+needed-other (RgaRemove x) other = absurd (other refl)
+needed-other Inc other = refl
+needed-other Dec other = refl
+needed-other (Write value) other = refl
+needed-other (LwwAdd x) other = refl
+needed-other (LwwRemove x) other = refl
+needed-other (OrAdd x id) other = refl
+needed-other (TakeOut x ids) other = refl
 
 -- what an update needs is in the list
 needed_here : (ls next : List (ℕ × Bool)) (u : Update) → GoesIn ls u next ⊎ GoesOut ls u next → Contains (elements_in ls) (needed_by u)

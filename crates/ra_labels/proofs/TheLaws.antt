@@ -52,7 +52,7 @@ pub use Rattle.ra_labels.proofs.Passing.{had-delivery as a_replica_had_one_more-
 pub use Rattle.ra_labels.proofs.OneMore.{length-more as one_more_label_puts_its_update_in-count, there-more as one_more_label_puts_its_update_in-there}
 -- laws::waiting
 pub use Rattle.ra_labels.proofs.OneMore.{inserted-admitted as an_update_is_admitted_where_what_it_needs_is_there-insertion, removed-admitted as an_update_is_admitted_where_what_it_needs_is_there-removal, put_in-once as an_element_is_put_in_by_one_label-one, put_in-other as an_element_is_put_in_by_one_label-other, insertion-step as one_more_update_is_one_step-insertion, removal-step as one_more_update_is_one_step-removal, none-waits_more as one_more_update_is_one_step-none_waits}
-pub use Rattle.ra_labels.proofs.Kept.{there-list as an_element_is_there_where_its_label_passes-list}
+pub use Rattle.ra_labels.proofs.Kept.{needed-other as an_update_of_another_kind_needs_the_root, there-list as an_element_is_there_where_its_label_passes-list}
 pub use Rattle.ra_labels.proofs.Passing.{there-label as an_element_is_there_where_its_label_passes-label, passing-admitted as updates_are_admitted_where_none_waits-exactly, passing-list as updates_are_admitted_where_none_waits-list, passing-shown as updates_are_admitted_where_none_waits-shown}
 -- laws::settled
 pub use Rattle.ra_labels.proofs.Settled.{needed-before as what_an_update_needs_was_put_in_before_it, settled-admitted as settled_updates_are_admitted-settled, settled-all as settled_updates_are_admitted-all, settled-same as settled_updates_are_admitted-same, settled-exactly as what_is_settled_does_not_wait, settled-waiting as settled_labels_stay_settled-waiting, settled-delivery as settled_labels_stay_settled-delivery, settled-operation as settled_labels_stay_settled-operation, settled-alike as settled_labels_stay_settled-alike, settled-once as what_is_settled_follows_from_what_was_had, settled-before as one_more_label_settles_none_before_it-before, settled-count as one_more_label_settles_none_before_it-count}

@@ -58,13 +58,13 @@ pub fn an_operation_puts_its_update_among_all()
 pub fn what_is_there_a_label_put_in()
     ensures all { (labels : List Label) (x : ℕ) → (is_there x (updates_of (flat_map parts_of labels)) ≡ true)
         ↔ ((x ≡ 0) ⊎ OnePutsIn x labels) }
-    ensures passing { (passes : ℕ → Bool) (labels : List Label) (x : ℕ) → is_there x (updates_among passes labels) ≡ true
-        → (x ≡ 0) ⊎ OnePutsIn x labels }
+    ensures passing { (passes : ℕ → Bool) (labels : List Label) (x : ℕ)
+        → is_there x (updates_among passes labels) ≡ true → (x ≡ 0) ⊎ OnePutsIn x labels }
 {}
 
-/// A new insertion is admitted exactly where its element is new and its anchor is the root, or a label below its own put
-/// it in: one with a lower stamp. A new removal is exactly where its element is not the root, and a label below its own
-/// put it in. It does not matter what stands behind.
+/// A new insertion is admitted exactly where its element is new and its anchor is the root, or a label below its own
+/// put it in: one with a lower stamp. A new removal is exactly where its element is not the root, and a label below
+/// its own put it in. It does not matter what stands behind.
 pub fn a_new_update_is_admitted_where_a_label_below_it_put_in_what_it_needs()
     ensures insertion { (records : Records) (by : ℕ) (op : Op) (clock : Option ℕ) (anchor x : ℕ)
         → Makes op (After anchor x) → updates_admitted Rga (named_sequence Rga records) ≡ true

@@ -11,7 +11,7 @@ ghost use Rattle.ra_labels.specs.Rewriting.{updates_of};
 ghost use Rattle.ra_labels.specs.Specification.{Listed, state_after, is_admitted};
 ghost use Rattle.ra_labels.specs.Linearization.{updates_admitted};
 ghost use Rattle.ra_labels.specs.NamedOrder.{named_sequence};
-ghost use Rattle.ra_labels.specs.Laws.{elements_in};
+ghost use Rattle.ra_labels.specs.Laws.{kind_of_update, elements_in};
 ghost use Rattle.ra_labels.specs.Insertion.{updates_passing, or_label, Makes};
 ghost use Rattle.ra_labels.specs.Commuting.{then_step};
 ghost use Rattle.ra_labels.specs.Late.{kept_entries};
@@ -25,6 +25,11 @@ pub fn an_update_is_admitted_where_what_it_needs_is_there()
         ↔ ((is_there anchor first ≡ true) × (is_there x (first ++ later) ≡ false)) }
     ensures removal { (first later : List Update) (x : ℕ) → is_admitted Rga (first ++ later) ≡ true
         → (is_admitted Rga (first ++ RgaRemove x ∷ later) ≡ true) ↔ ((is_there x first ≡ true) × ¬ (x ≡ 0)) }
+{}
+
+/// An update of another kind needs the root alone, which is there before any.
+pub fn an_update_of_another_kind_needs_the_root()
+    ensures { (update : Update) → ¬ (kind_of_update update ≡ Rga) → needed_by update ≡ 0 }
 {}
 
 /// An element is there exactly where it is in the list, and so where the label that puts it in is one of those that
