@@ -39,4 +39,5 @@ pub mod Settled
 pub mod Last
 pub mod Arriving
 pub mod Offering
+pub mod Between
 pub mod TheLaws

@@ -59,6 +59,7 @@ pub use Rattle.ra_labels.proofs.Settled.{needed-before as what_an_update_needs_w
 -- laws::arriving
 pub use Rattle.ra_labels.proofs.Arriving.{stands-before as a_label_stands_before_those_that_it_is_below-before, stands-behind as a_label_stands_before_those_that_it_is_below-behind, own-stamps as labels_with_stamps_stand_in_their_order, all-with as an_operation_puts_its_update_among_all-update, all-without as an_operation_puts_its_update_among_all-query, there-all as what_is_there_a_label_put_in-all, there-among as what_is_there_a_label_put_in-passing, insertion-all as a_new_label_in_the_list_of_all-insertion, removal-all as a_new_label_in_the_list_of_all-removal}
 pub use Rattle.ra_labels.proofs.Offering.{offered-insertion as a_new_update_is_admitted_where_a_label_below_it_put_in_what_it_needs-insertion, offered-removal as a_new_update_is_admitted_where_a_label_below_it_put_in_what_it_needs-removal}
+pub use Rattle.ra_labels.proofs.Between.{between-later as between_an_anchor_and_its_element_stand_later_ones}
 -- laws::lists
 pub use Rattle.ra_labels.proofs.Lists.{rises-exactly as a_list_rises_where_each_is_below_the_later-places, rises-sorted as a_list_rises_where_each_is_below_the_later-sorted, same-exactly as lists_have_the_same_elements-elements, rising-same as lists_have_the_same_elements-rising}
 -- laws::records

@@ -17,6 +17,7 @@ ghost use Rattle.ra_labels.specs.Lists.{hide};
 ghost use Rattle.ra_labels.specs.Specification.{Listed, state_after};
 ghost use Rattle.ra_labels.specs.Linearization.{updates_admitted};
 ghost use Rattle.ra_labels.specs.NamedOrder.{stamp_cmp, label_cmp, named_labels, named_sequence};
+ghost use Rattle.ra_labels.specs.Laws.{elements_in};
 ghost use Rattle.ra_labels.specs.Insertion.{updates_among, Makes};
 ghost use Rattle.ra_labels.specs.Late.{put_after};
 ghost use Rattle.ra_labels.specs.Waiting.{is_there, OnePutsIn, WasPutInBelow};
@@ -95,4 +96,16 @@ pub fn a_new_label_in_the_list_of_all()
         → Makes op (RgaRemove x) → state_after Rga (updates_of (named_sequence Rga records)) ≡ Some (Listed all)
         → state_after Rga (updates_of (named_sequence Rga (Operate by op clock ∷ records))) ≡ Some (Listed next)
         → next ≡ hide x all }
+{}
+
+/// Between an anchor and its element, in the list of all labels, stand only elements whose labels stand behind its own:
+/// those with greater stamps. So where a replica has none of these, its anchor is the nearest that is there.
+pub fn between_an_anchor_and_its_element_stand_later_ones()
+    ensures { (records : Records) (label other : Label) (anchor x b y : ℕ) (before between behind : List (ℕ × Bool))
+        (is_shown was_shown : Bool)
+        → let all = before ++ (anchor, is_shown) ∷ between ++ (x, was_shown) ∷ behind in
+        state_after Rga (updates_of (named_sequence Rga records)) ≡ Some (Listed all)
+        → Contains (labels_of records) label → Makes label.op (After anchor x) → Contains (labels_of records) other
+        → Makes other.op (After b y) → Contains (elements_in between) y
+        → label_cmp Rga records label other ≡ Less }
 {}
