@@ -162,7 +162,8 @@ abbrev pub remove_first : Kind → List (List ℕ) → Option (Rest Op)
 remove_first kind fields = option_and_then (λ n. removal_read kind n.0 n.1 (mark_first n.1)) (number_first fields)
 
 abbrev pub after_first : List (List ℕ) → Option (Rest Op)
-after_first fields = option_and_then (λ n. option_map (λ m. (After n.0 m.0, m.1)) (number_first n.1)) (number_first fields)
+after_first fields =
+    option_and_then (λ n. option_map (λ m. (After n.0 m.0, m.1)) (number_first n.1)) (number_first fields)
 
 -- an operation, by its first word
 abbrev pub word_first : Kind → List ℕ → List (List ℕ) → Option (Rest Op)
@@ -198,7 +199,8 @@ delivery_read replica (field ∷ another ∷ more) = None
 -- an operation, by its first word, with the clock behind it
 abbrev pub operation_read : Kind → ℕ → List ℕ → List (List ℕ) → Option Command
 operation_read kind replica word fields =
-    option_and_then (λ op. option_map (λ clock. Operate replica op.0 clock) (clock_last op.1)) (word_first kind word fields)
+    option_and_then (λ op. option_map (λ clock. Operate replica op.0 clock) (clock_last op.1))
+    (word_first kind word fields)
 
 -- the command of a replica, by the word behind its name
 abbrev pub replica_command_read : Kind → ℕ → List ℕ → List (List ℕ) → Option Command

@@ -82,7 +82,8 @@ stop_at said ending = record { ending = ending; said = said }
 -- a line that makes the lines say this is taken, unless it is one command too many
 abbrev pub line_taken_as : Said → Option Said → Result Progress Stop
 line_taken_as said None = Err (stop_at said (Syntax (next_line said)))
-line_taken_as said (Some next) = if is_full said then Err (stop_at said (Full (next_line said))) else Ok (line_start next)
+line_taken_as said (Some next) =
+    if is_full said then Err (stop_at said (Full (next_line said))) else Ok (line_start next)
 
 -- a whole line is taken: how far the text is then, or why it stops there
 abbrev pub line_taken : Said → List ℕ → Result Progress Stop

@@ -42,8 +42,8 @@ pub fn a_command_has_one_spelling()
         IsAtReplica names command → Spells kind names line command → Spells kind names other command → line ≡ other }
 {}
 
-/// A text has a regular end, with this kind, these names and these commands, exactly where it is a first line, a line of
-/// names and lines that spell the commands, each of them a line, and no more commands than the most.
+/// A text has a regular end, with this kind, these names and these commands, exactly where it is a first line, a line
+/// of names and lines that spell the commands, each of them a line, and no more commands than the most.
 pub fn a_regular_text_is_lines_of_a_history()
     ensures { (text : List ℕ) (kind : Kind) (names : List (List ℕ)) (commands : List Command) →
         ((ending_of text ≡ Regular) × (said_by text ≡ OfHistory kind names commands))

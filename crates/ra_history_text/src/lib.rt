@@ -5,9 +5,9 @@
 //! docs/FORMAT.md has it in words. `specs/Text` computes from a text's bytes how it ends and what its lines say, and
 //! `specs/Output` what is written for it.
 //!
-//! The one contract for the layers above: what `check` writes is `output_of` the text that it reads, and it answers with
-//! the text's own ending. A `Session` does the same for a caller that has the text piece by piece. `Reading::line` gives
-//! the kind, the number of names or the command that a line spells, and `Syntax` exactly where it spells none.
+//! The one contract for the layers above: what `check` writes is `output_of` the text that it reads, and it answers
+//! with the text's own ending. A `Session` does the same for a caller that has the text piece by piece. `Reading::line`
+//! gives the kind, the number of names or the command that a line spells, and `Syntax` exactly where it spells none.
 //! `Names::new` takes the names of a history from elsewhere. The laws above the definitions are the clauses of the
 //! functions of `laws`.
 #![tactic(auto)]

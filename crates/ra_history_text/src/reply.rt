@@ -37,7 +37,7 @@ pub fn spell_end(line: &mut String, labels: u32, fault: Option<Fault>) -> Result
     }
 }
 
-// The words, the number and a line feed. Nearly every reply line is of this form, and `write!` takes three times as long.
+// The words, the number and a line feed. Nearly every reply line is of this form, and `write!` takes longer for it.
 fn push_numbered(line: &mut String, words: &str, number: u32) -> Result<(), AllocError>
     ensures { OnOk result (string_bytes line.new
         ≡ string_bytes line.old ++ (words.now ++ (decimal number ++ 10 ∷ []))) }

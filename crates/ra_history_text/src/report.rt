@@ -53,8 +53,8 @@ fn value_of(alloc: Global, report: &Report) -> Result<Value, AllocError>
 ///
 /// # Errors
 ///
-/// `NoMemory` where a growth is refused: nothing was written. `Write` where the writer fails, or takes no byte: a part of
-/// the line was.
+/// `NoMemory` where a growth is refused: nothing was written. `Write` where the writer fails, or takes no byte: a part
+/// of the line was.
 pub fn write_report<W: Write>(
     alloc: Global,
     report: &Report,

@@ -1,5 +1,5 @@
-//! Times the check of a million lines beside a plain loop that reads the same bytes, cuts lines and fields and pushes one
-//! log entry a line.
+//! Times the check of a million lines beside a plain loop that reads the same bytes, cuts lines and fields and pushes
+//! one log entry a line.
 //!
 //! It prints nothing without a word on its command line, since the gate runs it so.
 #![tactic(auto)]

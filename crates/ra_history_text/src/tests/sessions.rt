@@ -63,7 +63,8 @@ fn reports(rt: HostRuntime) -> Result<(), Fail> {
         ),
         (
             no,
-            "{\"calls\":2,\"cause\":\"order\",\"kind\":\"register\",\"label\":1,\"labels\":2,\"refused\":0,\"verdict\":\"no\"}",
+            "{\"calls\":2,\"cause\":\"order\",\"kind\":\"register\",\"label\":1,\"labels\":2,\"refused\":0,\
+\"verdict\":\"no\"}",
         ),
     ] {
         let mut out = String::new(rt.alloc());
