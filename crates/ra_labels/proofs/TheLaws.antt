@@ -55,6 +55,7 @@ pub use Rattle.ra_labels.proofs.OneMore.{inserted-admitted as an_update_is_admit
 pub use Rattle.ra_labels.proofs.Kept.{needed-other as an_update_of_another_kind_needs_the_root, there-list as an_element_is_there_where_its_label_passes-list}
 pub use Rattle.ra_labels.proofs.Passing.{there-label as an_element_is_there_where_its_label_passes-label, passing-admitted as updates_are_admitted_where_none_waits-exactly, passing-list as updates_are_admitted_where_none_waits-list, passing-shown as updates_are_admitted_where_none_waits-shown}
 -- laws::settled
+pub use Rattle.ra_labels.proofs.Settling.{settling-starts as those_that_waited_follow-starts, settling-follows as those_that_waited_follow-follows, settling-done as those_that_waited_follow-done, settling-ends as those_that_waited_follow-ends, puts-exactly as those_that_waited_follow-element}
 pub use Rattle.ra_labels.proofs.Settled.{needed-before as what_an_update_needs_was_put_in_before_it, settled-admitted as settled_updates_are_admitted-settled, settled-all as settled_updates_are_admitted-all, settled-same as settled_updates_are_admitted-same, settled-exactly as what_is_settled_does_not_wait, settled-waiting as settled_labels_stay_settled-waiting, settled-delivery as settled_labels_stay_settled-delivery, settled-operation as settled_labels_stay_settled-operation, settled-alike as settled_labels_stay_settled-alike, settled-once as what_is_settled_follows_from_what_was_had, settled-before as one_more_label_settles_none_before_it-before, settled-count as one_more_label_settles_none_before_it-count}
 -- laws::arriving
 pub use Rattle.ra_labels.proofs.Arriving.{stands-before as a_label_stands_before_those_that_it_is_below-before, stands-behind as a_label_stands_before_those_that_it_is_below-behind, one-place as a_label_stands_before_those_that_it_is_below-place, own-stamps as labels_with_stamps_stand_in_their_order, all-with as an_operation_puts_its_update_among_all-update, all-without as an_operation_puts_its_update_among_all-query, there-all as what_is_there_a_label_put_in-all, there-among as what_is_there_a_label_put_in-passing, insertion-all as a_new_label_in_the_list_of_all-insertion, removal-all as a_new_label_in_the_list_of_all-removal}
