@@ -105,6 +105,27 @@ stands-behind kind records first later label other is there = (
   ]),
 )
 
+-- and stands at one place
+split_once : (xs ys zs ws : List Label) (l : Label) → ((y : Label) → Contains xs y → ¬ (y.number ≡ l.number)) → ((y : Label) → Contains zs y → ¬ (y.number ≡ l.number)) → xs ++ l ∷ ys ≡ zs ++ l ∷ ws → (xs ≡ zs) × (ys ≡ ws)
+split_once [] ys [] ws l others also is = (refl, cc (is))
+split_once [] ys (z ∷ zs) ws l others also is =
+    let head : l ≡ z = cc (is) in
+    absurd (also z (at_head z zs z refl) (sym (ap (λ (k : Label). k.number) head)))
+split_once (x ∷ xs) ys [] ws l others also is =
+    let head : x ≡ l = cc (is) in
+    absurd (others x (at_head x xs x refl) (ap (λ (k : Label). k.number) head))
+split_once (x ∷ xs) ys (z ∷ zs) ws l others also is =
+    let head : x ≡ z = cc (is) in
+    let tail : xs ++ l ∷ ys ≡ zs ++ l ∷ ws = cc (is) in
+    let rest = split_once xs ys zs ws l (λ y found. others y (behind_head x xs y found)) (λ y found. also y (behind_head z zs y found)) tail in
+    ((λ i. head i ∷ rest.0 i), rest.1)
+
+pub one-place : (kind : Kind) (records : Records) (before behind first later : List Label) (label : Label) → named_labels kind records ≡ before ++ label ∷ behind → named_labels kind records ≡ first ++ label ∷ later → (before ≡ first) × (behind ≡ later)
+one-place kind records before behind first later label is also =
+    let round = differ_round before behind label (subst (IsDistinct have_one_number) is (named_differ kind records)) in
+    let round_too = differ_round first later label (subst (IsDistinct have_one_number) also (named_differ kind records)) in
+    split_once before behind first later label round.0 round_too.0 (sym is ∙ also)
+
 -- what is there by the updates of labels
 pub there-among : (passes : ℕ → Bool) (labels : List Label) (x : ℕ) → is_there x (updates_among passes labels) ≡ true → (x ≡ 0) ⊎ OnePutsIn x labels
 there-among passes labels x is = elim ((there-exactly x (updates_among passes labels)).0 is) [

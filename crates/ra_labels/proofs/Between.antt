@@ -132,10 +132,12 @@ neighbours anchor x P older mid step =
     let (before, behind, is_shown, was, now) = after-puts older mid anchor x step in
     (elements_in before, [], elements_in behind, ap elements_in now ∙ in_append before ((anchor, is_shown) ∷ (x, true) ∷ behind), (λ y there. absurd (omega (arith, there.1))))
 
-between_same : (before between behind fronts middle backs : List ℕ) (anchor x : ℕ) → NoneTwice (before ++ anchor ∷ (between ++ x ∷ behind)) → before ++ anchor ∷ (between ++ x ∷ behind) ≡ fronts ++ anchor ∷ (middle ++ x ∷ backs) → between ≡ middle
-between_same before between behind fronts middle backs anchor x once is =
-    let tails = (one_split before (between ++ x ∷ behind) fronts (middle ++ x ∷ backs) anchor once is).1 in
-    (one_split between behind middle backs x (once_behind before (between ++ x ∷ behind) anchor once) tails).0
+known_between : (P : ℕ → Type 0) (list before between behind : List ℕ) (anchor x : ℕ) → NoneTwice list → list ≡ before ++ anchor ∷ (between ++ x ∷ behind) → Between anchor x P list → (y : ℕ) → Contains between y → P y
+known_between P list before between behind anchor x once is (fronts, middle, backs, split, known) y stands =
+    let once_there : NoneTwice (before ++ anchor ∷ (between ++ x ∷ behind)) = subst NoneTwice is once in
+    let tails = (one_split before (between ++ x ∷ behind) fronts (middle ++ x ∷ backs) anchor once_there (sym is ∙ split)).1 in
+    let same = (one_split between behind middle backs x (once_behind before (between ++ x ∷ behind) anchor once_there) tails).0 in
+    known y (subst (λ es. Contains es y) same stands)
 
 elements_between : (anchor x : ℕ) (before between behind : List (ℕ × Bool)) (is_shown was_shown : Bool)
     → elements_in (before ++ (anchor, is_shown) ∷ between ++ (x, was_shown) ∷ behind) ≡ elements_in before ++ anchor ∷ (elements_in between ++ x ∷ elements_in behind)
@@ -152,10 +154,9 @@ put_between first later anchor x before between behind is_shown was_shown led y 
     let (older, led_first, goes) = split-led first (After anchor x ∷ later) all led in
     let (mid, step, rest) = one_step older (After anchor x) later all goes in
     let P : ℕ → Type 0 = λ z. WasPutIn z later in
-    let (fronts, middle, backs, split, known) = between_from anchor x P later mid all rest (λ a z found. (a, found)) (neighbours anchor x P older mid step) in
-    let listed = elements_between anchor x before between behind is_shown was_shown in
-    let same = between_same (elements_in before) (elements_in between) (elements_in behind) fronts middle backs anchor x (subst NoneTwice listed (list-once (first ++ After anchor x ∷ later) all led)) (sym listed ∙ split) in
-    known y (subst (λ es. Contains es y) same stands)
+    known_between P (elements_in all) (elements_in before) (elements_in between) (elements_in behind) anchor x
+    (list-once (first ++ After anchor x ∷ later) all led) (elements_between anchor x before between behind is_shown was_shown)
+    (between_from anchor x P later mid all rest (λ a z found. (a, found)) (neighbours anchor x P older mid step)) y stands
 
 -- and so are of labels behind that of the insertion
 later_label : (records : Records) (first later : List Label) (label other : Label) (b y : ℕ) → updates_admitted Rga (named_sequence Rga records) ≡ true → named_labels Rga records ≡ first ++ label ∷ later → WasPutIn y (updates_among each later)

@@ -36,6 +36,7 @@ pub mod Kept
 pub mod Passing
 pub mod OneMore
 pub mod Settled
+pub mod Settling
 pub mod Last
 pub mod Arriving
 pub mod Offering

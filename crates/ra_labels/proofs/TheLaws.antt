@@ -48,16 +48,17 @@ pub use Rattle.ra_labels.proofs.Showing.{list-shown as a_list_has_what_was_put_i
 pub use Rattle.ra_labels.proofs.Late.{newest-behind as a_new_element_stands_behind_its_anchor, late-later as a_late_and_a_later_update_commute-insertions, late-hidden as a_late_and_a_later_update_commute-late_removed, inserted-hidden as a_late_and_a_later_update_commute-removed, hidden-hidden as a_late_and_a_later_update_commute-removals, late-insertion as a_late_insertion_goes_past_the_greater, late-one as a_late_insertion_is_one_step, late-removal as a_late_removal_counts_as_the_last}
 pub use Rattle.ra_labels.proofs.Keeping.{kept-inserted as what_is_kept_keeps_its_order-kept, kept-dropped as what_is_kept_keeps_its_order-dropped, kept-hidden as what_is_kept_keeps_its_order-removed, kept-nearest as an_element_comes_in_behind_the_nearest_before_it}
 -- laws::passing
-pub use Rattle.ra_labels.proofs.Passing.{had-delivery as a_replica_had_one_more-delivery, had-operation as a_replica_had_one_more-operation, passing-alike as tests_that_agree_let_the_same_updates_pass, passing-of_kind as updates_that_pass_are_admitted_where_all_are, passing-delivery as a_later_command_leaves_the_updates_that_pass-delivery, passing-operation as a_later_command_leaves_the_updates_that_pass-operation, one-more as one_more_label_puts_its_update_in-place}
+pub use Rattle.ra_labels.proofs.Passing.{had-delivery as a_replica_had_one_more-delivery, had-operation as a_replica_had_one_more-operation, passing-alike as tests_that_agree_let_the_same_updates_pass, passing-of_kind as updates_that_pass_are_admitted_where_all_are, passing-delivery as a_later_command_leaves_the_updates_that_pass-delivery, passing-operation as a_later_command_leaves_the_updates_that_pass-operation, one-more as one_more_label_puts_its_update_in-place, one-more_at as one_more_label_puts_its_update_in-at}
 pub use Rattle.ra_labels.proofs.OneMore.{length-more as one_more_label_puts_its_update_in-count, there-more as one_more_label_puts_its_update_in-there}
 -- laws::waiting
 pub use Rattle.ra_labels.proofs.OneMore.{inserted-admitted as an_update_is_admitted_where_what_it_needs_is_there-insertion, removed-admitted as an_update_is_admitted_where_what_it_needs_is_there-removal, put_in-once as an_element_is_put_in_by_one_label-one, put_in-other as an_element_is_put_in_by_one_label-other, insertion-step as one_more_update_is_one_step-insertion, removal-step as one_more_update_is_one_step-removal, none-waits_more as one_more_update_is_one_step-none_waits}
 pub use Rattle.ra_labels.proofs.Kept.{needed-other as an_update_of_another_kind_needs_the_root, there-list as an_element_is_there_where_its_label_passes-list}
 pub use Rattle.ra_labels.proofs.Passing.{there-label as an_element_is_there_where_its_label_passes-label, passing-admitted as updates_are_admitted_where_none_waits-exactly, passing-list as updates_are_admitted_where_none_waits-list, passing-shown as updates_are_admitted_where_none_waits-shown}
 -- laws::settled
+pub use Rattle.ra_labels.proofs.Settling.{settling-starts as those_that_waited_follow-starts, settling-follows as those_that_waited_follow-follows, settling-done as those_that_waited_follow-done, settling-ends as those_that_waited_follow-ends, puts-exactly as those_that_waited_follow-element}
 pub use Rattle.ra_labels.proofs.Settled.{needed-before as what_an_update_needs_was_put_in_before_it, settled-admitted as settled_updates_are_admitted-settled, settled-all as settled_updates_are_admitted-all, settled-same as settled_updates_are_admitted-same, settled-exactly as what_is_settled_does_not_wait, settled-waiting as settled_labels_stay_settled-waiting, settled-delivery as settled_labels_stay_settled-delivery, settled-operation as settled_labels_stay_settled-operation, settled-alike as settled_labels_stay_settled-alike, settled-once as what_is_settled_follows_from_what_was_had, settled-before as one_more_label_settles_none_before_it-before, settled-count as one_more_label_settles_none_before_it-count}
 -- laws::arriving
-pub use Rattle.ra_labels.proofs.Arriving.{stands-before as a_label_stands_before_those_that_it_is_below-before, stands-behind as a_label_stands_before_those_that_it_is_below-behind, own-stamps as labels_with_stamps_stand_in_their_order, all-with as an_operation_puts_its_update_among_all-update, all-without as an_operation_puts_its_update_among_all-query, there-all as what_is_there_a_label_put_in-all, there-among as what_is_there_a_label_put_in-passing, insertion-all as a_new_label_in_the_list_of_all-insertion, removal-all as a_new_label_in_the_list_of_all-removal}
+pub use Rattle.ra_labels.proofs.Arriving.{stands-before as a_label_stands_before_those_that_it_is_below-before, stands-behind as a_label_stands_before_those_that_it_is_below-behind, one-place as a_label_stands_before_those_that_it_is_below-place, own-stamps as labels_with_stamps_stand_in_their_order, all-with as an_operation_puts_its_update_among_all-update, all-without as an_operation_puts_its_update_among_all-query, there-all as what_is_there_a_label_put_in-all, there-among as what_is_there_a_label_put_in-passing, insertion-all as a_new_label_in_the_list_of_all-insertion, removal-all as a_new_label_in_the_list_of_all-removal}
 pub use Rattle.ra_labels.proofs.Offering.{offered-insertion as a_new_update_is_admitted_where_a_label_below_it_put_in_what_it_needs-insertion, offered-removal as a_new_update_is_admitted_where_a_label_below_it_put_in_what_it_needs-removal}
 pub use Rattle.ra_labels.proofs.Between.{between-later as between_an_anchor_and_its_element_stand_later_ones}
 -- laws::lists

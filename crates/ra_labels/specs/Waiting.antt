@@ -1,5 +1,5 @@
 -- Words of the laws of an RGA's updates that wait for others.
-use Rattle.std.specs.Prelude.{◌≡◌, ℕ, ◌==◌, Bool, true, false, not, ◌||◌, List, map, Contains}
+use Rattle.std.specs.Prelude.{◌≡◌, ◌⊎◌, ℕ, ◌==◌, Bool, true, false, not, ◌||◌, List, [], ◌∷◌, map, Contains}
 use Rattle.std.specs.List.{list_any}
 use Rattle.std.specs.declared.cmp.Ordering.TheVariants.{Less}
 use Rattle.ra_labels.specs.declared.kind.Kind.TheVariants.{Rga}
@@ -70,3 +70,19 @@ pub record IsSettled (records : Records) (had settled : ℕ → Bool) : Type 0 w
   pub where_needed : (label : Label) (update : Update) → Contains (labels_of records) label → Makes label.op update
       → had label.number ≡ true
       → settled label.number ≡ is_there (needed_by update) (updates_passing Rga records settled)
+
+-- the element that the update puts in
+abbrev pub put_in_by : Update → List ℕ
+put_in_by (After anchor x) = x ∷ []
+put_in_by _ = []
+
+-- while those follow that waited for these elements, which are there: what passes was had and does not wait; what else
+-- was had waits, or needs one of these
+pub record IsSettling (records : Records) (had passes : ℕ → Bool) (arrived : List ℕ) : Type 0 where
+  pub had_them : (n : ℕ) → passes n ≡ true → had n ≡ true
+  pub none_waits : NoneWaits records passes
+  pub there : (x : ℕ) → Contains arrived x → is_there x (updates_passing Rga records passes) ≡ true
+  pub others : (label : Label) (update : Update) → Contains (labels_of records) label → Makes label.op update
+      → had label.number ≡ true → passes label.number ≡ false
+      → (is_there (needed_by update) (updates_passing Rga records passes) ≡ false)
+      ⊎ Contains arrived (needed_by update)

@@ -23,7 +23,7 @@ ghost use Rattle.ra_labels.specs.Late.{put_after};
 ghost use Rattle.ra_labels.specs.Waiting.{is_there, OnePutsIn, WasPutInBelow};
 
 /// In the named order exactly those labels stand before a label that are below it, and exactly those behind it that it
-/// is below.
+/// is below. It stands at one place.
 pub fn a_label_stands_before_those_that_it_is_below()
     ensures before { (kind : Kind) (records : Records) (first later : List Label) (label other : Label)
         → named_labels kind records ≡ first ++ label ∷ later → Contains (labels_of records) other
@@ -31,6 +31,9 @@ pub fn a_label_stands_before_those_that_it_is_below()
     ensures behind { (kind : Kind) (records : Records) (first later : List Label) (label other : Label)
         → named_labels kind records ≡ first ++ label ∷ later → Contains (labels_of records) other
         → Contains later other ↔ (label_cmp kind records label other ≡ Less) }
+    ensures place { (kind : Kind) (records : Records) (before behind first later : List Label) (label : Label)
+        → named_labels kind records ≡ before ++ label ∷ behind → named_labels kind records ≡ first ++ label ∷ later
+        → (before ≡ first) × (behind ≡ later) }
 {}
 
 /// Labels with different stamps of their own stand in the order of these, where they are sorted by timestamps.

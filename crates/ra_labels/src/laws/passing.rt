@@ -63,6 +63,12 @@ pub fn one_more_label_puts_its_update_in()
         × (updates_passing kind records passes ≡ updates_among passes before ++ updates_among passes behind)
         × (updates_passing kind records (or_label passes label.number)
         ≡ updates_among passes before ++ update ∷ updates_among passes behind) }
+    ensures at { (kind : Kind) (records : Records) (passes : ℕ → Bool) (before behind : List Label) (label : Label)
+        (update : Update) → named_labels kind records ≡ before ++ label ∷ behind → Makes label.op update
+        → passes label.number ≡ false
+        → (updates_passing kind records passes ≡ updates_among passes before ++ updates_among passes behind)
+        × (updates_passing kind records (or_label passes label.number)
+        ≡ updates_among passes before ++ update ∷ updates_among passes behind) }
     ensures count { (kind : Kind) (records : Records) (passes : ℕ → Bool) (label : Label) (update : Update)
         → Contains (labels_of records) label → Makes label.op update → passes label.number ≡ false
         → length (updates_passing kind records (or_label passes label.number))

@@ -1,6 +1,6 @@
 //! Which of the updates of an RGA that a replica had wait for others, and which are settled; where those of all labels
 //! are admitted, as they are in records that hold.
-ghost use Rattle.std.specs.Prelude.{◌≡◌, ◌↔◌, ◌⊎◌, true, false, ℕ, Bool, ◌+◌, ◌≤◌, List, ◌∷◌, ◌++◌, length, Contains, Option};
+ghost use Rattle.std.specs.Prelude.{◌≡◌, ◌↔◌, ◌⊎◌, true, false, ℕ, Bool, ◌+◌, ◌≤◌, List, [], ◌∷◌, ◌++◌, length, Contains, Option};
 ghost use Rattle.ra_labels.specs.declared.kind.Kind.TheVariants.{Rga};
 ghost use Rattle.ra_labels.specs.declared.operation.Op.{Op};
 ghost use Rattle.ra_labels.specs.declared.operation.Update.{Update};
@@ -11,7 +11,7 @@ ghost use Rattle.ra_labels.specs.Specification.{is_admitted};
 ghost use Rattle.ra_labels.specs.Linearization.{updates_admitted};
 ghost use Rattle.ra_labels.specs.NamedOrder.{named_labels, named_sequence};
 ghost use Rattle.ra_labels.specs.Insertion.{updates_among, updates_passing, or_label, Makes};
-ghost use Rattle.ra_labels.specs.Waiting.{is_there, needed_by, OnePutsIn, NoneWaits, OthersWait, AllSettled, IsSettled};
+ghost use Rattle.ra_labels.specs.Waiting.{puts_in, is_there, needed_by, OnePutsIn, NoneWaits, OthersWait, put_in_by, AllSettled, IsSettled, IsSettling};
 
 /// What an update needs is the root, or is put in by a label that stands before it in the named order.
 pub fn what_an_update_needs_was_put_in_before_it()
@@ -56,6 +56,27 @@ pub fn settled_labels_stay_settled()
         → IsSettled (Operate by op clock ∷ records) had settled }
     ensures alike { (records : Records) (had more settled others : ℕ → Bool) → ((n : ℕ) → had n ≡ more n)
         → ((n : ℕ) → settled n ≡ others n) → IsSettled records had settled → IsSettled records more others }
+{}
+
+/// One more label that was had, and that does not wait, is settled; and then those follow that waited for its element,
+/// each with its own element, until none is left that waits for one of these.
+pub fn those_that_waited_follow()
+    ensures starts { (records : Records) (had settled : ℕ → Bool) (label : Label) (update : Update)
+        → Contains (labels_of records) label → Makes label.op update → had label.number ≡ false
+        → IsSettled records had settled → is_there (needed_by update) (updates_passing Rga records settled) ≡ true
+        → IsSettling records (or_label had label.number) (or_label settled label.number) (put_in_by update) }
+    ensures follows { (records : Records) (had passes : ℕ → Bool) (arrived : List ℕ) (label : Label) (update : Update)
+        → IsSettling records had passes arrived → Contains (labels_of records) label → Makes label.op update
+        → had label.number ≡ true → passes label.number ≡ false → Contains arrived (needed_by update)
+        → IsSettling records had (or_label passes label.number) (arrived ++ put_in_by update) }
+    ensures done { (records : Records) (had passes : ℕ → Bool) (first later : List ℕ) (x : ℕ)
+        → IsSettling records had passes (first ++ x ∷ later)
+        → ((label : Label) (update : Update) → Contains (labels_of records) label → Makes label.op update
+        → had label.number ≡ true → passes label.number ≡ false → ¬ (needed_by update ≡ x))
+        → IsSettling records had passes (first ++ later) }
+    ensures ends { (records : Records) (had passes : ℕ → Bool) → IsSettling records had passes []
+        → IsSettled records had passes }
+    ensures element { (x : ℕ) (update : Update) → Contains (put_in_by update) x ↔ (puts_in x update ≡ true) }
 {}
 
 /// What was had says which labels are settled.
