@@ -14,3 +14,4 @@ pub mod Run
 pub mod Laws
 pub mod Report
 pub mod Spelling
+pub mod Accepted

@@ -29,6 +29,7 @@ mod reply;
 mod report;
 mod run;
 mod session;
+mod spelling;
 mod write;
 
 pub use fault::{CheckFault, LineFault, NamesFault};

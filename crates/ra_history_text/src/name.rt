@@ -1,5 +1,5 @@
 //! Names of replicas.
-ghost use Rattle.std.specs.Prelude.{◌≡◌, ◌≤◌, ℕ, ◌++◌, ◌∷◌, ◌||◌, [], List, IfOk, IfErr, IfSome, IsNone, OnOk, OnErr, IsErrOf, length, map, bytes_eq};
+ghost use Rattle.std.specs.Prelude.{◌≡◌, ◌≤◌, ℕ, ◌++◌, ◌∷◌, ◌||◌, [], List, IfOk, IfErr, IfSome, IsNone, OnOk, OnErr, IsErrOf, length, map, bytes_eq, option_copied, slice_get};
 ghost use Rattle.std.specs.List.{list_all, list_any};
 ghost use Rattle.ra_history_text.specs.Grammar as grammar;
 ghost use Rattle.ra_history_text.specs.Grammar.{has_form_of_name, is_reserved, place_of, ListsNames};
@@ -124,6 +124,16 @@ impl Names {
         ensures { result ≡ length self.now }
     {
         self.set.len() as u8
+    }
+
+    /// The name of the replica with this number. `None` where there is none.
+    pub fn name(&self, replica: u8) -> Option<&[u8]>
+        ensures { option_copied result ≡ slice_get self.now replica }
+    {
+        match self.set.get_index(replica as usize) {
+            Some(name) => Some(name.as_slice()),
+            None => None,
+        }
     }
 
     /// The number of the replica that the name stands for; the number of names where there is no such replica. The name is looked up, and the
