@@ -20,3 +20,5 @@ pub mod Reports
 pub mod Spelled
 pub mod Putting
 pub mod Accepting
+pub mod Entries
+pub mod WholeTexts

@@ -79,7 +79,7 @@ one_line first fields plain each =
 fits : (n : ℕ) → IsSmall n → n < 2 ^ 64
 fits n small = omega arith
 
-plain_number : (n : ℕ) → IsSmall n → IsPlain (decimal n)
+pub plain_number : (n : ℕ) → IsSmall n → IsPlain (decimal n)
 plain_number n small = plain-decimal n (fits n small)
 
 plain_joined : (x : ℕ) (xs : List ℕ) → IsSmall x → AllByRecursion IsSmall xs → IsPlain (join_with_byte 44 (map decimal (x ∷ xs)))
@@ -99,13 +99,13 @@ plain_signed : (z : ℤ) → FitsSigned w32 z → IsPlain (signed_decimal z)
 plain_signed (pos n) small = plain-decimal n (omega (arith, small))
 plain_signed (negsuc n) small = (omega arith, plain-decimal (suc n) (omega (arith, small)))
 
-plain_word : (word : List ℕ) → list_all (λ b. ltb 32 b) word ≡ true → IsPlain word
+pub plain_word : (word : List ℕ) → list_all (λ b. ltb 32 b) word ≡ true → IsPlain word
 plain_word [] all = tt
 plain_word (b ∷ word) all =
     let parts = and_parts (ltb 32 b) (list_all (λ x. ltb 32 x) word) all in
     (ltb-true 32 b parts.0, plain_word word parts.1)
 
-plain_operation : (op : Op) → HasSmallNumbers op → ArePlain (operation_fields op)
+pub plain_operation : (op : Op) → HasSmallNumbers op → ArePlain (operation_fields op)
 plain_operation Inc small = (plain_word (codes "inc") refl, tt)
 plain_operation Dec small = (plain_word (codes "dec") refl, tt)
 plain_operation (Count value) small = (plain_word (codes "read") refl, (plain_signed value small, tt))
@@ -121,11 +121,11 @@ plain_operation (After anchor x) small = (plain_word (codes "after") refl, (plai
 plain_operation (RgaRemove x) small = (plain_word (codes "remove") refl, (plain_number x small, tt))
 plain_operation (RgaRead list) small = (plain_word (codes "read") refl, (plain_list list small, tt))
 
-plain_clock : (clock : Option ℕ) → IfSome clock IsSmall → ArePlain (clock_fields clock)
+pub plain_clock : (clock : Option ℕ) → IfSome clock IsSmall → ArePlain (clock_fields clock)
 plain_clock None small = tt
 plain_clock (Some at) small = ((omega arith, plain_number at small), tt)
 
-fields-append : (fs gs : List (List ℕ)) → ArePlain fs → ArePlain gs → ArePlain (fs ++ gs)
+pub fields-append : (fs gs : List (List ℕ)) → ArePlain fs → ArePlain gs → ArePlain (fs ++ gs)
 fields-append [] gs p q = q
 fields-append (f ∷ fs) gs p q = (p.0, fields-append fs gs p.1 q)
 
@@ -164,7 +164,7 @@ apart_from (name ∷ names) (suc n) P there all = apart_from names n P (omega (a
 same_self : (name : List ℕ) → bytes_eq name name ≡ true
 same_self name = (bytes_eq-Decides name name).1 refl
 
-named_at : (names : List (List ℕ)) (replica : ℕ) → replica < length names → list_all is_name names ≡ true → IsDistinct bytes_eq names
+pub named_at : (names : List (List ℕ)) (replica : ℕ) → replica < length names → list_all is_name names ≡ true → IsDistinct bytes_eq names
     → (is_name (name_of names replica) ≡ true) × (place_of names (name_of names replica) ≡ replica)
 named_at [] replica there each distinct = absurd (omega (arith, there))
 named_at (name ∷ names) zero there each distinct =

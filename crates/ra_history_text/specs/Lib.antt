@@ -15,3 +15,5 @@ pub mod Laws
 pub mod Report
 pub mod Spelling
 pub mod Accepted
+pub mod Writing
+pub mod NamesKept

@@ -4,7 +4,7 @@ ghost use Rattle.std.specs.List.{list_all, list_any};
 ghost use Rattle.ra_history_text.specs.Grammar as grammar;
 ghost use Rattle.ra_history_text.specs.Grammar.{has_form_of_name, is_reserved, place_of, ListsNames};
 ghost use Rattle.ra_history_text.specs.Grammar.{AreNames};
-ghost use Rattle.ra_history_text.specs.Names.{MayJoin, bytes_of_each, texts_of, is_bad_behind, AreDistinctNames, IsFirstBad, IsFaultOf};
+ghost use Rattle.ra_history_text.specs.Names.{AreNamesSoFar, MayJoin, bytes_of_each, texts_of, is_bad_behind, AreDistinctNames, IsFirstBad, IsFaultOf};
 ghost use Rattle.ra_history_text.specs.declared.fault.LineFault.TheVariants.{Syntax};
 
 use crate::fault::{LineFault, NamesFault};
@@ -48,7 +48,7 @@ pub struct Names {
 }
 
 impl Model for Names {
-    ghost use Rattle.std.specs.Prelude.{List, ℕ, ◌≤◌, length};
+    ghost use Rattle.std.specs.Prelude.{List, ℕ};
 
     ghost Value = { List (List ℕ) };
 
@@ -56,9 +56,9 @@ impl Model for Names {
 
     ghost view = { λ n. bytes_of_each n.set.keys };
 
-    ghost use Rattle.ra_history_text.specs.declared.limits.TheConstants.{MOST_NAMES};
+    ghost use Rattle.ra_history_text.specs.NamesKept.{NamesKept};
 
-    ghost invariant = { λ n. length n.set.keys ≤ MOST_NAMES };
+    ghost invariant = { λ n. NamesKept n.set.keys };
 }
 
 impl Names {
@@ -134,6 +134,13 @@ impl Names {
             Some(name) => Some(name.as_slice()),
             None => None,
         }
+    }
+
+    // What is kept of them.
+    pub fn are_names(&self)
+        ensures { AreNamesSoFar self.now }
+    {
+        let _ = &self.set;
     }
 
     /// The number of the replica that the name stands for; the number of names where there is no such replica. The name is looked up, and the

@@ -29,6 +29,17 @@ pub fn put_command(out: &mut Vec<u8>, names: &Names, command: &Command) -> Resul
     }
 }
 
+/// Puts each name behind the bytes, with a space before it. Costs as much as the names are long.
+pub fn put_names(out: &mut Vec<u8>, names: &Names) -> Result<(), NoMemory>
+    ensures { OnOk result (out.new.items ≡ out.old.items ++ spaced names.now) }
+{
+    for replica in 0..names.count() {
+        out.push(b' ')?;
+        put_name(out, names, replica)?;
+    }
+    Ok(())
+}
+
 fn put_name(out: &mut Vec<u8>, names: &Names, replica: u8) -> Result<(), NoMemory>
     ensures { OnOk result (out.new.items ≡ out.old.items ++ name_of names.now replica) }
 {
