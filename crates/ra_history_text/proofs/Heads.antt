@@ -66,13 +66,13 @@ no_words : IsDistinct bytes_eq []
 unfolding IsDistinct
 no_words = tt
 
-distinct_found : (words : List (List ℕ)) → are_distinct words ≡ true → IsDistinct bytes_eq words
+pub distinct_found : (words : List (List ℕ)) → are_distinct words ≡ true → IsDistinct bytes_eq words
 distinct_found [] e = no_words
 distinct_found (word ∷ words) e =
     let parts = and_parts (not (list_any (bytes_eq word) words)) (are_distinct words) e in
     IsDistinct-cons bytes_eq word words (any_none word words parts.0) (distinct_found words parts.1)
 
-distinct_only : (words : List (List ℕ)) → IsDistinct bytes_eq words → are_distinct words ≡ true
+pub distinct_only : (words : List (List ℕ)) → IsDistinct bytes_eq words → are_distinct words ≡ true
 distinct_only [] distinct = refl
 distinct_only (word ∷ words) distinct =
     and_from (not (list_any (bytes_eq word) words)) (are_distinct words) (none_any word words (IsDistinct-head bytes_eq word words distinct))

@@ -17,3 +17,8 @@ pub mod Halts
 pub mod Texts
 pub mod Prefixes
 pub mod Reports
+pub mod Spelled
+pub mod Putting
+pub mod Accepting
+pub mod Entries
+pub mod WholeTexts

@@ -9,6 +9,8 @@ use Rattle.std.proofs.lemmas.Cmp.{nat_list_eq_equiv}
 use Rattle.std.proofs.lemmas.List.{append_assoc, append-nil, length_push, length-append, length-map, length-take-le, map-append, take_more}
 use Rattle.std.proofs.lemmas.Map.Keys.{IsDistinct-head, IsDistinct-tail, IsDistinct-push}
 use Rattle.ra_history_text.specs.Grammar.{is_name, place_of, fields_of, AreNames, ListsNames}
+use Rattle.ra_history_text.specs.NamesKept.{NamesKept}
+use Rattle.ra_history_text.proofs.Heads.{distinct_found, distinct_only}
 use Rattle.ra_history_text.specs.declared.fault.LineFault.{LineFault}
 use Rattle.ra_history_text.specs.Names.{bytes_of_each, texts_of, is_bad_behind, AreDistinctNames, IsFirstBad, MayJoin, AreNamesSoFar, ListsSoFar}
 
@@ -223,3 +225,30 @@ may_join keys names name place are room form found last =
 pub joins_last : (keys : List (global.Vec ℕ)) (names : List (List ℕ)) (name : List ℕ) → bytes_of_each keys ≡ names → MayJoin names name → place_of (bytes_of_each keys) name ≡ length keys
 joins_last keys names name are may =
     ap (λ (ns : List (List ℕ)). place_of ns name) are ∙ may.new ∙ ap length (sym are) ∙ length-map keys (λ key. key.items)
+
+-- ---- what is kept
+
+-- one name more
+pub kept_next : (keys new : List (global.Vec ℕ)) (name : List ℕ) (names : List (List ℕ)) → NamesKept keys → bytes_of_each keys ≡ names → MayJoin names name
+    → bytes_of_each new ≡ bytes_of_each keys ++ name ∷ [] → NamesKept new
+kept_next keys new name names kept are may grown =
+    let here : MayJoin (bytes_of_each keys) name = subst (λ (ns : List (List ℕ)). MayJoin ns name) (sym are) may in
+    let few : length (bytes_of_each keys) ≤ 16 = omega (arith, kept.few, length-map keys (λ key. key.items)) in
+    let so_far : AreNamesSoFar (bytes_of_each keys) = record { few = few; each = kept.each; distinct = distinct_found (bytes_of_each keys) kept.distinct } in
+    let next : AreNamesSoFar (bytes_of_each new) = subst AreNamesSoFar (sym grown) (AreNamesSoFar-push (bytes_of_each keys) name so_far here) in
+    record {
+      few = omega (arith, next.few, length-map new (λ key. key.items));
+      each = next.each;
+      distinct = distinct_only (bytes_of_each new) next.distinct;
+    }
+
+pub kept_same : (keys new : List (global.Vec ℕ)) → NamesKept keys → new ≡ keys → NamesKept new
+kept_same keys new kept same = subst NamesKept (sym same) kept
+
+pub kept_names : (keys : List (global.Vec ℕ)) (names : List (List ℕ)) → NamesKept keys → bytes_of_each keys ≡ names → AreNamesSoFar names
+kept_names keys names kept are =
+    subst AreNamesSoFar are (record {
+      few = omega (arith, kept.few, length-map keys (λ key. key.items));
+      each = kept.each;
+      distinct = distinct_found (bytes_of_each keys) kept.distinct;
+    })

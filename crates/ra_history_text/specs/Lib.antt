@@ -14,3 +14,6 @@ pub mod Run
 pub mod Laws
 pub mod Report
 pub mod Spelling
+pub mod Accepted
+pub mod Writing
+pub mod NamesKept

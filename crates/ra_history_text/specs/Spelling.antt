@@ -11,6 +11,11 @@ abbrev pub spaced : List (List ℕ) → List ℕ
 spaced [] = []
 spaced (field ∷ fields) = 32 ∷ (field ++ spaced fields)
 
+-- each number with a comma before it, which is the byte 44
+abbrev pub commas : List ℕ → List ℕ
+commas [] = []
+commas (x ∷ xs) = 44 ∷ (decimal x ++ commas xs)
+
 -- the name of a replica
 abbrev pub name_of : List (List ℕ) → ℕ → List ℕ
 name_of names replica = unwrap_or (slice_get names replica) []

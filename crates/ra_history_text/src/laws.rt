@@ -1,14 +1,18 @@
 //! Laws above the definitions of a text, each the clause of a function that does nothing.
-ghost use Rattle.std.specs.Prelude.{◌≡◌, ◌++◌, ◌↔◌, true, ℕ, List, Option, Some};
+ghost use Rattle.std.specs.Prelude.{◌≡◌, ◌++◌, ◌↔◌, true, false, ℕ, List, Option, Some, reverse};
 ghost use Rattle.ra_labels.specs.declared.kind.Kind.{Kind};
 ghost use Rattle.ra_labels.specs.declared.command.Command.{Command};
 ghost use Rattle.ra_labels.specs.declared.reply.Fault.{Fault};
 ghost use Rattle.ra_labels.specs.declared.reply.Reply.{Reply};
-ghost use Rattle.ra_history_text.specs.Grammar.{first_line, fields_of, ListsNames, Spells, IsAtReplica, Says};
+ghost use Rattle.ra_monitor.specs.declared.setup.Setup.{Setup};
+ghost use Rattle.ra_monitor.specs.Monitor.{MonitorEntry, IsLegalLog, records_of};
+ghost use Rattle.ra_history_text.specs.Accepted.{accepted_in};
+ghost use Rattle.ra_history_text.specs.Grammar.{AreNames, first_line, fields_of, ListsNames, Spells, IsAtReplica, Says};
 ghost use Rattle.ra_history_text.specs.Laws.{BeginsWith, IsOfReader, GrowsByPart, GrowsByReplies, AnswersEach};
 ghost use Rattle.ra_history_text.specs.Output.{reply_line, end_line, replies_of, output_of};
 ghost use Rattle.ra_history_text.specs.Reading.{kind_read, names_read, command_read};
 ghost use Rattle.ra_history_text.specs.Run.{StopsCheck};
+ghost use Rattle.ra_history_text.specs.Spelling.{AreSmall, HasLine, line_of};
 ghost use Rattle.ra_history_text.specs.Text.{OfHistory, Regular, ending_of, said_by, does_not_stop};
 ghost use Rattle.ra_history_text.specs.declared.fault.CheckFault.{CheckFault};
 ghost use Rattle.ra_history_text.specs.declared.fault.CheckFault.TheVariants.{NoMemory};
@@ -40,6 +44,19 @@ pub fn a_line_spells_one_command()
 pub fn a_command_has_one_spelling()
     ensures { (kind : Kind) (names : List (List ℕ)) (line other : List ℕ) (command : Command) →
         IsAtReplica names command → Spells kind names line command → Spells kind names other command → line ≡ other }
+{}
+
+/// The line that is written of a command spells it, where its replica has a name, the kind has words for it and its
+/// numbers are of 32 bits.
+pub fn a_written_line_spells_its_command()
+    ensures { (kind : Kind) (names : List (List ℕ)) (command : Command) → AreNames names → HasLine kind names command →
+        AreSmall command → Spells kind names (line_of names command) command }
+{}
+
+/// The accepted commands of a legal log are its records, the oldest first.
+pub fn accepted_commands_are_the_records()
+    ensures { (setup : Setup) (log : List MonitorEntry) → IsLegalLog setup log →
+        accepted_in false log ≡ reverse (records_of setup log) }
 {}
 
 /// A text has a regular end, with this kind, these names and these commands, exactly where it is a first line, a line

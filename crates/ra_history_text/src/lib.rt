@@ -29,15 +29,18 @@ mod reply;
 mod report;
 mod run;
 mod session;
+mod spelling;
 mod write;
+mod writing;
 
-pub use fault::{CheckFault, LineFault, NamesFault};
+pub use fault::{CheckFault, LineFault, NamesFault, WriteFault};
 pub use name::Names;
 pub use outcome::{Outcome, status};
 pub use reading::{Header, Item, Reading};
 pub use report::{report_json, write_report};
 pub use run::check;
 pub use session::Session;
+pub use writing::write_history;
 
 #[cfg(test)]
 mod tests;

@@ -1,10 +1,10 @@
 //! Names of replicas.
-ghost use Rattle.std.specs.Prelude.{◌≡◌, ◌≤◌, ℕ, ◌++◌, ◌∷◌, ◌||◌, [], List, IfOk, IfErr, IfSome, IsNone, OnOk, OnErr, IsErrOf, length, map, bytes_eq};
+ghost use Rattle.std.specs.Prelude.{◌≡◌, ◌≤◌, ℕ, ◌++◌, ◌∷◌, ◌||◌, [], List, IfOk, IfErr, IfSome, IsNone, OnOk, OnErr, IsErrOf, length, map, bytes_eq, option_copied, slice_get};
 ghost use Rattle.std.specs.List.{list_all, list_any};
 ghost use Rattle.ra_history_text.specs.Grammar as grammar;
 ghost use Rattle.ra_history_text.specs.Grammar.{has_form_of_name, is_reserved, place_of, ListsNames};
 ghost use Rattle.ra_history_text.specs.Grammar.{AreNames};
-ghost use Rattle.ra_history_text.specs.Names.{MayJoin, bytes_of_each, texts_of, is_bad_behind, AreDistinctNames, IsFirstBad, IsFaultOf};
+ghost use Rattle.ra_history_text.specs.Names.{AreNamesSoFar, MayJoin, bytes_of_each, texts_of, is_bad_behind, AreDistinctNames, IsFirstBad, IsFaultOf};
 ghost use Rattle.ra_history_text.specs.declared.fault.LineFault.TheVariants.{Syntax};
 
 use crate::fault::{LineFault, NamesFault};
@@ -48,7 +48,7 @@ pub struct Names {
 }
 
 impl Model for Names {
-    ghost use Rattle.std.specs.Prelude.{List, ℕ, ◌≤◌, length};
+    ghost use Rattle.std.specs.Prelude.{List, ℕ};
 
     ghost Value = { List (List ℕ) };
 
@@ -56,9 +56,9 @@ impl Model for Names {
 
     ghost view = { λ n. bytes_of_each n.set.keys };
 
-    ghost use Rattle.ra_history_text.specs.declared.limits.TheConstants.{MOST_NAMES};
+    ghost use Rattle.ra_history_text.specs.NamesKept.{NamesKept};
 
-    ghost invariant = { λ n. length n.set.keys ≤ MOST_NAMES };
+    ghost invariant = { λ n. NamesKept n.set.keys };
 }
 
 impl Names {
@@ -124,6 +124,23 @@ impl Names {
         ensures { result ≡ length self.now }
     {
         self.set.len() as u8
+    }
+
+    /// The name of the replica with this number. `None` where there is none.
+    pub fn name(&self, replica: u8) -> Option<&[u8]>
+        ensures { option_copied result ≡ slice_get self.now replica }
+    {
+        match self.set.get_index(replica as usize) {
+            Some(name) => Some(name.as_slice()),
+            None => None,
+        }
+    }
+
+    // What is kept of them.
+    pub fn are_names(&self)
+        ensures { AreNamesSoFar self.now }
+    {
+        let _ = &self.set;
     }
 
     /// The number of the replica that the name stands for; the number of names where there is no such replica. The name
