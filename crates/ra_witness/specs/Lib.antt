@@ -1,0 +1,4 @@
+pub mod Sequence
+pub mod Labels
+pub mod States
+pub mod Standing
