@@ -4,3 +4,4 @@ pub mod Causes
 pub mod Found
 pub mod NamedParts
 pub mod Keeping
+pub mod Lasts

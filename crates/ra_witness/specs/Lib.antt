@@ -2,3 +2,6 @@ pub mod Sequence
 pub mod Labels
 pub mod States
 pub mod Standing
+pub mod Numbers
+pub mod Last
+pub mod Overriding

@@ -68,6 +68,7 @@ pub fn what_is_kept_with_a_delivery()
 
 /// The parts of the labels in the named order are the named sequence.
 pub fn the_parts_are_the_named_sequence()
-    ensures { (kind : Kind) (records : Records) → flat_map (refs_at (updates_by_number records)) (numbers_in kind records)
+    ensures { (kind : Kind) (records : Records)
+        → flat_map (refs_at (updates_by_number records)) (numbers_in kind records)
         ≡ map ref_of (named_sequence kind records) }
 {}

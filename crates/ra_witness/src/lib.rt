@@ -1,4 +1,5 @@
-//! What the one kept witness stands on: the parts of labels in the named order, and what is kept of labels and replicas.
+//! What the one kept witness stands on: the parts of labels in the named order, and what is kept of labels and
+//! replicas.
 //!
 //! Nothing is sorted or folded again. A delivery makes one call of `State::apply`, wherever its update belongs in the
 //! named order. Of a counter or an OR-Set that is the update itself, since late updates count as the last ones
@@ -8,7 +9,11 @@
 
 pub mod commuting;
 pub mod laws;
+pub mod last;
+pub mod numbers;
+pub mod overriding;
 mod part_ref;
 pub mod sequence;
+pub mod written;
 
 pub use part_ref::{Half, PartRef};
