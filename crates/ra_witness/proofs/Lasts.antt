@@ -85,3 +85,15 @@ lasts-delivered writes read lasts r n w old new same there is says =
     ∙ ap (λ ls. later_of writes (label_on ls w.on) n w.stamp) (sym (read_at lasts r old there is)) in
     lasts-with lasts r old new w.on (counting writes (labels_in lasts) r n w) there is
     (λ c. says c ∙ ap (λ k. cond (c == w.on) (Some k) (label_on old.labels.items c)) counts)
+
+pub on_err_any : {T E : Type 0} {P : Type 0} (r : Result T E) → P → OnErr r P
+on_err_any (Ok x) p = tt
+on_err_any (Err e) p = p
+
+pub lasts-taken : (lasts : List Last) (r : ℕ) (old new : Last) (e f label n : ℕ) → r < length lasts → old ≡ get_or lasts r old → e ≡ f → label ≡ n
+    → ((c : ℕ) → label_on new.labels.items c ≡ cond (c == e) (Some label) (label_on old.labels.items c))
+    → (q c : ℕ) → last_label (labels_in (set lasts r new)) q c ≡ last_with (labels_in lasts) r f n q c
+lasts-taken lasts r old new e f label n there is same_e same_n says q c =
+    lasts-with lasts r old new e label there is says q c
+    ∙ ap (λ k. last_with (labels_in lasts) r k label q c) same_e
+    ∙ ap (λ k. last_with (labels_in lasts) r f k q c) same_n

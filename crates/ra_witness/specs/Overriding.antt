@@ -1,5 +1,5 @@
 -- Of the updates on one element the last one counts.
-use Rattle.std.specs.Prelude.{ℕ, Bool, false, ◌==◌, ◌&&◌, List, [], Option, Some, None, get_or, map, option_map, if◌then◌else◌}
+use Rattle.std.specs.Prelude.{ℕ, nat_eq, Bool, false, ◌==◌, ◌&&◌, List, [], Option, Some, None, get_or, map, option_map, if◌then◌else◌}
 use Rattle.std.specs.Option.{option_map_or}
 use Rattle.std.specs.Ordering.{is_lt}
 use Rattle.ra_labels.specs.declared.label.Stamp.{Stamp}
@@ -7,7 +7,10 @@ use Rattle.ra_labels.specs.declared.operation.Update.{Update}
 use Rattle.ra_labels.specs.NamedOrder.{stamp_cmp}
 use Rattle.ra_witness.specs.declared.written.Written.{Written}
 use Rattle.ra_witness.specs.declared.last.Last.{Last}
+use Rattle.ra_witness.specs.declared.numbers.Numbers.{Numbers}
+use Rattle.ra_witness.specs.Numbers.{element_of, number_in}
 use Rattle.ra_witness.specs.Last.{label_on}
+use Rattle.std.specs.HashMap.{get, hash_map_len}
 
 -- what each label does
 abbrev pub updates_of : List (Option Written) → List (Option Update)
@@ -15,6 +18,14 @@ updates_of writes = map (option_map (λ written. written.update)) writes
 
 abbrev pub write_at : List (Option Written) → ℕ → Option Written
 write_at writes n = get_or writes n None
+
+-- what is kept of the next label, which does this with this stamp
+abbrev pub write_of : Numbers → Update → Stamp → Written
+write_of numbers update stamp = record {
+  update = update;
+  stamp = stamp;
+  on = number_in (get nat_eq numbers.numbers) (hash_map_len numbers.numbers) (element_of update);
+}
 
 -- is the label's stamp above this one?
 abbrev pub is_above : List (Option Written) → Stamp → ℕ → Bool

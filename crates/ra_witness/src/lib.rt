@@ -7,6 +7,7 @@
 //! decides whether the records still hold.
 #![tactic(auto)]
 
+pub mod asked;
 pub mod commuting;
 pub mod laws;
 pub mod last;
