@@ -5,3 +5,5 @@ pub mod Found
 pub mod NamedParts
 pub mod Keeping
 pub mod Lasts
+pub mod StampOrder
+pub mod Overridden

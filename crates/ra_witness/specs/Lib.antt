@@ -5,3 +5,4 @@ pub mod Standing
 pub mod Numbers
 pub mod Last
 pub mod Overriding
+pub mod Overridden

@@ -15,13 +15,16 @@ ghost use Rattle.ra_labels.specs.Linearization.{extends_visibility, updates_admi
 ghost use Rattle.ra_labels.specs.NamedOrder.{named_sequence};
 ghost use Rattle.ra_labels.specs.Fault.{Holds, cause_of};
 ghost use Rattle.ra_labels.specs.Answer.{kind_of, is_kind};
-ghost use Rattle.ra_labels.specs.Laws.{IdentifiersAreOneLabels};
+ghost use Rattle.ra_labels.specs.Laws.{IdentifiersAreOneLabels, StampsAreOneLabels};
 ghost use Rattle.ra_labels.specs.Insertion.{updates_had, Makes};
 ghost use Rattle.ra_visibility.specs.Order.{numbers_in};
 ghost use Rattle.ra_witness.specs.Sequence.{ref_of, refs_at};
 ghost use Rattle.ra_witness.specs.Labels.{update_in, updates_by_number, cause_in};
 ghost use Rattle.ra_witness.specs.States.{update_at, states_after};
 ghost use Rattle.ra_witness.specs.Standing.{IsKeptOf};
+ghost use Rattle.ra_witness.specs.declared.written.Written.{Written};
+ghost use Rattle.ra_witness.specs.Overriding.{write_at, last_label, counting, last_with};
+ghost use Rattle.ra_witness.specs.Overridden.{AreWritesOf, AreLastOf, IsLastOn};
 
 /// Where a new label fits, its update is the last one of those that its replica had.
 pub fn a_new_update_is_the_last_of_its_replica()
@@ -71,4 +74,21 @@ pub fn the_parts_are_the_named_sequence()
     ensures { (kind : Kind) (records : Records)
         → flat_map (refs_at (updates_by_number records)) (numbers_in kind records)
         ≡ map ref_of (named_sequence kind records) }
+{}
+
+/// Once a label is delivered, that one or the last one on its element is the last one, which has the greater stamp; and
+/// what else is kept of last labels stays.
+pub fn the_last_labels_with_a_delivery()
+    ensures counting { (writes : List (Option Written)) (lasts : List (List (Option ℕ))) (number_of : ℕ → Option ℕ)
+        (records : Records) (to n : ℕ) (write : Written) → AreWritesOf writes number_of records
+        → AreLastOf writes lasts records → StampsAreOneLabels records → to < length lasts
+        → is_update_at records n ≡ true → had records to n ≡ false → write_at writes n ≡ Some write
+        → IsLastOn writes (Deliver to n ∷ records) to write.on (counting writes lasts to n write) }
+    ensures kept { (writes : List (Option Written)) (lasts next : List (List (Option ℕ))) (number_of : ℕ → Option ℕ)
+        (records : Records) (to n : ℕ) (write : Written) → AreWritesOf writes number_of records
+        → AreLastOf writes lasts records → StampsAreOneLabels records → to < length lasts
+        → is_update_at records n ≡ true → had records to n ≡ false → write_at writes n ≡ Some write
+        → length next ≡ length lasts
+        → ((q c : ℕ) → last_label next q c ≡ last_with lasts to write.on (counting writes lasts to n write) q c)
+        → AreLastOf writes next (Deliver to n ∷ records) }
 {}
