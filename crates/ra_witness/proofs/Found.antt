@@ -126,7 +126,7 @@ get_at_seam : (xs : List Label) (y : Label) (ys : List Label) → slice_get (xs 
 get_at_seam [] y ys = refl
 get_at_seam (x ∷ xs) y ys = get_at_seam xs y ys
 
-found_in_turn : (records : Records) (rest : List Label) → AllByRecursion (IsFoundIn (reverse (labels_of records) ++ rest)) (labels_of records)
+pub found_in_turn : (records : Records) (rest : List Label) → AllByRecursion (IsFoundIn (reverse (labels_of records) ++ rest)) (labels_of records)
 found_in_turn [] rest = tt
 found_in_turn (Operate by op clock ∷ before) rest =
     let label = next_label before by op clock in

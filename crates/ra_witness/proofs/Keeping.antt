@@ -60,7 +60,7 @@ made_of_kind kind op u of_kind (half, there) =
     one_kind kind (kind_of op) (kind_of_update u) of_kind (All-contains (λ (act : Half × Act). is_kind (kind_of op) (kind_of_act act.1) ≡ true) (acts_of op) (half, Does u) each there)
 
 -- the step from a state that the updates led to
-stepped : (kind : Kind) (o : Option State) (s : State) (u : Update) → o ≡ Some s → kind_of_state s ≡ kind → is_kind kind (kind_of_update u) ≡ true → ¬ (kind ≡ Rga)
+pub stepped : (kind : Kind) (o : Option State) (s : State) (u : Update) → o ≡ Some s → kind_of_state s ≡ kind → is_kind kind (kind_of_update u) ≡ true → ¬ (kind ≡ Rga)
     → then_step o u ≡ Some (after_step s (Some u))
 stepped kind o s u led state_of_kind of_kind not_rga =
     ap (λ p. then_step p u) led
@@ -108,12 +108,11 @@ module _ (updates : List (Option Update)) (states : List State) (kind : Kind) (f
       }
 
   -- where one delivery is one step
-  pub kept-delivery : (to n : ℕ) → ¬ (kind ≡ Rga) → to < length states
-      → state_after kind (updates_had kind (Deliver to n ∷ records) to) ≡ Some (after_step (state_at states to) (update_at updates n))
-      → IsKeptOf updates (states_after states to (update_at updates n)) kind first (Deliver to n ∷ records)
-  kept-delivery to n not_rga there led =
+  pub kept-delivery : (to n : ℕ) (o : Option Update) → to < length states
+      → state_after kind (updates_had kind (Deliver to n ∷ records) to) ≡ Some (after_step (state_at states to) o)
+      → IsKeptOf updates (states_after states to o) kind first (Deliver to n ∷ records)
+  kept-delivery to n o there led =
       let now = Deliver to n ∷ records in
-      let o = update_at updates n in
       record {
         labels = kept.labels;
         replicas = length-set states to (after_step (state_at states to) o) ∙ kept.replicas;
@@ -148,10 +147,10 @@ module _ (updates : List (Option Update)) (states : List State) (kind : Kind) (f
       → ((u : Update) → Makes label.op u → state_after kind (updates_had kind (Deliver to label.number ∷ records) to) ≡ then_step (state_after kind (updates_had kind records to)) u)
       → IsKeptOf updates (states_after states to (update_at updates n)) kind first (Deliver to n ∷ records)
   kept-stepped to n label not_rga there at of_kind step =
-      kept-delivery to n not_rga there (its_step to n label not_rga there at of_kind (update_in label.op) refl step)
+      kept-delivery to n (update_at updates n) there (its_step to n label not_rga there at of_kind (update_in label.op) refl step)
 
 -- an update of labels of a kind is of it
-made_among : (kind : Kind) (label : Label) (acts : List (Half × Act)) (half : Half) (u : Update) → are_of kind (updates_of (map (part_of label) acts)) ≡ true
+pub made_among : (kind : Kind) (label : Label) (acts : List (Half × Act)) (half : Half) (u : Update) → are_of kind (updates_of (map (part_of label) acts)) ≡ true
     → Contains acts (half, Does u) → is_kind kind (kind_of_update u) ≡ true
 made_among kind label [] half u pass there = absurd (omega (arith, there.1))
 made_among kind label ((other, Asks query) ∷ acts) half u pass there = elim (head_or_behind (other, Asks query) acts (half, Does u) there) [

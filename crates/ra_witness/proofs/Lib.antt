@@ -7,3 +7,5 @@ pub mod Keeping
 pub mod Lasts
 pub mod StampOrder
 pub mod Overridden
+pub mod Doing
+pub mod LastMade

@@ -18,7 +18,7 @@ use Rattle.ra_witness.specs.Overridden.{AreWritesOf, IsLastOn, NoneIsOn, AreLast
 use Rattle.ra_witness.proofs.Found.{update_found}
 use Rattle.ra_witness.proofs.StampOrder.{below_tested, not_below_tested, below_below, below_else}
 
-one_write : (writes : List (Option Written)) (m n : ℕ) (v w : Written) → m ≡ n → write_at writes m ≡ Some v → write_at writes n ≡ Some w → v ≡ w
+pub one_write : (writes : List (Option Written)) (m n : ℕ) (v w : Written) → m ≡ n → write_at writes m ≡ Some v → write_at writes n ≡ Some w → v ≡ w
 one_write writes m n v w same at_m at_n = same_Some v w (sym at_m ∙ ap (write_at writes) same ∙ at_n)
 
 -- what is known of the delivered label

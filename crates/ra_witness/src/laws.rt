@@ -1,7 +1,7 @@
 //! What one more label or delivery changes in what is kept, each law the clause of a function that does nothing.
 ghost use Rattle.std.specs.Prelude.{◌≡◌, ℕ, ◌<◌, true, false, not, List, [], ◌∷◌, ◌++◌, Contains, length, map, flat_map, Option, Some, None, if◌then◌else◌};
 ghost use Rattle.ra_labels.specs.declared.kind.Kind.{Kind};
-ghost use Rattle.ra_labels.specs.declared.kind.Kind.TheVariants.{Counter, OrSet, Rga};
+ghost use Rattle.ra_labels.specs.declared.kind.Kind.TheVariants.{Counter, Register, LwwSet, OrSet, Rga};
 ghost use Rattle.ra_labels.specs.declared.operation.Op.{Op};
 ghost use Rattle.ra_labels.specs.declared.operation.Update.{Update};
 ghost use Rattle.ra_labels.specs.declared.label.Label.{Label};
@@ -23,7 +23,7 @@ ghost use Rattle.ra_witness.specs.Labels.{update_in, updates_by_number, cause_in
 ghost use Rattle.ra_witness.specs.States.{update_at, states_after};
 ghost use Rattle.ra_witness.specs.Standing.{IsKeptOf};
 ghost use Rattle.ra_witness.specs.declared.written.Written.{Written};
-ghost use Rattle.ra_witness.specs.Overriding.{write_at, last_label, counting, last_with};
+ghost use Rattle.ra_witness.specs.Overriding.{updates_of, write_at, last_label, counting, last_with};
 ghost use Rattle.ra_witness.specs.Overridden.{AreWritesOf, AreLastOf, IsLastOn};
 
 /// Where a new label fits, its update is the last one of those that its replica had.
@@ -67,6 +67,27 @@ pub fn what_is_kept_with_a_delivery()
         → is_update_at records n ≡ true → Holds OrSet records → IdentifiersAreOneLabels records
         → IsCausal (Deliver to n ∷ records)
         → IsKeptOf updates (states_after states to (update_at updates n)) OrSet first (Deliver to n ∷ records) }
+{}
+
+/// What is kept of a register or an LWW set with one more delivery is what was kept, once the receiver made the update
+/// that counts: that of the delivered label or of the last one on its element, whichever has the greater stamp.
+pub fn what_is_kept_with_a_delivery_that_may_be_overridden()
+    ensures register { (writes : List (Option Written)) (lasts : List (List (Option ℕ))) (number_of : ℕ → Option ℕ)
+        (states : List State) (first : ℕ) (records : Records) (to n : ℕ) (write : Written)
+        → IsKeptOf (updates_of writes) states Register first records → AreWritesOf writes number_of records
+        → AreLastOf writes lasts records → StampsAreOneLabels records → Holds Register records
+        → to < length lasts → to < length states → is_update_at records n ≡ true → had records to n ≡ false
+        → write_at writes n ≡ Some write
+        → let update = update_at (updates_of writes) (counting writes lasts to n write) in
+        IsKeptOf (updates_of writes) (states_after states to update) Register first (Deliver to n ∷ records) }
+    ensures lww_set { (writes : List (Option Written)) (lasts : List (List (Option ℕ))) (number_of : ℕ → Option ℕ)
+        (states : List State) (first : ℕ) (records : Records) (to n : ℕ) (write : Written)
+        → IsKeptOf (updates_of writes) states LwwSet first records → AreWritesOf writes number_of records
+        → AreLastOf writes lasts records → StampsAreOneLabels records → Holds LwwSet records
+        → to < length lasts → to < length states → is_update_at records n ≡ true → had records to n ≡ false
+        → write_at writes n ≡ Some write
+        → let update = update_at (updates_of writes) (counting writes lasts to n write) in
+        IsKeptOf (updates_of writes) (states_after states to update) LwwSet first (Deliver to n ∷ records) }
 {}
 
 /// The parts of the labels in the named order are the named sequence.
