@@ -1,9 +1,9 @@
 -- What a label does, from its number and from its operation.
-use Rattle.std.proofs.Common.{◌≡◌, ℕ, zero, suc, ◌<◌, ◌≤◌, true, false, List, [], ◌∷◌, ◌++◌, length, map, reverse, get_or, Option, Some, None, refl, sym, ap, ◌∙◌, subst, inl, inr, arith}
-use Rattle.std.specs.Prelude.{◌⊎◌, ◌&&◌, Contains, flat_map, option_map, is_some}
+use Rattle.std.proofs.Common.{◌≡◌, ℕ, zero, suc, ◌<◌, ◌≤◌, true, false, List, [], ◌∷◌, ◌++◌, length, map, reverse, Option, Some, None, refl, sym, ap, ◌∙◌, subst, inl, inr, arith}
+use Rattle.std.specs.Prelude.{Contains, option_map}
 use Rattle.std.specs.Option.{option_map_or}
-use Rattle.std.specs.List.{slice_get, list_all, AllByRecursion}
-use Rattle.std.proofs.lemmas.Bool.{and_parts, true≢false, false≢true}
+use Rattle.std.specs.List.{slice_get, AllByRecursion}
+use Rattle.std.proofs.lemmas.Bool.{and_parts, true≢false}
 use Rattle.std.proofs.lemmas.Option.{none-some, same_Some, slice_get-map, get_or_from_slice_get}
 use Rattle.std.proofs.lemmas.List.{append-nil}
 use Rattle.std.proofs.lemmas.List.Elements.{All-from_recursion, All-contains}
@@ -14,8 +14,8 @@ use Rattle.ra_labels.specs.declared.operation.Op.TheVariants as op
 use Rattle.ra_labels.specs.declared.operation.Update.{Update}
 use Rattle.ra_labels.specs.declared.label.Label.{Label}
 use Rattle.ra_labels.specs.Records.{Records, labels_of}
-use Rattle.ra_labels.specs.Visibility.{is_update, is_update_at, had}
-use Rattle.ra_labels.specs.Rewriting.{Half, Act, Does, Asks, acts_of, part_of, parts_of, update_of, updates_of}
+use Rattle.ra_labels.specs.Visibility.{is_update, had}
+use Rattle.ra_labels.specs.Rewriting.{Half, Act, Does, Asks, acts_of, parts_of, update_of, updates_of}
 use Rattle.ra_labels.specs.NamedOrder.{named_labels}
 use Rattle.ra_labels.specs.Fault.{Holds}
 use Rattle.ra_labels.specs.Answer.{is_kind}
@@ -27,7 +27,7 @@ use Rattle.ra_witness.specs.Labels.{updates_in, first_of, update_in, updates_by_
 use Rattle.ra_witness.specs.States.{update_at}
 use Rattle.ra_witness.specs.Overriding as overriding
 use Rattle.ra_witness.specs.Overriding.{write_at}
-use Rattle.ra_witness.proofs.Places.{head_or_behind, at_head, behind_head}
+use Rattle.ra_witness.proofs.Places.{head_or_behind}
 use Rattle.ra_witness.proofs.Found.{IsFoundIn, found_in_turn, makes_it, makes_none}
 use Rattle.ra_witness.proofs.Causes.{are_of, are_of-both, updates_by}
 use Rattle.ra_witness.proofs.Keeping.{made_among}

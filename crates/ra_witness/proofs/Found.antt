@@ -46,6 +46,14 @@ none_made ((half, Asks query) ∷ acts) is = none_made acts is
 pub makes_none : (op : Op) → update_in op ≡ None → is_update op ≡ false
 makes_none op is = update_where_a_part_is_one op ∙ none_made (acts_of op) is
 
+any_made : (acts : List (Half × Act)) (u : Update) → first_of (updates_in acts) ≡ Some u → list_any (λ (act : Half × Act). is_some (update_of act.1)) acts ≡ true
+any_made [] u is = absurd (none-some u is)
+any_made ((half, Does v) ∷ acts) u is = refl
+any_made ((half, Asks query) ∷ acts) u is = any_made acts u is
+
+pub makes_some : (op : Op) (u : Update) → update_in op ≡ Some u → is_update op ≡ true
+makes_some op u is = update_where_a_part_is_one op ∙ any_made (acts_of op) u is
+
 pub labels_counted : (records : Records) → length (labels_of records) ≡ label_count records
 labels_counted [] = refl
 labels_counted (Operate by op clock ∷ before) = omega (arith, labels_counted before)

@@ -1,8 +1,7 @@
 -- The state of a register or an LWW set, once the update that counts is made.
-use Rattle.std.proofs.Common.{◌≡◌, ℕ, ◌<◌, Bool, true, false, List, [], ◌∷◌, ◌++◌, length, Option, Some, None, refl, sym, ap, ◌∙◌, subst, inl, inr, arith}
-use Rattle.std.specs.Prelude.{◌⊎◌, ◌==◌, ◌&&◌, Contains, is_some}
-use Rattle.std.specs.List.{list_all}
-use Rattle.std.proofs.lemmas.Bool.{cases_Bool, and_parts, and_from, true≢false, false≢true, eqb-true, eq-eqb}
+use Rattle.std.proofs.Common.{◌≡◌, ℕ, ◌<◌, true, false, List, ◌∷◌, ◌++◌, length, Option, Some, None, refl, sym, ap, ◌∙◌, subst, inl, inr, arith}
+use Rattle.std.specs.Prelude.{◌⊎◌, Contains, is_some}
+use Rattle.std.proofs.lemmas.Bool.{cases_Bool, and_parts, and_from, false≢true, eqb-true, eq-eqb}
 use Rattle.std.proofs.lemmas.Option.{same_Some, none-some}
 use Rattle.std.proofs.lemmas.List.Folds.{list_all-append}
 use Rattle.std.proofs.lemmas.List.Elements.{Contains-append_right}
@@ -15,9 +14,9 @@ use Rattle.ra_labels.specs.declared.label.Stamp.{Stamp}
 use Rattle.ra_labels.specs.declared.label.Label.{Label}
 use Rattle.ra_labels.specs.declared.command.Command.TheVariants.{Deliver}
 use Rattle.ra_labels.specs.Records.{Records, labels_of}
-use Rattle.ra_labels.specs.Visibility.{had, is_update_at}
+use Rattle.ra_labels.specs.Visibility.{had}
 use Rattle.ra_labels.specs.Specification.{State, state_after, is_admitted}
-use Rattle.ra_labels.specs.NamedOrder.{rank_of, timestamp_of, label_cmp, named_labels}
+use Rattle.ra_labels.specs.NamedOrder.{rank_of, named_labels}
 use Rattle.ra_labels.specs.Fault.{Holds}
 use Rattle.ra_labels.specs.Answer.{is_kind}
 use Rattle.ra_labels.specs.Laws.{IsStampBelow, StampsAreOneLabels, acts_on, kind_of_update}
@@ -26,7 +25,7 @@ use Rattle.ra_labels.specs.Commuting.{then_step, last_written, last_on}
 use Rattle.ra_labels.proofs.TheLaws.{a_timestamp_is_the_greatest_seen-own, a_label_stands_before_those_that_it_is_below-behind, labels_by_rank_and_then_by_number, named_labels_are_sorted-same, the_last_label_has_the_last_update-register, the_last_label_has_the_last_update-lww_set, a_delivery_is_one_step-register, a_delivery_is_one_step-lww_set, a_delivery_puts_its_update_in-own, updates_of_the_kind_are_admitted-only, updates_of_the_kind_are_admitted-exactly, states_are_of_their_kind}
 use Rattle.ra_visibility.specs.Order.{IsByTimestamp}
 use Rattle.ra_witness.specs.declared.written.Written.{Written}
-use Rattle.ra_witness.specs.Labels.{update_in, updates_by_number}
+use Rattle.ra_witness.specs.Labels.{updates_by_number}
 use Rattle.ra_witness.specs.States.{state_at, update_at, after_step, states_after}
 use Rattle.ra_witness.specs.Standing.{IsKeptOf}
 use Rattle.ra_witness.specs.Numbers.{element_of}
@@ -36,7 +35,7 @@ use Rattle.ra_witness.proofs.Places.{behind_head}
 use Rattle.ra_witness.proofs.StampOrder.{not_below_itself, not_both_below}
 use Rattle.ra_witness.proofs.Causes.{are_of}
 use Rattle.ra_witness.proofs.Keeping.{kept-delivery, stepped}
-use Rattle.ra_witness.proofs.Doing.{split_at, its_write, written_made, update_of_write, had_makes, made_once, done_of_kind}
+use Rattle.ra_witness.proofs.Doing.{split_at, its_write, written_made, update_of_write, had_makes, done_of_kind}
 use Rattle.ra_witness.proofs.Overridden.{one_write, IsNewWrite, counting-last}
 
 -- with one update more of the kind, updates that led to a state are admitted
@@ -65,7 +64,6 @@ rank_is kind records label s sorts is = sorts records label ∙ a_timestamp_is_t
 module _ (kind : Kind) (writes : List (Option Written)) (number_of : ℕ → Option ℕ) (records : Records) (to c k : ℕ)
     (sorts : IsByTimestamp kind) (kept : updates_of writes ≡ updates_by_number records) (are : AreWritesOf writes number_of records)
     (last : IsLastOn writes records to c k) where
-
   own_stamp : last.label.stamp ≡ Some last.write.stamp
   own_stamp = are.stamps last.label last.write last.there (ap (write_at writes) last.number ∙ last.found)
 
@@ -142,7 +140,6 @@ module _ (writes : List (Option Written)) (lasts : List (List (Option ℕ))) (nu
     (records : Records) (to n : ℕ) (not_rga : ¬ (kind ≡ Rga)) (sorts : IsByTimestamp kind) (kept : IsKeptOf (updates_of writes) states kind first records) (are : AreWritesOf writes number_of records)
     (lastof : AreLastOf writes lasts records) (once : StampsAreOneLabels records) (holds : Holds kind records) (within : to < length lasts) (there : to < length states)
     (it : IsNewWrite writes records to n) where
-
   abbrev now : Records
   now = Deliver to n ∷ records
 
@@ -200,7 +197,6 @@ module _ (writes : List (Option Written)) (lasts : List (List (Option ℕ))) (nu
     (records : Records) (to n : ℕ) (sorts : IsByTimestamp Register) (kept : IsKeptOf (updates_of writes) states Register first records) (are : AreWritesOf writes number_of records)
     (lastof : AreLastOf writes lasts records) (once : StampsAreOneLabels records) (holds : Holds Register records) (within : to < length lasts) (there : to < length states)
     (it : IsNewWrite writes records to n) where
-
   abbrev now_r : Records
   now_r = Deliver to n ∷ records
 
@@ -254,7 +250,6 @@ module _ (writes : List (Option Written)) (lasts : List (List (Option ℕ))) (nu
     (records : Records) (to n : ℕ) (sorts : IsByTimestamp LwwSet) (kept : IsKeptOf (updates_of writes) states LwwSet first records) (are : AreWritesOf writes number_of records)
     (lastof : AreLastOf writes lasts records) (once : StampsAreOneLabels records) (holds : Holds LwwSet records) (within : to < length lasts) (there : to < length states)
     (it : IsNewWrite writes records to n) where
-
   abbrev now_s : Records
   now_s = Deliver to n ∷ records
 

@@ -9,3 +9,4 @@ pub mod StampOrder
 pub mod Overridden
 pub mod Doing
 pub mod LastMade
+pub mod Taken

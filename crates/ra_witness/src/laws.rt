@@ -1,5 +1,5 @@
 //! What one more label or delivery changes in what is kept, each law the clause of a function that does nothing.
-ghost use Rattle.std.specs.Prelude.{◌≡◌, ℕ, ◌<◌, true, false, not, List, [], ◌∷◌, ◌++◌, Contains, length, map, flat_map, Option, Some, None, if◌then◌else◌};
+ghost use Rattle.std.specs.Prelude.{◌≡◌, ℕ, ◌+◌, ◌<◌, true, false, not, List, [], ◌∷◌, ◌++◌, Contains, length, map, flat_map, Option, Some, None, if◌then◌else◌};
 ghost use Rattle.ra_labels.specs.declared.kind.Kind.{Kind};
 ghost use Rattle.ra_labels.specs.declared.kind.Kind.TheVariants.{Counter, Register, LwwSet, OrSet, Rga};
 ghost use Rattle.ra_labels.specs.declared.operation.Op.{Op};
@@ -7,7 +7,7 @@ ghost use Rattle.ra_labels.specs.declared.operation.Update.{Update};
 ghost use Rattle.ra_labels.specs.declared.label.Label.{Label};
 ghost use Rattle.ra_labels.specs.declared.command.Command.TheVariants.{Operate, Deliver};
 ghost use Rattle.ra_labels.specs.declared.reply.Cause.TheVariants as cause;
-ghost use Rattle.ra_labels.specs.Records.{Records, labels_of};
+ghost use Rattle.ra_labels.specs.Records.{Records, label_count, labels_of};
 ghost use Rattle.ra_labels.specs.Visibility.{had, is_update_at, IsCausal};
 ghost use Rattle.ra_labels.specs.Rewriting.{acts_of};
 ghost use Rattle.ra_labels.specs.Specification.{State, state_after};
@@ -17,14 +17,15 @@ ghost use Rattle.ra_labels.specs.Fault.{Holds, cause_of};
 ghost use Rattle.ra_labels.specs.Answer.{kind_of, is_kind};
 ghost use Rattle.ra_labels.specs.Laws.{IdentifiersAreOneLabels, StampsAreOneLabels};
 ghost use Rattle.ra_labels.specs.Insertion.{updates_had, Makes};
-ghost use Rattle.ra_visibility.specs.Order.{numbers_in};
+ghost use Rattle.ra_visibility.specs.Order.{IsByTimestamp, numbers_in};
+ghost use Rattle.ra_witness.specs.Numbers.{element_of, number_with};
 ghost use Rattle.ra_witness.specs.Sequence.{ref_of, refs_at};
 ghost use Rattle.ra_witness.specs.Labels.{update_in, updates_by_number, cause_in};
 ghost use Rattle.ra_witness.specs.States.{update_at, states_after};
 ghost use Rattle.ra_witness.specs.Standing.{IsKeptOf};
 ghost use Rattle.ra_witness.specs.declared.written.Written.{Written};
 ghost use Rattle.ra_witness.specs.Overriding.{updates_of, write_at, last_label, counting, last_with};
-ghost use Rattle.ra_witness.specs.Overridden.{AreWritesOf, AreLastOf, IsLastOn};
+ghost use Rattle.ra_witness.specs.Overridden.{AreWritesOf, AreLastOf, IsLastOn, AreBelow, IsNextWrite};
 
 /// Where a new label fits, its update is the last one of those that its replica had.
 pub fn a_new_update_is_the_last_of_its_replica()
@@ -95,6 +96,33 @@ pub fn the_parts_are_the_named_sequence()
     ensures { (kind : Kind) (records : Records)
         → flat_map (refs_at (updates_by_number records)) (numbers_in kind records)
         ≡ map ref_of (named_sequence kind records) }
+{}
+
+/// A new label that does nothing leaves the writes and the last labels. One that does something and fits is the last one
+/// on its element that its replica had, whose number is as before, or the next one where the element had none.
+pub fn the_last_labels_with_a_label()
+    ensures query_writes { (writes : List (Option Written)) (number_of : ℕ → Option ℕ) (records : Records) (by : ℕ)
+        (op : Op) (clock : Option ℕ) → updates_of writes ≡ updates_by_number records
+        → AreWritesOf writes number_of records
+        → AreWritesOf (writes ++ None ∷ []) number_of (Operate by op clock ∷ records) }
+    ensures query_lasts { (writes : List (Option Written)) (lasts : List (List (Option ℕ))) (records : Records) (by : ℕ)
+        (op : Op) (clock : Option ℕ) → updates_of writes ≡ updates_by_number records → AreLastOf writes lasts records
+        → AreLastOf (writes ++ None ∷ []) lasts (Operate by op clock ∷ records) }
+    ensures writes { (kind : Kind) (writes : List (Option Written)) (number_of : ℕ → Option ℕ) (count by : ℕ) (op : Op)
+        (clock : Option ℕ) (records : Records) (write : Written) → IsByTimestamp kind
+        → updates_of writes ≡ updates_by_number records → AreWritesOf writes number_of records
+        → AreBelow number_of count → IsNextWrite write number_of count by op clock
+        → let now = Operate by op clock ∷ records in extends_visibility now (named_sequence kind now) ≡ true
+        → StampsAreOneLabels now → let numbers = number_with number_of (element_of write.update) write.on in
+        AreWritesOf (writes ++ Some write ∷ []) numbers now × AreBelow numbers (count + 1) }
+    ensures lasts { (kind : Kind) (writes : List (Option Written)) (lasts next : List (List (Option ℕ)))
+        (number_of : ℕ → Option ℕ) (count by : ℕ) (op : Op) (clock : Option ℕ) (records : Records) (write : Written)
+        → IsByTimestamp kind → updates_of writes ≡ updates_by_number records → AreWritesOf writes number_of records
+        → AreBelow number_of count → IsNextWrite write number_of count by op clock
+        → let now = Operate by op clock ∷ records in extends_visibility now (named_sequence kind now) ≡ true
+        → StampsAreOneLabels now → AreLastOf writes lasts records → length next ≡ length lasts
+        → ((q c : ℕ) → last_label next q c ≡ last_with lasts by write.on (label_count records) q c)
+        → AreLastOf (writes ++ Some write ∷ []) next now }
 {}
 
 /// Once a label is delivered, that one or the last one on its element is the last one, which has the greater stamp; and

@@ -9,8 +9,8 @@
 
 pub mod asked;
 pub mod commuting;
-pub mod laws;
 pub mod last;
+pub mod laws;
 pub mod numbers;
 pub mod overriding;
 mod part_ref;

@@ -109,7 +109,8 @@ impl Overriding {
         let last = &mut self.lasts[replica as usize];
         make_own(state, last, &update, on, label)?;
         self.numbers.keep(&update, on);
-        self.writes.push_reserved(Some(Written { update, stamp, on }));
+        self.writes
+            .push_reserved(Some(Written { update, stamp, on }));
         Ok(())
     }
 
@@ -171,7 +172,13 @@ fn bring(
 }
 
 // The replica makes this update of its own label on the element, as the last one.
-fn make_own(state: &mut State, last: &mut Last, update: &Update, on: u32, label: u32) -> Result<(), NoMemory>
+fn make_own(
+    state: &mut State,
+    last: &mut Last,
+    update: &Update,
+    on: u32,
+    label: u32,
+) -> Result<(), NoMemory>
     requires { CanStep state.old (Some update.now) }
     ensures state { OnOk result (state.new ≡ after_step state.old (Some update.now)) }
     ensures last { OnOk result ((c : ℕ) → label_on last.new.labels.items c
