@@ -54,7 +54,8 @@ abbrev pub AreBelow : (ℕ → Option ℕ) → ℕ → Type 0
 AreBelow number_of next = (x number : ℕ) → number_of x ≡ Some number → number < next
 
 -- what is kept of the label that an operation becomes with this clock: its stamp and the number of its element
-pub record IsNextWrite (write : Written) (number_of : ℕ → Option ℕ) (next by : ℕ) (op : Op) (clock : Option ℕ) : Type 0 where
+pub record IsNextWrite (write : Written) (number_of : ℕ → Option ℕ) (next by : ℕ) (op : Op)
+    (clock : Option ℕ) : Type 0 where
   pub update : update_in op ≡ Some write.update
   pub stamp : option_map (stamp_at by) clock ≡ Some write.stamp
   pub on : write.on ≡ number_in number_of next (element_of write.update)

@@ -98,8 +98,8 @@ pub fn the_parts_are_the_named_sequence()
         ≡ map ref_of (named_sequence kind records) }
 {}
 
-/// A new label that does nothing leaves the writes and the last labels. One that does something and fits is the last one
-/// on its element that its replica had, whose number is as before, or the next one where the element had none.
+/// A new label that does nothing leaves the writes and the last labels. One that does something and fits is the last
+/// one on its element that its replica had, whose number is as before, or the next one where the element had none.
 pub fn the_last_labels_with_a_label()
     ensures query_writes { (writes : List (Option Written)) (number_of : ℕ → Option ℕ) (records : Records) (by : ℕ)
         (op : Op) (clock : Option ℕ) → updates_of writes ≡ updates_by_number records
