@@ -14,6 +14,7 @@ pub mod laws;
 pub mod numbers;
 pub mod overriding;
 mod part_ref;
+pub mod rga;
 pub mod sequence;
 pub mod written;
 
