@@ -1,7 +1,7 @@
 -- A new label alone decides: what it asks is held against the state of its replica.
 use Rattle.std.proofs.Common.{◌≡◌, ℕ, Bool, true, false, cond, List, [], ◌∷◌, ◌++◌, Option, Some, None, refl, sym, ap, ◌∙◌, subst, inl, inr, arith}
-use Rattle.std.specs.Prelude.{◌⊎◌, ◌&&◌, not, Contains, map, flat_map, filter_map}
-use Rattle.std.specs.List.{list_all, cons_option}
+use Rattle.std.specs.Prelude.{◌&&◌, not, Contains, map, flat_map}
+use Rattle.std.specs.List.{list_all}
 use Rattle.std.proofs.lemmas.Bool.{and_parts, and_from, false≢true}
 use Rattle.std.proofs.lemmas.Option.{none-some}
 use Rattle.std.proofs.lemmas.List.{append-nil}
@@ -18,7 +18,7 @@ use Rattle.ra_labels.specs.declared.command.Command.TheVariants.{Operate}
 use Rattle.ra_labels.specs.declared.reply.Cause.TheVariants as cause
 use Rattle.ra_labels.specs.Records.{Records, label_count, next_label}
 use Rattle.ra_labels.specs.Rewriting.{Part, Half, Act, Does, Asks, acts_of, part_of, parts_of, update_of, updates_of}
-use Rattle.ra_labels.specs.Specification.{State, answers, state_after, is_admitted}
+use Rattle.ra_labels.specs.Specification.{State, answers, state_after}
 use Rattle.ra_labels.specs.Linearization.{visible_updates, extends_visibility, updates_admitted, queries_admitted}
 use Rattle.ra_labels.specs.NamedOrder.{named_labels, named_sequence}
 use Rattle.ra_labels.specs.Fault.{Holds, cause_of}
@@ -40,9 +40,9 @@ all_answered o ((half, Asks asked) ∷ acts) each =
     (all_answered o acts (λ h query there. each h query (behind_head (half, Asks asked) acts (h, Asks query) there)))
 
 same_query : (o : Option State) (asked query : Query) → Asks asked ≡ Asks query → answers_in o asked ≡ true → answers_in o query ≡ true
-same_query o asked query is yes =
+same_query o asked query is passes =
     let same : asked ≡ query = cc in
-    subst (λ q. answers_in o q ≡ true) same yes
+    subst (λ q. answers_in o q ≡ true) same passes
 
 each_answered : (o : Option State) (acts : List (Half × Act)) → list_all (answers_in o) (queries_in acts) ≡ true
     → (act : Half × Act) (query : Query) → Contains acts act → act.1 ≡ Asks query → answers_in o query ≡ true
@@ -59,8 +59,8 @@ each_answered o ((half, Asks asked) ∷ acts) pass act query there is =
     ]
 
 yes_in : (o : Option State) (query : Query) → answers_in o query ≡ true → (state : State) × (o ≡ Some state) × (answers state query ≡ true)
-yes_in None query yes = absurd (false≢true yes)
-yes_in (Some state) query yes = (state, refl, yes)
+yes_in None query passes = absurd (false≢true passes)
+yes_in (Some state) query passes = (state, refl, passes)
 
 module _ (kind : Kind) (records : Records) (by : ℕ) (op : Op) (clock : Option ℕ) where
   abbrev now : Records
@@ -76,12 +76,12 @@ module _ (kind : Kind) (records : Records) (by : ℕ) (op : Op) (clock : Option 
   sees_had = a_new_label_leaves_what_the_others_see-own kind records by op clock
 
   answered_before : (query : Query) → IsAnsweredAfter kind (visible_updates now (named_sequence kind now) (label_count records)) query → answers_in before query ≡ true
-  answered_before query (state, led, yes) =
-      ap (λ o. answers_in o query) (sym (ap (state_after kind) sees_had) ∙ led) ∙ yes
+  answered_before query (state, led, passes) =
+      ap (λ o. answers_in o query) (sym (ap (state_after kind) sees_had) ∙ led) ∙ passes
 
   answered_itself : (query : Query) → answers_in before query ≡ true → IsAnsweredAfter kind (visible_updates now (named_sequence kind now) (label_count records)) query
-  answered_itself query yes =
-      let (state, led, is) = yes_in before query yes in
+  answered_itself query passes =
+      let (state, led, is) = yes_in before query passes in
       (state, ap (state_after kind) sees_had ∙ led, is)
 
   from_itself : IsAnsweredItself kind now label (named_sequence kind now) → list_all (answers_in before) (queries_in (acts_of op)) ≡ true
@@ -126,15 +126,15 @@ cause_where_it_fits kind records by op clock admitted holds extended is =
 abbrev pub are_of : Kind → List Update → Bool
 are_of kind updates = list_all (λ update. is_kind kind (kind_of_update update)) updates
 
-of_kind-acts : (kind other : Kind) (label : Label) (acts : List (Half × Act)) → is_kind kind other ≡ true → list_all (λ (act : Half × Act). is_kind other (kind_of_act act.1)) acts ≡ true
-    → are_of kind (updates_of (map (part_of label) acts)) ≡ true
-of_kind-acts kind other label [] is pass = refl
-of_kind-acts kind other label ((half, Asks query) ∷ acts) is pass =
-    of_kind-acts kind other label acts is (and_parts (is_kind other (kind_of_act (Asks query))) (list_all (λ (act : Half × Act). is_kind other (kind_of_act act.1)) acts) pass).1
-of_kind-acts kind other label ((half, Does u) ∷ acts) is pass =
+of_kind-acts : (kind other : Kind) (own : Label) (acts : List (Half × Act)) → is_kind kind other ≡ true → list_all (λ (act : Half × Act). is_kind other (kind_of_act act.1)) acts ≡ true
+    → are_of kind (updates_of (map (part_of own) acts)) ≡ true
+of_kind-acts kind other own [] is pass = refl
+of_kind-acts kind other own ((half, Asks query) ∷ acts) is pass =
+    of_kind-acts kind other own acts is (and_parts (is_kind other (kind_of_act (Asks query))) (list_all (λ (act : Half × Act). is_kind other (kind_of_act act.1)) acts) pass).1
+of_kind-acts kind other own ((half, Does u) ∷ acts) is pass =
     let parts = and_parts (is_kind other (kind_of_update u)) (list_all (λ (act : Half × Act). is_kind other (kind_of_act act.1)) acts) pass in
-    and_from (is_kind kind (kind_of_update u)) (are_of kind (updates_of (map (part_of label) acts))) (one_kind kind other (kind_of_update u) is parts.0)
-    (of_kind-acts kind other label acts is parts.1)
+    and_from (is_kind kind (kind_of_update u)) (are_of kind (updates_of (map (part_of own) acts))) (one_kind kind other (kind_of_update u) is parts.0)
+    (of_kind-acts kind other own acts is parts.1)
   where
     one_kind : (a b c : Kind) → is_kind a b ≡ true → is_kind b c ≡ true → is_kind a c ≡ true
     one_kind Counter Counter c ab bc = bc

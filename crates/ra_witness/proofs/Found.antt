@@ -1,6 +1,6 @@
 -- Labels at their numbers, and what they do.
 use Rattle.std.proofs.Common.{◌≡◌, ℕ, ◌<◌, Bool, true, false, cond, List, [], ◌∷◌, ◌++◌, map, length, reverse, get_or, Option, Some, None, refl, sym, ap, ◌∙◌, subst, inl, inr, append_assoc, arith}
-use Rattle.std.specs.Prelude.{◌⊎◌, ◌==◌, Contains, is_some}
+use Rattle.std.specs.Prelude.{◌==◌, Contains, is_some}
 use Rattle.std.specs.Option.{option_map_or}
 use Rattle.std.specs.List.{slice_get, list_any, AllByRecursion}
 use mathlib.Core.List.{reverse-cons}
@@ -46,6 +46,14 @@ none_made ((half, Asks query) ∷ acts) is = none_made acts is
 pub makes_none : (op : Op) → update_in op ≡ None → is_update op ≡ false
 makes_none op is = update_where_a_part_is_one op ∙ none_made (acts_of op) is
 
+any_made : (acts : List (Half × Act)) (u : Update) → first_of (updates_in acts) ≡ Some u → list_any (λ (act : Half × Act). is_some (update_of act.1)) acts ≡ true
+any_made [] u is = absurd (none-some u is)
+any_made ((half, Does v) ∷ acts) u is = refl
+any_made ((half, Asks query) ∷ acts) u is = any_made acts u is
+
+pub makes_some : (op : Op) (u : Update) → update_in op ≡ Some u → is_update op ≡ true
+makes_some op u is = update_where_a_part_is_one op ∙ any_made (acts_of op) u is
+
 pub labels_counted : (records : Records) → length (labels_of records) ≡ label_count records
 labels_counted [] = refl
 labels_counted (Operate by op clock ∷ before) = omega (arith, labels_counted before)
@@ -77,36 +85,41 @@ pub record IsUpdateAt (records : Records) (n : ℕ) (label : Label) : Type 0 whe
 
 its_update : (records : Records) (n : ℕ) (label : Label) → n ≡ label_count records → (b : Bool) → (label_count records == n) ≡ b → b ≡ true
     → option_map_or (λ (l : Label). is_update l.op) (cond (label_count records == n) (Some label) (label_at records n)) false ≡ true → is_update label.op ≡ true
-its_update records n label same b is yes h =
-    sym (ap (λ c. option_map_or (λ (l : Label). is_update l.op) (cond c (Some label) (label_at records n)) false) (is ∙ yes)) ∙ h
+its_update records n label same b is passes h =
+    sym (ap (λ c. option_map_or (λ (l : Label). is_update l.op) (cond c (Some label) (label_at records n)) false) (is ∙ passes)) ∙ h
 
 pub update_found : (records : Records) (n : ℕ) → is_update_at records n ≡ true → (label : Label) × IsUpdateAt records n label
 update_found [] n is = absurd (cc (is))
 update_found (Operate by op clock ∷ before) n is =
     let label = next_label before by op clock in
     elim (cases_eq (label_count before) n) [
-      | inl same ↦ (label, record {
-        there = at_head label (labels_of before);
-        number = same;
-        update = its_update before n label (sym same) true (eq-eqb (label_count before) n same) refl is;
-        found =
-            ap (λ us. get_or us n None) (updates_more before by op clock)
-            ∙ get_or_at (updates_by_number before) (update_in op) [] None n (updates_counted before ∙ same);
-      })
+      | inl same ↦ (
+        label,
+        record {
+          there = at_head label (labels_of before);
+          number = same;
+          update = its_update before n label (sym same) true (eq-eqb (label_count before) n same) refl is;
+          found =
+              ap (λ us. get_or us n None) (updates_more before by op clock)
+              ∙ get_or_at (updates_by_number before) (update_in op) [] None n (updates_counted before ∙ same);
+        },
+      )
       | inr other ↦
           let older : is_update_at before n ≡ true =
           sym (ap (λ c. option_map_or (λ (l : Label). is_update l.op) (cond c (Some label) (label_at before n)) false) (ne_eqb (label_count before) n other)) ∙ is in
           let (l, at) = update_found before n older in
-          let below : n < length (updates_by_number before) = omega (arith, updates_counted before, had_updates-there before n older) in
-          (l, record {
-            there = behind_head label (labels_of before) l at.there;
-            number = at.number;
-            update = at.update;
-            found =
-                ap (λ us. get_or us n None) (updates_more before by op clock)
-                ∙ get_or_append_left (updates_by_number before) (update_in op ∷ []) None n below
-                ∙ at.found;
-          })
+          let below : n < length (updates_by_number before) = omega (arith, updates_counted before, had_updates-there before n older) in (
+            l,
+            record {
+              there = behind_head label (labels_of before) l at.there;
+              number = at.number;
+              update = at.update;
+              found =
+                  ap (λ us. get_or us n None) (updates_more before by op clock)
+                  ∙ get_or_append_left (updates_by_number before) (update_in op ∷ []) None n below
+                  ∙ at.found;
+            },
+          )
     ]
 update_found (Deliver to label ∷ before) n is = let (l, at) = update_found before n is in
     (l, record { there = at.there; number = at.number; update = at.update; found = at.found })
@@ -121,7 +134,7 @@ get_at_seam : (xs : List Label) (y : Label) (ys : List Label) → slice_get (xs 
 get_at_seam [] y ys = refl
 get_at_seam (x ∷ xs) y ys = get_at_seam xs y ys
 
-found_in_turn : (records : Records) (rest : List Label) → AllByRecursion (IsFoundIn (reverse (labels_of records) ++ rest)) (labels_of records)
+pub found_in_turn : (records : Records) (rest : List Label) → AllByRecursion (IsFoundIn (reverse (labels_of records) ++ rest)) (labels_of records)
 found_in_turn [] rest = tt
 found_in_turn (Operate by op clock ∷ before) rest =
     let label = next_label before by op clock in

@@ -1,7 +1,6 @@
 -- What is kept with one more label or delivery.
-use Rattle.std.proofs.Common.{◌≡◌, ℕ, ◌<◌, true, false, List, [], ◌∷◌, ◌++◌, length, get_or, set, Option, Some, None, refl, sym, ap, ◌∙◌, subst, inl, inr, arith}
-use Rattle.std.specs.Prelude.{◌⊎◌, pos, Contains, map, option_and_then}
-use Rattle.std.specs.List.{list_all}
+use Rattle.std.proofs.Common.{◌≡◌, ℕ, ◌<◌, true, false, List, [], ◌∷◌, ◌++◌, length, Option, Some, None, refl, sym, ap, ◌∙◌, subst, inl, inr, arith}
+use Rattle.std.specs.Prelude.{pos, Contains, map}
 use Rattle.std.proofs.lemmas.Bool.{cases_eq, false≢true, and_parts}
 use Rattle.std.proofs.lemmas.Option.{none-some, same_Some}
 use Rattle.std.proofs.lemmas.List.{append-nil, length-set, get_or-set_same, get_or-set_other}
@@ -11,11 +10,11 @@ use Rattle.ra_labels.specs.declared.kind.Kind.{Kind}
 use Rattle.ra_labels.specs.declared.kind.Kind.TheVariants.{Counter, Register, LwwSet, OrSet, Rga}
 use Rattle.ra_labels.specs.declared.operation.Op.{Op}
 use Rattle.ra_labels.specs.declared.operation.Update.{Update}
-use Rattle.ra_labels.specs.declared.operation.Update.TheVariants.{Inc, Dec, Write, LwwAdd, LwwRemove, OrAdd, TakeOut, After, RgaRemove}
+use Rattle.ra_labels.specs.declared.operation.Update.TheVariants.{Inc, Dec, Write, LwwAdd, LwwRemove, OrAdd, TakeOut}
 use Rattle.ra_labels.specs.declared.label.Label.{Label}
 use Rattle.ra_labels.specs.declared.command.Command.TheVariants.{Operate, Deliver}
 use Rattle.ra_labels.specs.Records.{Records, labels_of}
-use Rattle.ra_labels.specs.Visibility.{is_update, is_update_at, had, IsCausal}
+use Rattle.ra_labels.specs.Visibility.{is_update_at, had, IsCausal}
 use Rattle.ra_labels.specs.Rewriting.{Half, Act, Does, Asks, acts_of, part_of, parts_of, update_of, updates_of}
 use Rattle.ra_labels.specs.Specification.{State, Number, Written, Members, Pairs, Listed, step_of, state_after}
 use Rattle.ra_labels.specs.Linearization.{extends_visibility}
@@ -26,7 +25,7 @@ use Rattle.ra_labels.specs.Laws.{kind_of_state, kind_of_update, kind_of_act, Ide
 use Rattle.ra_labels.specs.Insertion.{updates_had, Makes}
 use Rattle.ra_labels.specs.Commuting.{then_step}
 use Rattle.ra_labels.proofs.TheLaws.{states_are_of_their_kind, parts_are_of_their_kind, an_operation_puts_its_update_in-query, an_operation_puts_its_update_in-others, a_delivery_puts_its_update_in-own, a_delivery_puts_its_update_in-others, updates_of_the_kind_are_admitted-only, a_delivery_is_one_step-counter, a_delivery_is_one_step-or_set}
-use Rattle.ra_witness.specs.Labels.{update_in, updates_by_number}
+use Rattle.ra_witness.specs.Labels.{update_in}
 use Rattle.ra_witness.specs.States.{state_at, update_at, after_step, states_after}
 use Rattle.ra_witness.specs.Standing.{IsKeptOf}
 use Rattle.ra_witness.proofs.Places.{head_or_behind}
@@ -61,7 +60,7 @@ made_of_kind kind op u of_kind (half, there) =
     one_kind kind (kind_of op) (kind_of_update u) of_kind (All-contains (λ (act : Half × Act). is_kind (kind_of op) (kind_of_act act.1) ≡ true) (acts_of op) (half, Does u) each there)
 
 -- the step from a state that the updates led to
-stepped : (kind : Kind) (o : Option State) (s : State) (u : Update) → o ≡ Some s → kind_of_state s ≡ kind → is_kind kind (kind_of_update u) ≡ true → ¬ (kind ≡ Rga)
+pub stepped : (kind : Kind) (o : Option State) (s : State) (u : Update) → o ≡ Some s → kind_of_state s ≡ kind → is_kind kind (kind_of_update u) ≡ true → ¬ (kind ≡ Rga)
     → then_step o u ≡ Some (after_step s (Some u))
 stepped kind o s u led state_of_kind of_kind not_rga =
     ap (λ p. then_step p u) led
@@ -76,7 +75,6 @@ other_replica states by q o other = get_or-set_other states by q (after_step (st
 
 module _ (updates : List (Option Update)) (states : List State) (kind : Kind) (first : ℕ) (records : Records)
     (kept : IsKeptOf updates states kind first records) where
-
   -- where what the replica had leads, once its label came
   own_state : (by : ℕ) (op : Op) (clock : Option ℕ) → ¬ (kind ≡ Rga) → by < length states → is_kind kind (kind_of op) ≡ true
       → let now = Operate by op clock ∷ records in extends_visibility now (named_sequence kind now) ≡ true → (o : Option Update) → update_in op ≡ o
@@ -110,12 +108,11 @@ module _ (updates : List (Option Update)) (states : List State) (kind : Kind) (f
       }
 
   -- where one delivery is one step
-  pub kept-delivery : (to n : ℕ) → ¬ (kind ≡ Rga) → to < length states
-      → state_after kind (updates_had kind (Deliver to n ∷ records) to) ≡ Some (after_step (state_at states to) (update_at updates n))
-      → IsKeptOf updates (states_after states to (update_at updates n)) kind first (Deliver to n ∷ records)
-  kept-delivery to n not_rga there led =
+  pub kept-delivery : (to n : ℕ) (o : Option Update) → to < length states
+      → state_after kind (updates_had kind (Deliver to n ∷ records) to) ≡ Some (after_step (state_at states to) o)
+      → IsKeptOf updates (states_after states to o) kind first (Deliver to n ∷ records)
+  kept-delivery to n o there led =
       let now = Deliver to n ∷ records in
-      let o = update_at updates n in
       record {
         labels = kept.labels;
         replicas = length-set states to (after_step (state_at states to) o) ∙ kept.replicas;
@@ -150,10 +147,10 @@ module _ (updates : List (Option Update)) (states : List State) (kind : Kind) (f
       → ((u : Update) → Makes label.op u → state_after kind (updates_had kind (Deliver to label.number ∷ records) to) ≡ then_step (state_after kind (updates_had kind records to)) u)
       → IsKeptOf updates (states_after states to (update_at updates n)) kind first (Deliver to n ∷ records)
   kept-stepped to n label not_rga there at of_kind step =
-      kept-delivery to n not_rga there (its_step to n label not_rga there at of_kind (update_in label.op) refl step)
+      kept-delivery to n (update_at updates n) there (its_step to n label not_rga there at of_kind (update_in label.op) refl step)
 
 -- an update of labels of a kind is of it
-made_among : (kind : Kind) (label : Label) (acts : List (Half × Act)) (half : Half) (u : Update) → are_of kind (updates_of (map (part_of label) acts)) ≡ true
+pub made_among : (kind : Kind) (label : Label) (acts : List (Half × Act)) (half : Half) (u : Update) → are_of kind (updates_of (map (part_of label) acts)) ≡ true
     → Contains acts (half, Does u) → is_kind kind (kind_of_update u) ≡ true
 made_among kind label [] half u pass there = absurd (omega (arith, there.1))
 made_among kind label ((other, Asks query) ∷ acts) half u pass there = elim (head_or_behind (other, Asks query) acts (half, Does u) there) [

@@ -1,8 +1,8 @@
 -- The update of a label that fits is the last one of its replica.
-use Rattle.std.proofs.Common.{◌≡◌, ℕ, Bool, true, false, cond, List, [], ◌∷◌, ◌++◌, filter, Option, Some, None, refl, sym, ap, ◌∙◌, subst, arith}
-use Rattle.std.specs.Prelude.{◌==◌, ◌&&◌, ◌||◌, not, is_some, Contains, map, flat_map}
+use Rattle.std.proofs.Common.{◌≡◌, ℕ, Bool, true, false, cond, List, [], ◌∷◌, ◌++◌, filter, Option, Some, None, refl, sym, ap, ◌∙◌, arith}
+use Rattle.std.specs.Prelude.{◌&&◌, ◌||◌, not, is_some, Contains, map, flat_map}
 use Rattle.std.specs.List.{list_all, cons_option}
-use Rattle.std.proofs.lemmas.Bool.{and_parts, eq-eqb, false≢true, true≢false}
+use Rattle.std.proofs.lemmas.Bool.{and_parts, eq-eqb, true≢false}
 use Rattle.std.proofs.lemmas.List.{append-nil}
 use Rattle.std.proofs.lemmas.List.Folds.{list_all-append}
 use Rattle.std.proofs.lemmas.Grind.{flat_map-append}
@@ -16,7 +16,7 @@ use Rattle.ra_labels.specs.Visibility.{had, sees}
 use Rattle.ra_labels.specs.Rewriting.{Part, Half, Act, Does, acts_of, part_of, parts_of, update_of, updates_of}
 use Rattle.ra_labels.specs.Specification.{state_after}
 use Rattle.ra_labels.specs.Linearization.{must_precede, extends, extends_visibility, is_earlier_there, is_query_half_of}
-use Rattle.ra_labels.specs.NamedOrder.{named_labels, named_sequence}
+use Rattle.ra_labels.specs.NamedOrder.{named_sequence}
 use Rattle.ra_labels.specs.Insertion.{updates_had_of, updates_had, Makes}
 use Rattle.ra_labels.specs.Commuting.{then_step}
 use Rattle.ra_labels.proofs.TheLaws.{an_operation_puts_its_update_in-own, one_more_update_is_one_more_step}

@@ -2,5 +2,7 @@ pub mod Sequence
 pub mod Labels
 pub mod States
 pub mod Standing
-pub mod Marks
-pub mod Waiting
+pub mod Numbers
+pub mod Last
+pub mod Overriding
+pub mod Overridden

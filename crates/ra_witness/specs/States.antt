@@ -1,6 +1,5 @@
 -- The states of replicas.
 use Rattle.std.specs.Prelude.{ℕ, pos, List, Option, Some, None, get_or, set, unwrap_or, IfSome}
-use Rattle.std.specs.List.{slice_get}
 use Rattle.ra_labels.specs.declared.operation.Update.{Update}
 use Rattle.ra_labels.specs.Specification.{State, Number, step_of}
 use Rattle.ra_seqspec.specs.Range.{IsInRange}

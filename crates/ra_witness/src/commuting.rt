@@ -1,14 +1,15 @@
 //! Of a counter and of an OR-Set: an update that comes late counts as the last one.
 ghost use Rattle.std.specs.Prelude.{◌≡◌, ◌<◌, ◌++◌, ◌∷◌, [], true, replicate, vec_len, IfOk, OnOk, OnErr};
 ghost use Rattle.std.specs.List.{list_all};
-ghost use Rattle.ra_labels.specs.Specification.{start_of, answers};
+ghost use Rattle.ra_labels.specs.Specification.{start_of};
 ghost use Rattle.ra_seqspec.specs.Asked.{asks_rising};
 ghost use Rattle.ra_rewrite.specs.Parts.{acts_in};
 ghost use Rattle.ra_witness.specs.Labels.{queries_in, cause_in};
 ghost use Rattle.ra_witness.specs.States.{state_at, update_at, after_step, CanStep, states_after, steps_of};
 
-use ra_labels::{Cause, Kind, NoMemory, Query, Update};
-use ra_rewrite::{Part, Parts};
+use crate::asked;
+use ra_labels::{Cause, Kind, NoMemory, Update};
+use ra_rewrite::Parts;
 use ra_seqspec::State;
 use std::alloc::Global;
 
@@ -43,25 +44,7 @@ impl Commuting {
         requires rising { list_all asks_rising (queries_in (acts_in parts.now)) ≡ true }
         ensures { result ≡ cause_in (Some (state_at self.now.states.items replica)) (acts_in parts.now) }
     {
-        match parts {
-            Parts::One(Part::Update(_)) => None,
-            Parts::One(Part::Query(query)) | Parts::Two(query, _) => {
-                if self.answers(replica, query) {
-                    None
-                } else {
-                    Some(Cause::Query)
-                }
-            }
-        }
-    }
-
-    // Is the query's answer that of the replica's state?
-    fn answers(&self, replica: u8, query: &Query) -> bool
-        requires replica { replica < vec_len self.now.states }
-        requires rising { asks_rising query.now ≡ true }
-        ensures { result ≡ answers (state_at self.now.states.items replica) query.now }
-    {
-        self.states[replica as usize].admits(query)
+        asked::cause(&self.states[replica as usize], parts)
     }
 
     /// Takes the next label in, of this replica, which does this, if anything: answers how many steps that took.
@@ -91,7 +74,10 @@ impl Commuting {
         ensures steps { IfOk result (λ steps. steps ≡ steps_of (update_at self.old.updates.items label)) }
         ensures same_states { OnErr result (self.new.states.items ≡ self.old.states.items) }
     {
-        step(&mut self.states[replica as usize], &self.updates[label as usize])
+        step(
+            &mut self.states[replica as usize],
+            &self.updates[label as usize],
+        )
     }
 }
 

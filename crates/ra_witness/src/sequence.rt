@@ -29,7 +29,11 @@ pub fn part_refs<O: NamedOrder>(
 }
 
 // Puts the label's parts at the end.
-fn push_parts(refs: &mut Vec<PartRef>, updates: &[Option<Update>], label: u32) -> Result<(), NoMemory>
+fn push_parts(
+    refs: &mut Vec<PartRef>,
+    updates: &[Option<Update>],
+    label: u32,
+) -> Result<(), NoMemory>
     ensures parts { OnOk result (refs.new.items ≡ refs.old.items ++ refs_at updates.now label) }
     ensures longer { OnOk result (vec_len refs.old < vec_len refs.new) }
 {

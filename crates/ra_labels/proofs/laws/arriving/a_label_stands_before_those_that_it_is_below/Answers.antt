@@ -1,0 +1,8 @@
+use Rattle.ra_labels.proofs.TheLaws.{a_label_stands_before_those_that_it_is_below-before, a_label_stands_before_those_that_it_is_below-behind}
+use Rattle.ra_labels.proofs.laws.arriving.a_label_stands_before_those_that_it_is_below.Goals as goal
+
+pub returns-clause-before : goal.returns-clause-before
+returns-clause-before c = a_label_stands_before_those_that_it_is_below-before
+
+pub returns-clause-behind : goal.returns-clause-behind
+returns-clause-behind c = a_label_stands_before_those_that_it_is_below-behind
