@@ -6,3 +6,5 @@ pub mod Numbers
 pub mod Last
 pub mod Overriding
 pub mod Overridden
+pub mod Marks
+pub mod Waiting

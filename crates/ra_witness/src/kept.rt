@@ -38,7 +38,7 @@ impl Kept {
     pub fn cause(&self, label: &Label, parts: &Parts) -> Option<Cause> {
         match self {
             Kept::Commuting(kept) => kept.cause(label.replica, parts),
-            Kept::Overriding(kept) => kept.cause(label, parts),
+            Kept::Overriding(kept) => kept.cause(label.replica, parts),
             Kept::Rga(kept) => kept.cause(label, parts),
         }
     }
@@ -47,7 +47,7 @@ impl Kept {
     pub fn take(&mut self, label: &Label, update: Option<Update>) -> Result<u64, NoMemory> {
         match self {
             Kept::Commuting(kept) => kept.take(label.replica, update),
-            Kept::Overriding(kept) => kept.take(label, update),
+            Kept::Overriding(kept) => take_write(kept, label, update),
             Kept::Rga(kept) => kept.take(label, update),
         }
     }
@@ -56,7 +56,10 @@ impl Kept {
     pub fn deliver(&mut self, replica: u8, label: u32) -> Result<u64, NoMemory> {
         match self {
             Kept::Commuting(kept) => kept.deliver(replica, label),
-            Kept::Overriding(kept) => kept.deliver(replica, label),
+            Kept::Overriding(kept) => {
+                kept.deliver(replica, label)?;
+                Ok(1)
+            }
             Kept::Rga(kept) => kept.deliver(replica, label),
         }
     }
@@ -73,8 +76,22 @@ impl Kept {
     pub fn allocator(&self) -> Global {
         match self {
             Kept::Commuting(kept) => *kept.updates.allocator(),
-            Kept::Overriding(kept) => kept.allocator(),
+            Kept::Overriding(kept) => *kept.writes.allocator(),
             Kept::Rga(kept) => kept.allocator(),
+        }
+    }
+}
+
+// Takes the next label of a register or an LWW set in.
+fn take_write(kept: &mut Overriding, label: &Label, update: Option<Update>) -> Result<u64, NoMemory> {
+    match (update, label.stamp) {
+        (Some(update), Some(stamp)) => {
+            kept.take(label.replica, update, stamp)?;
+            Ok(1)
+        }
+        _ => {
+            kept.take_query()?;
+            Ok(0)
         }
     }
 }

@@ -46,13 +46,8 @@ impl Rga {
     /// The first condition but the order's that fails with the next label, which has these parts.
     pub fn cause(&self, label: &Label, parts: &Parts) -> Option<Cause> {
         match parts {
-            Parts::One(Part::Query(query)) | Parts::Two(query, _) => {
-                let member = &self.members[label.replica as usize];
-                if member.answers(query) {
-                    None
-                } else {
-                    Some(Cause::Query)
-                }
+            Parts::One(Part::Query(_)) | Parts::Two(..) => {
+                self.members[label.replica as usize].cause(parts)
             }
             Parts::One(Part::Update(update)) => {
                 if self.admits(label, update) {

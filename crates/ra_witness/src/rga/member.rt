@@ -1,8 +1,10 @@
+use crate::asked;
 use crate::rga::Deed;
 use crate::rga::all::{All, LOWEST, ROOT};
 use crate::rga::marks::Marks;
 use crate::rga::waiting::Waiting;
-use ra_labels::{Kind, NoMemory, Query, Stamp, Update};
+use ra_labels::{Cause, Kind, NoMemory, Stamp, Update};
+use ra_rewrite::Parts;
 use ra_seqspec::State;
 use std::alloc::Global;
 
@@ -33,9 +35,14 @@ impl Member {
         })
     }
 
-    /// Are the updates that it had admitted, and is the query's answer that of the state after them?
-    pub fn answers(&self, query: &Query) -> bool {
-        self.waiting.is_empty() && self.state.admits(query)
+    /// Why a label with these parts fails, as far as it asks: its query is not answered yes, or the updates that the
+    /// replica had are not admitted.
+    pub fn cause(&self, parts: &Parts) -> Option<Cause> {
+        if self.waiting.is_empty() {
+            asked::cause(&self.state, parts)
+        } else {
+            Some(Cause::Query)
+        }
     }
 
     /// The greatest stamp of the updates that it had.
