@@ -4,7 +4,6 @@ use ra_labels::{Cause, Elements, Kind, Label, NoMemory, Op, Stamp};
 use ra_visibility::{NamedOrder, Tracker};
 use std::alloc::Global;
 use std::process::Abort;
-use std::test::Fail;
 
 // A witness, and all that is needed to answer for it afresh.
 #[derive(Drop)]
@@ -42,7 +41,7 @@ impl<O: NamedOrder> Run<O> {
         (x >> 11) % below
     }
 
-    pub fn go(&mut self, rt: &(impl Abort + Print), rounds: u32) -> Result<(), Fail> {
+    pub fn go(&mut self, rt: &(impl Abort + Print), rounds: u32) -> Result<(), NoMemory> {
         for round in 0..rounds {
             let replica = self.random(self.replicas as u64) as u8;
             match self.random(10) {
@@ -160,7 +159,7 @@ impl<O: NamedOrder> Run<O> {
     }
 
     // The operation is reported.
-    fn report(&mut self, rt: &(impl Abort + Print), replica: u8, op: Op, clock: Option<u32>) -> Result<(), Fail> {
+    fn report(&mut self, rt: &(impl Abort + Print), replica: u8, op: Op, clock: Option<u32>) -> Result<(), NoMemory> {
         let before = self.fold(Some(replica))?;
         let number = self.tracker.issue(replica, op.is_update())?;
         let label = Label {
@@ -172,10 +171,10 @@ impl<O: NamedOrder> Run<O> {
         self.labels.push(label.clone()?)?;
         let wanted = self.cause(&before)?;
         let steps = self.witness.steps();
-        let given = self.witness.offer(label.clone()?, &self.tracker.vis(number))?;
+        let given = self.offered(rt, &label)?;
         if given != wanted {
             let kind = self.kind;
-            println!(rt; "{kind:?} {label:?}: {given:?} for {wanted:?}, before {before:?}")?;
+            let _ = println!(rt; "{kind:?} {label:?}: {given:?} for {wanted:?}, before {before:?}");
         }
         assert_eq!(rt; given, wanted);
         if given.is_some() {
@@ -189,7 +188,28 @@ impl<O: NamedOrder> Run<O> {
         Ok(())
     }
 
-    fn read(&mut self, rt: &(impl Abort + Print), replica: u8) -> Result<(), Fail> {
+    // The witness's answer. Where a growth is refused it is as before, and is asked once more.
+    fn offered(&mut self, rt: &impl Abort, label: &Label) -> Result<Option<Cause>, NoMemory> {
+        let steps = self.witness.steps();
+        let first = self.witness.offer(label.clone()?, &self.tracker.vis(label.number));
+        if let Ok(cause) = first {
+            return Ok(cause);
+        }
+        assert_eq!(rt; self.witness.steps(), steps);
+        self.witness.offer(label.clone()?, &self.tracker.vis(label.number))
+    }
+
+    // The witness gets the delivery. Where a growth is refused it is as before, and is told once more.
+    fn delivered(&mut self, rt: &impl Abort, replica: u8, label: u32) -> Result<(), NoMemory> {
+        let steps = self.witness.steps();
+        if self.witness.deliver(replica, label).is_ok() {
+            return Ok(());
+        }
+        assert_eq!(rt; self.witness.steps(), steps);
+        self.witness.deliver(replica, label)
+    }
+
+    fn read(&mut self, rt: &(impl Abort + Print), replica: u8) -> Result<(), NoMemory> {
         let right = self.random(5) != 0;
         let model = match self.fold(Some(replica))? {
             Some(model) => model,
@@ -199,7 +219,7 @@ impl<O: NamedOrder> Run<O> {
         self.report(rt, replica, op, None)
     }
 
-    fn deliver(&mut self, rt: &(impl Abort + Print), replica: u8) -> Result<(), Fail> {
+    fn deliver(&mut self, rt: &(impl Abort + Print), replica: u8) -> Result<(), NoMemory> {
         if self.labels.is_empty() {
             return Ok(());
         }
@@ -211,7 +231,7 @@ impl<O: NamedOrder> Run<O> {
             if self.tracker.deliver(replica, number).is_ok() {
                 let behind = if number == label { behind } else { self.behind(replica, number)? };
                 let steps = self.witness.steps();
-                self.witness.deliver(replica, number)?;
+                self.delivered(rt, replica, number)?;
                 let made = self.witness.steps() - steps;
                 assert!(rt; made <= 64 + behind);
                 if self.kind != Kind::Rga {
@@ -242,7 +262,7 @@ impl<O: NamedOrder> Run<O> {
         Ok(count)
     }
 
-    fn operate(&mut self, rt: &(impl Abort + Print), replica: u8, round: u32) -> Result<(), Fail> {
+    fn operate(&mut self, rt: &(impl Abort + Print), replica: u8, round: u32) -> Result<(), NoMemory> {
         let x = self.random(5) as u32;
         let up = self.random(2) == 0;
         let op = match self.kind {
@@ -322,7 +342,7 @@ impl<O: NamedOrder> Run<O> {
     }
 
     // Is the sequence the named one?
-    fn is_sequence(&self, rt: &impl Abort) -> Result<(), Fail> {
+    fn is_sequence(&self, rt: &impl Abort) -> Result<(), NoMemory> {
         let parts = self.witness.sequence()?;
         let order = self.order()?;
         let mut at = 0;
