@@ -19,12 +19,9 @@ pub mod laws;
 mod numbers;
 mod overriding;
 mod part_ref;
-mod rga;
-mod sequence;
-#[cfg(test)]
-mod tests;
-mod witness;
-mod written;
+pub mod rga;
+pub mod sequence;
+pub mod written;
 
 pub use part_ref::{Half, PartRef};
 pub use witness::Witness;

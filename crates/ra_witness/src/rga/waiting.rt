@@ -1,4 +1,4 @@
-ghost use Rattle.std.specs.Prelude.{◌≡◌, ℕ, nat_eq, ◌++◌, ◌∷◌, [], ◌≢◌, OnOk, OnErr};
+ghost use Rattle.std.specs.Prelude.{◌≡◌, true, ℕ, nat_eq, ◌++◌, ◌∷◌, [], ◌≢◌, OnOk, OnErr};
 ghost use Rattle.std.specs.HashMap.{get};
 ghost use Rattle.ra_witness.specs.Waiting.{labels_under};
 
@@ -10,6 +10,7 @@ use std::collections::HashMap;
 #[derive(Debug, Drop)]
 pub struct Waiting {
     pub alloc: Global,
+    /// Of each element that labels wait for, these labels in the order in which they came.
     pub under: HashMap<u32, Vec<u32>>,
 }
 
@@ -24,8 +25,10 @@ impl Waiting {
         }
     }
 
-    /// Does none wait?
-    pub fn is_empty(&self) -> bool {
+    /// Is it known that none waits?
+    pub fn is_empty(&self) -> bool
+        ensures { result ≡ true → (element : ℕ) → labels_under (get nat_eq self.now.under) element ≡ [] }
+    {
         self.under.is_empty()
     }
 
@@ -41,9 +44,12 @@ impl Waiting {
 
     /// The label waits for the element from now on.
     pub fn add(&mut self, element: u32, label: u32) -> Result<(), NoMemory>
-        ensures added { OnOk result (labels_under (get nat_eq self.new.under) element ≡ labels_under (get nat_eq self.old.under) element ++ label ∷ []) }
-        ensures others { (other : ℕ) → other ≢ element → labels_under (get nat_eq self.new.under) other ≡ labels_under (get nat_eq self.old.under) other }
-        ensures err { OnErr result (labels_under (get nat_eq self.new.under) element ≡ labels_under (get nat_eq self.old.under) element) }
+        ensures added { OnOk result (labels_under (get nat_eq self.new.under) element
+            ≡ labels_under (get nat_eq self.old.under) element ++ label ∷ []) }
+        ensures others { (other : ℕ) → other ≢ element
+            → labels_under (get nat_eq self.new.under) other ≡ labels_under (get nat_eq self.old.under) other }
+        ensures err { OnErr result (labels_under (get nat_eq self.new.under) element
+            ≡ labels_under (get nat_eq self.old.under) element) }
     {
         if let Some(labels) = self.under.get_mut(&element) {
             labels.push(label)?;
@@ -57,7 +63,8 @@ impl Waiting {
     /// None waits for the element any more.
     pub fn free(&mut self, element: u32)
         ensures freed { labels_under (get nat_eq self.new.under) element ≡ [] }
-        ensures others { (other : ℕ) → other ≢ element → labels_under (get nat_eq self.new.under) other ≡ labels_under (get nat_eq self.old.under) other }
+        ensures others { (other : ℕ) → other ≢ element
+            → labels_under (get nat_eq self.new.under) other ≡ labels_under (get nat_eq self.old.under) other }
     {
         let _ = self.under.remove(&element);
     }
