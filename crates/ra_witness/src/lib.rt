@@ -19,9 +19,12 @@ pub mod laws;
 mod numbers;
 mod overriding;
 mod part_ref;
-pub mod rga;
-pub mod sequence;
-pub mod written;
+mod rga;
+mod sequence;
+#[cfg(test)]
+mod tests;
+mod witness;
+mod written;
 
 pub use part_ref::{Half, PartRef};
 pub use witness::Witness;
