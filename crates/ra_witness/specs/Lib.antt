@@ -8,3 +8,4 @@ pub mod Overriding
 pub mod Overridden
 pub mod Marks
 pub mod Waiting
+pub mod Chunk
