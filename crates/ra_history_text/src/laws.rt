@@ -59,8 +59,8 @@ pub fn accepted_commands_are_the_records()
         accepted_in false log ≡ reverse (records_of setup log) }
 {}
 
-/// A text has a regular end, with this kind, these names and these commands, exactly where it is a first line, a line of
-/// names and lines that spell the commands, each of them a line, and no more commands than the most.
+/// A text has a regular end, with this kind, these names and these commands, exactly where it is a first line, a line
+/// of names and lines that spell the commands, each of them a line, and no more commands than the most.
 pub fn a_regular_text_is_lines_of_a_history()
     ensures { (text : List ℕ) (kind : Kind) (names : List (List ℕ)) (commands : List Command) →
         ((ending_of text ≡ Regular) × (said_by text ≡ OfHistory kind names commands))

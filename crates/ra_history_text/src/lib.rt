@@ -5,11 +5,12 @@
 //! docs/FORMAT.md has it in words. `specs/Text` computes from a text's bytes how it ends and what its lines say, and
 //! `specs/Output` what is written for it.
 //!
-//! The one contract for the layers above: what `check` writes is `output_of` the text that it reads, and it answers with
-//! the text's own ending. A `Session` does the same for a caller that has the text piece by piece. `Reading::line` gives
-//! the kind, the number of names or the command that a line spells, and `Syntax` exactly where it spells none.
-//! `Names::new` takes the names of a history from elsewhere. The laws above the definitions are the clauses of the
-//! functions of `laws`.
+//! The one contract for the layers above: what `check` writes is `output_of` the text that it reads, and it answers
+//! with the text's own ending. A `Session` does the same for a caller that has the text piece by piece.
+//! `Reading::line` gives the kind, the number of names or the command that a line spells, and `Syntax` exactly where it
+//! spells none. `Names::new` takes the names of a history from elsewhere, and `write_history` writes a monitor's
+//! history: a text with a regular end whose commands are exactly the accepted ones, in order. The laws above the
+//! definitions are the clauses of the functions of `laws`.
 #![tactic(auto)]
 
 mod command;

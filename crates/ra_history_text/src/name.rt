@@ -143,8 +143,8 @@ impl Names {
         let _ = &self.set;
     }
 
-    /// The number of the replica that the name stands for; the number of names where there is no such replica. The name is looked up, and the
-    /// others are not walked through: costs as much as the name is long.
+    /// The number of the replica that the name stands for; the number of names where there is no such replica. The name
+    /// is looked up, and the others are not walked through: costs as much as the name is long.
     pub fn place(&self, name: &[u8]) -> u8
         ensures { result ≡ place_of self.now name.now }
     {

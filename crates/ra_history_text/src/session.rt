@@ -202,8 +202,8 @@ impl Session {
         Ok(())
     }
 
-    // Takes the last part of the next line, which has no line feed, and the line feed behind it. A line that lies in one
-    // piece is read there.
+    // Takes the last part of the next line, which has no line feed, and the line feed behind it. A line that lies in
+    // one piece is read there.
     fn close_line(&mut self, last: &[u8], out: &mut String) -> Result<(), CheckFault>
         requires { All (λ b. b ≢ 10) last.now }
         ensures taken { OnOk result (taken self.old (last.now ++ 10 ∷ []) ≡ Ok self.new) }
