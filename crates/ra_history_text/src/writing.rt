@@ -20,11 +20,12 @@ use ra_ticket::Entry;
 use std::alloc::Global;
 use std::io::Write;
 
-/// Writes the two lines of names and kind, and the accepted operations and deliveries in order, a line each.
+/// Writes the two lines of the kind and the names, and the accepted operations and deliveries in order, a line each.
 ///
 /// `BadNames` where there are not as many names as the monitor has replicas, and then `LineTooLong` with the place of
 /// the first command whose line is too long: nothing is written. Nor is it with `NoMemory`. With `Write`, where the
-/// writer fails, a part of the text is written. The whole text is spelled in memory before: costs as much as it is long.
+/// writer fails, a part of the text is written. The whole text is spelled in memory before: costs as much as it is
+/// long.
 pub fn write_history<W: Write>(
     alloc: Global,
     monitor: &Monitor,
