@@ -190,7 +190,7 @@ line_spells kind names (Deliver replica label) are has small =
       who = record { form = at.0; place = sym at.1 };
       small = small;
       words = fields-spaced (name_of names replica) (codes "got" ∷ decimal label ∷ []) (plain_name (name_of names replica) at.0)
-      (plain_word (codes "got") refl, (plain_number label small, tt));
+          (plain_word (codes "got") refl, (plain_number label small, tt));
     }
 line_spells kind names (Operate replica op clock) are has small =
     let at = named_at names replica has.0 are.each are.distinct in
@@ -201,5 +201,5 @@ line_spells kind names (Operate replica op clock) are has small =
       body = body;
       is_body = record { own = has.1; small = small.0; small_clock = small.1; words = refl };
       words = fields-spaced (name_of names replica) body (plain_name (name_of names replica) at.0)
-      (fields-append (operation_fields op) (clock_fields clock) (plain_operation op small.0) (plain_clock clock small.1));
+          (fields-append (operation_fields op) (clock_fields clock) (plain_operation op small.0) (plain_clock clock small.1));
     }

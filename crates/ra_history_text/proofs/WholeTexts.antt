@@ -102,8 +102,12 @@ as_few : (failed : Bool) (log : List MonitorEntry) → length (accepted_in faile
 as_few failed [] = omega arith
 as_few failed (entry ∷ log) =
     let one : List Command = cond (tells_accepted failed entry.reply) (entry.command ∷ []) [] in
-    omega (arith, one_or_none (tells_accepted failed entry.reply) entry.command, as_few (failed || is_no entry.reply) log,
-    length-append one (accepted_in (failed || is_no entry.reply) log))
+    omega (
+      arith,
+      one_or_none (tells_accepted failed entry.reply) entry.command,
+      as_few (failed || is_no entry.reply) log,
+      length-append one (accepted_in (failed || is_no entry.reply) log),
+    )
 
 pub in_order : (monitor : Monitor) → IsLegalLog monitor.setup monitor.log → accepted_in false monitor.log ≡ records_in_order monitor
 in_order monitor legal = sym (accepted_are monitor.setup [] monitor.log legal)
