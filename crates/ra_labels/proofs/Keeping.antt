@@ -93,7 +93,7 @@ once_round (entry ∷ before) behind x is_shown once =
       rest.1,
     )
 
-in_append : (first later : List (ℕ × Bool)) → elements_in (first ++ later) ≡ elements_in first ++ elements_in later
+pub in_append : (first later : List (ℕ × Bool)) → elements_in (first ++ later) ≡ elements_in first ++ elements_in later
 in_append first later = map-append (λ (e : ℕ × Bool). e.0) first later
 
 -- an element that is kept from now on comes in behind the nearest before it that is kept

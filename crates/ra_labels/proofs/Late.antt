@@ -216,18 +216,18 @@ put-keeps below anchor x z (entry ∷ list) there = elim (cases_Bool (anchor == 
 ]
 
 -- the steps, from the tests that they make
-after_goes : (list : List (ℕ × Bool)) (anchor x : ℕ) → Contains (elements_in list) anchor → ¬ Contains (elements_in list) x → step_of (Listed list) (After anchor x) ≡ Some (Listed (insert_after anchor x list))
+pub after_goes : (list : List (ℕ × Bool)) (anchor x : ℕ) → Contains (elements_in list) anchor → ¬ Contains (elements_in list) x → step_of (Listed list) (After anchor x) ≡ Some (Listed (insert_after anchor x list))
 after_goes list anchor x there out =
     cond-true (is_in_list anchor list && not (is_in_list x list)) (Some (Listed (insert_after anchor x list))) None
     (and_from (is_in_list anchor list) (not (is_in_list x list)) ((in-exactly anchor list).1 there) ((not_in x list).1 out))
 
-remove_goes : (list : List (ℕ × Bool)) (x : ℕ) → Contains (elements_in list) x → ¬ (x ≡ 0) → step_of (Listed list) (RgaRemove x) ≡ Some (Listed (hide x list))
+pub remove_goes : (list : List (ℕ × Bool)) (x : ℕ) → Contains (elements_in list) x → ¬ (x ≡ 0) → step_of (Listed list) (RgaRemove x) ≡ Some (Listed (hide x list))
 remove_goes list x there other =
     cond-true (is_in_list x list && not (x == 0)) (Some (Listed (hide x list))) None
     (and_from (is_in_list x list) (not (x == 0)) ((in-exactly x list).1 there) ((not_root x).1 other))
 
 -- where updates lead to a list, the first does, and the others on from there
-abbrev Onwards : List (ℕ × Bool) → Update → List Update → List (ℕ × Bool) → Type 0
+abbrev pub Onwards : List (ℕ × Bool) → Update → List Update → List (ℕ × Bool) → Type 0
 Onwards ls u us qs = (next : List (ℕ × Bool)) × (step_of (Listed ls) u ≡ Some (Listed next)) × (state_from (Some (Listed next)) us ≡ Some (Listed qs))
 
 split_step : (ls : List (ℕ × Bool)) (u : Update) (us : List Update) (qs : List (ℕ × Bool)) (o : Option State) → step_of (Listed ls) u ≡ o → StepKnown (Listed ls) u o → state_from o us ≡ Some (Listed qs) → Onwards ls u us qs
@@ -236,10 +236,10 @@ split_step ls u us qs (Some state) is known goes =
     let (next, same) = is_listed state known.0 in
     (next, is ∙ ap Some same, ap (λ s. state_from (Some s) us) (sym same) ∙ goes)
 
-one_step : (ls : List (ℕ × Bool)) (u : Update) (us : List Update) (qs : List (ℕ × Bool)) → state_from (Some (Listed ls)) (u ∷ us) ≡ Some (Listed qs) → Onwards ls u us qs
+pub one_step : (ls : List (ℕ × Bool)) (u : Update) (us : List Update) (qs : List (ℕ × Bool)) → state_from (Some (Listed ls)) (u ∷ us) ≡ Some (Listed qs) → Onwards ls u us qs
 one_step ls u us qs is = split_step ls u us qs (step_of (Listed ls) u) refl (step-known (Listed ls) u) is
 
-stays_in : (z : ℕ) (ls : List (ℕ × Bool)) (us : List Update) (qs : List (ℕ × Bool)) → state_from (Some (Listed ls)) us ≡ Some (Listed qs) → Contains (elements_in ls) z → Contains (elements_in qs) z
+pub stays_in : (z : ℕ) (ls : List (ℕ × Bool)) (us : List Update) (qs : List (ℕ × Bool)) → state_from (Some (Listed ls)) us ≡ Some (Listed qs) → Contains (elements_in ls) z → Contains (elements_in qs) z
 stays_in z ls us qs is there = kept (λ es. Contains (elements_in es) z) (there-step z) ls us qs is there
 
 -- a later step leads from the list with the late element to that with it
@@ -280,7 +280,7 @@ late_put below anchor x ls (u ∷ us) qs is there out lower =
     ap (λ o. state_from o us) (step_put below anchor x ls next u first there (λ found. out (stays_in x next us qs rest found)) (λ behind y this. lower behind y (at_head u us (After behind y) this)))
     ∙ late_put below anchor x next us qs rest (stays_in anchor ls (u ∷ []) next first there) out (λ behind y found. lower behind y (behind_head u us (After behind y) found))
 
-from_first : (first later : List Update) → state_after Rga (first ++ later) ≡ state_from (state_after Rga first) later
+pub from_first : (first later : List Update) → state_after Rga (first ++ later) ≡ state_from (state_after Rga first) later
 from_first first later = fold-append (λ (state : Option State) (u : Update). then_step state u) (Some (Listed ((0, false) ∷ []))) first later
 
 pub late-insertion : (below : ℕ → ℕ → Bool) (first later : List Update) (anchor x : ℕ) (older list : List (ℕ × Bool)) → state_after Rga first ≡ Some (Listed older) → state_after Rga (first ++ later) ≡ Some (Listed list)

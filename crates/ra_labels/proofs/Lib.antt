@@ -31,4 +31,14 @@ pub mod Overriding
 pub mod Late
 pub mod OneStep
 pub mod Keeping
+pub mod Removing
+pub mod Kept
+pub mod Passing
+pub mod OneMore
+pub mod Settled
+pub mod Settling
+pub mod Last
+pub mod Arriving
+pub mod Offering
+pub mod Between
 pub mod TheLaws

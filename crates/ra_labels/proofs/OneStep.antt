@@ -1,15 +1,15 @@
 -- One delivery is one step.
 use Rattle.std.proofs.Common.{◌≡◌, ℕ, ◌<◌, true, false, List, [], ◌∷◌, ◌++◌, filter, Option, Some, None, refl, sym, ap, ◌∙◌, subst, inl, inr, arith}
-use Rattle.std.specs.Prelude.{◌⊎◌, ◌==◌, not, Contains, IsSorted, flat_map}
+use Rattle.std.specs.Prelude.{◌↔◌, ◌⊎◌, ◌==◌, ◌&&◌, not, Contains, IsSorted, flat_map}
 use Rattle.std.specs.List.{cons_option}
 use Rattle.std.specs.List.{IsDistinct}
 use Rattle.std.specs.Ordering.{is_lt}
-use Rattle.std.proofs.lemmas.Bool.{false≢true, true≢false, false_from_ne_true, and_parts, eqb-true, cases_order, not_from_false}
+use Rattle.std.proofs.lemmas.Bool.{false≢true, true≢false, false_from_ne_true, and_parts, and_from, eq-eqb, eqb-true, cases_order, not_from_false}
 use Rattle.std.proofs.lemmas.Option.{none-some, same_Some}
 use Rattle.std.proofs.lemmas.List.Elements.{Contains-append_right}
 use Rattle.std.proofs.lemmas.List.Sorted.{Contains-permutation, IsPermutation-sym}
 use Rattle.ra_labels.specs.declared.kind.Kind.{Kind}
-use Rattle.ra_labels.specs.declared.kind.Kind.TheVariants.{Counter, OrSet}
+use Rattle.ra_labels.specs.declared.kind.Kind.TheVariants.{Counter, Register, LwwSet, OrSet}
 use Rattle.ra_labels.specs.declared.operation.Op.{Op}
 use Rattle.ra_labels.specs.declared.operation.Op.TheVariants as op
 use Rattle.ra_labels.specs.declared.operation.Update.{Update}
@@ -22,13 +22,13 @@ use Rattle.ra_labels.specs.Records.{Records, labels_of}
 use Rattle.ra_labels.specs.Visibility.{had, sees, IsCausal}
 use Rattle.ra_labels.specs.Rewriting.{Part, Half, QueryHalf, UpdateHalf, Act, Does, Asks, acts_of, part_of, parts_of, update_of, updates_of}
 use Rattle.ra_labels.specs.Lists.{is_among}
-use Rattle.ra_labels.specs.Specification.{State, Number, Written, Members, Pairs, Listed, answers, state_after}
+use Rattle.ra_labels.specs.Specification.{State, Number, Written, Members, Pairs, Listed, answers, state_after, is_admitted}
 use Rattle.ra_labels.specs.Linearization.{visible_updates}
 use Rattle.ra_labels.specs.NamedOrder.{label_cmp, named_labels, named_sequence}
 use Rattle.ra_labels.specs.Fault.{Holds}
-use Rattle.ra_labels.specs.Laws.{kind_of_state, WasAddedAndStays, IdentifiersAreOneLabels}
+use Rattle.ra_labels.specs.Laws.{kind_of_state, acts_on, WasAddedAndStays, IdentifiersAreOneLabels}
 use Rattle.ra_labels.specs.Insertion.{updates_had_of, updates_had, Makes}
-use Rattle.ra_labels.specs.Commuting.{then_step, clash, NoneClashes}
+use Rattle.ra_labels.specs.Commuting.{then_step, clash, AddsWhatIsTakenOut, NoneClashes, last_written, last_on}
 use Rattle.ra_labels.proofs.Places.{Contains-cons_cases, at_head, behind_head, there-kept, from_where, reached}
 use Rattle.ra_labels.proofs.Seen.{had_closed, sees_earlier}
 use Rattle.ra_labels.proofs.Standing.{list_all-from_contains}
@@ -40,6 +40,7 @@ use Rattle.ra_labels.proofs.Stepping.{state-of_kind}
 use Rattle.ra_labels.proofs.OrSets.{pairs-exactly, answers-ids}
 use Rattle.ra_labels.proofs.Ranking.{piece_of, in_piece, part_is_of, named_differ, have_one_number}
 use Rattle.ra_labels.proofs.Commuting.{counter-late, or_set-late}
+use Rattle.ra_labels.proofs.Overriding.{writes-late, last_written-behind, set-late, last_on-behind}
 use Rattle.ra_labels.proofs.Having.{differ_round, delivery-own}
 
 -- an update is one of a part
@@ -54,7 +55,7 @@ does_it : (act : Act) (u : Update) → update_of act ≡ Some u → act ≡ Does
 does_it (Does v) u is = ap Does (same_Some v u is)
 does_it (Asks query) u is = absurd (none-some u is)
 
-update_from : (parts : List Part) (u : Update) → Contains (updates_of parts) u → (p : Part) × Contains parts p × (p.act ≡ Does u)
+pub update_from : (parts : List Part) (u : Update) → Contains (updates_of parts) u → (p : Part) × Contains parts p × (p.act ≡ Does u)
 update_from [] u there = absurd (omega (arith, there.1))
 update_from (part ∷ parts) u there = elim (taken (update_of part.act) (updates_of parts) u there) [
   | inl is ↦ (part, at_head part parts part refl, does_it part.act u is)
@@ -62,14 +63,14 @@ update_from (part ∷ parts) u there = elim (taken (update_of part.act) (updates
 ]
 
 -- and its label's operation makes it
-part_makes : (label : Label) (p : Part) (u : Update) → Contains (parts_of label) p → p.act ≡ Does u → Makes label.op u
+pub part_makes : (label : Label) (p : Part) (u : Update) → Contains (parts_of label) p → p.act ≡ Does u → Makes label.op u
 part_makes label p u there does =
     let (act, found, is) = from_where (part_of label) (acts_of label.op) p there in
     let same : act.1 ≡ Does u = ap (λ (q : Part). q.act) is ∙ does in
     (act.0, subst (λ a. Contains (acts_of label.op) (act.0, a)) same found)
 
 -- the operation that an update is made by
-abbrev op_of : Update → Op
+abbrev pub op_of : Update → Op
 op_of Inc = op.Inc
 op_of Dec = op.Dec
 op_of (Write value) = op.Write value
@@ -92,7 +93,7 @@ its_update half v which u there = same_Some v u (ap update_of (its_act half (Doe
 no_update : (half : Half) (query : Query) (which : Half) (u : Update) → Contains {X = Half × Act} ((half, Asks query) ∷ []) (which, Does u) → ⊥
 no_update half query which u there = none-some u (ap update_of (its_act half (Asks query) which u there))
 
-made_by : (operation : Op) (u : Update) → Makes operation u → operation ≡ op_of u
+pub made_by : (operation : Op) (u : Update) → Makes operation u → operation ≡ op_of u
 made_by op.Inc u (half, there) = ap op_of (its_update _ _ half u there)
 made_by op.Dec u (half, there) = ap op_of (its_update _ _ half u there)
 made_by (op.Write value) u (half, there) = ap op_of (its_update _ _ half u there)
@@ -275,6 +276,23 @@ clashing (RgaRemove y) (TakeOut z ids) is = absurd (false≢true is)
 clashing (RgaRemove y) (After b z) is = absurd (false≢true is)
 clashing (RgaRemove y) (RgaRemove z) is = absurd (false≢true is)
 
+pub clash-exactly : (u v : Update) → (clash u v ≡ true) ↔ (AddsWhatIsTakenOut u v ⊎ AddsWhatIsTakenOut v u)
+clash-exactly u v = (
+  (λ is.
+      let (x, id, ids, listed, which) = clashing u v is in
+      elim which [
+        | inl (adds, removes) ↦ inl (x, id, ids, listed, adds, removes)
+        | inr (removes, adds) ↦ inr (x, id, ids, listed, adds, removes)
+      ]),
+  (λ known. elim known [
+    | inl (x, id, ids, listed, adds, removes) ↦ (λ i. clash (adds i) (removes i)) ∙ taken_out x id ids listed
+    | inr (x, id, ids, listed, adds, removes) ↦ (λ i. clash (removes i) (adds i)) ∙ taken_out x id ids listed
+  ]),
+)
+  where
+    taken_out : (x id : ℕ) (ids : List ℕ) → Contains ids id → (x == x && is_among id ids) ≡ true
+    taken_out x id ids listed = and_from (x == x) (is_among id ids) (eq-eqb x x refl) ((among-exactly id ids).1 listed)
+
 -- what a replica had of labels is an update of one of them
 had_from : (records : Records) (replica : ℕ) (labels : List Label) (u : Update) → Contains (updates_had_of records replica labels) u → (m : Label) × Contains labels m × (had records replica m.number ≡ true) × Makes m.op u
 had_from records replica labels u there =
@@ -283,7 +301,7 @@ had_from records replica labels u there =
     let (m, m_there, of_m) = piece_of parts_of labels p p_in in
     (m, m_there, sym (ap (λ (n : Label). had records replica n.number) (part_is_of m p of_m)) ∙ had_p, part_makes m p u of_m does)
 
-sorted_from : (kind : Kind) (records : Records) (before behind : List Label) (label : Label) → IsSorted (label_cmp kind records) (before ++ label ∷ behind) → IsSorted (label_cmp kind records) (label ∷ behind)
+pub sorted_from : (kind : Kind) (records : Records) (before behind : List Label) (label : Label) → IsSorted (label_cmp kind records) (before ++ label ∷ behind) → IsSorted (label_cmp kind records) (label ∷ behind)
 sorted_from kind records [] behind label sorted = sorted
 sorted_from kind records (x ∷ before) behind label sorted =
     sorted_from kind records before behind label (sorted_behind (label_cmp kind records) (label_cmp-total kind records) x (before ++ label ∷ behind) sorted)
@@ -307,6 +325,28 @@ counter-delivered records to label update there makes new =
     ap (state_after Counter) now
     ∙ counter-late (updates_had_of records to before) (updates_had_of records to behind) update
     ∙ sym (ap (λ us. then_step (state_after Counter us) update) was)
+
+pub register-delivered : (records : Records) (to : ℕ) (label : Label) (value last : ℕ) → Contains (labels_of records) label → Makes label.op (Write value) → had records to label.number ≡ false
+    → is_admitted Register (updates_had Register (Deliver to label.number ∷ records) to) ≡ true → last_written (updates_had Register (Deliver to label.number ∷ records) to) ≡ Some last
+    → state_after Register (updates_had Register (Deliver to label.number ∷ records) to) ≡ then_step (state_after Register (updates_had Register records to)) (Write last)
+register-delivered records to label value last there makes new admitted found =
+    let (before, behind, is, was, now) = delivery-own Register records to label (Write value) there makes new in
+    let first = updates_had_of records to before in
+    let later = updates_had_of records to behind in
+    ap (state_after Register) now
+    ∙ writes-late first later value last (subst (λ us. is_admitted Register us ≡ true) now admitted) (last_written-behind first later value last (subst (λ us. last_written us ≡ Some last) now found))
+    ∙ sym (ap (λ us. then_step (state_after Register us) (Write last)) was)
+
+pub set-delivered : (records : Records) (to : ℕ) (label : Label) (update last : Update) (x : ℕ) → Contains (labels_of records) label → Makes label.op update → had records to label.number ≡ false
+    → is_admitted LwwSet (updates_had LwwSet (Deliver to label.number ∷ records) to) ≡ true → acts_on x update ≡ true → last_on x (updates_had LwwSet (Deliver to label.number ∷ records) to) ≡ Some last
+    → state_after LwwSet (updates_had LwwSet (Deliver to label.number ∷ records) to) ≡ then_step (state_after LwwSet (updates_had LwwSet records to)) last
+set-delivered records to label update last x there makes new admitted acts found =
+    let (before, behind, is, was, now) = delivery-own LwwSet records to label update there makes new in
+    let first = updates_had_of records to before in
+    let later = updates_had_of records to behind in
+    ap (state_after LwwSet) now
+    ∙ set-late first later update last x (subst (λ us. is_admitted LwwSet us ≡ true) now admitted) acts (last_on-behind first later update last x acts (subst (λ us. last_on x us ≡ Some last) now found))
+    ∙ sym (ap (λ us. then_step (state_after LwwSet us) last) was)
 
 pub or_set-delivered : (records : Records) (to : ℕ) (label : Label) (update : Update) → Contains (labels_of records) label → Makes label.op update → Holds OrSet records → IdentifiersAreOneLabels records
     → IsCausal (Deliver to label.number ∷ records) → state_after OrSet (updates_had OrSet (Deliver to label.number ∷ records) to) ≡ then_step (state_after OrSet (updates_had OrSet records to)) update

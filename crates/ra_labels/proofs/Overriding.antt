@@ -65,7 +65,7 @@ writes_from w (RgaRemove x ∷ us) is = absurd (false≢true (sym (ap is_some (s
 pub writes-last : (updates : List Update) → is_admitted Register updates ≡ true → state_after Register updates ≡ Some (Written (last_written updates))
 writes-last updates is = writes_from None updates is ∙ ap (λ v. Some (Written v)) (or_none (last_written updates))
 
-last_written-append : (us vs : List Update) → last_written (us ++ vs) ≡ option_or (last_written vs) (last_written us)
+pub last_written-append : (us vs : List Update) → last_written (us ++ vs) ≡ option_or (last_written vs) (last_written us)
 last_written-append us vs = ap last_of (filter_map-append written_by us vs) ∙ last_of-append (filter_map written_by us) (filter_map written_by vs)
 
 -- of one kind are all updates but one of them
@@ -87,7 +87,7 @@ writes-late first later value last is found =
     ∙ sym (ap (λ o. then_step o (Write last)) (writes-last (first ++ later) others))
 
 -- which updates act on an element
-acts_at : (x y : ℕ) (u : Update) → acts_on x u ≡ true → acts_on y u ≡ (y == x)
+pub acts_at : (x y : ℕ) (u : Update) → acts_on x u ≡ true → acts_on y u ≡ (y == x)
 acts_at x y (LwwAdd a) is = ap (λ b. y == b) (sym (eqb-true x a is))
 acts_at x y (LwwRemove a) is = ap (λ b. y == b) (sym (eqb-true x a is))
 acts_at x y Inc is = absurd (false≢true is)
@@ -101,13 +101,13 @@ acts_at x y (RgaRemove a) is = absurd (false≢true is)
 last_on-acts : (x : ℕ) (us : List Update) (u : Update) → last_on x us ≡ Some u → Contains us u × (acts_on x u ≡ true)
 last_on-acts x us u is = there-kept (acts_on x) us u (last_of-there (filter (acts_on x) us) u is)
 
-last_on-cons : (x : ℕ) (u : Update) (us : List Update) → acts_on x u ≡ true → last_on x (u ∷ us) ≡ option_or (last_on x us) (Some u)
+pub last_on-cons : (x : ℕ) (u : Update) (us : List Update) → acts_on x u ≡ true → last_on x (u ∷ us) ≡ option_or (last_on x us) (Some u)
 last_on-cons x u us acts = ap last_of (cond-true (acts_on x u) (u ∷ filter (acts_on x) us) (filter (acts_on x) us) acts)
 
-last_on-other : (x : ℕ) (u : Update) (us : List Update) → acts_on x u ≡ false → last_on x (u ∷ us) ≡ last_on x us
+pub last_on-other : (x : ℕ) (u : Update) (us : List Update) → acts_on x u ≡ false → last_on x (u ∷ us) ≡ last_on x us
 last_on-other x u us other = ap last_of (cond-false (acts_on x u) (u ∷ filter (acts_on x) us) (filter (acts_on x) us) other)
 
-last_on-append : (x : ℕ) (us vs : List Update) → last_on x (us ++ vs) ≡ option_or (last_on x vs) (last_on x us)
+pub last_on-append : (x : ℕ) (us vs : List Update) → last_on x (us ++ vs) ≡ option_or (last_on x vs) (last_on x us)
 last_on-append x us vs = ap last_of (filter-append (acts_on x) us vs) ∙ last_of-append (filter (acts_on x) us) (filter (acts_on x) vs)
 
 -- the last update on an element puts it in, or takes it out
@@ -234,3 +234,16 @@ set-late first later update last x is acts found =
     let admitted = admitted-of_kind LwwSet ((first ++ later) ++ last ∷ []) no_rga ∙ list_all-append of_kind (first ++ later) (last ∷ []) ∙ and_from (list_all of_kind (first ++ later)) (list_all of_kind (last ∷ [])) others one in
     set-same (first ++ update ∷ later) ((first ++ later) ++ last ∷ []) is admitted (λ y. same_last first later update last x y acts found)
     ∙ fold-append (λ (state : Option State) (u : Update). then_step state u) (Some (Members [])) (first ++ later) (last ∷ [])
+
+-- where one of the updates behind or this one is the last, it is the last of these
+or_some : {A : Type 0} (a : Option A) (x : A) (b : Option A) (y : A) → option_or (option_or a (Some x)) b ≡ Some y → option_or a (Some x) ≡ Some y
+or_some a x b y is = sym (or_again a x b) ∙ is
+
+pub last_written-behind : (first later : List Update) (value last : ℕ) → last_written (first ++ Write value ∷ later) ≡ Some last → last_written (Write value ∷ later) ≡ Some last
+last_written-behind first later value last is =
+    or_some (last_written later) value (last_written first) last (sym (last_written-append first (Write value ∷ later)) ∙ is)
+
+pub last_on-behind : (first later : List Update) (u last : Update) (x : ℕ) → acts_on x u ≡ true → last_on x (first ++ u ∷ later) ≡ Some last → last_on x (u ∷ later) ≡ Some last
+last_on-behind first later u last x acts is =
+    last_on-cons x u later acts
+    ∙ or_some (last_on x later) u (last_on x first) last (ap (λ o. option_or o (last_on x first)) (sym (last_on-cons x u later acts)) ∙ sym (last_on-append x first (u ∷ later)) ∙ is)

@@ -305,7 +305,7 @@ pub removed-twice : (list next : List (ℕ × Bool)) (x : ℕ) → step_of (List
 removed-twice list next x is = (removed-admitted next x).1 (removed_there list next x is, (removed_is list next x is).1)
 
 -- the list has what was put in
-came_in : (ls : List (ℕ × Bool)) (us : List Update) (qs : List (ℕ × Bool)) (y : ℕ) → state_from (Some (Listed ls)) us ≡ Some (Listed qs) → Contains (elements_in qs) y → Contains (elements_in ls) y ⊎ WasPutIn y us
+pub came_in : (ls : List (ℕ × Bool)) (us : List Update) (qs : List (ℕ × Bool)) (y : ℕ) → state_from (Some (Listed ls)) us ≡ Some (Listed qs) → Contains (elements_in qs) y → Contains (elements_in ls) y ⊎ WasPutIn y us
 came_in ls [] qs y is there = let same : ls ≡ qs = cc (is) in inl (subst (λ es. Contains (elements_in es) y) (sym same) there)
 came_in ls (update ∷ us) qs y is there =
     let leads = first_step ls update us qs is in

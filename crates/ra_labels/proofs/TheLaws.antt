@@ -14,12 +14,14 @@ use Rattle.ra_labels.specs.declared.reply.Fault.{Fault}
 use Rattle.ra_labels.specs.Lists.{shown}
 use Rattle.ra_labels.specs.Specification.{Written, state_after}
 use Rattle.ra_labels.specs.Records.{Records, label_count, next_label, replica_count, records_to, labels_of}
-use Rattle.ra_labels.specs.Visibility.{is_update_at, sees, IsCausal}
+use Rattle.ra_labels.specs.Visibility.{is_update_at, had, sees, IsCausal}
 use Rattle.ra_labels.specs.Rewriting.{parts_of}
+use Rattle.ra_labels.specs.Linearization.{visible_updates}
 use Rattle.ra_labels.specs.NamedOrder.{lowest_rank, stamp_cmp, timestamp_of, rank_of, named_sequence}
 use Rattle.ra_labels.specs.Fault.{Holds, cause_of, fault_of}
 use Rattle.ra_labels.specs.Answer.{misfit_of, refusal_of, records_after_all}
 use Rattle.ra_labels.specs.Laws.{IsLeastFault}
+use Rattle.ra_labels.specs.Insertion.{updates_passing, updates_had}
 use Rattle.ra_labels.proofs.Seen.{sees_earlier}
 use Rattle.ra_labels.proofs.Holding.{holds_from_no_cause, no_cause_from_holds, each_label_holds, no_fault_from_labels, fault_is_least, only_least_fault}
 use Rattle.ra_labels.proofs.Order.{named_labels-by_number}
@@ -34,7 +36,9 @@ pub use Rattle.ra_labels.proofs.OrSets.{pair_below as pairs_by_element_and_then_
 -- laws::commuting
 pub use Rattle.ra_labels.proofs.Commuting.{counter-steps as steps_of_a_counter_commute, or_set-steps as steps_of_an_or_set_commute, counter-late as a_late_update_counts_as_the_last-counter, or_set-late as a_late_update_counts_as_the_last-or_set}
 -- laws::one_step
-pub use Rattle.ra_labels.proofs.OneStep.{removal-sees as a_removal_sees_what_it_takes_out, counter-delivered as a_delivery_is_one_step-counter, or_set-delivered as a_delivery_is_one_step-or_set}
+pub use Rattle.ra_labels.proofs.OneStep.{clash-exactly as two_updates_clash_where_one_takes_out_what_the_other_adds, removal-sees as a_removal_sees_what_it_takes_out, counter-delivered as a_delivery_is_one_step-counter, register-delivered as a_delivery_is_one_step-register, set-delivered as a_delivery_is_one_step-lww_set, or_set-delivered as a_delivery_is_one_step-or_set}
+pub use Rattle.ra_labels.proofs.Last.{counter-more as one_more_label_is_one_step-counter, register-more as one_more_label_is_one_step-register, set-more as one_more_label_is_one_step-lww_set, or_set-issued as an_operation_of_an_or_set_is_one_step, register-last_label as the_last_label_has_the_last_update-register, set-last_label as the_last_label_has_the_last_update-lww_set, register-overridden as a_label_before_the_last_changes_nothing-register, set-overridden as a_label_before_the_last_changes_nothing-lww_set}
+pub use Rattle.ra_labels.proofs.Offering.{behind-all as a_label_behind_all_that_pass_is_one_step}
 -- laws::overriding
 pub use Rattle.ra_labels.proofs.Overriding.{writes-last as writes_lead_to_the_last-last, writes-late as writes_lead_to_the_last-late, set-has as of_each_element_the_last_update_counts-has, set-same as of_each_element_the_last_update_counts-same, set-late as of_each_element_the_last_update_counts-late}
 -- laws::rga
@@ -43,6 +47,20 @@ pub use Rattle.ra_labels.proofs.Showing.{list-shown as a_list_has_what_was_put_i
 -- laws::late
 pub use Rattle.ra_labels.proofs.Late.{newest-behind as a_new_element_stands_behind_its_anchor, late-later as a_late_and_a_later_update_commute-insertions, late-hidden as a_late_and_a_later_update_commute-late_removed, inserted-hidden as a_late_and_a_later_update_commute-removed, hidden-hidden as a_late_and_a_later_update_commute-removals, late-insertion as a_late_insertion_goes_past_the_greater, late-one as a_late_insertion_is_one_step, late-removal as a_late_removal_counts_as_the_last}
 pub use Rattle.ra_labels.proofs.Keeping.{kept-inserted as what_is_kept_keeps_its_order-kept, kept-dropped as what_is_kept_keeps_its_order-dropped, kept-hidden as what_is_kept_keeps_its_order-removed, kept-nearest as an_element_comes_in_behind_the_nearest_before_it}
+-- laws::passing
+pub use Rattle.ra_labels.proofs.Passing.{had-delivery as a_replica_had_one_more-delivery, had-operation as a_replica_had_one_more-operation, passing-alike as tests_that_agree_let_the_same_updates_pass, passing-of_kind as updates_that_pass_are_admitted_where_all_are, passing-delivery as a_later_command_leaves_the_updates_that_pass-delivery, passing-operation as a_later_command_leaves_the_updates_that_pass-operation, one-more as one_more_label_puts_its_update_in-place, one-more_at as one_more_label_puts_its_update_in-at}
+pub use Rattle.ra_labels.proofs.OneMore.{length-more as one_more_label_puts_its_update_in-count, there-more as one_more_label_puts_its_update_in-there}
+-- laws::waiting
+pub use Rattle.ra_labels.proofs.OneMore.{inserted-admitted as an_update_is_admitted_where_what_it_needs_is_there-insertion, removed-admitted as an_update_is_admitted_where_what_it_needs_is_there-removal, put_in-once as an_element_is_put_in_by_one_label-one, put_in-other as an_element_is_put_in_by_one_label-other, insertion-step as one_more_update_is_one_step-insertion, removal-step as one_more_update_is_one_step-removal, none-waits_more as one_more_update_is_one_step-none_waits}
+pub use Rattle.ra_labels.proofs.Kept.{needed-other as an_update_of_another_kind_needs_the_root, there-list as an_element_is_there_where_its_label_passes-list}
+pub use Rattle.ra_labels.proofs.Passing.{there-label as an_element_is_there_where_its_label_passes-label, passing-admitted as updates_are_admitted_where_none_waits-exactly, passing-list as updates_are_admitted_where_none_waits-list, passing-shown as updates_are_admitted_where_none_waits-shown}
+-- laws::settled
+pub use Rattle.ra_labels.proofs.Settling.{settling-starts as those_that_waited_follow-starts, settling-follows as those_that_waited_follow-follows, settling-done as those_that_waited_follow-done, settling-ends as those_that_waited_follow-ends, puts-exactly as those_that_waited_follow-element}
+pub use Rattle.ra_labels.proofs.Settled.{needed-before as what_an_update_needs_was_put_in_before_it, settled-admitted as settled_updates_are_admitted-settled, settled-all as settled_updates_are_admitted-all, settled-same as settled_updates_are_admitted-same, settled-exactly as what_is_settled_does_not_wait, settled-waiting as settled_labels_stay_settled-waiting, settled-delivery as settled_labels_stay_settled-delivery, settled-operation as settled_labels_stay_settled-operation, settled-alike as settled_labels_stay_settled-alike, settled-once as what_is_settled_follows_from_what_was_had, settled-before as one_more_label_settles_none_before_it-before, settled-count as one_more_label_settles_none_before_it-count}
+-- laws::arriving
+pub use Rattle.ra_labels.proofs.Arriving.{stands-before as a_label_stands_before_those_that_it_is_below-before, stands-behind as a_label_stands_before_those_that_it_is_below-behind, one-place as a_label_stands_before_those_that_it_is_below-place, own-stamps as labels_with_stamps_stand_in_their_order, all-with as an_operation_puts_its_update_among_all-update, all-without as an_operation_puts_its_update_among_all-query, there-all as what_is_there_a_label_put_in-all, there-among as what_is_there_a_label_put_in-passing, insertion-all as a_new_label_in_the_list_of_all-insertion, removal-all as a_new_label_in_the_list_of_all-removal}
+pub use Rattle.ra_labels.proofs.Offering.{offered-insertion as a_new_update_is_admitted_where_a_label_below_it_put_in_what_it_needs-insertion, offered-removal as a_new_update_is_admitted_where_a_label_below_it_put_in_what_it_needs-removal}
+pub use Rattle.ra_labels.proofs.Between.{between-later as between_an_anchor_and_its_element_stand_later_ones}
 -- laws::lists
 pub use Rattle.ra_labels.proofs.Lists.{rises-exactly as a_list_rises_where_each_is_below_the_later-places, rises-sorted as a_list_rises_where_each_is_below_the_later-sorted, same-exactly as lists_have_the_same_elements-elements, rising-same as lists_have_the_same_elements-rising}
 -- laws::records
@@ -66,6 +84,7 @@ pub use Rattle.ra_labels.proofs.Stamps.{taken-exactly as a_stamp_is_taken_where_
 -- laws::identifiers
 pub use Rattle.ra_labels.proofs.Identifiers.{identifier-exactly as an_identifier_is_taken_where_an_addition_has_it-taken, gives-exactly as an_identifier_is_taken_where_an_addition_has_it-gives, identifiers-once as identifiers_are_given_once-one, identifiers-once_all as identifiers_are_given_once-all}
 -- laws::insertion
+pub use Rattle.ra_labels.proofs.OneMore.{made-exactly as an_operation_makes_one_update-exactly, made-once as an_operation_makes_one_update-one}
 pub use Rattle.ra_labels.proofs.Insertion.{order-inserted as a_new_label_leaves_the_order_of_the_others, others-see as a_new_label_leaves_what_the_others_see-others, own-sees as a_new_label_leaves_what_the_others_see-own, decides-order as a_new_label_alone_decides-order, decides-query as a_new_label_alone_decides-query, decides-all as a_new_label_alone_decides-all}
 pub use Rattle.ra_labels.proofs.Having.{operation-own as an_operation_puts_its_update_in-own, operation-query as an_operation_puts_its_update_in-query, operation-others as an_operation_puts_its_update_in-others, delivery-own as a_delivery_puts_its_update_in-own, delivery-order as a_delivery_puts_its_update_in-order, delivery-others as a_delivery_puts_its_update_in-others}
 -- laws::linearization
@@ -144,3 +163,9 @@ fault_is_the_least kind records fault = (fault_is_least kind records fault, only
 
 pub answers_keep_records_causal-all : (kind : Kind) (replicas : ℕ) (commands : List Command) → IsCausal (records_after_all kind replicas [] commands)
 answers_keep_records_causal-all kind replicas commands = records_after_all-causal kind replicas [] commands tt
+
+pub updates_had_or_seen_are_those_that_pass-had : (kind : Kind) (records : Records) (replica : ℕ) → updates_had kind records replica ≡ updates_passing kind records (had records replica)
+updates_had_or_seen_are_those_that_pass-had kind records replica = refl
+
+pub updates_had_or_seen_are_those_that_pass-seen : (kind : Kind) (records : Records) (n : ℕ) → visible_updates records (named_sequence kind records) n ≡ updates_passing kind records (sees records n)
+updates_had_or_seen_are_those_that_pass-seen kind records n = refl

@@ -20,7 +20,7 @@ use Rattle.ra_labels.proofs.Numbers.{label_at-append}
 use Rattle.ra_labels.proofs.Order.{label_cmp-total, IsSorted-named_labels, IsPermutation-named_labels, numbers_below_count}
 
 -- neither is below the other
-neither_below : (o p : Ordering) → o ≡ ordering_reverse p → is_lt o ≡ false → is_lt p ≡ false → is_eq o ≡ true
+pub neither_below : (o p : Ordering) → o ≡ ordering_reverse p → is_lt o ≡ false → is_lt p ≡ false → is_eq o ≡ true
 neither_below o Less e lt gt = absurd (false≢true (sym gt))
 neither_below o Equal e lt gt = ap is_eq e
 neither_below o Greater e lt gt = absurd (false≢true (sym lt ∙ ap is_lt e))
@@ -106,7 +106,7 @@ second_eq Equal p eq = eq
 second_eq Greater p eq = absurd (false≢true eq)
 
 -- labels of the same place in the named order are the same label
-same_label : (kind : Kind) (records : Records) (l m : Label) → Contains (labels_of records) l → Contains (labels_of records) m → label_cmp kind records l m ≡ Equal → l ≡ m
+pub same_label : (kind : Kind) (records : Records) (l m : Label) → Contains (labels_of records) l → Contains (labels_of records) m → label_cmp kind records l m ≡ Equal → l ≡ m
 same_label kind records l m there_l there_m tie =
     let numbers = same_number l.number m.number (nat_cmp l.number m.number) refl (second_eq (stamp_cmp (rank_of kind records l) (rank_of kind records m)) (nat_cmp l.number m.number) (ap is_eq tie)) in
     same_Some l m (sym (label_found records l there_l) ∙ ap (label_at records) numbers ∙ label_found records m there_m)

@@ -1,9 +1,9 @@
 -- Words of the laws of updates that come late.
-use Rattle.std.specs.Prelude.{◌≡◌, ℕ, Bool, true, false, not, List, [], ◌∷◌, filter, filter_map, Option, Some, None, option_and_then}
+use Rattle.std.specs.Prelude.{◌≡◌, ℕ, Bool, true, false, not, List, [], ◌∷◌, filter, filter_map, Contains, Option, Some, None, option_and_then}
 use Rattle.std.specs.List.{list_all}
 use Rattle.std.specs.Option.{option_or}
 use Rattle.ra_labels.specs.declared.operation.Update.{Update}
-use Rattle.ra_labels.specs.declared.operation.Update.TheVariants.{Write, OrAdd}
+use Rattle.ra_labels.specs.declared.operation.Update.TheVariants.{Write, OrAdd, TakeOut}
 use Rattle.ra_labels.specs.Specification.{State, step_of}
 use Rattle.ra_labels.specs.Laws.{acts_on, takes_out}
 
@@ -16,6 +16,11 @@ abbrev pub clash : Update → Update → Bool
 clash (OrAdd x id) other = takes_out x id other
 clash update (OrAdd x id) = takes_out x id update
 clash _ _ = false
+
+-- one adds a pair that the other takes out
+abbrev pub AddsWhatIsTakenOut : Update → Update → Type 0
+AddsWhatIsTakenOut update other =
+    (x id : ℕ) × (ids : List ℕ) × Contains ids id × (update ≡ OrAdd x id) × (other ≡ TakeOut x ids)
 
 abbrev pub NoneClashes : Update → List Update → Type 0
 NoneClashes update updates = list_all (λ other. not (clash update other)) updates ≡ true

@@ -16,3 +16,4 @@ pub mod Laws
 pub mod Insertion
 pub mod Commuting
 pub mod Late
+pub mod Waiting

@@ -1,6 +1,7 @@
 //! Laws above the definitions, each the clause of a function that does nothing. Proofs of the crates above cite them,
 //! under these names, from `proofs/TheLaws`.
 pub mod answer;
+pub mod arriving;
 pub mod commuting;
 pub mod counts;
 pub mod fault;
@@ -12,9 +13,12 @@ pub mod lists;
 pub mod one_step;
 pub mod or_set;
 pub mod overriding;
+pub mod passing;
 pub mod records;
 pub mod rga;
 pub mod sequence;
+pub mod settled;
 pub mod specification;
 pub mod timestamps;
 pub mod visibility;
+pub mod waiting;

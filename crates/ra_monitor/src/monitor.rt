@@ -78,8 +78,17 @@ impl Monitor {
     pub fn log(&self) -> &[Entry<Command, Reply>]
         ensures entries { result.now ≡ self.now.log }
         ensures legal { IsLegalLog self.now.setup self.now.log }
+        ensures fits { (length self.now.log ≤ self.now.setup.limit) × IsLimit self.now.setup.limit }
     {
         self.log.as_slice()
+    }
+
+    /// How many replicas there are. It takes no memory.
+    pub fn replicas(&self) -> u8
+        ensures replicas { result ≡ self.now.setup.replicas }
+        ensures range { AreReplicas result }
+    {
+        self.setup.replicas
     }
 
     /// All parts in the named order: of the labels before a fault, or of all where there is none.

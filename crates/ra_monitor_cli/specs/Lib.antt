@@ -1,14 +1,1 @@
-pub mod Grammar
-pub mod Output
-pub mod Fields
-pub mod Names
-pub mod Reading
-pub mod Bytes
-pub mod Faults
-pub mod Recorder
-pub mod RecorderKept
-pub mod Progress
-pub mod Stopped
-pub mod Run
-pub mod Written
 pub mod Program

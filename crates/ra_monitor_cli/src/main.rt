@@ -1,11 +1,11 @@
 //! Checks histories of replicated data types, given as a text on standard input.
 #![tactic(auto)]
 
-mod check;
-mod limits;
 mod run;
+mod words;
 
-use crate::run::{WordsFault, run};
+use crate::run::run;
+use crate::words::WordsFault;
 use std::env::Env;
 use std::process::ExitCode;
 use std::{env, io};

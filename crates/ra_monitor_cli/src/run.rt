@@ -1,50 +1,13 @@
 //! The program, over the words of its command line, a reader and two writers.
-ghost use Rattle.std.specs.Prelude.{◌≡◌, ◌≢◌, true, false};
-ghost use Rattle.ra_monitor_cli.specs.Faults.{check_fault_words};
-ghost use Rattle.ra_monitor_cli.specs.Program.{are_check, asks_for_check, stop_words, StopsProgram, ChecksText};
+ghost use Rattle.std.specs.Prelude.{◌≡◌, ◌≢◌, Bool, None, Some, codes};
+ghost use Rattle.ra_history_text.specs.Faults.{check_fault_words};
+ghost use Rattle.ra_monitor_cli.specs.Program.{asked_by, stop_words, ends_with, StopsProgram, ReportsOutcome, EndsAnswered, ChecksText};
+ghost use Rattle.ra_monitor_cli.specs.declared.words.Run.TheVariants.{Check};
 
-use crate::check::check;
-use crate::check::fault::CheckFault;
-use crate::check::outcome::status;
-use std::alloc::{AllocError, Global};
-use std::io;
-use std::io::{ErrorKind, Read, Write};
-
-/// Why the words of a command line are not known.
-#[derive(Clone, Copy, Debug, PartialEq, Eq)]
-pub enum WordsFault {
-    /// A growth was refused for want of memory.
-    NoMemory,
-    /// A word is no text.
-    NotText,
-}
-
-impl From<io::Error> for WordsFault {
-    ghost use Rattle.std.specs.Prelude.{◌≡◌, ◌↔◌};
-    ghost use Rattle.std.specs.IoError.{error_kind};
-    ghost use Rattle.std.specs.declared.io.ErrorKind.TheVariants.{OutOfMemory};
-    ghost use Rattle.ra_monitor_cli.specs.declared.run.WordsFault.TheVariants.{NoMemory};
-
-    ghost from_gives = { λ error fault. (fault ≡ NoMemory) ↔ (error_kind error ≡ OutOfMemory) };
-
-    fn from(error: io::Error) -> WordsFault {
-        match error.kind() {
-            ErrorKind::OutOfMemory => WordsFault::NoMemory,
-            _ => WordsFault::NotText,
-        }
-    }
-}
-
-impl From<AllocError> for WordsFault {
-    ghost use Rattle.std.specs.Prelude.{◌≡◌};
-    ghost use Rattle.ra_monitor_cli.specs.declared.run.WordsFault.TheVariants.{NoMemory};
-
-    ghost from_gives = { λ _ fault. fault ≡ NoMemory };
-
-    fn from(_refused: AllocError) -> WordsFault {
-        WordsFault::NoMemory
-    }
-}
+use crate::words::{Run, WordsFault, run_of_kept};
+use ra_history_text::{CheckFault, Outcome, check, status, write_report};
+use std::alloc::Global;
+use std::io::{Read, Write};
 
 /// How the program ended.
 #[derive(Clone, Copy, Debug, PartialEq, Eq)]
@@ -57,10 +20,10 @@ pub struct Ending {
 
 /// Runs the program on the words behind its name.
 ///
-/// The one word `check` has the text that the reader gives checked, with the replies on `out` and a fault's line on
-/// `err`. Other words are answered with the line `usage` on `err`, or `no memory` where they could not be read for want
-/// of it.
-/// Costs what `check` does.
+/// `check` has the text that the reader gives checked, with the replies on `out` and a fault's line on `err`; `check
+/// --report` has the report's object written behind them. Other words are answered with the line `usage` on `err`, or
+/// `no memory` where they could not be read for want of it.
+/// Costs what `ra_history_text::check` does.
 pub fn run<R: Read, W: Write, E: Write>(
     alloc: Global,
     words: &Result<Vec<String>, WordsFault>,
@@ -69,43 +32,97 @@ pub fn run<R: Read, W: Write, E: Write>(
     err: &mut E,
 ) -> Ending
     // Other words have nothing read, nothing written but one line on the error writer, and the status 2.
-    ensures unread { asks_for_check words.now ≡ false → reader.new ≡ reader.old }
-    ensures unwritten { asks_for_check words.now ≡ false → out.new ≡ out.old }
-    ensures usage { asks_for_check words.now ≡ false →
+    ensures unread { asked_by words.now ≡ None → reader.new ≡ reader.old }
+    ensures unwritten { asked_by words.now ≡ None → out.new ≡ out.old }
+    ensures usage { asked_by words.now ≡ None →
         StopsProgram result (E.contents err.old) (E.contents err.new) (stop_words words.now) }
-    // The word `check` has a text checked, and the status is the table's.
-    ensures checked { asks_for_check words.now ≡ true → ChecksText result (R.remaining reader.old)
-        (R.remaining reader.new) (W.contents out.old) (W.contents out.new) (E.contents err.old) (E.contents err.new) }
+    // The words of a check have a text checked, and the status is the table's.
+    ensures checked { (report : Bool) → asked_by words.now ≡ Some (Check report) →
+        ChecksText report result (R.remaining reader.old) (R.remaining reader.new)
+        (W.contents out.old) (W.contents out.new) (E.contents err.old) (E.contents err.new) }
     // Where nothing faults, nothing is told.
     ensures silent { result.status ≢ 2 → err.new ≡ err.old }
 {
     match words {
-        Ok(words) if is_check(words) => run_check(alloc, reader, out, err),
-        Err(WordsFault::NoMemory) => stop(err, CheckFault::NoMemory),
-        Ok(_) | Err(WordsFault::NotText) => Ending {
-            status: 2,
-            told: writeln!(err, "usage").is_ok(),
+        Ok(words) => match run_of_kept(words) {
+            Some(Run::Check { report }) => run_check(alloc, report, reader, out, err),
+            None => usage(err),
         },
+        Err(WordsFault::NotText) => usage(err),
+        Err(WordsFault::NoMemory) => stop(err, CheckFault::NoMemory),
     }
 }
 
 fn run_check<R: Read, W: Write, E: Write>(
     alloc: Global,
+    report: bool,
     reader: &mut R,
     out: &mut W,
     err: &mut E,
 ) -> Ending
-    ensures checked { ChecksText result (R.remaining reader.old) (R.remaining reader.new) (W.contents out.old)
-        (W.contents out.new) (E.contents err.old) (E.contents err.new) }
+    ensures checked { ChecksText report result (R.remaining reader.old) (R.remaining reader.new)
+        (W.contents out.old) (W.contents out.new) (E.contents err.old) (E.contents err.new) }
     ensures silent { result.status ≢ 2 → err.new ≡ err.old }
 {
-    let answer = check(alloc, reader, out);
-    match answer {
-        Ok(_) => Ending {
-            status: status(&answer),
-            told: true,
-        },
+    match check(alloc, reader, out) {
+        Ok(outcome) => end_answered(alloc, report, outcome, out, err),
         Err(fault) => stop(err, fault),
+    }
+}
+
+// All was read and answered.
+fn end_answered<W: Write, E: Write>(
+    alloc: Global,
+    report: bool,
+    outcome: Outcome,
+    out: &mut W,
+    err: &mut E,
+) -> Ending
+    ensures ended { EndsAnswered report outcome result (W.contents out.old) (W.contents out.new)
+        (E.contents err.old) (E.contents err.new) }
+    ensures silent { result.status ≢ 2 → err.new ≡ err.old }
+{
+    if report {
+        end_with_report(alloc, outcome, out, err)
+    } else {
+        end(outcome)
+    }
+}
+
+// With nothing to tell.
+fn end(outcome: Outcome) -> Ending
+    ensures { result ≡ ends_with outcome }
+{
+    Ending {
+        status: status(&Ok(outcome)),
+        told: true,
+    }
+}
+
+// With the report's line behind the answer.
+fn end_with_report<W: Write, E: Write>(
+    alloc: Global,
+    outcome: Outcome,
+    out: &mut W,
+    err: &mut E,
+) -> Ending
+    ensures ended { ReportsOutcome outcome result (W.contents out.old) (W.contents out.new)
+        (E.contents err.old) (E.contents err.new) }
+    ensures silent { result.status ≢ 2 → err.new ≡ err.old }
+{
+    match write_report(alloc, &outcome.report, out) {
+        Ok(()) => end(outcome),
+        Err(fault) => stop(err, fault),
+    }
+}
+
+// Other words.
+fn usage<E: Write>(err: &mut E) -> Ending
+    ensures { StopsProgram result (E.contents err.old) (E.contents err.new) (codes "usage") }
+{
+    Ending {
+        status: 2,
+        told: writeln!(err, "usage").is_ok(),
     }
 }
 
@@ -116,16 +133,6 @@ fn stop<E: Write>(err: &mut E, fault: CheckFault) -> Ending
     Ending {
         status: 2,
         told: writeln!(err, "{fault}").is_ok(),
-    }
-}
-
-// Are the words the one word `check`?
-fn is_check(words: &[String]) -> bool
-    ensures { result ≡ are_check words.now }
-{
-    match words {
-        [word] => word.as_str() == "check",
-        _ => false,
     }
 }
 

@@ -23,6 +23,8 @@ mod rows;
 #[cfg(test)]
 mod sizes;
 #[cfg(test)]
+mod texts;
+#[cfg(test)]
 mod timestamps;
 #[cfg(test)]
 mod visibility;

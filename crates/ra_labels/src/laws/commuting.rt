@@ -1,11 +1,16 @@
 //! Updates whose order does not matter.
-ghost use Rattle.std.specs.Prelude.{◌≡◌, ℤ, ℕ, false, List, ◌∷◌, ◌++◌};
+ghost use Rattle.std.specs.Prelude.{◌≡◌, ◌↔◌, ◌⊎◌, ℤ, ℕ, true, false, List, ◌∷◌, ◌++◌};
 ghost use Rattle.std.specs.List.Sorted.{IsStrictlySortedBy};
 ghost use Rattle.ra_labels.specs.declared.kind.Kind.TheVariants.{Counter, OrSet};
 ghost use Rattle.ra_labels.specs.declared.operation.Update.{Update};
 ghost use Rattle.ra_labels.specs.Lists.{pair_cmp};
 ghost use Rattle.ra_labels.specs.Specification.{Number, Pairs, step_of, state_after};
-ghost use Rattle.ra_labels.specs.Commuting.{then_step, clash, NoneClashes};
+ghost use Rattle.ra_labels.specs.Commuting.{then_step, clash, AddsWhatIsTakenOut, NoneClashes};
+
+/// Two updates clash exactly where one adds a pair that the other takes out.
+pub fn two_updates_clash_where_one_takes_out_what_the_other_adds()
+    ensures { (u v : Update) → (clash u v ≡ true) ↔ (AddsWhatIsTakenOut u v ⊎ AddsWhatIsTakenOut v u) }
+{}
 
 /// Two steps of a counter commute.
 pub fn steps_of_a_counter_commute()

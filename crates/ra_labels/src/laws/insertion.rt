@@ -12,6 +12,12 @@ ghost use Rattle.ra_labels.specs.NamedOrder.{named_labels, named_sequence};
 ghost use Rattle.ra_labels.specs.Fault.{Holds};
 ghost use Rattle.ra_labels.specs.Insertion.{updates_had_of, updates_had, Makes, StandsWhereItMust, IsAnsweredItself};
 
+/// An operation makes an update exactly where it is one, and then one alone.
+pub fn an_operation_makes_one_update()
+    ensures exactly { (op : Op) → (is_update op ≡ true) ↔ ((update : Update) × Makes op update) }
+    ensures one { (op : Op) (update other : Update) → Makes op update → Makes op other → update ≡ other }
+{}
+
 /// With one more label the named order is the one before, with the label put in somewhere.
 pub fn a_new_label_leaves_the_order_of_the_others()
     ensures { (kind : Kind) (records : Records) (by : ℕ) (op : Op) (clock : Option ℕ) → (before behind : List Label)

@@ -1,0 +1,56 @@
+-- Numbers and lists that are put behind bytes.
+use Rattle.std.proofs.Common.{◌≡◌, ℕ, zero, suc, ◌+◌, ◌*◌, ◌/◌, ◌%◌, ◌^◌, ◌<◌, ◌≤◌, List, [], ◌∷◌, ◌++◌, length, map, take, get_or, Result, Ok, Err, refl, sym, ap, ◌∙◌, arith}
+use Rattle.std.specs.Prelude.{decimal, OnOk}
+use Rattle.std.specs.List.{join_with_byte, AllByRecursion}
+use Rattle.std.proofs.lemmas.Fmt.{decimal_digit, decimal_step}
+use Rattle.std.proofs.lemmas.List.{append_assoc, append-nil, take_more}
+use Rattle.ra_history_text.specs.Grammar.{list_word, IsSmall}
+use Rattle.ra_history_text.specs.Spelling.{commas}
+
+pub number_step : (out mid new : List ℕ) (n : ℕ) → 10 ≤ n → n < 2 ^ 64 → mid ≡ out ++ decimal (n / 10) → new ≡ mid ++ (48 + n % 10) ∷ [] → new ≡ out ++ decimal n
+number_step out mid new n large small before last =
+    last ∙ ap (λ (bs : List ℕ). bs ++ (48 + n % 10) ∷ []) before ∙ append_assoc out (decimal (n / 10)) ((48 + n % 10) ∷ [])
+    ∙ ap (λ (ds : List ℕ). out ++ ds) (sym (decimal_step n large small))
+
+pub number_one : (out new : List ℕ) (n : ℕ) → n < 10 → new ≡ out ++ (48 + n % 10) ∷ [] → new ≡ out ++ decimal n
+number_one out new n small last =
+    let same : n % 10 ≡ n = omega arith in
+    last ∙ ap (λ (d : ℕ). out ++ (48 + d) ∷ []) same ∙ ap (λ (ds : List ℕ). out ++ ds) (sym (decimal_digit n small))
+
+-- ---- lists
+
+commas-append : (xs ys : List ℕ) → commas (xs ++ ys) ≡ commas xs ++ commas ys
+commas-append [] ys = refl
+commas-append (x ∷ xs) ys =
+    ap (λ (bs : List ℕ). 44 ∷ (decimal x ++ bs)) (commas-append xs ys) ∙ ap (λ (bs : List ℕ). 44 ∷ bs) (sym (append_assoc (decimal x) (commas xs) (commas ys)))
+
+-- one number more
+pub commas_next : (out old mid new xs : List ℕ) (i : ℕ) → i < length xs → old ≡ out ++ commas (take i xs) → mid ≡ old ++ 44 ∷ [] → new ≡ mid ++ decimal (get_or xs i 0)
+    → new ≡ out ++ commas (take (i + 1) xs)
+commas_next out old mid new xs i there before comma last =
+    let x : ℕ = get_or xs i 0 in
+    last ∙ ap (λ (bs : List ℕ). bs ++ decimal x) comma ∙ append_assoc old (44 ∷ []) (decimal x)
+    ∙ ap (λ (bs : List ℕ). bs ++ 44 ∷ decimal x) before ∙ append_assoc out (commas (take i xs)) (44 ∷ decimal x)
+    ∙ ap (λ (bs : List ℕ). out ++ (commas (take i xs) ++ bs)) (sym (append-nil (44 ∷ decimal x)))
+    ∙ ap (λ (bs : List ℕ). out ++ bs) (sym (commas-append (take i xs) (x ∷ [])))
+    ∙ ap (λ (ys : List ℕ). out ++ commas ys) (sym (take_more xs i 0 there))
+
+joined : (x : ℕ) (xs : List ℕ) → join_with_byte 44 (map decimal (x ∷ xs)) ≡ decimal x ++ commas xs
+joined x [] = sym (append-nil (decimal x))
+joined x (y ∷ ys) = ap (λ (bs : List ℕ). decimal x ++ 44 ∷ bs) (joined y ys)
+
+-- the whole list
+pub list_put : (out first new : List ℕ) (x : ℕ) (xs list : List ℕ) → list ≡ x ∷ xs → first ≡ out ++ decimal x → new ≡ first ++ commas xs → new ≡ out ++ list_word list
+list_put out first new x xs list is head last =
+    last ∙ ap (λ (bs : List ℕ). bs ++ commas xs) head ∙ append_assoc out (decimal x) (commas xs) ∙ ap (λ (bs : List ℕ). out ++ bs) (sym (joined x xs))
+    ∙ ap (λ (ys : List ℕ). out ++ list_word ys) (sym is)
+
+pub list_put_on : {T E : Type 0} (r : Result T E) (out first new : List ℕ) (x : ℕ) (xs list : List ℕ) → list ≡ x ∷ xs → first ≡ out ++ decimal x → OnOk r (new ≡ first ++ commas xs)
+    → OnOk r (new ≡ out ++ list_word list)
+list_put_on (Ok y) out first new x xs list is head last = list_put out first new x xs list is head last
+list_put_on (Err e) out first new x xs list is head last = tt
+
+-- numbers of 32 bits
+pub all_small : (xs : List ℕ) → ((i : ℕ) → get_or xs i 0 < 2 ^ 32) → AllByRecursion IsSmall xs
+all_small [] each = tt
+all_small (x ∷ xs) each = (each 0, all_small xs (λ i. each (suc i)))

@@ -1,0 +1,124 @@
+-- Readers and writers over a whole run.
+use Rattle.std.proofs.Common.{◌≡◌, ℕ, List, [], ◌++◌, take, drop, Option, Some, None, IfSome, Ok, refl, sym, ap, subst, ◌∙◌, ◌<◌, length}
+use Rattle.std.specs.Io.KnownBytes.{Appends, Consumes, IsAtEnd}
+use Rattle.std.proofs.lemmas.List.{append_assoc, append-nil, take-append-drop}
+use Rattle.ra_monitor.specs.declared.report.Report.{Report}
+use Rattle.ra_history_text.specs.Output.{replies_of, last_line_of, last_line_at, output_of, Reports}
+use Rattle.ra_history_text.specs.Run.{WritesAnswer, HasRead, IsRunning}
+use Rattle.ra_history_text.specs.Sessions.{AddsReplies, EndsText}
+use Rattle.ra_history_text.specs.Text.{Said, Progress, Stop, Ending, Regular, text_start, taken, ending_at, end_of, ending_of, said_by}
+use Rattle.ra_history_text.specs.Written.{HasWritten}
+use Rattle.ra_history_text.proofs.Taking.{taken_then}
+
+-- ---- writers
+
+Appends-nil : (known : Option (List ℕ)) → Appends known known []
+Appends-nil None = tt
+Appends-nil (Some xs) = sym (append-nil xs)
+
+pub Appends-then : (a b c : Option (List ℕ)) (xs ys : List ℕ) → Appends a b xs → Appends b c ys → Appends a c (xs ++ ys)
+Appends-then None b c xs ys p q = tt
+Appends-then (Some held) None c xs ys p q = absurd p
+Appends-then (Some held) (Some more) None xs ys p q = absurd q
+Appends-then (Some held) (Some more) (Some all) xs ys p q = q ∙ ap (λ (zs : List ℕ). zs ++ ys) p ∙ append_assoc held xs ys
+
+pub written_none : (known : Option (List ℕ)) (bytes : List ℕ) → HasWritten known known bytes bytes
+written_none known bytes = record { prefix = []; parts = refl; appends = Appends-nil known }
+
+pub written_more : (old mid new : Option (List ℕ)) (bytes rest behind : List ℕ) (n : ℕ) → HasWritten old mid bytes rest → Appends mid new (take n rest) → behind ≡ drop n rest → HasWritten old new bytes behind
+written_more old mid new bytes rest behind n written appends is = record {
+  prefix = written.prefix ++ take n rest;
+  parts =
+      written.parts ∙ ap (λ (bs : List ℕ). written.prefix ++ bs) (sym (take-append-drop n rest) ∙ ap (λ (bs : List ℕ). take n rest ++ bs) (sym is))
+      ∙ sym (append_assoc written.prefix (take n rest) behind);
+  appends = Appends-then old mid new written.prefix (take n rest) written.appends appends;
+}
+
+-- ---- what is gathered for the writer
+
+-- behind nothing, what is put there is all
+pub put_alone : (out1 out2 more : List ℕ) → out1 ≡ [] → out2 ≡ out1 ++ more → out2 ≡ more
+put_alone out1 out2 more nothing put = put ∙ ap (λ (bs : List ℕ). bs ++ more) nothing
+
+-- ---- a run
+
+read_none : (known : Option (List ℕ)) (p : Progress) → p ≡ text_start → HasRead known known p
+read_none None p is = tt
+read_none (Some all) p is = ([], refl, ap Ok (sym is))
+
+pub run_first : (reader writer : Option (List ℕ)) (p : Progress) (out : List ℕ) → p ≡ text_start → out ≡ [] → IsRunning reader reader writer writer p out
+run_first reader writer p out is nothing = record {
+  read = read_none reader p is;
+  written = subst (λ (q : Progress). Appends writer writer (replies_of q.said)) (sym is) (Appends-nil writer);
+  nothing = nothing;
+}
+
+read_more : (first mid last : Option (List ℕ)) (old new : Progress) (piece : List ℕ) → HasRead first mid old → Consumes mid last piece → taken old piece ≡ Ok new → HasRead first last new
+read_more None mid last old new piece read consumes is = tt
+read_more (Some all) None last old new piece read consumes is = absurd read
+read_more (Some all) (Some rest) None old new piece read consumes is = absurd consumes
+read_more (Some all) (Some rest) (Some later) old new piece read consumes is = (
+  read.0 ++ piece,
+  read.1 ∙ ap (λ (bs : List ℕ). read.0 ++ bs) consumes ∙ sym (append_assoc read.0 piece later),
+  taken_then text_start old read.0 piece read.2 ∙ is,
+)
+
+-- the writer has the replies so far, and those that a piece adds
+pub written_replies : (w0 w1 w2 : Option (List ℕ)) (old new : Said) (out1 out2 : List ℕ) → Appends w0 w1 (replies_of old) → out1 ≡ []
+    → AddsReplies old new out1 out2 → Appends w1 w2 out2 → Appends w0 w2 (replies_of new)
+written_replies w0 w1 w2 old new out1 out2 written nothing adds appends =
+    let gathered : out2 ≡ adds.more = put_alone out1 out2 adds.more nothing adds.out in
+    subst (Appends w0 w2) (sym adds.replies) (Appends-then w0 w1 w2 (replies_of old) adds.more written (subst (Appends w1 w2) gathered appends))
+
+pub run_next : (r0 r1 r2 w0 w1 w2 : Option (List ℕ)) (old new : Progress) (out1 out2 out3 piece : List ℕ)
+    → IsRunning r0 r1 w0 w1 old out1 → Consumes r1 r2 piece → taken old piece ≡ Ok new → AddsReplies old.said new.said out1 out2
+    → Appends w1 w2 out2 → out3 ≡ [] → IsRunning r0 r2 w0 w2 new out3
+run_next r0 r1 r2 w0 w1 w2 old new out1 out2 out3 piece running consumes is adds appends nothing = record {
+  read = read_more r0 r1 r2 old new piece running.read consumes is;
+  written = written_replies w0 w1 w2 old.said new.said out1 out2 running.written running.nothing adds appends;
+  nothing = nothing;
+}
+
+-- a read of no byte, though there was room for one: nothing is left
+pub read_none_left : (r1 r2 : Option (List ℕ)) (count : ℕ) (buffer : List ℕ) → count ≡ 0 → 0 < length buffer
+    → Consumes r1 r2 (take count buffer) × (count ≡ 0 → 0 < length buffer → IsAtEnd r2) → Consumes r1 r2 [] × IsAtEnd r2
+read_none_left r1 r2 count buffer none room read = (subst (λ (k : ℕ). Consumes r1 r2 (take k buffer)) none read.0, read.1 none room)
+
+-- ---- at the end
+
+-- all of the text was read
+pub read_whole : (all rest left : List ℕ) (p : Progress) (read : List ℕ) → all ≡ read ++ rest → rest ≡ left → left ≡ [] → taken text_start read ≡ Ok p
+    → taken text_start all ≡ Ok p
+read_whole all rest left p read parts consumes ends is =
+    ap (taken text_start) (parts ∙ ap (λ (bs : List ℕ). read ++ bs) (consumes ∙ ends) ∙ append-nil read) ∙ is
+
+-- so the text ends as this progress does
+pub ends_at : (text : List ℕ) (p : Progress) → taken text_start text ≡ Ok p → ending_of text ≡ ending_at p
+ends_at text p is = ap (λ r. (end_of r).ending) is
+
+pub said_at_end : (text : List ℕ) (p : Progress) → taken text_start text ≡ Ok p → said_by text ≡ p.said
+said_at_end text p is = ap (λ r. (end_of r).said) is
+
+pub output_at_end : (text : List ℕ) (p : Progress) → taken text_start text ≡ Ok p → output_of text ≡ replies_of p.said ++ last_line_at (ending_at p) p.said
+output_at_end text p is = ap (λ r. replies_of (end_of r).said ++ last_line_at (end_of r).ending (end_of r).said) is
+
+-- with the last line of a text that has its regular end
+pub output_regular : (text : List ℕ) (p : Progress) → taken text_start text ≡ Ok p → ending_at p ≡ Regular → output_of text ≡ replies_of p.said ++ last_line_of p.said
+output_regular text p is regular = output_at_end text p is ∙ ap (λ (e : Ending). replies_of p.said ++ last_line_at e p.said) regular
+
+pub run_last : (r0 r1 r2 w0 w1 w2 : Option (List ℕ)) (p : Progress) (out1 out2 : List ℕ) (report : Report)
+    → IsRunning r0 r1 w0 w1 p out1 → Consumes r1 r2 [] → IsAtEnd r2 → EndsText p out1 out2 report → Appends w1 w2 out2
+    → IfSome r0 (λ text. WritesAnswer text w0 w2 report)
+run_last None r1 r2 w0 w1 w2 p out1 out2 report running consumes at_end ended appends = tt
+run_last (Some all) None r2 w0 w1 w2 p out1 out2 report running consumes at_end ended appends = absurd running.read
+run_last (Some all) (Some rest) None w0 w1 w2 p out1 out2 report running consumes at_end ended appends = absurd consumes
+run_last (Some all) (Some rest) (Some later) w0 w1 w2 p out1 out2 report running consumes at_end ended appends =
+    let is = read_whole all rest later p running.read.0 running.read.1 consumes at_end running.read.2 in
+    let gathered : out2 ≡ last_line_of p.said = put_alone out1 out2 (last_line_of p.said) running.nothing ended.out in
+    record {
+      ends = ends_at all p is ∙ ended.regular;
+      written =
+          subst (Appends w0 w2) (sym (output_regular all p is ended.regular))
+          (Appends-then w0 w1 w2 (replies_of p.said) (last_line_of p.said) running.written (subst (Appends w1 w2) gathered appends));
+      reported = subst (λ s. Reports s report) (sym (said_at_end all p is)) ended.reported;
+    }

@@ -1,0 +1,120 @@
+-- What is written for a text, and the exit status.
+use Rattle.std.specs.Prelude.{◌≡◌, ℕ, ◌==◌, List, [], ◌∷◌, ◌++◌, length, count_by, flat_map, Option, Some, None, is_some, Result, Ok, Err, codes, decimal, if◌then◌else◌}
+use Rattle.ra_labels.specs.declared.kind.Kind.{Kind}
+use Rattle.ra_labels.specs.declared.command.Command.{Command}
+use Rattle.ra_labels.specs.declared.reply.Cause.{Cause}
+use Rattle.ra_labels.specs.declared.reply.Cause.TheVariants as cause
+use Rattle.ra_labels.specs.declared.reply.Fault.{Fault}
+use Rattle.ra_labels.specs.declared.reply.Reply.{Reply}
+use Rattle.ra_labels.specs.declared.reply.Reply.TheVariants as reply
+use Rattle.ra_labels.specs.declared.refusal.Refusal.{Refusal}
+use Rattle.ra_labels.specs.declared.refusal.Refusal.TheVariants as refusal
+use Rattle.ra_labels.specs.Records.{Records, label_count}
+use Rattle.ra_labels.specs.Fault.{fault_of}
+use Rattle.ra_labels.specs.Answer.{answers_to, records_after_all}
+use Rattle.ra_monitor.specs.declared.report.Report.{Report}
+use Rattle.ra_monitor.specs.Replies.{is_refused}
+use Rattle.ra_history_text.specs.declared.fault.CheckFault.{CheckFault}
+use Rattle.ra_history_text.specs.declared.outcome.Outcome.{Outcome}
+use Rattle.ra_history_text.specs.Text.{Said, Nothing, OfKind, OfHistory, Ending, Regular, Syntax, Truncated, LineTooLong, Full, ending_of, said_by}
+
+-- ---- replies
+
+abbrev pub cause_word : Cause → List ℕ
+cause_word cause.Order = codes "order"
+cause_word cause.Update = codes "update"
+cause_word cause.Query = codes "query"
+
+abbrev pub refusal_words : Refusal → List ℕ
+refusal_words refusal.UnknownReplica = codes "unknown-replica"
+refusal_words refusal.WrongKind = codes "wrong-kind"
+refusal_words refusal.BadList = codes "bad-list"
+refusal_words refusal.StampMissing = codes "stamp-missing"
+refusal_words refusal.StampUnwanted = codes "stamp-unwanted"
+refusal_words refusal.StampTaken = codes "stamp-taken"
+refusal_words refusal.IdTaken = codes "id-taken"
+refusal_words refusal.UnknownLabel = codes "unknown-label"
+refusal_words refusal.NotAnUpdate = codes "not-an-update"
+refusal_words refusal.AlreadySeen = codes "already-seen"
+refusal_words (refusal.NotCausal missing) = codes "not-causal " ++ decimal missing
+
+-- a label at which the order failed, and why
+abbrev pub fault_words : ℕ → Cause → List ℕ
+fault_words label why = decimal label ++ (codes " " ++ cause_word why)
+
+abbrev pub reply_words : Reply → List ℕ
+reply_words (reply.Ok label) = codes "ok " ++ decimal label
+reply_words (reply.Got label) = codes "got " ++ decimal label
+reply_words (reply.Yes labels) = codes "yes " ++ decimal labels
+reply_words (reply.No label why) = codes "no " ++ fault_words label why
+reply_words (reply.Refused why) = codes "refused " ++ refusal_words why
+
+-- the line of a reply, its line feed included
+abbrev pub reply_line : Reply → List ℕ
+reply_line reply = reply_words reply ++ 10 ∷ []
+
+-- ---- the end
+
+abbrev pub end_words : ℕ → Option Fault → List ℕ
+end_words labels None = codes "end yes " ++ decimal labels
+end_words labels (Some fault) = codes "end no " ++ fault_words fault.label fault.cause
+
+-- the last line, by the number of labels and the fault
+abbrev pub end_line : ℕ → Option Fault → List ℕ
+end_line labels fault = end_words labels fault ++ 10 ∷ []
+
+-- ---- all that is written
+
+-- the answers to the commands of a history with these names
+abbrev pub answers_in : Kind → List (List ℕ) → List Command → List Reply
+answers_in kind names commands = answers_to kind (length names) [] commands
+
+-- the records that its commands leave
+abbrev pub records_in : Kind → List (List ℕ) → List Command → Records
+records_in kind names commands = records_after_all kind (length names) [] commands
+
+-- the lines of the replies to what lines say
+abbrev pub replies_of : Said → List ℕ
+replies_of Nothing = []
+replies_of (OfKind kind) = []
+replies_of (OfHistory kind names commands) = flat_map reply_line (answers_in kind names commands)
+
+-- the last line behind them
+abbrev pub last_line_of : Said → List ℕ
+last_line_of Nothing = []
+last_line_of (OfKind kind) = []
+last_line_of (OfHistory kind names commands) =
+    let records = records_in kind names commands in end_line (label_count records) (fault_of kind records)
+
+-- it is written where the text has its regular end
+abbrev pub last_line_at : Ending → Said → List ℕ
+last_line_at Regular said = last_line_of said
+last_line_at (Syntax line) said = []
+last_line_at (Truncated line) said = []
+last_line_at (LineTooLong line) said = []
+last_line_at (Full line) said = []
+
+-- what is written for a text: the reply lines, and where it has its regular end, the last line
+abbrev pub output_of : List ℕ → List ℕ
+output_of text = replies_of (said_by text) ++ last_line_at (ending_of text) (said_by text)
+
+-- the report counts what the commands of a history amount to
+pub record IsReportOf (kind : Kind) (names : List (List ℕ)) (commands : List Command) (report : Report) : Type 0 where
+  pub kind_is : report.kind ≡ kind
+  pub calls : report.calls ≡ length commands
+  pub labels : report.labels ≡ label_count (records_in kind names commands)
+  pub refused : report.refused ≡ count_by is_refused (answers_in kind names commands)
+  pub fault : report.fault ≡ fault_of kind (records_in kind names commands)
+
+-- what lines say is a history, and this is its report
+abbrev pub Reports : Said → Report → Type 0
+Reports Nothing report = ⊥
+Reports (OfKind kind) report = ⊥
+Reports (OfHistory kind names commands) report = IsReportOf kind names commands report
+
+-- ---- the exit status
+
+abbrev pub status_of : Result Outcome CheckFault → ℕ
+status_of (Err fault) = 2
+status_of (Ok outcome) =
+    if is_some outcome.report.fault then 1 else if outcome.report.refused == 0 then 0 else 3

@@ -1,0 +1,67 @@
+-- The report's object: its keys in the order of their bytes, and no space.
+use Rattle.std.specs.Prelude.{◌≡◌, ℕ, ◌<◌, List, length, [], ◌∷◌, ◌++◌, Option, Some, None, codes, decimal}
+use Rattle.ra_labels.specs.declared.kind.Kind.{Kind}
+use Rattle.ra_labels.specs.declared.reply.Fault.{Fault}
+use Rattle.ra_monitor.specs.declared.report.Report.{Report}
+use Rattle.serde_json.specs.Data.{Data, string, number, unsigned, object, member, no_members}
+use Rattle.ra_history_text.specs.Grammar.{kind_word}
+use Rattle.ra_history_text.specs.declared.fault.CheckFault.{CheckFault}
+use Rattle.ra_history_text.specs.declared.fault.CheckFault.TheVariants as fault
+use Rattle.ra_history_text.specs.Output.{cause_word}
+use Rattle.ra_history_text.specs.Written.{HasWritten}
+
+-- from the key `kind` to the key `labels`, or to the key `label` on a no
+abbrev pub kind_members : Kind → List ℕ
+kind_members kind = codes ",\"kind\":\"" ++ (kind_word kind ++ codes "\",")
+
+-- the last three members
+abbrev pub last_members : Report → List ℕ → List ℕ
+last_members report verdict =
+    codes "\"labels\":" ++ (decimal report.labels ++ (codes ",\"refused\":" ++ (decimal report.refused
+    ++ (codes ",\"verdict\":\"" ++ (verdict ++ codes "\"}")))))
+
+-- the members behind the key `calls`
+abbrev pub members_by_fault : Report → Option Fault → List ℕ
+members_by_fault report None = kind_members report.kind ++ last_members report (codes "yes")
+members_by_fault report (Some fault) =
+    codes ",\"cause\":\"" ++ (cause_word fault.cause ++ (codes "\"" ++ (kind_members report.kind
+    ++ (codes "\"label\":" ++ (decimal fault.label ++ (codes "," ++ last_members report (codes "no")))))))
+
+-- the object of a report
+abbrev pub report_object : Report → List ℕ
+report_object report = codes "{\"calls\":" ++ (decimal report.calls ++ members_by_fault report report.fault)
+
+-- the object on a line of its own
+abbrev pub report_line : Report → List ℕ
+report_line report = report_object report ++ 10 ∷ []
+
+-- why the line is not written: it could not be made, and nothing was; or a part of it was, and not all
+abbrev pub StopsReport : Report → (old new : Option (List ℕ)) → CheckFault → Type 0
+StopsReport report old new fault.NoMemory = new ≡ old
+StopsReport report old new fault.Write =
+    (rest : List ℕ) × (0 < length rest) × HasWritten old new (report_line report) rest
+StopsReport report old new _ = ⊥
+
+-- ---- the same as data
+
+abbrev pub count_data : ℕ → Data
+count_data n = number (unsigned n)
+
+abbrev pub members_data : Report → Option Fault → Data
+members_data report None = object (
+    member (codes "calls") (count_data report.calls)
+    (member (codes "kind") (string (kind_word report.kind))
+    (member (codes "labels") (count_data report.labels)
+    (member (codes "refused") (count_data report.refused)
+    (member (codes "verdict") (string (codes "yes")) no_members)))))
+members_data report (Some fault) = object (
+    member (codes "calls") (count_data report.calls)
+    (member (codes "cause") (string (cause_word fault.cause))
+    (member (codes "kind") (string (kind_word report.kind))
+    (member (codes "label") (count_data fault.label)
+    (member (codes "labels") (count_data report.labels)
+    (member (codes "refused") (count_data report.refused)
+    (member (codes "verdict") (string (codes "no")) no_members)))))))
+
+abbrev pub report_data : Report → Data
+report_data report = members_data report report.fault

@@ -1,0 +1,91 @@
+-- What one call of a session does.
+use Rattle.std.specs.Prelude.{◌≡◌, ◌⊎◌, ℕ, true, None, ◌+◌, ◌≤◌, List, [], ◌∷◌, ◌++◌, length, Ok, Err, MatchOption, ⊤}
+use Rattle.ra_labels.specs.declared.kind.Kind.{Kind}
+use Rattle.ra_history_text.specs.declared.fault.CheckFault.{CheckFault}
+use Rattle.ra_history_text.specs.declared.fault.CheckFault.TheVariants.{NoMemory}
+use Rattle.ra_history_text.specs.declared.session.Stage.{Stage}
+use Rattle.ra_history_text.specs.declared.session.Stage.TheVariants as stage
+use Rattle.ra_monitor.specs.declared.report.Report.{Report}
+use Rattle.ra_history_text.specs.Faults.{ending_told}
+use Rattle.ra_history_text.specs.declared.limits.TheConstants.{LONGEST_LINE}
+use Rattle.ra_history_text.specs.Grammar.{fields_of}
+use Rattle.ra_history_text.specs.History.{said_of}
+use Rattle.ra_history_text.specs.Output.{replies_of, last_line_of, Reports}
+use Rattle.ra_history_text.specs.Reading.{command_read, may_have_list}
+use Rattle.ra_history_text.specs.Text.{Said, Nothing, OfKind, OfHistory, Progress, Regular, line_start, stop_at, line_taken, taken, ending_at}
+
+-- what the lines that led to a stage say
+abbrev pub said_at : Stage → Said
+said_at stage.Nothing = Nothing
+said_at (stage.OfKind kind) = OfKind kind
+said_at (stage.OfHistory history) = said_of history
+
+-- bytes grow by just the reply lines that lines give behind those of the lines before them
+pub record AddsReplies (old new : Said) (out_old out_new : List ℕ) : Type 0 where
+  pub more : List ℕ
+  pub replies : replies_of new ≡ replies_of old ++ more
+  pub out : out_new ≡ out_old ++ more
+
+-- ---- a line
+
+-- for this line memory may be asked for: it may list names, or it spells a command, or one may come that has a list
+abbrev pub TakesMemory : Said → List ℕ → Type 0
+TakesMemory Nothing line = ⊥
+TakesMemory (OfKind kind) line = ⊤
+TakesMemory (OfHistory kind names commands) line =
+    (command_read kind names (fields_of line) ≡ None → ⊥) ⊎ (may_have_list kind (fields_of line) ≡ true)
+
+-- why a whole line is not taken
+abbrev pub StopsLine : Said → List ℕ → CheckFault → Type 0
+StopsLine said line fault =
+    MatchOption (ending_told fault) ((fault ≡ NoMemory) × TakesMemory said line)
+    (λ ending. line_taken said line ≡ Err (stop_at said ending))
+
+-- ---- a part of a line, and a whole piece
+
+-- why the next line cannot come further by this part, which has no line feed
+abbrev pub StopsExtending : Progress → List ℕ → CheckFault → Type 0
+StopsExtending progress part fault =
+    MatchOption (ending_told fault) ((fault ≡ NoMemory) × (length progress.partial + length part ≤ LONGEST_LINE))
+    (λ ending. taken progress part ≡ Err (stop_at progress.said ending))
+
+-- why the line that is whole with this last part is not taken: memory for reading it is asked for only where it came in
+-- parts
+abbrev pub StopsClosing : Progress → List ℕ → CheckFault → Type 0
+StopsClosing progress last fault =
+    MatchOption (ending_told fault) ((fault ≡ NoMemory) × (progress.partial ≡ [] → TakesMemory progress.said last))
+    (λ ending. taken progress (last ++ 10 ∷ []) ≡ Err (stop_at progress.said ending))
+
+-- the piece stops with this ending; and the reply lines of the lines before are there
+pub record StopsInside (old : Progress) (piece out_old out_new : List ℕ) (fault : CheckFault) : Type 0 where
+  -- what the lines before say
+  pub said : Said
+  -- the front of the piece up to the fault; all of it where the text itself stops
+  pub front : List ℕ
+  pub behind : List ℕ
+  pub parts : piece ≡ front ++ behind
+  pub why : MatchOption (ending_told fault)
+      ((fault ≡ NoMemory) × ((partial : List ℕ) × (taken old front ≡ Ok (record { said = said; partial = partial }))))
+      (λ ending. taken old front ≡ Err (stop_at said ending))
+  pub replied : AddsReplies old.said said out_old out_new
+
+-- a piece of which a front is taken, and what is left of it
+pub record IsFedUpTo (old new : Progress) (piece rest out_old out_new : List ℕ) : Type 0 where
+  pub front : List ℕ
+  pub parts : piece ≡ front ++ rest
+  pub is_taken : taken old front ≡ Ok new
+  pub replied : AddsReplies old.said new.said out_old out_new
+
+-- ---- the end
+
+-- the text ends here regularly: its last line is put behind the bytes, and this is the report
+pub record EndsText (progress : Progress) (out_old out_new : List ℕ) (report : Report) : Type 0 where
+  pub regular : ending_at progress ≡ Regular
+  pub out : out_new ≡ out_old ++ last_line_of progress.said
+  pub reported : Reports progress.said report
+
+-- why the text does not end here regularly: memory is asked for its last line alone
+abbrev pub StopsEnding : Progress → CheckFault → Type 0
+StopsEnding progress fault =
+    MatchOption (ending_told fault) ((fault ≡ NoMemory) × (ending_at progress ≡ Regular))
+    (λ ending. ending_at progress ≡ ending)

@@ -1,0 +1,132 @@
+-- A text from its first byte to its last: what its lines say, and how it ends. All of this is computed from the bytes.
+use Rattle.std.specs.Prelude.{ℕ, ◌+◌, ◌==◌, nat_lt, Bool, true, false, ◌&&◌, List, [], ◌∷◌, ◌++◌, length, Option, Some, None, option_map, Result, Ok, Err, is_ok, if◌then◌else◌}
+use Rattle.ra_labels.specs.declared.kind.Kind.{Kind}
+use Rattle.ra_labels.specs.declared.command.Command.{Command}
+use Rattle.ra_history_text.specs.declared.limits.TheConstants.{LONGEST_LINE, MOST_COMMANDS}
+use Rattle.ra_history_text.specs.Grammar.{fields_of, names_behind}
+use Rattle.ra_history_text.specs.Reading.{kind_read, names_read, command_read}
+
+-- ---- what lines say
+
+-- what the lines so far say
+pub data Said : Type 0 where
+  -- there is none yet
+  Nothing : Said
+  -- the first line: the kind
+  OfKind : Kind → Said
+  -- the line of names too, and then commands, the oldest first
+  OfHistory : Kind → List (List ℕ) → List Command → Said
+
+-- the number of the line that comes next, from 1
+abbrev pub next_line : Said → ℕ
+next_line Nothing = 1
+next_line (OfKind kind) = 2
+next_line (OfHistory kind names commands) = length commands + 3
+
+-- a history with one command more
+abbrev pub with_command : Kind → List (List ℕ) → List Command → Command → Said
+with_command kind names commands command = OfHistory kind (names_behind names command) (commands ++ command ∷ [])
+
+-- what they say with one line more; none where the line spells nothing that may stand there
+abbrev pub said_behind : Said → List ℕ → Option Said
+said_behind Nothing line = option_map OfKind (kind_read line)
+said_behind (OfKind kind) line = option_map (λ names. OfHistory kind names []) (names_read line)
+said_behind (OfHistory kind names commands) line =
+    option_map (with_command kind names commands) (command_read kind names (fields_of line))
+
+-- are as many commands there as there may be?
+abbrev pub is_full : Said → Bool
+is_full Nothing = false
+is_full (OfKind kind) = false
+is_full (OfHistory kind names commands) = length commands == MOST_COMMANDS
+
+-- were both lines before the commands there?
+abbrev pub has_names : Said → Bool
+has_names Nothing = false
+has_names (OfKind kind) = false
+has_names (OfHistory kind names commands) = true
+
+-- ---- how a text ends
+
+-- at its regular end, or with a fault at the line with this number
+pub data Ending : Type 0 where
+  Regular : Ending
+  Syntax : ℕ → Ending
+  Truncated : ℕ → Ending
+  LineTooLong : ℕ → Ending
+  Full : ℕ → Ending
+
+-- ---- byte by byte
+
+-- how far a text has come: what its whole lines say, and what is there of the next one
+pub record Progress : Type 0 where
+  pub said : Said
+  pub partial : List ℕ
+
+-- where a text stops: why, and what the lines before say
+pub record Stop : Type 0 where
+  pub ending : Ending
+  pub said : Said
+
+-- a line begins
+abbrev pub line_start : Said → Progress
+line_start said = record { said = said; partial = [] }
+
+-- nothing of the text is there
+abbrev pub text_start : Progress
+text_start = line_start Nothing
+
+abbrev pub stop_at : Said → Ending → Stop
+stop_at said ending = record { ending = ending; said = said }
+
+-- a line that makes the lines say this is taken, unless it is one command too many
+abbrev pub line_taken_as : Said → Option Said → Result Progress Stop
+line_taken_as said None = Err (stop_at said (Syntax (next_line said)))
+line_taken_as said (Some next) =
+    if is_full said then Err (stop_at said (Full (next_line said))) else Ok (line_start next)
+
+-- a whole line is taken: how far the text is then, or why it stops there
+abbrev pub line_taken : Said → List ℕ → Result Progress Stop
+line_taken said line = line_taken_as said (said_behind said line)
+
+-- one byte is taken: a line feed, which is the byte 10, makes the line whole; any other belongs to it, if the line may
+-- have one more
+abbrev pub byte_taken : Progress → ℕ → Result Progress Stop
+byte_taken progress byte =
+    if byte == 10 then line_taken progress.said progress.partial
+    else if nat_lt (length progress.partial) LONGEST_LINE
+    then Ok (record { said = progress.said; partial = progress.partial ++ byte ∷ [] })
+    else Err (stop_at progress.said (LineTooLong (next_line progress.said)))
+
+-- unless the text stopped, it goes on
+abbrev pub unless_stopped : Result Progress Stop → (Progress → Result Progress Stop) → Result Progress Stop
+unless_stopped (Ok progress) later = later progress
+unless_stopped (Err stop) later = Err stop
+
+-- these bytes are taken, one after another
+abbrev pub taken : Progress → List ℕ → Result Progress Stop
+taken progress [] = Ok progress
+taken progress (byte ∷ bytes) = unless_stopped (byte_taken progress byte) (λ next. taken next bytes)
+
+-- ---- the whole text
+
+-- how a text ends that ends here
+abbrev pub ending_at : Progress → Ending
+ending_at progress =
+    if has_names progress.said && length progress.partial == 0 then Regular else Truncated (next_line progress.said)
+
+abbrev pub end_of : Result Progress Stop → Stop
+end_of (Ok progress) = stop_at progress.said (ending_at progress)
+end_of (Err stop) = stop
+
+-- how the text ends: at its regular end, or with the first fault
+abbrev pub ending_of : List ℕ → Ending
+ending_of text = (end_of (taken text_start text)).ending
+
+-- what its lines say: all of them, or those before the fault
+abbrev pub said_by : List ℕ → Said
+said_by text = (end_of (taken text_start text)).said
+
+-- does no line of it stop it, and is what stands behind them not too long for a line?
+abbrev pub does_not_stop : List ℕ → Bool
+does_not_stop text = is_ok (taken text_start text)

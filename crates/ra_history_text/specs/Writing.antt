@@ -1,0 +1,77 @@
+-- What is written of a history, and why it is not.
+use Rattle.std.specs.Prelude.{◌≡◌, ℕ, ◌<◌, ◌≤◌, true, false, List, [], ◌∷◌, ◌++◌, length, map, reverse, Option, ⊤}
+use Rattle.std.specs.Io.KnownBytes.{Appends, Keeps}
+use Rattle.std.specs.List.{AllByRecursion}
+use Rattle.ra_labels.specs.declared.command.Command.{Command}
+use Rattle.ra_monitor.specs.Monitor.{Monitor, records_of}
+use Rattle.ra_history_text.specs.declared.fault.WriteFault.{WriteFault}
+use Rattle.ra_history_text.specs.declared.fault.WriteFault.TheVariants.{BadNames, LineTooLong, Write, NoMemory}
+use Rattle.ra_history_text.specs.declared.limits.TheConstants.{LONGEST_LINE}
+use Rattle.ra_history_text.specs.Spelling.{line_of, AreSmall}
+use Rattle.ra_history_text.specs.Text.{OfHistory, Regular, ending_of, said_by}
+
+-- the line of the command is not too long
+abbrev pub IsShort : List (List ℕ) → Command → Type 0
+IsShort names command = length (line_of names command) ≤ LONGEST_LINE
+
+-- and its numbers are of 32 bits
+abbrev pub IsWritable : List (List ℕ) → Command → Type 0
+IsWritable names command = IsShort names command × AreSmall command
+
+-- the command at this place, from 0, is the first whose line is too long
+pub record IsFirstLong (names : List (List ℕ)) (commands : List Command) (at : ℕ) : Type 0 where
+  pub before : List Command
+  pub command : Command
+  pub later : List Command
+  pub parts : commands ≡ before ++ command ∷ later
+  pub place : at ≡ length before
+  pub short : AllByRecursion (IsShort names) before
+  pub long : LONGEST_LINE < length (line_of names command)
+
+-- why the line of a command is not put behind bytes, where so many stand before it
+abbrev pub StopsLine : List (List ℕ) → Command → ℕ → WriteFault → Type 0
+StopsLine names command place (LineTooLong at) = (at ≡ place) × (LONGEST_LINE < length (line_of names command))
+StopsLine names command place NoMemory = ⊤
+StopsLine names command place BadNames = ⊥
+StopsLine names command place Write = ⊥
+
+-- the same of the one command that there is, if there is one
+abbrev pub StopsEntry : List (List ℕ) → List Command → ℕ → WriteFault → Type 0
+StopsEntry names commands place fault = (command : Command) × (commands ≡ command ∷ []) × StopsLine names command place fault
+
+-- why the lines of commands are not put behind bytes
+abbrev pub StopsPutting : List (List ℕ) → List Command → WriteFault → Type 0
+StopsPutting names commands (LineTooLong at) = IsFirstLong names commands at
+StopsPutting names commands NoMemory = ⊤
+StopsPutting names commands BadNames = ⊥
+StopsPutting names commands Write = ⊥
+
+-- the accepted commands of a monitor, the oldest first
+abbrev pub records_in_order : Monitor → List Command
+records_in_order monitor = reverse (records_of monitor.setup monitor.log)
+
+-- this text has a regular end, and says these names and the monitor's kind and accepted commands, in order
+pub record SaysHistory (monitor : Monitor) (names : List (List ℕ)) (text : List ℕ) : Type 0 where
+  pub ends : ending_of text ≡ Regular
+  pub says : said_by text ≡ OfHistory monitor.setup.kind names (records_in_order monitor)
+
+-- such a text was written
+abbrev pub WritesHistory : Monitor → List (List ℕ) → Option (List ℕ) → Option (List ℕ) → Type 0
+WritesHistory monitor names old new = (text : List ℕ) × SaysHistory monitor names text × Appends old new text
+
+-- a part of such a text was written, and not all of it
+abbrev pub WritesPartOfHistory : Monitor → List (List ℕ) → Option (List ℕ) → Option (List ℕ) → Type 0
+WritesPartOfHistory monitor names old new =
+    (part : List ℕ) × (more : List ℕ) × SaysHistory monitor names (part ++ more) × (0 < length more) × Appends old new part
+
+-- there are as many names as replicas
+abbrev pub AreAsMany : Monitor → List (List ℕ) → Type 0
+AreAsMany monitor names = length names ≡ monitor.setup.replicas
+
+-- why a history is not written, and what of it was
+abbrev pub StopsWriting : Monitor → List (List ℕ) → Option (List ℕ) → Option (List ℕ) → WriteFault → Type 0
+StopsWriting monitor names old new BadNames = (AreAsMany monitor names → ⊥) × Keeps old new
+StopsWriting monitor names old new (LineTooLong at) =
+    AreAsMany monitor names × IsFirstLong names (records_in_order monitor) at × Keeps old new
+StopsWriting monitor names old new NoMemory = AreAsMany monitor names × Keeps old new
+StopsWriting monitor names old new Write = AreAsMany monitor names × WritesPartOfHistory monitor names old new

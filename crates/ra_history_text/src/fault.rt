@@ -1,0 +1,177 @@
+//! Why a line, a list of names or a text is not taken.
+ghost use Rattle.ra_history_text.specs.declared.fault.LineFault.TheVariants as line_fault;
+ghost use Rattle.ra_history_text.specs.declared.fault.NamesFault.TheVariants as names_fault;
+ghost use Rattle.ra_history_text.specs.declared.fault.CheckFault.TheVariants as check_fault;
+ghost use Rattle.ra_history_text.specs.declared.fault.WriteFault.TheVariants as write_fault;
+ghost use Rattle.ra_history_text.specs.Faults.{check_fault_words, fault_at_line};
+ghost use Rattle.std.specs.Prelude.{◌≡◌, Some};
+
+use crate::write::Unwritten;
+use ra_labels::NoMemory;
+use std::alloc::{AllocError, AllocFailed};
+use std::fmt;
+use thiserror::Error;
+
+/// Why a line is not read.
+#[derive(Clone, Copy, Debug, PartialEq, Eq)]
+pub enum LineFault {
+    /// It is not a line of the text's grammar.
+    Syntax,
+    /// A growth was refused for want of memory.
+    NoMemory,
+}
+
+impl LineFault {
+    /// The fault of a text that has this fault at this line.
+    pub fn at(self, line: u32) -> CheckFault
+        ensures { result ≡ fault_at_line self line }
+    {
+        match self {
+            LineFault::Syntax => CheckFault::Syntax(line),
+            LineFault::NoMemory => CheckFault::NoMemory,
+        }
+    }
+}
+
+impl From<AllocError> for LineFault {
+    ghost from_gives = { λ _ fault. fault ≡ line_fault.NoMemory };
+
+    fn from(_refused: AllocError) -> LineFault {
+        LineFault::NoMemory
+    }
+}
+
+impl<T: Drop> From<AllocFailed<T>> for LineFault {
+    ghost from_gives = { λ _ fault. fault ≡ line_fault.NoMemory };
+
+    fn from(_refused: AllocFailed<T>) -> LineFault {
+        LineFault::NoMemory
+    }
+}
+
+impl From<NoMemory> for LineFault {
+    ghost from_gives = { λ _ fault. fault ≡ line_fault.NoMemory };
+
+    fn from(_refused: NoMemory) -> LineFault {
+        LineFault::NoMemory
+    }
+}
+
+/// Why names are not those of a history.
+#[derive(Clone, Copy, Debug, PartialEq, Eq)]
+pub enum NamesFault {
+    /// There are none, or more than 16.
+    BadCount,
+    /// The least place, from 0, whose name has another form than names have, is a word of the format's own, or repeats
+    /// an earlier one.
+    BadName(u32),
+    /// A growth was refused for want of memory.
+    NoMemory,
+}
+
+impl From<NoMemory> for NamesFault {
+    ghost from_gives = { λ _ fault. fault ≡ names_fault.NoMemory };
+
+    fn from(_refused: NoMemory) -> NamesFault {
+        NamesFault::NoMemory
+    }
+}
+
+/// Why a check gives no verdict. Lines count from 1.
+#[derive(Clone, Copy, Debug, PartialEq, Eq, Error)]
+pub enum CheckFault {
+    /// The reader failed.
+    Read,
+    /// The writer failed, or took no byte.
+    Write,
+    /// The line is not one of the text's grammar.
+    Syntax(u32),
+    /// The input ends inside the line, or before it where it is the first or the second.
+    Truncated(u32),
+    /// The line has more than 1,048,576 bytes.
+    LineTooLong(u32),
+    /// A growth was refused for want of memory.
+    NoMemory,
+    /// The input did not end within 4,294,967,296 reads.
+    Endless,
+    /// The line is a command, and 1,048,576 commands came before.
+    Full(u32),
+}
+
+impl fmt::Display for CheckFault {
+    ghost output = { λ fault. Some (check_fault_words fault) };
+
+    fn fmt<W: fmt::Write>(&self, f: &mut fmt::Formatter<W>) -> fmt::Result {
+        match self {
+            CheckFault::Read => f.write_str("read fault"),
+            CheckFault::Write => f.write_str("write fault"),
+            CheckFault::Syntax(line) => write!(f, "line {line}: syntax"),
+            CheckFault::Truncated(line) => write!(f, "line {line}: truncated"),
+            CheckFault::LineTooLong(line) => write!(f, "line {line}: too long"),
+            CheckFault::NoMemory => f.write_str("no memory"),
+            CheckFault::Endless => f.write_str("endless input"),
+            CheckFault::Full(line) => write!(f, "line {line}: full"),
+        }
+    }
+}
+
+impl From<AllocError> for CheckFault {
+    ghost from_gives = { λ _ fault. fault ≡ check_fault.NoMemory };
+
+    fn from(_refused: AllocError) -> CheckFault {
+        CheckFault::NoMemory
+    }
+}
+
+impl From<NoMemory> for CheckFault {
+    ghost from_gives = { λ _ fault. fault ≡ check_fault.NoMemory };
+
+    fn from(_refused: NoMemory) -> CheckFault {
+        CheckFault::NoMemory
+    }
+}
+
+impl From<Unwritten> for CheckFault {
+    ghost from_gives = { λ _ fault. fault ≡ check_fault.Write };
+
+    fn from(_unwritten: Unwritten) -> CheckFault {
+        CheckFault::Write
+    }
+}
+
+/// Why a history is not written.
+#[derive(Clone, Copy, Debug, PartialEq, Eq)]
+pub enum WriteFault {
+    /// There are not as many names as the monitor has replicas.
+    BadNames,
+    /// The place, from 0, among the accepted commands, of the first whose line has more than 1,048,576 bytes.
+    LineTooLong(u32),
+    /// The writer failed, or took no byte.
+    Write,
+    /// A growth was refused for want of memory.
+    NoMemory,
+}
+
+impl From<NoMemory> for WriteFault {
+    ghost from_gives = { λ _ fault. fault ≡ write_fault.NoMemory };
+
+    fn from(_refused: NoMemory) -> WriteFault {
+        WriteFault::NoMemory
+    }
+}
+
+impl<T: Drop> From<AllocFailed<T>> for WriteFault {
+    ghost from_gives = { λ _ fault. fault ≡ write_fault.NoMemory };
+
+    fn from(_refused: AllocFailed<T>) -> WriteFault {
+        WriteFault::NoMemory
+    }
+}
+
+impl From<Unwritten> for WriteFault {
+    ghost from_gives = { λ _ fault. fault ≡ write_fault.Write };
+
+    fn from(_unwritten: Unwritten) -> WriteFault {
+        WriteFault::Write
+    }
+}

@@ -1,0 +1,70 @@
+//! The report's object.
+ghost use Rattle.std.specs.Prelude.{◌≡◌, IfErr, IfOk, OnOk, string_bytes};
+ghost use Rattle.std.specs.Io.KnownBytes.{Appends};
+ghost use Rattle.serde_json.specs.View.{view};
+ghost use Rattle.ra_history_text.specs.Report.{report_data, report_object, report_line, StopsReport};
+
+use crate::fault::CheckFault;
+use crate::kind_line::kind_word;
+use crate::reply::cause_word;
+use crate::write::write_out;
+use ra_labels::{Fault, NoMemory};
+use ra_monitor::Report;
+use serde_json::{Value, json};
+use std::alloc::{AllocError, Global};
+use std::io::Write;
+
+/// The report as one compact JSON object, its keys in the order of their bytes.
+pub fn report_json(alloc: Global, report: &Report) -> Result<String, NoMemory>
+    ensures { IfOk result (λ text. string_bytes text ≡ report_object report.now) }
+{
+    let value = value_of(alloc, report)?;
+    Ok(value.to_string(alloc)?)
+}
+
+fn value_of(alloc: Global, report: &Report) -> Result<Value, AllocError>
+    ensures { IfOk result (λ value. view value ≡ report_data report.now) }
+{
+    let kind = kind_word(report.kind);
+    match report.fault {
+        None => json!(in alloc; {
+            "calls": report.calls,
+            "kind": kind,
+            "labels": report.labels,
+            "refused": report.refused,
+            "verdict": "yes"
+        }),
+        Some(Fault { label, cause }) => {
+            let cause = cause_word(cause);
+            json!(in alloc; {
+                "calls": report.calls,
+                "cause": cause,
+                "kind": kind,
+                "label": label,
+                "labels": report.labels,
+                "refused": report.refused,
+                "verdict": "no"
+            })
+        }
+    }
+}
+
+/// Writes the report's object on a line of its own.
+///
+/// # Errors
+///
+/// `NoMemory` where a growth is refused: nothing was written. `Write` where the writer fails, or takes no byte: a part
+/// of the line was.
+pub fn write_report<W: Write>(
+    alloc: Global,
+    report: &Report,
+    writer: &mut W,
+) -> Result<(), CheckFault>
+    ensures written { OnOk result (Appends (W.contents writer.old) (W.contents writer.new) (report_line report.now)) }
+    ensures stopped { IfErr result (StopsReport report.now (W.contents writer.old) (W.contents writer.new)) }
+{
+    let mut line = report_json(alloc, report)?;
+    line.push('\n')?;
+    write_out(writer, line.as_bytes())?;
+    Ok(())
+}

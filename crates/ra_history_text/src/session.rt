@@ -1,0 +1,223 @@
+//! A text that is taken in piece by piece.
+ghost use Rattle.std.specs.Prelude.{◌≡◌, ◌≢◌, ◌++◌, ◌∷◌, [], All, Ok, IfErr, IfOk, OnErr, OnOk, string_bytes};
+ghost use Rattle.ra_history_text.specs.History.{said_of};
+ghost use Rattle.ra_history_text.specs.Output.{replies_of};
+ghost use Rattle.ra_history_text.specs.Sessions.{said_at, AddsReplies, StopsLine, StopsExtending, StopsClosing, StopsInside, EndsText, StopsEnding};
+ghost use Rattle.ra_history_text.specs.Text as text;
+ghost use Rattle.ra_history_text.specs.Text.{text_start, line_start, next_line, line_taken, taken};
+
+use crate::command::command;
+use crate::fault::CheckFault;
+use crate::fields::cut_at;
+use crate::history::History;
+use crate::kind_line::kind_of;
+use crate::limits::LONGEST_LINE;
+use crate::name::Names;
+use crate::reply::{spell_end, spell_reply};
+use ra_labels::Kind;
+use ra_monitor::Report;
+use std::alloc::Global;
+use std::marker::Model;
+
+// What the whole lines of a text said.
+#[derive(Drop)]
+enum Stage {
+    // There was none: the first comes next.
+    Nothing,
+    // The kind: the line of names comes next.
+    OfKind(Kind),
+    // The kind, the names and commands, which are answered: a command comes next.
+    OfHistory(History),
+}
+
+impl Stage {
+    // The number of the line that comes next.
+    fn line(&self) -> u32
+        ensures { result ≡ next_line (said_at self.now) }
+    {
+        match self {
+            Stage::Nothing => 1,
+            Stage::OfKind(_) => 2,
+            Stage::OfHistory(history) => history.line(),
+        }
+    }
+
+    // Takes a whole line, and puts the line of its reply, if it has one, behind the others.
+    fn take_line(
+        &mut self,
+        line: &[u8],
+        reply: &mut String,
+        out: &mut String,
+    ) -> Result<(), CheckFault>
+        ensures taken { OnOk result (line_taken (said_at self.old) line.now ≡ Ok (line_start (said_at self.new))) }
+        ensures replied { OnOk result (AddsReplies (said_at self.old) (said_at self.new)
+            (string_bytes out.old) (string_bytes out.new)) }
+        ensures fault { IfErr result (StopsLine (said_at self.old) line.now) }
+        ensures err { OnErr result (string_bytes out.new ≡ string_bytes out.old) }
+    {
+        match self {
+            Stage::Nothing => {
+                *self = after_first(line)?;
+                Ok(())
+            }
+            Stage::OfKind(kind) => {
+                *self = after_names(*out.allocator(), *kind, line)?;
+                Ok(())
+            }
+            Stage::OfHistory(history) => take_command(history, line, reply, out),
+        }
+    }
+}
+
+fn after_first(line: &[u8]) -> Result<Stage, CheckFault>
+    ensures taken { IfOk result (λ next. line_taken text.Nothing line.now ≡ Ok (line_start (said_at next))) }
+    ensures replied { IfOk result (λ next. replies_of (said_at next) ≡ []) }
+    ensures fault { IfErr result (StopsLine text.Nothing line.now) }
+{
+    match kind_of(line) {
+        Some(kind) => Ok(Stage::OfKind(kind)),
+        None => Err(CheckFault::Syntax(1)),
+    }
+}
+
+fn after_names(alloc: Global, kind: Kind, line: &[u8]) -> Result<Stage, CheckFault>
+    ensures taken { IfOk result (λ next. line_taken (text.OfKind kind) line.now ≡ Ok (line_start (said_at next))) }
+    ensures replied { IfOk result (λ next. replies_of (said_at next) ≡ []) }
+    ensures fault { IfErr result (StopsLine (text.OfKind kind) line.now) }
+{
+    let names = match Names::read(alloc, line) {
+        Ok(names) => names,
+        Err(fault) => return Err(fault.at(2)),
+    };
+    let history = History::new(alloc, kind, names)?;
+    Ok(Stage::OfHistory(history))
+}
+
+// Takes a line behind the first two.
+fn take_command(
+    history: &mut History,
+    line: &[u8],
+    reply: &mut String,
+    out: &mut String,
+) -> Result<(), CheckFault>
+    ensures taken { OnOk result (line_taken (said_of history.old) line.now ≡ Ok (line_start (said_of history.new))) }
+    ensures replied { OnOk result (AddsReplies (said_of history.old) (said_of history.new)
+        (string_bytes out.old) (string_bytes out.new)) }
+    ensures fault { IfErr result (StopsLine (said_of history.old) line.now) }
+    ensures err { OnErr result (string_bytes out.new ≡ string_bytes out.old) }
+{
+    let found = command(*out.allocator(), history.kind(), history.names(), line)?;
+    let Some(command) = found else {
+        return Err(CheckFault::Syntax(history.line()));
+    };
+    let answer = history.answer(command)?;
+    spell_reply(reply, answer)?;
+    out.push_str(reply.as_str())?;
+    Ok(())
+}
+
+/// A text that is checked as it comes, in pieces that may end anywhere. Contracts see how far it has come: what its
+/// whole lines say, and what is there of the next one.
+#[derive(Drop)]
+pub struct Session {
+    stage: Stage,
+    partial: Vec<u8>,
+    // The line of the reply that is written next, kept so that a reply takes no memory of its own.
+    reply: String,
+}
+
+impl Model for Session {
+    ghost use Rattle.ra_history_text.specs.Text.{Progress};
+
+    ghost Value = { Progress };
+
+    ghost use Rattle.ra_history_text.specs.Sessions.{said_at};
+
+    ghost view = { λ s. record { said = said_at s.stage; partial = s.partial.items } };
+}
+
+impl Session {
+    /// A text of which nothing came. It takes no memory.
+    pub fn new(alloc: Global) -> Session
+        ensures { result ≡ text_start }
+    {
+        Session {
+            stage: Stage::Nothing,
+            partial: Vec::new(alloc),
+            reply: String::new(alloc),
+        }
+    }
+
+    /// Takes the next piece of the text, and puts the reply lines of the lines that are whole now behind the others.
+    /// After a fault the session is of no further use; the reply lines of the lines before are there. Costs as much as
+    /// the piece is long, and what the monitor's steps cost; a line that lies in one piece is read where it lies.
+    pub fn feed(&mut self, piece: &[u8], out: &mut String) -> Result<(), CheckFault>
+        ensures taken { OnOk result (taken self.old piece.now ≡ Ok self.new) }
+        ensures replied { OnOk result (AddsReplies self.old.said self.new.said
+            (string_bytes out.old) (string_bytes out.new)) }
+        ensures fault { IfErr result (StopsInside self.old piece.now (string_bytes out.old) (string_bytes out.new)) }
+    {
+        let mut rest = piece;
+        while let Some((front, behind)) = cut_at(b'\n', rest) {
+            self.close_line(front, out)?;
+            rest = behind;
+        }
+        self.extend(rest)
+    }
+
+    /// Ends the text, and puts its last line behind the others. `Truncated` where it may not end here; a fault puts
+    /// nothing there.
+    pub fn finish(&self, out: &mut String) -> Result<Report, CheckFault>
+        ensures ended { IfOk result (EndsText self.now (string_bytes out.old) (string_bytes out.new)) }
+        ensures fault { IfErr result (StopsEnding self.now) }
+        ensures err { OnErr result (string_bytes out.new ≡ string_bytes out.old) }
+    {
+        if !self.partial.is_empty() {
+            return Err(CheckFault::Truncated(self.stage.line()));
+        }
+        match &self.stage {
+            Stage::OfHistory(history) => {
+                let report = history.report();
+                let mut line = String::new(*out.allocator());
+                spell_end(&mut line, report.labels, report.fault)?;
+                out.push_str(line.as_str())?;
+                Ok(report)
+            }
+            Stage::Nothing | Stage::OfKind(_) => Err(CheckFault::Truncated(self.stage.line())),
+        }
+    }
+
+    // Takes a part of the next line, which has no line feed.
+    fn extend(&mut self, part: &[u8]) -> Result<(), CheckFault>
+        requires { All (λ b. b ≢ 10) part.now }
+        ensures taken { OnOk result (taken self.old part.now ≡ Ok self.new) }
+        ensures said { self.new.said ≡ self.old.said }
+        ensures fault { IfErr result (StopsExtending self.old part.now) }
+    {
+        let room = LONGEST_LINE.saturating_sub(self.partial.len());
+        if part.len() > room {
+            return Err(CheckFault::LineTooLong(self.stage.line()));
+        }
+        self.partial.extend_from_slice(part)?;
+        Ok(())
+    }
+
+    // Takes the last part of the next line, which has no line feed, and the line feed behind it. A line that lies in
+    // one piece is read there.
+    fn close_line(&mut self, last: &[u8], out: &mut String) -> Result<(), CheckFault>
+        requires { All (λ b. b ≢ 10) last.now }
+        ensures taken { OnOk result (taken self.old (last.now ++ 10 ∷ []) ≡ Ok self.new) }
+        ensures replied { OnOk result (AddsReplies self.old.said self.new.said
+            (string_bytes out.old) (string_bytes out.new)) }
+        ensures fault { IfErr result (StopsClosing self.old last.now) }
+        ensures err { OnErr result (string_bytes out.new ≡ string_bytes out.old) }
+    {
+        if self.partial.is_empty() && last.len() <= LONGEST_LINE {
+            return self.stage.take_line(last, &mut self.reply, out);
+        }
+        self.extend(last)?;
+        self.stage.take_line(&self.partial, &mut self.reply, out)?;
+        self.partial.clear();
+        Ok(())
+    }
+}

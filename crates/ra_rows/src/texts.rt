@@ -1,0 +1,298 @@
+//! Worked histories as texts: what `check` writes for each, and its status.
+
+use crate::commands::reply_to;
+use ra_history_text::{Item, Names, Reading, check, status, write_history};
+use ra_monitor::Monitor;
+use std::alloc::Global;
+use std::process::Abort;
+use std::test::Fail;
+
+#[derive(Clone, Copy)]
+struct Text {
+    // What it shows.
+    name: &'static str,
+    text: &'static str,
+    written: &'static str,
+    status: u8,
+}
+
+const TEXTS: [Text; 29] = [
+    Text {
+        name: "everything_was_delivered",
+        text: "RAH 1 counter\nreplicas a b c\na inc\nb got 0\nb read 1\n",
+        written: "ok 0\ngot 0\nok 1\nend yes 2\n",
+        status: 0,
+    },
+    Text {
+        name: "no_command",
+        text: "RAH 1 counter\nreplicas a b c\n",
+        written: "end yes 0\n",
+        status: 0,
+    },
+    Text {
+        name: "nothing_was_delivered",
+        text: "RAH 1 counter\nreplicas a b c\na inc\nb read 1\na inc\nverdict\n",
+        written: "ok 0\nno 1 query\nno 1 query\nno 1 query\nend no 1 query\n",
+        status: 1,
+    },
+    Text {
+        name: "delivered_out_of_causal_order",
+        text: "RAH 1 counter\nreplicas a b c\na inc\nb got 0\nb inc\nc got 1\n\
+c got 0\nc got 1\nc read 2\n",
+        written: "ok 0\ngot 0\nok 1\nrefused not-causal 0\ngot 0\ngot 1\nok 2\n\
+end yes 3\n",
+        status: 3,
+    },
+    Text {
+        name: "orset_delivered_out_of_causal_order",
+        text: "RAH 1 orset\nreplicas a b c\na add 4 #1\nb got 0\nb remove 4 #1\n\
+a add 4 #2\nc got 1\nc got 0\nc got 1\nc got 2\nc read 4\n",
+        written: "ok 0\ngot 0\nok 1\nok 2\nrefused not-causal 0\ngot 0\ngot 1\ngot 2\n\
+ok 3\nend yes 4\n",
+        status: 3,
+    },
+    Text {
+        name: "orset_remove_of_an_unseen_addition",
+        text: "RAH 1 orset\nreplicas a b c\na add 4 #1\nb remove 4 #1\n",
+        written: "ok 0\nno 1 query\nend no 1 query\n",
+        status: 1,
+    },
+    Text {
+        name: "register_the_later_stamp_is_read",
+        text: "RAH 1 register\nreplicas a b c\na write 7 @5\nb write 9 @3\nc got 0\n\
+c got 1\nc read 7\n",
+        written: "ok 0\nok 1\ngot 0\ngot 1\nok 2\nend yes 3\n",
+        status: 0,
+    },
+    Text {
+        name: "register_the_earlier_stamp_is_read",
+        text: "RAH 1 register\nreplicas a b c\na write 7 @5\nb write 9 @3\nc got 0\n\
+c got 1\nc read 9\n",
+        written: "ok 0\nok 1\ngot 0\ngot 1\nno 2 query\nend no 2 query\n",
+        status: 1,
+    },
+    Text {
+        name: "register_the_last_to_come_is_read",
+        text: "RAH 1 register\nreplicas a b c\nb write 9 @5\na write 7 @5\nc got 0\n\
+c got 1\nc read 9\n",
+        written: "ok 0\nok 1\ngot 0\ngot 1\nok 2\nend yes 3\n",
+        status: 0,
+    },
+    Text {
+        name: "register_equal_clocks",
+        text: "RAH 1 register\nreplicas a b c\na write 7 @5\nb got 0\nb write 9 @5\n",
+        written: "ok 0\ngot 0\nok 1\nend yes 2\n",
+        status: 0,
+    },
+    Text {
+        name: "register_a_lower_clock_than_seen",
+        text: "RAH 1 register\nreplicas a b c\na write 7 @5\nb got 0\nb write 9 @4\n",
+        written: "ok 0\ngot 0\nno 1 order\nend no 1 order\n",
+        status: 1,
+    },
+    Text {
+        name: "register_a_lower_clock_than_its_own",
+        text: "RAH 1 register\nreplicas a b c\na write 7 @5\na write 8 @4\n",
+        written: "ok 0\nno 1 order\nend no 1 order\n",
+        status: 1,
+    },
+    Text {
+        name: "register_a_stamp_is_taken",
+        text: "RAH 1 register\nreplicas a b c\na write 7 @5\na write 8 @5\n",
+        written: "ok 0\nrefused stamp-taken\nend yes 1\n",
+        status: 3,
+    },
+    Text {
+        name: "register_refusals_in_their_order",
+        text: "RAH 1 register\nreplicas a b c\nd read none\na inc\na write 7\n\
+a write 7 @0\na read none @1\na read none\nb got 0\nb got 1\n\
+a write 7 @1\na got 1\n",
+        written: "refused unknown-replica\nrefused wrong-kind\nrefused stamp-missing\n\
+refused stamp-missing\nrefused stamp-unwanted\nok 0\n\
+refused not-an-update\nrefused unknown-label\nok 1\n\
+refused already-seen\nend yes 2\n",
+        status: 3,
+    },
+    Text {
+        name: "lwwset_a_later_removal",
+        text: "RAH 1 lwwset\nreplicas a b c\na add 4 @2\nb remove 4 @1\n\
+b remove 9 @3\nc got 0\nc got 1\nc read 4\n",
+        written: "ok 0\nok 1\nok 2\ngot 0\ngot 1\nok 3\nend yes 4\n",
+        status: 0,
+    },
+    Text {
+        name: "lwwset_a_read_too_many",
+        text: "RAH 1 lwwset\nreplicas a b c\na add 1 @1\na read 1,2\n",
+        written: "ok 0\nno 1 query\nend no 1 query\n",
+        status: 1,
+    },
+    Text {
+        name: "rga_two_behind_one_anchor",
+        text: "RAH 1 rga\nreplicas a b c\na after 0 1 @1\nb got 0\na after 0 2 @3\n\
+b after 0 3 @2\nc got 0\nc got 1\nc got 2\nc read 2,3,1\n",
+        written: "ok 0\ngot 0\nok 1\nok 2\ngot 0\ngot 1\ngot 2\nok 3\nend yes 4\n",
+        status: 0,
+    },
+    Text {
+        name: "rga_an_element_again_and_earlier",
+        text: "RAH 1 rga\nreplicas a b c\na after 0 1 @5\nb after 0 1 @2\n",
+        written: "ok 0\nno 1 update\nend no 1 update\n",
+        status: 1,
+    },
+    Text {
+        name: "rga_an_anchor_comes_later",
+        text: "RAH 1 rga\nreplicas a b c\na after 0 1 @1\nb after 1 2 @2\nc got 1\n\
+c got 0\nc read 1,2\n",
+        written: "ok 0\nok 1\ngot 1\ngot 0\nok 2\nend yes 3\n",
+        status: 0,
+    },
+    Text {
+        name: "rga_a_read_before_the_anchor_comes",
+        text: "RAH 1 rga\nreplicas a b c\na after 0 1 @1\nb after 1 2 @2\nc got 1\n\
+c read -\n",
+        written: "ok 0\nok 1\ngot 1\nno 2 query\nend no 2 query\n",
+        status: 1,
+    },
+    Text {
+        name: "rga_an_anchor_with_a_tombstone",
+        text: "RAH 1 rga\nreplicas a b c\na after 0 1 @1\na remove 1\nb got 0\n\
+b after 1 2 @2\nc got 0\nc got 1\nc got 2\nc read 2\n",
+        written: "ok 0\nok 1\ngot 0\nok 2\ngot 0\ngot 1\ngot 2\nok 3\nend yes 4\n",
+        status: 0,
+    },
+    Text {
+        name: "rga_the_root_is_removed",
+        text: "RAH 1 rga\nreplicas a b c\na remove 0\n",
+        written: "no 0 update\nend no 0 update\n",
+        status: 1,
+    },
+    Text {
+        name: "rga_an_anchor_later_in_the_order",
+        text: "RAH 1 rga\nreplicas a b c\na after 0 1 @5\nb after 1 2 @3\n",
+        written: "ok 0\nno 1 update\nend no 1 update\n",
+        status: 1,
+    },
+    Text {
+        name: "rga_a_removal_of_what_was_not_seen",
+        text: "RAH 1 rga\nreplicas a b c\na after 0 1 @5\nb remove 1\n",
+        written: "ok 0\nno 1 update\nend no 1 update\n",
+        status: 1,
+    },
+    Text {
+        name: "rga_an_order_fault_before_an_update_fault",
+        text: "RAH 1 rga\nreplicas a b c\na after 0 1 @5\na after 9 2 @3\n",
+        written: "ok 0\nno 1 order\nend no 1 order\n",
+        status: 1,
+    },
+    Text {
+        name: "rga_an_anchor_that_is_nowhere",
+        text: "RAH 1 rga\nreplicas a b c\na after 3 4 @1\n",
+        written: "no 0 update\nend no 0 update\n",
+        status: 1,
+    },
+    Text {
+        name: "orset_identifiers_and_lists",
+        text: "RAH 1 orset\nreplicas a b c\na add 4 #1\nb add 5 #1\nb remove 4 #-\n\
+a read 4,4\n",
+        written: "ok 0\nrefused id-taken\nok 1\nrefused bad-list\nend yes 2\n",
+        status: 3,
+    },
+    Text {
+        name: "orset_both_remove_the_same",
+        text: "RAH 1 orset\nreplicas a b c\na add 4 #1\nb got 0\na remove 4 #1\n\
+b remove 4 #1\n",
+        written: "ok 0\ngot 0\nok 1\nok 2\nend yes 3\n",
+        status: 0,
+    },
+    Text {
+        name: "orset_a_removal_of_what_never_was",
+        text: "RAH 1 orset\nreplicas a b c\na remove 4 #9\n",
+        written: "no 0 query\nend no 0 query\n",
+        status: 1,
+    },
+];
+
+#[test]
+fn worked_texts_are_answered(rt: HostRuntime) -> Result<(), Fail> {
+    for row in TEXTS {
+        let mut written = Vec::new(rt.alloc());
+        let answer = check(rt.alloc(), &mut row.text.as_bytes(), &mut written);
+        assert_eq!(rt; status(&answer), row.status, "{}", row.name);
+        assert_eq!(rt; written.as_slice(), row.written.as_bytes(), "{}", row.name);
+    }
+    Ok(())
+}
+
+// A text that is written of a monitor amounts to what the monitor does, and nothing in it is refused.
+#[test]
+fn histories_are_written_and_checked_again(rt: HostRuntime) -> Result<(), Fail> {
+    let Ok(names) = Names::new(rt.alloc(), &["a", "b", "c"]) else {
+        panic!(rt; "no names");
+    };
+    for row in TEXTS {
+        let monitor = monitor_of(&rt, rt.alloc(), row.text);
+        let mut text = Vec::new(rt.alloc());
+        let wrote = write_history(rt.alloc(), &monitor, &names, &mut text);
+        assert_eq!(rt; wrote, Ok(()), "{}", row.name);
+        let mut written = Vec::new(rt.alloc());
+        let Ok(outcome) = check(rt.alloc(), &mut text.as_slice(), &mut written) else {
+            panic!(rt; "not a text: {}", row.name);
+        };
+        let report = monitor.report();
+        assert_eq!(rt; outcome.report.labels, report.labels, "{}", row.name);
+        assert_eq!(rt; outcome.report.fault, report.fault, "{}", row.name);
+        assert_eq!(rt; outcome.report.refused, 0, "{}", row.name);
+    }
+    Ok(())
+}
+
+// What is refused is left out, and so is all behind a no.
+#[test]
+fn only_what_was_accepted_is_written(rt: HostRuntime) -> Result<(), Fail> {
+    let Ok(names) = Names::new(rt.alloc(), &["a", "b", "c"]) else {
+        panic!(rt; "no names");
+    };
+    for (commands, wanted) in [
+        (
+            "RAH 1 orset\nreplicas a b c\na add 4 #1\nb got 0\nb remove 4 #1\na add 4 #2\nc got 1\nc got 0\n\
+c got 1\nc got 2\nc read 4\n",
+            "RAH 1 orset\nreplicas a b c\na add 4 #1\nb got 0\nb remove 4 #1\na add 4 #2\nc got 0\nc got 1\n\
+c got 2\nc read 4\n",
+        ),
+        (
+            "RAH 1 counter\nreplicas a b c\na inc\nb read 1\na inc\nverdict\n",
+            "RAH 1 counter\nreplicas a b c\na inc\nb read 1\n",
+        ),
+    ] {
+        let monitor = monitor_of(&rt, rt.alloc(), commands);
+        let mut text = Vec::new(rt.alloc());
+        let wrote = write_history(rt.alloc(), &monitor, &names, &mut text);
+        assert_eq!(rt; wrote, Ok(()));
+        assert_eq!(rt; text.as_slice(), wanted.as_bytes());
+    }
+    Ok(())
+}
+
+// The monitor of three replicas that is told the commands of the text.
+fn monitor_of(rt: &impl Abort, alloc: Global, text: &str) -> Monitor {
+    let mut reading = Reading::new(alloc);
+    let mut monitor = None;
+    for line in text.as_bytes().split(|byte| *byte == b'\n') {
+        match reading.line(line) {
+            Ok(Item::KindLine(kind)) => monitor = Monitor::new(alloc, kind, 3, 100).ok(),
+            Ok(Item::NamesLine(_)) => {}
+            Ok(Item::CommandLine(command)) => {
+                let Some(told) = &mut monitor else {
+                    panic!(rt; "a command before the kind");
+                };
+                reply_to(rt, told, command);
+            }
+            // What stands behind the last line feed is no line.
+            Err(_) => assert!(rt; line.is_empty(), "not read"),
+        }
+    }
+    match monitor {
+        Some(monitor) => monitor,
+        None => panic!(rt; "no monitor"),
+    }
+}
