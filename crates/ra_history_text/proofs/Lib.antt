@@ -19,6 +19,7 @@ pub mod Prefixes
 pub mod Reports
 pub mod Spelled
 pub mod Putting
+pub mod Sizes
 pub mod Accepting
 pub mod Entries
 pub mod WholeTexts

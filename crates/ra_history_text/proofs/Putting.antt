@@ -19,7 +19,7 @@ number_one out new n small last =
 
 -- ---- lists
 
-commas-append : (xs ys : List ℕ) → commas (xs ++ ys) ≡ commas xs ++ commas ys
+pub commas-append : (xs ys : List ℕ) → commas (xs ++ ys) ≡ commas xs ++ commas ys
 commas-append [] ys = refl
 commas-append (x ∷ xs) ys =
     ap (λ (bs : List ℕ). 44 ∷ (decimal x ++ bs)) (commas-append xs ys) ∙ ap (λ (bs : List ℕ). 44 ∷ bs) (sym (append_assoc (decimal x) (commas xs) (commas ys)))
@@ -35,7 +35,7 @@ commas_next out old mid new xs i there before comma last =
     ∙ ap (λ (bs : List ℕ). out ++ bs) (sym (commas-append (take i xs) (x ∷ [])))
     ∙ ap (λ (ys : List ℕ). out ++ commas ys) (sym (take_more xs i 0 there))
 
-joined : (x : ℕ) (xs : List ℕ) → join_with_byte 44 (map decimal (x ∷ xs)) ≡ decimal x ++ commas xs
+pub joined : (x : ℕ) (xs : List ℕ) → join_with_byte 44 (map decimal (x ∷ xs)) ≡ decimal x ++ commas xs
 joined x [] = sym (append-nil (decimal x))
 joined x (y ∷ ys) = ap (λ (bs : List ℕ). decimal x ++ 44 ∷ bs) (joined y ys)
 

@@ -17,7 +17,7 @@ use Rattle.ra_history_text.specs.Grammar.{IsLine, bytes_of, first_line, fields_o
 use Rattle.ra_history_text.specs.Names.{AreNamesSoFar}
 use Rattle.ra_history_text.specs.Spelling.{spaced, name_of, line_of, names_line, AreSmall, HasLine}
 use Rattle.ra_history_text.specs.Text.{OfHistory}
-use Rattle.ra_history_text.specs.Writing.{IsWritable, SaysHistory, records_in_order}
+use Rattle.ra_history_text.specs.Writing.{IsWritable, AreShort, SaysHistory, records_in_order}
 use Rattle.ra_history_text.proofs.Accepting.{accepted_are, accepted_have_lines}
 use Rattle.ra_history_text.proofs.Entries.{lines_of}
 use Rattle.ra_history_text.proofs.Spelled.{ArePlain, fields-spaced, one_line, plain_name, plain_word, plain_number, plain_operation, plain_clock, fields-append, named_at, line_spells}
@@ -112,12 +112,18 @@ as_few failed (entry ∷ log) =
 pub in_order : (monitor : Monitor) → IsLegalLog monitor.setup monitor.log → accepted_in false monitor.log ≡ records_in_order monitor
 in_order monitor legal = sym (accepted_are monitor.setup [] monitor.log legal)
 
+both : (names : List (List ℕ)) (commands : List Command) → AreShort names commands → AllByRecursion AreSmall commands → AllByRecursion (IsWritable names) commands
+both names [] short small = tt
+both names (c ∷ commands) short small = ((short.0, small.0), both names commands short.1 small.1)
+
 pub says_history : (monitor : Monitor) (names : List (List ℕ)) (heads text : List ℕ) → AreNamesSoFar names → 0 < length names → length names ≡ monitor.setup.replicas
     → IsLegalLog monitor.setup monitor.log → length monitor.log ≤ 1048576 → heads ≡ bytes_of (first_line monitor.setup.kind ∷ names_line names ∷ [])
-    → text ≡ heads ++ lines_of names (accepted_in false monitor.log) → AllByRecursion (IsWritable names) (accepted_in false monitor.log) → SaysHistory monitor names text
-says_history monitor names heads text so_far some as_many legal fits first last good =
+    → text ≡ heads ++ lines_of names (accepted_in false monitor.log) → AreShort names (records_in_order monitor) → AllByRecursion AreSmall (accepted_in false monitor.log)
+    → SaysHistory monitor names text
+says_history monitor names heads text so_far some as_many legal fits first last short small =
     let kind : Kind = monitor.setup.kind in
     let commands : List Command = accepted_in false monitor.log in
+    let good = both names commands (subst (AreShort names) (sym (in_order monitor legal)) short) small in
     let are : AreNames names = record { some = some; few = so_far.few; each = so_far.each; distinct = so_far.distinct } in
     let have = accepted_have_lines monitor.setup names [] monitor.log as_many legal in
     let says : Says text kind names commands = record {

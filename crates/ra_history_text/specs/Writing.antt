@@ -1,5 +1,5 @@
 -- What is written of a history, and why it is not.
-use Rattle.std.specs.Prelude.{◌≡◌, ℕ, ◌<◌, ◌≤◌, true, false, List, [], ◌∷◌, ◌++◌, length, map, reverse, Option, ⊤}
+use Rattle.std.specs.Prelude.{◌≡◌, ℕ, ◌<◌, ◌≤◌, List, ◌∷◌, ◌++◌, length, reverse, Option, Some, None}
 use Rattle.std.specs.Io.KnownBytes.{Appends, Keeps}
 use Rattle.std.specs.List.{AllByRecursion}
 use Rattle.ra_labels.specs.declared.command.Command.{Command}
@@ -18,6 +18,10 @@ IsShort names command = length (line_of names command) ≤ LONGEST_LINE
 abbrev pub IsWritable : List (List ℕ) → Command → Type 0
 IsWritable names command = IsShort names command × AreSmall command
 
+-- each command's line is short enough
+abbrev pub AreShort : List (List ℕ) → List Command → Type 0
+AreShort names commands = AllByRecursion (IsShort names) commands
+
 -- the command at this place, from 0, is the first whose line is too long
 pub record IsFirstLong (names : List (List ℕ)) (commands : List Command) (at : ℕ) : Type 0 where
   pub before : List Command
@@ -25,26 +29,13 @@ pub record IsFirstLong (names : List (List ℕ)) (commands : List Command) (at :
   pub later : List Command
   pub parts : commands ≡ before ++ command ∷ later
   pub place : at ≡ length before
-  pub short : AllByRecursion (IsShort names) before
+  pub short : AreShort names before
   pub long : LONGEST_LINE < length (line_of names command)
 
--- why the line of a command is not put behind bytes, where so many stand before it
-abbrev pub StopsLine : List (List ℕ) → Command → ℕ → WriteFault → Type 0
-StopsLine names command place (LineTooLong at) = (at ≡ place) × (LONGEST_LINE < length (line_of names command))
-StopsLine names command place NoMemory = ⊤
-StopsLine names command place BadNames = ⊥
-StopsLine names command place Write = ⊥
-
--- the same of the one command that there is, if there is one
-abbrev pub StopsEntry : List (List ℕ) → List Command → ℕ → WriteFault → Type 0
-StopsEntry names commands place fault = (command : Command) × (commands ≡ command ∷ []) × StopsLine names command place fault
-
--- why the lines of commands are not put behind bytes
-abbrev pub StopsPutting : List (List ℕ) → List Command → WriteFault → Type 0
-StopsPutting names commands (LineTooLong at) = IsFirstLong names commands at
-StopsPutting names commands NoMemory = ⊤
-StopsPutting names commands BadNames = ⊥
-StopsPutting names commands Write = ⊥
+-- it is told where there is one
+abbrev pub TellsFirstLong : List (List ℕ) → List Command → Option ℕ → Type 0
+TellsFirstLong names commands None = AreShort names commands
+TellsFirstLong names commands (Some at) = IsFirstLong names commands at
 
 -- the accepted commands of a monitor, the oldest first
 abbrev pub records_in_order : Monitor → List Command
@@ -73,5 +64,6 @@ abbrev pub StopsWriting : Monitor → List (List ℕ) → Option (List ℕ) → 
 StopsWriting monitor names old new BadNames = (AreAsMany monitor names → ⊥) × Keeps old new
 StopsWriting monitor names old new (LineTooLong at) =
     AreAsMany monitor names × IsFirstLong names (records_in_order monitor) at × Keeps old new
-StopsWriting monitor names old new NoMemory = AreAsMany monitor names × Keeps old new
+StopsWriting monitor names old new NoMemory =
+    AreAsMany monitor names × AreShort names (records_in_order monitor) × Keeps old new
 StopsWriting monitor names old new Write = AreAsMany monitor names × WritesPartOfHistory monitor names old new

@@ -29,6 +29,7 @@ mod reply;
 mod report;
 mod run;
 mod session;
+mod size;
 mod spelling;
 mod write;
 mod writing;

@@ -4,14 +4,14 @@ ghost use Rattle.std.specs.List.{AllByRecursion};
 ghost use Rattle.ra_history_text.specs.Accepted as accepted;
 ghost use Rattle.ra_history_text.specs.Accepted.{accepted_in, accepted_one};
 ghost use Rattle.ra_history_text.specs.Grammar.{bytes_of, first_line};
-ghost use Rattle.ra_history_text.specs.Spelling.{line_of, names_line};
-ghost use Rattle.ra_history_text.specs.Writing.{IsWritable, AreAsMany, StopsLine, StopsEntry, StopsPutting, records_in_order, WritesHistory, StopsWriting, SaysHistory};
-ghost use Rattle.ra_history_text.specs.declared.limits.TheConstants.{MOST_COMMANDS};
+ghost use Rattle.ra_history_text.specs.Spelling.{line_of, names_line, AreSmall};
+ghost use Rattle.ra_history_text.specs.Writing.{AreShort, TellsFirstLong, AreAsMany, records_in_order, WritesHistory, StopsWriting, SaysHistory};
 
 use crate::fault::WriteFault;
 use crate::kind_line::kind_word;
-use crate::limits::{LONGEST_LINE, MOST_COMMANDS};
+use crate::limits::LONGEST_LINE;
 use crate::name::Names;
+use crate::size::line_size;
 use crate::spelling::{put_command, put_names};
 use crate::write::write_out;
 use ra_labels::{Command, Kind, NoMemory, Reply};
@@ -22,10 +22,10 @@ use std::io::Write;
 
 /// Writes the two lines of the kind and the names, and the accepted operations and deliveries in order, a line each.
 ///
-/// `BadNames` where there are not as many names as the monitor has replicas, and then `LineTooLong` with the place of
-/// the first command whose line is too long: nothing is written. Nor is it with `NoMemory`. With `Write`, where the
-/// writer fails, a part of the text is written. The whole text is spelled in memory before: costs as much as it is
-/// long.
+/// `BadNames` comes just where there are not as many names as the monitor has replicas, and else `LineTooLong` just
+/// where a command's line is too long, with the place of the first such: neither takes memory, and nothing is written.
+/// Nor is it with `NoMemory`, where a growth is refused. With `Write`, where the writer fails, a part of the text is
+/// written. The whole text is spelled in memory before: costs as much as it is long.
 pub fn write_history<W: Write>(
     alloc: Global,
     monitor: &Monitor,
@@ -42,17 +42,39 @@ pub fn write_history<W: Write>(
     if names.count() != monitor.replicas() {
         return Err(WriteFault::BadNames);
     }
+    if let Some(place) = first_long(names, monitor) {
+        return Err(WriteFault::LineTooLong(place));
+    }
     let text = spelled(alloc, monitor, names)?;
     write_out(writer, text.as_slice())?;
     Ok(())
 }
 
+// The place of the first accepted command whose line is too long. It takes no memory.
+fn first_long(names: &Names, monitor: &Monitor) -> Option<u32>
+    ensures { TellsFirstLong names.now (records_in_order monitor.now) result }
+{
+    let log = monitor.log();
+    let mut failed = false;
+    let mut place = 0;
+    for entry in log {
+        if tells_accepted(failed, entry.reply) {
+            if line_size(names, &entry.command) > LONGEST_LINE as u128 {
+                return Some(place);
+            }
+            place += 1;
+        }
+        failed = failed || is_no(entry.reply);
+    }
+    None
+}
+
 // The whole text.
-fn spelled(alloc: Global, monitor: &Monitor, names: &Names) -> Result<Vec<u8>, WriteFault>
+fn spelled(alloc: Global, monitor: &Monitor, names: &Names) -> Result<Vec<u8>, NoMemory>
     requires as_many { AreAsMany monitor.now names.now }
     requires some { 0 < length names.now }
+    requires short { AreShort names.now (records_in_order monitor.now) }
     ensures says { IfOk result (λ text. SaysHistory monitor.now names.now text.items) }
-    ensures fault { IfErr result (StopsPutting names.now (records_in_order monitor.now)) }
 {
     names.are_names();
     let mut text = Vec::new(alloc);
@@ -77,59 +99,34 @@ fn put_entries(
     text: &mut Vec<u8>,
     names: &Names,
     log: &[Entry<Command, Reply>],
-) -> Result<(), WriteFault>
-    requires { length log.now ≤ MOST_COMMANDS }
+) -> Result<(), NoMemory>
     ensures put { OnOk result (text.new.items
         ≡ text.old.items ++ bytes_of (map (line_of names.now) (accepted_in false log.now))) }
-    ensures good { OnOk result (AllByRecursion (IsWritable names.now) (accepted_in false log.now)) }
-    ensures fault { IfErr result (StopsPutting names.now (accepted_in false log.now)) }
+    ensures small { OnOk result (AllByRecursion AreSmall (accepted_in false log.now)) }
 {
     let mut failed = false;
-    let mut place = 0;
     for entry in log {
-        place = put_entry(text, names, failed, place, entry)?;
+        put_entry(text, names, failed, entry)?;
         failed = failed || is_no(entry.reply);
     }
     Ok(())
 }
 
-// The line of the entry's command, where it was accepted, and how many were then, of which so many were before.
+// The line of the entry's command, where it was accepted.
 fn put_entry(
     text: &mut Vec<u8>,
     names: &Names,
     failed: bool,
-    place: u32,
     entry: &Entry<Command, Reply>,
-) -> Result<u32, WriteFault>
-    requires { place < MOST_COMMANDS }
+) -> Result<(), NoMemory>
     ensures put { OnOk result (text.new.items
         ≡ text.old.items ++ bytes_of (map (line_of names.now) (accepted_one failed entry.now))) }
-    ensures good { OnOk result (AllByRecursion (IsWritable names.now) (accepted_one failed entry.now)) }
-    ensures place { IfOk result (λ next. next ≡ place + length (accepted_one failed entry.now)) }
-    ensures fault { IfErr result (StopsEntry names.now (accepted_one failed entry.now) place) }
+    ensures small { OnOk result (AllByRecursion AreSmall (accepted_one failed entry.now)) }
 {
     if !tells_accepted(failed, entry.reply) {
-        return Ok(place);
+        return Ok(());
     }
-    put_line(text, names, place, &entry.command)?;
-    Ok(place + 1)
-}
-
-fn put_line(
-    text: &mut Vec<u8>,
-    names: &Names,
-    place: u32,
-    command: &Command,
-) -> Result<(), WriteFault>
-    ensures put { OnOk result (text.new.items ≡ text.old.items ++ (line_of names.now command.now ++ 10 ∷ [])) }
-    ensures good { OnOk result (IsWritable names.now command.now) }
-    ensures fault { IfErr result (StopsLine names.now command.now place) }
-{
-    let before = text.len();
-    put_command(text, names, command)?;
-    if text.len() > before.saturating_add(LONGEST_LINE) {
-        return Err(WriteFault::LineTooLong(place));
-    }
+    put_command(text, names, &entry.command)?;
     Ok(text.push(b'\n')?)
 }
 

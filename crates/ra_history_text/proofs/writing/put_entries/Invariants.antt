@@ -4,4 +4,4 @@ use Rattle.ra_history_text.proofs.writing.put_entries.Given as goal
 
 -- the entries so far are put
 abbrev pub invariant-loop-entry : goal.invariant-loop-entry
-invariant-loop-entry l = IsPutUpTo l.names l.log (drop l.entry-index l.log) l.failed l.place l.initial.text.items l.text.items
+invariant-loop-entry l = IsPutUpTo l.names l.log (drop l.entry-index l.log) l.failed l.initial.text.items l.text.items
