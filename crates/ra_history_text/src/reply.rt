@@ -1,7 +1,8 @@
 //! The lines that are written.
 ghost use Rattle.std.specs.Prelude.{◌≡◌, ◌<◌, ◌+◌, ◌∷◌, ◌++◌, [], OnOk, decimal, string_bytes};
 ghost use Rattle.ra_history_text.specs.Output as output;
-ghost use Rattle.ra_labels.specs.declared.reply.Reply.TheVariants.{Refused};
+ghost use Rattle.ra_labels.specs.declared.reply.Reply.TheVariants.{No, Refused};
+ghost use Rattle.ra_labels.specs.declared.refusal.Refusal.TheVariants.{NotCausal};
 
 use ra_labels::{Cause, Fault, Refusal, Reply};
 use std::alloc::AllocError;
@@ -15,12 +16,19 @@ pub fn spell_reply(line: &mut String, reply: Reply) -> Result<(), AllocError>
         Reply::Ok(label) => push_numbered(line, "ok ", label),
         Reply::Got(label) => push_numbered(line, "got ", label),
         Reply::Yes(labels) => push_numbered(line, "yes ", labels),
-        Reply::No { label, cause } => {
-            let cause = cause_word(cause);
-            write!(line, "no {label} {cause}\n")
-        }
+        Reply::No { label, cause } => spell_no(line, label, cause),
         Reply::Refused(refusal) => spell_refusal(line, refusal),
     }
+}
+
+// Makes a line that is empty that of a no. What `write!` needs is kept out of the way of the other replies.
+#[inline(never)]
+fn spell_no(line: &mut String, label: u32, cause: Cause) -> Result<(), AllocError>
+    requires { string_bytes line.old ≡ [] }
+    ensures { OnOk result (string_bytes line.new ≡ output.reply_line (No label cause)) }
+{
+    let cause = cause_word(cause);
+    write!(line, "no {label} {cause}\n")
 }
 
 /// Makes the line the last one, by the number of labels and the fault, its line feed included.
@@ -80,9 +88,18 @@ fn spell_refusal(line: &mut String, refusal: Refusal) -> Result<(), AllocError>
         Refusal::UnknownLabel => "refused unknown-label\n",
         Refusal::NotAnUpdate => "refused not-an-update\n",
         Refusal::AlreadySeen => "refused already-seen\n",
-        Refusal::NotCausal(missing) => return write!(line, "refused not-causal {missing}\n"),
+        Refusal::NotCausal(missing) => return spell_not_causal(line, missing),
     };
     line.push_str(spelled)
+}
+
+// The same of a refusal that names a label.
+#[inline(never)]
+fn spell_not_causal(line: &mut String, missing: u32) -> Result<(), AllocError>
+    requires { string_bytes line.old ≡ [] }
+    ensures { OnOk result (string_bytes line.new ≡ output.reply_line (Refused (NotCausal missing))) }
+{
+    write!(line, "refused not-causal {missing}\n")
 }
 
 /// The word of a cause.

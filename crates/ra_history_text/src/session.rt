@@ -56,16 +56,36 @@ impl Stage {
         ensures err { OnErr result (string_bytes out.new ≡ string_bytes out.old) }
     {
         match self {
-            Stage::Nothing => {
-                *self = after_first(line)?;
-                Ok(())
-            }
+            Stage::Nothing => self.take_first(line),
             Stage::OfKind(kind) => {
-                *self = after_names(*out.allocator(), *kind, line)?;
-                Ok(())
+                let kind = *kind;
+                self.take_names(*out.allocator(), kind, line)
             }
             Stage::OfHistory(history) => take_command(history, line, reply, out),
         }
+    }
+
+    // Not inlined, nor is the next one: what they keep on the stack would be made ready for each line.
+    #[cold]
+    #[inline(never)]
+    fn take_first(&mut self, line: &[u8]) -> Result<(), CheckFault>
+        ensures taken { OnOk result (line_taken text.Nothing line.now ≡ Ok (line_start (said_at self.new))) }
+        ensures replied { OnOk result (replies_of (said_at self.new) ≡ []) }
+        ensures fault { IfErr result (StopsLine text.Nothing line.now) }
+    {
+        *self = after_first(line)?;
+        Ok(())
+    }
+
+    #[cold]
+    #[inline(never)]
+    fn take_names(&mut self, alloc: Global, kind: Kind, line: &[u8]) -> Result<(), CheckFault>
+        ensures taken { OnOk result (line_taken (text.OfKind kind) line.now ≡ Ok (line_start (said_at self.new))) }
+        ensures replied { OnOk result (replies_of (said_at self.new) ≡ []) }
+        ensures fault { IfErr result (StopsLine (text.OfKind kind) line.now) }
+    {
+        *self = after_names(alloc, kind, line)?;
+        Ok(())
     }
 }
 
