@@ -28,7 +28,7 @@ c read 4
 #[test]
 fn histories_are_written_and_checked_again(rt: HostRuntime) -> Result<(), Fail> {
     let names = names_of(&rt, rt.alloc(), &["a", "b", "c"]);
-    for row in TEXTS {
+    for row in &TEXTS {
         let monitor = monitor_of(&rt, rt.alloc(), row.text);
         let mut text = Vec::new(rt.alloc());
         let wrote = write_history(rt.alloc(), &monitor, &names, &mut text);

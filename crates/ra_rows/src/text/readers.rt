@@ -97,9 +97,9 @@ pub struct Repeats<'a> {
     most: usize,
 }
 
-impl Repeats<'_> {
+impl<'a> Repeats<'a> {
     /// Gives the text alone, each read at most so many bytes.
-    pub fn of(text: &str, most: usize) -> Repeats<'_> {
+    pub fn of(text: &'a str, most: usize) -> Repeats<'a> {
         Repeats {
             now: text.as_bytes(),
             part: b"",

@@ -4,6 +4,7 @@ use super::readers::Repeats;
 use super::{REPLIES, SETS};
 use ra_history_text::limits::PIECE;
 use ra_history_text::{check, status};
+use std::alloc::Global;
 use std::test::Fail;
 
 /// A text of three replicas with its answer.
@@ -221,14 +222,20 @@ b remove 4 #1\n",
 // Each text is answered as it says, whether it comes at once or a byte a read.
 #[test]
 fn worked_texts_are_answered(rt: HostRuntime) -> Result<(), Fail> {
-    for row in TEXTS {
+    for row in &TEXTS {
         for most in [PIECE, 1] {
-            let mut reader = Repeats::of(row.text, most);
-            let mut written = Vec::new(rt.alloc());
-            let answer = check(rt.alloc(), &mut reader, &mut written);
-            assert_eq!(rt; status(&answer), row.status, "{}", row.name);
+            let (ended, written) = answer_to(rt.alloc(), row.text, most);
+            assert_eq!(rt; ended, row.status, "{}", row.name);
             assert_eq!(rt; written.as_slice(), row.written.as_bytes(), "{}", row.name);
         }
     }
     Ok(())
+}
+
+// The status and what is written, where each read gives at most so many bytes of the text.
+fn answer_to(alloc: Global, text: &str, most: usize) -> (u8, Vec<u8>) {
+    let mut reader = Repeats::of(text, most);
+    let mut written = Vec::new(alloc);
+    let answer = check(alloc, &mut reader, &mut written);
+    (status(&answer), written)
 }
