@@ -42,6 +42,3 @@ pub use report::{report_json, write_report};
 pub use run::check;
 pub use session::Session;
 pub use writing::write_history;
-
-#[cfg(test)]
-mod tests;

@@ -17,6 +17,15 @@ pub fn bare(replica: u8, op: Op) -> Command {
     }
 }
 
+/// What a replica reports: an operation with this clock.
+pub fn stamped(replica: u8, op: Op, clock: u32) -> Command {
+    Command::Operate {
+        replica,
+        op,
+        stamp: Some(clock),
+    }
+}
+
 /// An increment.
 pub fn increment(replica: u8) -> Command {
     bare(replica, Op::Inc)

@@ -1,5 +1,6 @@
 //! Each public call of the libraries once, with ample memory.
 
+use crate::commands::{bare, stamped};
 use ra_labels::{Command, Elements, Kind, NoMemory, Op, Query, Refusal, Reply, Update, fits};
 use ra_monitor::Monitor;
 use ra_seqspec::State;
@@ -82,15 +83,6 @@ fn a_monitor_is_told_three_things(rt: HostRuntime) -> Result<(), Fail> {
     Ok(())
 }
 
-// The operation at replica 200, with this clock.
-fn operation(op: Op, stamp: Option<u32>) -> Command {
-    Command::Operate {
-        replica: 200,
-        op,
-        stamp,
-    }
-}
-
 #[test]
 fn a_stamp_is_unwanted_and_all_else_fits(rt: HostRuntime) {
     let unwanted = Some(Refusal::StampUnwanted);
@@ -99,11 +91,11 @@ fn a_stamp_is_unwanted_and_all_else_fits(rt: HostRuntime) {
         label: 7,
     };
     let cases = [
-        (operation(Op::Inc, None), None),
-        (operation(Op::Inc, Some(3)), unwanted),
-        (operation(Op::Dec, Some(0)), unwanted),
-        (operation(Op::Count(-12), Some(4_294_967_295)), unwanted),
-        (operation(Op::Count(-12), None), None),
+        (bare(200, Op::Inc), None),
+        (stamped(200, Op::Inc, 3), unwanted),
+        (stamped(200, Op::Dec, 0), unwanted),
+        (stamped(200, Op::Count(-12), 4_294_967_295), unwanted),
+        (bare(200, Op::Count(-12)), None),
         (delivery, None),
         (Command::Verdict, None),
     ];

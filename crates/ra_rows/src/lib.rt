@@ -23,7 +23,7 @@ mod rows;
 #[cfg(test)]
 mod sizes;
 #[cfg(test)]
-mod texts;
+mod text;
 #[cfg(test)]
 mod timestamps;
 #[cfg(test)]

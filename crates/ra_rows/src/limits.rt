@@ -1,9 +1,11 @@
 //! Limits of a monitor, and histories of thousands.
 
 use crate::commands::{counter_of, got, increment, read, reply_to, step_by};
+use crate::rows::are_parts;
 use ra_labels::{Command, Kind, Refusal, Reply};
-use ra_monitor::{Half, Monitor, NewFault, PartRef};
+use ra_monitor::{Monitor, NewFault};
 use ra_ticket::{Journal, StepFault};
+use std::alloc::Global;
 use std::process::Abort;
 use std::test::Fail;
 
@@ -64,7 +66,7 @@ fn thousands_of_labels_are_taken(rt: HostRuntime) -> Result<(), Fail> {
         let reply = reply_to(&rt, &mut monitor, increment((number % 2) as u8));
         assert_eq!(rt; reply, Reply::Ok(number));
         if number == 299 {
-            stands_in_turn(&rt, &monitor, 300);
+            stands_in_turn(&rt, rt.alloc(), &monitor, 300);
         }
     }
     assert_eq!(rt;
@@ -81,24 +83,15 @@ fn thousands_of_labels_are_taken(rt: HostRuntime) -> Result<(), Fail> {
         reply_to(&rt, &mut monitor, Command::Verdict),
         Reply::Yes(5_002)
     );
-    stands_in_turn(&rt, &monitor, 5_002);
+    stands_in_turn(&rt, rt.alloc(), &monitor, 5_002);
     Ok(())
 }
 
 // The sequence has this many labels, in the order of their numbers, each of one part.
-fn stands_in_turn(rt: &impl Abort, monitor: &Monitor, labels: u32) {
-    let Ok(sequence) = monitor.sequence() else {
+fn stands_in_turn(rt: &impl Abort, alloc: Global, monitor: &Monitor, labels: u32) {
+    let (Ok(sequence), Ok(wanted)) = (monitor.sequence(), (0..labels).collect::<Vec<u32>>(alloc))
+    else {
         panic!(rt; "no memory");
     };
-    assert_eq!(rt; sequence.len(), labels as usize);
-    assert!(rt; are_whole_in_turn(sequence.as_slice()));
-}
-
-fn are_whole_in_turn(parts: &[PartRef]) -> bool {
-    for (at, part) in parts.iter().enumerate() {
-        if part.label as usize != at || part.half != Half::Whole {
-            return false;
-        }
-    }
-    true
+    assert!(rt; are_parts(sequence.as_slice(), wanted.as_slice()));
 }

@@ -1,6 +1,6 @@
 //! Worked histories of any kind, as rows of a table: what is said, and what is answered.
 
-use crate::commands::{bare, got, increment, read, reply_to};
+use crate::commands::{bare, got, increment, read, reply_to, stamped};
 use ra_labels::{Command, Elements, Fault, Kind, Op, Reply};
 use ra_monitor::{Half, Monitor, PartRef, Report};
 use std::alloc::Global;
@@ -80,14 +80,6 @@ fn command_of(rt: &impl Abort, alloc: Global, say: Say) -> Command {
     }
 }
 
-fn stamped(replica: u8, op: Op, clock: u32) -> Command {
-    Command::Operate {
-        replica,
-        op,
-        stamp: Some(clock),
-    }
-}
-
 fn elements_of(rt: &impl Abort, alloc: Global, list: &[u32]) -> Elements {
     match Vec::from_slice(alloc, list) {
         Ok(items) => Elements::new(items),
@@ -142,8 +134,8 @@ pub fn are_answered(rt: &impl Abort, alloc: Global, rows: &[Row]) {
     }
 }
 
-// Are these the parts of the labels: of one that is there twice the query half and then the update half?
-fn are_parts(parts: &[PartRef], labels: &[u32]) -> bool {
+/// Are these the parts of the labels: of one that is there twice the query half and then the update half?
+pub fn are_parts(parts: &[PartRef], labels: &[u32]) -> bool {
     if parts.len() != labels.len() {
         return false;
     }

@@ -3,8 +3,8 @@
 ghost use Rattle.std.specs.Prelude.{◌≡◌, ◌+◌, ◌<◌, ◌≤◌, length};
 ghost use Rattle.ra_visibility.specs.Tracked.{labels_in, replicas_in};
 
-use crate::commands::reply_to;
-use ra_labels::{Command, Elements, Kind, Label, Op, Query, Refusal, Reply, Stamp, Update};
+use crate::commands::{bare, reply_to, stamped};
+use ra_labels::{Elements, Kind, Label, Op, Query, Refusal, Reply, Stamp, Update};
 use ra_monitor::Monitor;
 use ra_seqspec::State;
 use ra_time_order::TimeOrder;
@@ -92,21 +92,19 @@ fn thousands_of_elements_are_put_in(rt: HostRuntime) -> Result<(), Fail> {
     for number in 0..4_200u32 {
         let replica = (number / 2_100) as u8;
         let clock = 2 * (number % 2_100) + 2 - replica as u32;
-        let reply = reply_to(&rt, &mut monitor, add(replica, number ^ 1, clock));
+        let add = stamped(replica, Op::LwwAdd(number ^ 1), clock);
+        let reply = reply_to(&rt, &mut monitor, add);
         assert_eq!(rt; reply, Reply::Ok(number));
         if number < 2_100 && all.push(number).is_err() {
             panic!(rt; "no memory");
         }
     }
     for (replica, clock) in [(0, 2), (0, 4_200), (1, 1), (1, 4_199)] {
-        let reply = reply_to(&rt, &mut monitor, add(replica, 0, clock));
+        let add = stamped(replica, Op::LwwAdd(0), clock);
+        let reply = reply_to(&rt, &mut monitor, add);
         assert_eq!(rt; reply, Reply::Refused(Refusal::StampTaken));
     }
-    let read = Command::Operate {
-        replica: 0,
-        op: Op::LwwRead(Elements::new(all)),
-        stamp: None,
-    };
+    let read = bare(0, Op::LwwRead(Elements::new(all)));
     let reply = reply_to(&rt, &mut monitor, read);
     assert_eq!(rt; reply, Reply::Ok(4_200));
     let Ok(sequence) = monitor.sequence() else {
@@ -118,14 +116,6 @@ fn thousands_of_elements_are_put_in(rt: HostRuntime) -> Result<(), Fail> {
         assert_eq!(rt; part.label as usize, first + at / 2);
     }
     Ok(())
-}
-
-fn add(replica: u8, element: u32, clock: u32) -> Command {
-    Command::Operate {
-        replica,
-        op: Op::LwwAdd(element),
-        stamp: Some(clock),
-    }
 }
 
 #[test]

@@ -1,22 +1,23 @@
 //! Worked histories as texts: what `check` writes for each, and its status.
 
-use crate::commands::reply_to;
-use ra_history_text::{Item, Names, Reading, check, status, write_history};
-use ra_monitor::Monitor;
+use super::readers::Repeats;
+use super::{REPLIES, SETS};
+use ra_history_text::limits::PIECE;
+use ra_history_text::{check, status};
 use std::alloc::Global;
-use std::process::Abort;
 use std::test::Fail;
 
+/// A text of three replicas with its answer.
 #[derive(Clone, Copy)]
-struct Text {
-    // What it shows.
-    name: &'static str,
-    text: &'static str,
-    written: &'static str,
-    status: u8,
+pub struct Text {
+    /// What it shows.
+    pub name: &'static str,
+    pub text: &'static str,
+    pub written: &'static str,
+    pub status: u8,
 }
 
-const TEXTS: [Text; 29] = [
+pub const TEXTS: [Text; 30] = [
     Text {
         name: "everything_was_delivered",
         text: "RAH 1 counter\nreplicas a b c\na inc\nb got 0\nb read 1\n",
@@ -44,11 +45,17 @@ end yes 3\n",
         status: 3,
     },
     Text {
+        name: "delivered_before_the_second_that_it_saw",
+        text: "RAH 1 counter\nreplicas a b c\na inc\na inc\nb got 0\nb got 1\n\
+b inc\nc got 0\nc got 2\nc got 1\nc got 2\nc read 3\n",
+        written: "ok 0\nok 1\ngot 0\ngot 1\nok 2\ngot 0\nrefused not-causal 1\n\
+got 1\ngot 2\nok 3\nend yes 4\n",
+        status: 3,
+    },
+    Text {
         name: "orset_delivered_out_of_causal_order",
-        text: "RAH 1 orset\nreplicas a b c\na add 4 #1\nb got 0\nb remove 4 #1\n\
-a add 4 #2\nc got 1\nc got 0\nc got 1\nc got 2\nc read 4\n",
-        written: "ok 0\ngot 0\nok 1\nok 2\nrefused not-causal 0\ngot 0\ngot 1\ngot 2\n\
-ok 3\nend yes 4\n",
+        text: SETS,
+        written: REPLIES,
         status: 3,
     },
     Text {
@@ -212,87 +219,23 @@ b remove 4 #1\n",
     },
 ];
 
+// Each text is answered as it says, whether it comes at once or a byte a read.
 #[test]
 fn worked_texts_are_answered(rt: HostRuntime) -> Result<(), Fail> {
-    for row in TEXTS {
-        let mut written = Vec::new(rt.alloc());
-        let answer = check(rt.alloc(), &mut row.text.as_bytes(), &mut written);
-        assert_eq!(rt; status(&answer), row.status, "{}", row.name);
-        assert_eq!(rt; written.as_slice(), row.written.as_bytes(), "{}", row.name);
-    }
-    Ok(())
-}
-
-// A text that is written of a monitor amounts to what the monitor does, and nothing in it is refused.
-#[test]
-fn histories_are_written_and_checked_again(rt: HostRuntime) -> Result<(), Fail> {
-    let Ok(names) = Names::new(rt.alloc(), &["a", "b", "c"]) else {
-        panic!(rt; "no names");
-    };
-    for row in TEXTS {
-        let monitor = monitor_of(&rt, rt.alloc(), row.text);
-        let mut text = Vec::new(rt.alloc());
-        let wrote = write_history(rt.alloc(), &monitor, &names, &mut text);
-        assert_eq!(rt; wrote, Ok(()), "{}", row.name);
-        let mut written = Vec::new(rt.alloc());
-        let Ok(outcome) = check(rt.alloc(), &mut text.as_slice(), &mut written) else {
-            panic!(rt; "not a text: {}", row.name);
-        };
-        let report = monitor.report();
-        assert_eq!(rt; outcome.report.labels, report.labels, "{}", row.name);
-        assert_eq!(rt; outcome.report.fault, report.fault, "{}", row.name);
-        assert_eq!(rt; outcome.report.refused, 0, "{}", row.name);
-    }
-    Ok(())
-}
-
-// What is refused is left out, and so is all behind a no.
-#[test]
-fn only_what_was_accepted_is_written(rt: HostRuntime) -> Result<(), Fail> {
-    let Ok(names) = Names::new(rt.alloc(), &["a", "b", "c"]) else {
-        panic!(rt; "no names");
-    };
-    for (commands, wanted) in [
-        (
-            "RAH 1 orset\nreplicas a b c\na add 4 #1\nb got 0\nb remove 4 #1\na add 4 #2\nc got 1\nc got 0\n\
-c got 1\nc got 2\nc read 4\n",
-            "RAH 1 orset\nreplicas a b c\na add 4 #1\nb got 0\nb remove 4 #1\na add 4 #2\nc got 0\nc got 1\n\
-c got 2\nc read 4\n",
-        ),
-        (
-            "RAH 1 counter\nreplicas a b c\na inc\nb read 1\na inc\nverdict\n",
-            "RAH 1 counter\nreplicas a b c\na inc\nb read 1\n",
-        ),
-    ] {
-        let monitor = monitor_of(&rt, rt.alloc(), commands);
-        let mut text = Vec::new(rt.alloc());
-        let wrote = write_history(rt.alloc(), &monitor, &names, &mut text);
-        assert_eq!(rt; wrote, Ok(()));
-        assert_eq!(rt; text.as_slice(), wanted.as_bytes());
-    }
-    Ok(())
-}
-
-// The monitor of three replicas that is told the commands of the text.
-fn monitor_of(rt: &impl Abort, alloc: Global, text: &str) -> Monitor {
-    let mut reading = Reading::new(alloc);
-    let mut monitor = None;
-    for line in text.as_bytes().split(|byte| *byte == b'\n') {
-        match reading.line(line) {
-            Ok(Item::KindLine(kind)) => monitor = Monitor::new(alloc, kind, 3, 100).ok(),
-            Ok(Item::NamesLine(_)) => {}
-            Ok(Item::CommandLine(command)) => {
-                let Some(told) = &mut monitor else {
-                    panic!(rt; "a command before the kind");
-                };
-                reply_to(rt, told, command);
-            }
-            // What stands behind the last line feed is no line.
-            Err(_) => assert!(rt; line.is_empty(), "not read"),
+    for row in &TEXTS {
+        for most in [PIECE, 1] {
+            let (ended, written) = answer_to(rt.alloc(), row.text, most);
+            assert_eq!(rt; ended, row.status, "{}", row.name);
+            assert_eq!(rt; written.as_slice(), row.written.as_bytes(), "{}", row.name);
         }
     }
-    match monitor {
-        Some(monitor) => monitor,
-        None => panic!(rt; "no monitor"),
-    }
+    Ok(())
+}
+
+// The status and what is written, where each read gives at most so many bytes of the text.
+fn answer_to(alloc: Global, text: &str, most: usize) -> (u8, Vec<u8>) {
+    let mut reader = Repeats::of(text, most);
+    let mut written = Vec::new(alloc);
+    let answer = check(alloc, &mut reader, &mut written);
+    (status(&answer), written)
 }

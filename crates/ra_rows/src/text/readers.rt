@@ -1,7 +1,9 @@
+//! Texts that come from readers of all sorts.
+
 use super::{TEXT, WRITTEN};
-use crate::CheckFault::{self, Full, LineTooLong, Syntax, Truncated};
-use crate::check;
-use crate::limits::PIECE;
+use ra_history_text::CheckFault::{self, Full, LineTooLong, Syntax, Truncated};
+use ra_history_text::check;
+use ra_history_text::limits::PIECE;
 use std::cell::Cell;
 use std::io;
 use std::io::{ErrorKind, Read, Write};
@@ -85,14 +87,27 @@ fn reads_of_one_byte(rt: HostRuntime) {
     }
 }
 
-// Gives a front, then a part again and again, and then a rest, each read at most so many bytes.
+/// Gives a front, then a part again and again, and then a rest, each read at most so many bytes.
 #[derive(Drop)]
-struct Repeats<'a> {
+pub struct Repeats<'a> {
     now: &'a [u8],
     part: &'a [u8],
     times: usize,
     rest: &'a [u8],
     most: usize,
+}
+
+impl<'a> Repeats<'a> {
+    /// Gives the text alone, each read at most so many bytes.
+    pub fn of(text: &'a str, most: usize) -> Repeats<'a> {
+        Repeats {
+            now: text.as_bytes(),
+            part: b"",
+            times: 0,
+            rest: b"",
+            most,
+        }
+    }
 }
 
 impl Read for Repeats<'_> {

@@ -1,4 +1,6 @@
-use crate::{Item, LineFault, Names, NamesFault, Reading};
+//! A text that is read line by line, and names.
+
+use ra_history_text::{Item, LineFault, Names, NamesFault, Reading};
 use ra_labels::{Command, Kind, Op};
 use std::test::Fail;
 

@@ -1,32 +1,10 @@
-use crate::{CheckFault, Session, report_json};
+//! Texts that are taken piece by piece, and their reports.
+
+use super::{REPLIES, SETS};
+use ra_history_text::{CheckFault, Session, report_json};
 use ra_monitor::Report;
 use std::alloc::Global;
 use std::test::Fail;
-
-const SETS: &str = "RAH 1 orset
-replicas a b c
-a add 4 #1
-b got 0
-b remove 4 #1
-a add 4 #2
-c got 1
-c got 0
-c got 1
-c got 2
-c read 4
-";
-
-const REPLIES: &str = "ok 0
-got 0
-ok 1
-ok 2
-refused not-causal 0
-got 0
-got 1
-got 2
-ok 3
-end yes 4
-";
 
 // Takes the text in two pieces, the first of so many bytes.
 fn in_two_pieces(

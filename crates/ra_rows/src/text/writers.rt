@@ -1,14 +1,33 @@
+//! Replies that go to a writer of single bytes.
+
 use super::{TEXT, WRITTEN};
-use crate::{CheckFault, check};
+use ra_history_text::{CheckFault, check};
+use std::alloc::Global;
 use std::io;
 use std::io::{ErrorKind, Write};
 
-// Takes a byte at a time, and at one write fails, or takes none: one who asks again gets the rest written.
+/// Takes a byte at a time, and at one write fails, or takes none: one who asks again gets the rest written.
 #[derive(Drop)]
-struct Trickle {
+pub struct Trickle {
     taken: Vec<u8>,
     good_writes: usize,
     fails: bool,
+}
+
+impl Trickle {
+    /// Took none yet, and takes so many.
+    pub fn new(alloc: Global, good_writes: usize, fails: bool) -> Trickle {
+        Trickle {
+            taken: Vec::new(alloc),
+            good_writes,
+            fails,
+        }
+    }
+
+    /// The bytes that it took.
+    pub fn taken(&self) -> &[u8] {
+        self.taken.as_slice()
+    }
 }
 
 impl Write for Trickle {
@@ -40,21 +59,11 @@ impl Write for Trickle {
 #[test]
 fn writes_of_one_byte(rt: HostRuntime) {
     let broken = "RAH 1 counter\nreplicas a b\na inc\nb got 0\nb read 1\nbroken\n";
-    let ample = usize::MAX;
     for (text, whole, fault) in [(TEXT, 26, None), (broken, 16, Some(CheckFault::Syntax(6)))] {
         for good_writes in 0..27usize {
             for fails in [true, false] {
-                let mut writer = Trickle {
-                    taken: Vec::new(rt.alloc()),
-                    good_writes: if good_writes == 26 {
-                        ample
-                    } else {
-                        good_writes
-                    },
-                    fails,
-                };
+                let mut writer = Trickle::new(rt.alloc(), good_writes, fails);
                 let outcome = check(rt.alloc(), &mut text.as_bytes(), &mut writer);
-                let Trickle { taken, .. } = writer;
                 let told = if good_writes < whole {
                     Some(CheckFault::Write)
                 } else {
@@ -62,11 +71,7 @@ fn writes_of_one_byte(rt: HostRuntime) {
                 };
                 assert_eq!(rt; outcome.err(), told, "after {good_writes} writes");
                 let written = WRITTEN.as_bytes().get(..good_writes.min(whole));
-                assert_eq!(rt;
-                    Some(taken.as_slice()),
-                    written,
-                    "after {good_writes} writes"
-                );
+                assert_eq!(rt; Some(writer.taken()), written, "after {good_writes} writes");
             }
         }
     }

@@ -1,0 +1,174 @@
+//! Histories that are written as texts.
+
+use super::SETS;
+use super::worked::TEXTS;
+use super::writers::Trickle;
+use crate::commands::{bare, reply_to};
+use ra_history_text::{Item, Names, Reading, WriteFault, check, status, write_history};
+use ra_labels::{Cause, Elements, Op, Reply};
+use ra_monitor::Monitor;
+use std::alloc::{AllocError, Global};
+use std::process::Abort;
+use std::test::Fail;
+
+// What is accepted of the sets: all but the delivery that comes too early.
+const ACCEPTED: &str = "RAH 1 orset
+replicas a b c
+a add 4 #1
+b got 0
+b remove 4 #1
+a add 4 #2
+c got 0
+c got 1
+c got 2
+c read 4
+";
+
+// A text that is written of a monitor amounts to what the monitor does, and nothing in it is refused.
+#[test]
+fn histories_are_written_and_checked_again(rt: HostRuntime) -> Result<(), Fail> {
+    let names = names_of(&rt, rt.alloc(), &["a", "b", "c"]);
+    for row in &TEXTS {
+        let monitor = monitor_of(&rt, rt.alloc(), row.text);
+        let mut text = Vec::new(rt.alloc());
+        let wrote = write_history(rt.alloc(), &monitor, &names, &mut text);
+        assert_eq!(rt; wrote, Ok(()), "{}", row.name);
+        let mut written = Vec::new(rt.alloc());
+        let Ok(outcome) = check(rt.alloc(), &mut text.as_slice(), &mut written) else {
+            panic!(rt; "not a text: {}", row.name);
+        };
+        let report = monitor.report();
+        assert_eq!(rt; outcome.report.labels, report.labels, "{}", row.name);
+        assert_eq!(rt; outcome.report.fault, report.fault, "{}", row.name);
+        assert_eq!(rt; outcome.report.refused, 0, "{}", row.name);
+    }
+    Ok(())
+}
+
+// What is refused is left out, and so is all behind a no.
+#[test]
+fn only_what_was_accepted_is_written(rt: HostRuntime) -> Result<(), Fail> {
+    let names = names_of(&rt, rt.alloc(), &["a", "b", "c"]);
+    for (commands, wanted) in [
+        (SETS, ACCEPTED),
+        (
+            "RAH 1 counter\nreplicas a b c\na inc\nb read 1\na inc\nverdict\n",
+            "RAH 1 counter\nreplicas a b c\na inc\nb read 1\n",
+        ),
+    ] {
+        let monitor = monitor_of(&rt, rt.alloc(), commands);
+        let mut text = Vec::new(rt.alloc());
+        let wrote = write_history(rt.alloc(), &monitor, &names, &mut text);
+        assert_eq!(rt; wrote, Ok(()));
+        assert_eq!(rt; text.as_slice(), wanted.as_bytes());
+    }
+    Ok(())
+}
+
+// A writer that fails, or takes no byte, has the bytes before, and is not asked again.
+#[test]
+fn histories_are_written_byte_by_byte(rt: HostRuntime) -> Result<(), Fail> {
+    let names = names_of(&rt, rt.alloc(), &["a", "b", "c"]);
+    let monitor = monitor_of(&rt, rt.alloc(), SETS);
+    let whole = ACCEPTED.as_bytes();
+    for good_writes in 0..=whole.len() {
+        let wanted = if good_writes < whole.len() {
+            Err(WriteFault::Write)
+        } else {
+            Ok(())
+        };
+        for fails in [true, false] {
+            let mut writer = Trickle::new(rt.alloc(), good_writes, fails);
+            let wrote = write_history(rt.alloc(), &monitor, &names, &mut writer);
+            assert_eq!(rt; wrote, wanted, "after {good_writes} writes");
+            assert_eq!(rt;
+                Some(writer.taken()),
+                whole.get(..good_writes),
+                "after {good_writes} writes"
+            );
+        }
+    }
+    Ok(())
+}
+
+// One too few, and one too many.
+#[test]
+fn names_are_as_many_as_the_replicas(rt: HostRuntime) -> Result<(), Fail> {
+    let monitor = monitor_of(&rt, rt.alloc(), SETS);
+    for words in [["a", "b"].as_slice(), &["a", "b", "c", "d"]] {
+        let names = names_of(&rt, rt.alloc(), words);
+        let mut text = Vec::new(rt.alloc());
+        let wrote = write_history(rt.alloc(), &monitor, &names, &mut text);
+        assert_eq!(rt; wrote, Err(WriteFault::BadNames));
+        assert!(rt; text.is_empty());
+    }
+    Ok(())
+}
+
+// Two of its commands are accepted, so the next one that is stands at place 2.
+const SET: &str = "RAH 1 lwwset\nreplicas a b c\na add 4 @1\na add 4 @1\nverdict\nb got 0\n";
+
+// A read whose line has 1,048,576 bytes, or one more: behind `a read ` a number of one digit or of two, and 131,071
+// times a comma and seven digits. The lines before have 13, 15, 11 and 8 bytes with their line feeds.
+#[test]
+fn the_longest_line_is_written(rt: HostRuntime) -> Result<(), Fail> {
+    let names = names_of(&rt, rt.alloc(), &["a", "b", "c"]);
+    for (least, wanted, bytes, ends) in [
+        (1, Ok(()), 1_048_624, 1),
+        (11, Err(WriteFault::LineTooLong(2)), 0, 2),
+    ] {
+        let mut monitor = monitor_of(&rt, rt.alloc(), SET);
+        let read = Op::LwwRead(elements_from(rt.alloc(), least)?);
+        let no = Reply::No {
+            label: 1,
+            cause: Cause::Query,
+        };
+        assert_eq!(rt; reply_to(&rt, &mut monitor, bare(0, read)), no);
+        let mut text = Vec::new(rt.alloc());
+        let wrote = write_history(rt.alloc(), &monitor, &names, &mut text);
+        assert_eq!(rt; wrote, wanted);
+        assert_eq!(rt; text.len(), bytes);
+        let mut written = Vec::new(rt.alloc());
+        let answer = check(rt.alloc(), &mut text.as_slice(), &mut written);
+        assert_eq!(rt; status(&answer), ends);
+    }
+    Ok(())
+}
+
+// This element, and 131,071 of seven digits.
+fn elements_from(alloc: Global, least: u32) -> Result<Elements, AllocError> {
+    let mut list = vec![in alloc; least]?;
+    list.extend(1_000_000..1_131_071)?;
+    Ok(Elements::new(list))
+}
+
+fn names_of(rt: &impl Abort, alloc: Global, words: &[&str]) -> Names {
+    match Names::new(alloc, words) {
+        Ok(names) => names,
+        Err(_) => panic!(rt; "no names"),
+    }
+}
+
+// The monitor of three replicas that is told the commands of the text.
+fn monitor_of(rt: &impl Abort, alloc: Global, text: &str) -> Monitor {
+    let mut reading = Reading::new(alloc);
+    let mut monitor = None;
+    for line in text.as_bytes().split(|byte| *byte == b'\n') {
+        match reading.line(line) {
+            Ok(Item::KindLine(kind)) => monitor = Monitor::new(alloc, kind, 3, 100).ok(),
+            Ok(Item::NamesLine(_)) => {}
+            Ok(Item::CommandLine(command)) => {
+                let Some(told) = &mut monitor else {
+                    panic!(rt; "a command before the kind");
+                };
+                reply_to(rt, told, command);
+            }
+            // What stands behind the last line feed is no line.
+            Err(_) => assert!(rt; line.is_empty(), "not read"),
+        }
+    }
+    match monitor {
+        Some(monitor) => monitor,
+        None => panic!(rt; "no monitor"),
+    }
+}
