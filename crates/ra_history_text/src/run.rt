@@ -1,8 +1,9 @@
 //! The check of a text, bytes in and bytes out.
-ghost use Rattle.std.specs.Prelude.{OnOk, IfOk, IfErr, IfSome, IsErrOf};
+ghost use Rattle.std.specs.Prelude.{◌≡◌, ◌<◌, [], length, string_bytes, OnOk, IfOk, IfErr, IfSome, IsErrOf};
 ghost use Rattle.std.specs.Io.KnownBytes.{IsAtEnd};
 ghost use Rattle.ra_history_text.specs.declared.fault.CheckFault.TheVariants.{Endless};
 ghost use Rattle.ra_history_text.specs.declared.limits.TheConstants.{MOST_READS};
+ghost use Rattle.ra_history_text.specs.Text.{text_start};
 ghost use Rattle.ra_history_text.specs.Run.{WritesAnswer, StopsCheck, HasGiven};
 
 use crate::fault::CheckFault;
@@ -45,16 +46,40 @@ pub fn check<R: Read, W: Write>(
     let mut session = Session::new(alloc);
     let mut out = String::new(alloc);
     let mut piece = [0u8; PIECE];
+    let answer = check_by_pieces(reader, writer, &mut session, &mut out, &mut piece);
+    // A session has many parts, so it is let go by a call: the proof goes through them once, and not at each return.
+    drop(session);
+    answer
+}
+
+// The same by a session at the start of a text, with room for the replies to a piece and for the piece.
+fn check_by_pieces<R: Read, W: Write>(
+    reader: &mut R,
+    writer: &mut W,
+    session: &mut Session,
+    out: &mut String,
+    piece: &mut [u8],
+) -> Result<Outcome, CheckFault>
+    requires start { session.old ≡ text_start }
+    requires none { string_bytes out.old ≡ [] }
+    requires room { 0 < length piece.old }
+    ensures end { OnOk result (IsAtEnd (R.remaining reader.new)) }
+    ensures answered { IfOk result (λ outcome. IfSome (R.remaining reader.old) (λ text.
+        WritesAnswer text (W.contents writer.old) (W.contents writer.new) outcome.report)) }
+    ensures stopped { IfErr result (λ fault. IfSome (R.remaining reader.old) (λ text.
+        StopsCheck text (R.remaining reader.new) (W.contents writer.old) (W.contents writer.new) fault)) }
+    ensures endless { IsErrOf result Endless → HasGiven (R.remaining reader.old) (R.remaining reader.new) MOST_READS }
+{
     for _ in 0..MOST_READS {
-        let Ok(count) = reader.read(&mut piece) else {
+        let Ok(count) = reader.read(piece) else {
             return Err(CheckFault::Read);
         };
         if count == 0 {
-            let report = session.finish(&mut out)?;
+            let report = session.finish(out)?;
             write_out(writer, out.as_bytes())?;
             return Ok(Outcome { report });
         }
-        let fed = session.feed(&piece[..count], &mut out);
+        let fed = session.feed(&piece[..count], out);
         write_out(writer, out.as_bytes())?;
         fed?;
         out.clear();

@@ -1,6 +1,6 @@
 use Rattle.std.proofs.Common.{string_bytes}
 use Rattle.ra_history_text.specs.Run.{IsRunning, HasGiven}
-use Rattle.ra_history_text.proofs.run.check.Given as goal
+use Rattle.ra_history_text.proofs.run.check_by_pieces.Given as goal
 
 -- what was read so far was taken, and the reply lines so far are written; and each read gave a byte
 abbrev pub invariant-loop : goal.invariant-loop

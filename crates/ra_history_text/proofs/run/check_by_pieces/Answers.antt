@@ -4,14 +4,19 @@ use Rattle.std.specs.Io.KnownBytes.{Appends}
 use Rattle.ra_history_text.proofs.Runs.{read_none_left, run_first, run_next, run_last}
 use Rattle.ra_history_text.specs.Written.{HasWritten}
 use Rattle.ra_history_text.proofs.Halts.{halts_reading, halts_endless, halts_ending, halts_writing_end, halts_writing, halts_feeding, passed_on, given_none, given_more, given_less}
-use Rattle.ra_history_text.proofs.run.check.Goals as goal
+use Rattle.ra_history_text.proofs.run.check_by_pieces.Goals as goal
 
 pub loop-init : goal.loop-init
 loop-init g c = (
-  run_first (g.R.Read.remaining c.args.reader.now) (g.W.Write.contents c.args.writer.now) c.new-session.result (string_bytes c.new-out.result)
-      c.new-session.ensures c.new-out.ensures.bytes,
+  run_first (g.R.Read.remaining c.args.reader.now) (g.W.Write.contents c.args.writer.now) c.args.session.now (string_bytes c.args.out.now)
+      c.requires.start c.requires.none,
   given_none (g.R.Read.remaining c.args.reader.now),
 )
+
+pub returns-then-count-eq0-clause-end : goal.returns-then-count-eq0-clause-end
+returns-then-count-eq0-clause-end g c =
+    let ended = read_none_left (g.R.Read.remaining c.loop.reader) (g.R.Read.remaining c.read.new.self) c.in-Ok.count c.read.new.buf c.if-count-eq0.true (omega arith) c.in-Ok.ensures.bytes in
+    ended.1
 
 pub returns-then-count-eq0-clause-answered : goal.returns-then-count-eq0-clause-answered
 returns-then-count-eq0-clause-answered g c =
