@@ -1,14 +1,18 @@
 -- Names that join others, one after another.
 use Rattle.std.proofs.Common.{◌≡◌, ℕ, ◌+◌, ◌<◌, Bool, true, false, ◌≤◌, ltb, List, [], ◌∷◌, ◌++◌, length, take, drop, get_or, zero, suc, Some, None, Result, Err, refl, sym, ap, subst, ◌∙◌, arith, inl, inr}
-use Rattle.std.specs.Prelude.{bytes_eq, codes, position, ◌||◌, if◌then◌else◌}
+use Rattle.std.specs.Prelude.{bytes_eq, codes, position, Option, unwrap_or, IfOk, ◌||◌, if◌then◌else◌}
 use Rattle.std.specs.Borrow.{Bor}
 use Rattle.std.specs.Global as global
 use Rattle.std.specs.List.{list_all, list_any, position_or_len, IsDistinct, AllByRecursion}
 use Rattle.std.proofs.lemmas.Bool.{cases_Bool, and_parts, and_from, ltb-false}
 use Rattle.std.proofs.lemmas.Cmp.{nat_list_eq_equiv}
 use Rattle.std.proofs.lemmas.List.{append_assoc, append-nil, length_push, length-append, length-map, length-take-le, map-append, take_more}
+use Rattle.std.proofs.lemmas.Slice.Eq.{bytes_eq-Decides}
 use Rattle.std.proofs.lemmas.Map.Keys.{IsDistinct-head, IsDistinct-tail, IsDistinct-push}
 use Rattle.ra_history_text.specs.Grammar.{is_name, place_of, fields_of, AreNames, ListsNames}
+use Rattle.ra_labels.specs.declared.kind.Kind.{Kind}
+use Rattle.ra_labels.specs.declared.command.Command.{Command}
+use Rattle.ra_history_text.specs.Reading.{replica_read, replica_command_read, command_read}
 use Rattle.ra_history_text.specs.NamesKept.{NamesKept}
 use Rattle.ra_history_text.proofs.Heads.{distinct_found, distinct_only}
 use Rattle.ra_history_text.specs.declared.fault.LineFault.{LineFault}
@@ -35,6 +39,36 @@ place_within (own ∷ names) name =
       | inl same ↦ rw same (omega arith)
       | inr other ↦ rw other (omega (arith, place_within names name))
     ]
+
+-- what has a place among names is a name
+pub placed_is_name : (names : List (List ℕ)) (word : List ℕ) → list_all is_name names ≡ true → place_of names word < length names → is_name word ≡ true
+placed_is_name [] word each there = absurd (omega (arith, there))
+placed_is_name (own ∷ names) word each there =
+    let parts = and_parts (is_name own) (list_all is_name names) each in
+    elim (cases_Bool (bytes_eq word own)) [
+      | inl same ↦ ap is_name ((bytes_eq-Decides word own).0 same) ∙ parts.0
+      | inr other ↦ placed_is_name names word parts.1 (let here = rw other at there in omega (arith, here))
+    ]
+
+pub replica_is_read : (names : List (List ℕ)) (word : List ℕ) (place : ℕ) → is_name word ≡ true → place ≡ place_of names word → Some place ≡ replica_read names word
+replica_is_read names word place is found = rw is (ap Some found)
+
+-- the replica that a word stands for, and the command behind it
+replica_found : (names : List (List ℕ)) (word : List ℕ) (replica : ℕ) → replica_read names word ≡ Some replica → (is_name word ≡ true) × (place_of names word ≡ replica)
+replica_found names word replica read =
+    elim (cases_Bool (is_name word)) [
+      | inl is ↦ (is, (let here = rw is at read in ap (λ (o : Option ℕ). unwrap_or o 0) here))
+      | inr other ↦ absurd (let here = rw other at read in cc)
+    ]
+
+pub replica_leads : {E : Type 0} (kind : Kind) (names : List (List ℕ)) (first word : List ℕ) (fields entry : List (List ℕ)) (replica : ℕ) (r : Result (Option Command) E)
+    → entry ≡ first ∷ word ∷ fields → replica_read names first ≡ Some replica → IfOk r (λ c. c ≡ replica_command_read kind replica word fields)
+    → IfOk r (λ c. c ≡ command_read kind names entry)
+replica_leads kind names first word fields entry replica r parts read holds =
+    let found = replica_found names first replica read in
+    let same : replica_command_read kind replica word fields ≡ command_read kind names entry =
+    rw (parts, found.0) (ap (λ (n : ℕ). replica_command_read kind n word fields) (sym found.1)) in
+    subst (λ (o : Option Command). IfOk r (λ c. c ≡ o)) same holds
 
 -- the keys of a set, by their bytes
 abbrev is_key : List ℕ → global.Vec ℕ → Bool

@@ -211,6 +211,10 @@ replica_command_read kind replica word fields =
 abbrev pub lone_read : List ℕ → Option Command
 lone_read word = if bytes_eq word (codes "verdict") then Some Verdict else None
 
+-- the replica that a word stands for
+abbrev pub replica_read : List (List ℕ) → List ℕ → Option ℕ
+replica_read names word = if is_name word then Some (place_of names word) else None
+
 -- a command, by the fields of its line
 abbrev pub command_read : Kind → List (List ℕ) → List (List ℕ) → Option Command
 command_read kind names [] = None

@@ -5,7 +5,7 @@ ghost use Rattle.ra_history_text.specs.Grammar.{Spells, fields_of};
 ghost use Rattle.ra_history_text.specs.Reading.{command_read, replica_command_read, operation_read, delivery_read, clock_read, clock_last, lone_read, asks_for_list, may_have_list};
 
 use crate::fields::Fields;
-use crate::name::{Names, is_name};
+use crate::name::Names;
 use crate::number::number;
 use crate::operation::operation;
 use ra_labels::{Command, Kind, NoMemory};
@@ -43,10 +43,9 @@ fn command_in(
     let Some(word) = fields.take() else {
         return Ok(lone(first));
     };
-    if is_name(first) {
-        replica_command(alloc, kind, names.place(first), word, fields)
-    } else {
-        Ok(None)
+    match names.replica(first) {
+        Some(replica) => replica_command(alloc, kind, replica, word, fields),
+        None => Ok(None),
     }
 }
 

@@ -4,6 +4,7 @@ ghost use Rattle.std.specs.List.{list_all, list_any};
 ghost use Rattle.ra_history_text.specs.Grammar as grammar;
 ghost use Rattle.ra_history_text.specs.Grammar.{has_form_of_name, is_reserved, place_of, ListsNames};
 ghost use Rattle.ra_history_text.specs.Grammar.{AreNames};
+ghost use Rattle.ra_history_text.specs.Reading.{replica_read};
 ghost use Rattle.ra_history_text.specs.Names.{AreNamesSoFar, MayJoin, bytes_of_each, texts_of, is_bad_behind, AreDistinctNames, IsFirstBad, IsFaultOf};
 ghost use Rattle.ra_history_text.specs.declared.fault.LineFault.TheVariants.{Syntax};
 
@@ -143,12 +144,19 @@ impl Names {
         let _ = &self.set;
     }
 
-    /// The number of the replica that the name stands for; the number of names where there is no such replica. The name
-    /// is looked up, and the others are not walked through: costs as much as the name is long.
-    pub fn place(&self, name: &[u8]) -> u8
-        ensures { result ≡ place_of self.now name.now }
+    /// The number of the replica that the word stands for; the number of names where it is a name that no replica has,
+    /// and `None` where it is no name. It is looked up, and the names are not walked through: costs as much as the word
+    /// is long.
+    pub fn replica(&self, word: &[u8]) -> Option<u8>
+        ensures { result ≡ replica_read self.now word.now }
     {
-        place_in(&self.set, name) as u8
+        let place = place_in(&self.set, word);
+        // What was listed is a name.
+        if place < self.set.len() || is_name(word) {
+            Some(place as u8)
+        } else {
+            None
+        }
     }
 
     // Adds a name at the end. An `Err` changes nothing.
