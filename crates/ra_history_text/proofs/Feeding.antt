@@ -7,8 +7,8 @@ use Rattle.ra_history_text.specs.Faults.{ending_told}
 use Rattle.ra_history_text.specs.declared.fault.CheckFault.{CheckFault}
 use Rattle.ra_history_text.specs.declared.fault.CheckFault.TheVariants.{NoMemory}
 use Rattle.ra_history_text.specs.Output.{replies_of}
-use Rattle.ra_history_text.specs.Sessions.{AddsReplies, StopsExtending, StopsClosing, StopsInside, IsFedUpTo, TakesMemory, StopsLine}
-use Rattle.ra_history_text.specs.Text.{Said, Progress, Ending, Syntax, Truncated, LineTooLong, Full, stop_at, line_taken, taken}
+use Rattle.ra_history_text.specs.Sessions.{AddsReplies, StopsExtending, StopsClosing, StopsInside, IsFedUpTo, TakesMemory}
+use Rattle.ra_history_text.specs.Text.{Said, Progress, Ending, stop_at, line_taken, taken}
 use Rattle.ra_history_text.proofs.Taking.{taken_then, stopped_then, taken_line}
 
 -- ---- reply lines

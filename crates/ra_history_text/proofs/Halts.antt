@@ -1,5 +1,5 @@
 -- Runs that stop before a regular end.
-use Rattle.std.proofs.Common.{◌≡◌, ◌⊎◌, inl, inr, ℕ, Bool, true, eqb, cond, List, [], ◌∷◌, ◌++◌, Option, Some, None, IfSome, Result, Ok, Err, IfErr, refl, sym, ap, subst, ◌∙◌, ◌+◌, ◌<◌, ◌≤◌, take, length, arith}
+use Rattle.std.proofs.Common.{◌≡◌, ◌⊎◌, inl, inr, ℕ, Bool, eqb, cond, List, [], ◌++◌, Option, Some, None, IfSome, Result, Ok, Err, IfErr, refl, sym, ap, subst, ◌∙◌, ◌+◌, ◌<◌, ◌≤◌, take, length, arith}
 use Rattle.std.specs.Prelude.{OnOk, is_ok, ◌&&◌}
 use Rattle.std.proofs.lemmas.Bool.{cases_Bool}
 use Rattle.std.specs.Io.KnownBytes.{Appends, Consumes, IsAtEnd, Keeps}
@@ -12,7 +12,7 @@ use Rattle.ra_history_text.specs.Laws.{BeginsWith}
 use Rattle.ra_history_text.specs.Output.{replies_of, last_line_of, last_line_at, output_of}
 use Rattle.ra_history_text.specs.Run.{WritesUpTo, WritesReplies, WritesPart, StopsCheck, HasGiven, IsRunning}
 use Rattle.ra_history_text.specs.Sessions.{AddsReplies, StopsInside, EndsText, StopsEnding}
-use Rattle.ra_history_text.specs.Text.{Said, Progress, Stop, Ending, Regular, Syntax, Truncated, LineTooLong, Full, has_names, next_line, text_start, stop_at, taken, ending_at, end_of, ending_of, said_by, does_not_stop}
+use Rattle.ra_history_text.specs.Text.{Said, Progress, Stop, Ending, Regular, Syntax, Truncated, LineTooLong, Full, has_names, next_line, text_start, stop_at, taken, ending_at, end_of}
 use Rattle.ra_history_text.specs.Written.{HasWritten}
 use Rattle.ra_history_text.proofs.Replies.{output_begins}
 use Rattle.ra_history_text.proofs.Runs.{Appends-then, put_alone, written_replies, read_whole, ends_at, said_at_end, output_at_end, output_regular}

@@ -1,16 +1,16 @@
 -- What a whole line gives, at each place where it may stand.
-use Rattle.std.proofs.Common.{◌≡◌, ℕ, ◌+◌, ◌<◌, false, true, eqb, List, [], ◌∷◌, ◌++◌, length, Option, Some, None, Ok, Err, refl, sym, ap, subst, ◌∙◌, arith}
+use Rattle.std.proofs.Common.{◌≡◌, ℕ, ◌+◌, false, true, eqb, List, [], ◌++◌, length, Option, Some, None, Ok, Err, refl, sym, ap, ◌∙◌, arith}
 use Rattle.std.proofs.lemmas.Bool.{ne_eqb, eq-eqb}
-use Rattle.std.specs.Prelude.{option_map, cond}
+use Rattle.std.specs.Prelude.{option_map}
 use Rattle.ra_labels.specs.declared.kind.Kind.{Kind}
 use Rattle.ra_labels.specs.declared.command.Command.{Command}
 use Rattle.ra_labels.specs.declared.reply.Reply.{Reply}
 use Rattle.ra_history_text.specs.Grammar.{fields_of, ListsNames}
-use Rattle.ra_history_text.specs.History.{History, said_of, next_answer, RecordsCommand}
+use Rattle.ra_history_text.specs.History.{History, said_of, RecordsCommand}
 use Rattle.ra_history_text.specs.Output.{reply_line, replies_of}
-use Rattle.ra_history_text.specs.Reading.{kind_read, names_read, command_read}
+use Rattle.ra_history_text.specs.Reading.{kind_read, command_read}
 use Rattle.ra_history_text.specs.Sessions.{AddsReplies}
-use Rattle.ra_history_text.specs.Text.{Said, Nothing, OfKind, OfHistory, Progress, Stop, Syntax, Full, next_line, with_command, is_full, line_start, stop_at, line_taken_as, line_taken}
+use Rattle.ra_history_text.specs.Text.{Nothing, OfKind, OfHistory, Syntax, Full, with_command, line_start, stop_at, line_taken_as, line_taken}
 use Rattle.ra_history_text.proofs.Heads.{names_read-listed, names_read-none}
 use Rattle.ra_history_text.proofs.Replies.{replies_push}
 

@@ -1,8 +1,8 @@
 -- What was written for a part of a text, against its output.
-use Rattle.std.proofs.Common.{◌≡◌, ◌≢◌, ◌+◌, ◌-◌, ◌<◌, ℕ, suc, Bool, true, false, eqb, ltb, cond, List, [], ◌∷◌, ◌++◌, length, get_or, Option, Some, None, Result, Ok, Err, inl, inr, refl, sym, ap, subst, ◌∙◌, arith}
+use Rattle.std.proofs.Common.{◌≡◌, ◌+◌, ◌-◌, ◌<◌, ℕ, true, eqb, ltb, cond, List, [], ◌∷◌, ◌++◌, length, get_or, Option, Some, None, Result, Ok, Err, inl, inr, refl, sym, ap, subst, ◌∙◌, arith}
 use Rattle.std.specs.Prelude.{flat_map, is_ok}
 use Rattle.std.proofs.lemmas.Bool.{cases_Bool}
-use Rattle.std.proofs.lemmas.List.{append_assoc, append-nil, length-append, length_push}
+use Rattle.std.proofs.lemmas.List.{append_assoc, length-append, length_push}
 use Rattle.std.proofs.lemmas.List.Sums.{sum_by-cons}
 use Rattle.ra_labels.specs.declared.kind.Kind.{Kind}
 use Rattle.ra_labels.specs.declared.command.Command.{Command}
@@ -18,13 +18,12 @@ use Rattle.ra_history_text.specs.Grammar.{fields_of}
 use Rattle.ra_history_text.specs.Output.{reply_line, end_words, end_line, answers_in, records_in, replies_of, last_line_of, last_line_at, output_of}
 use Rattle.ra_history_text.specs.Laws.{BeginsWith, line_feeds, IsOfReader, IsLess, GrowsByPart, GrowsByReplies, AnswersEach}
 use Rattle.ra_history_text.specs.Reading.{kind_read, names_read, command_read}
-use Rattle.ra_history_text.specs.Run.{WritesUpTo, WritesReplies, WritesPart, StopsCheck}
-use Rattle.ra_history_text.specs.Text.{Said, Nothing, OfKind, OfHistory, Progress, Stop, Ending, Regular, Syntax, Truncated, LineTooLong, Full, next_line, with_command, said_behind, is_full, has_names, line_start, text_start, line_taken_as, byte_taken, unless_stopped, taken, end_of, ending_of, said_by, does_not_stop}
+use Rattle.ra_history_text.specs.Run.{WritesUpTo, WritesReplies, StopsCheck}
+use Rattle.ra_history_text.specs.Text.{Said, Nothing, OfKind, OfHistory, Progress, Stop, Ending, Regular, Syntax, Truncated, LineTooLong, Full, next_line, with_command, said_behind, has_names, text_start, byte_taken, taken, end_of, ending_of, said_by, does_not_stop}
 use Rattle.ra_history_text.proofs.Lists.{mapped}
-use Rattle.ra_history_text.proofs.Operations.{chosen}
-use Rattle.ra_history_text.proofs.Replies.{begins_then, taken_begins, output_begins}
+use Rattle.ra_history_text.proofs.Replies.{taken_begins, output_begins}
 use Rattle.ra_history_text.proofs.Taking.{taken_then}
-use Rattle.ra_history_text.proofs.Texts.{taken_as_found, going_on, regular_progress, regular_history}
+use Rattle.ra_history_text.proofs.Texts.{taken_as_found, going_on, regular_progress}
 
 -- ---- a part that does not stop
 

@@ -1,7 +1,7 @@
 -- The reply lines to what lines say, as more lines come.
-use Rattle.std.proofs.Common.{◌≡◌, ℕ, ◌+◌, ◌<◌, false, true, eqb, ltb, cond, List, [], ◌∷◌, ◌++◌, length, Option, Some, None, Result, Ok, Err, refl, sym, ap, subst, ◌∙◌, arith, inl, inr}
+use Rattle.std.proofs.Common.{◌≡◌, ℕ, eqb, ltb, List, [], ◌∷◌, ◌++◌, length, Option, Some, None, Result, Ok, Err, refl, sym, ap, subst, ◌∙◌, inl, inr}
 use Rattle.std.specs.Prelude.{flat_map}
-use Rattle.std.proofs.lemmas.Bool.{cases_Bool, ne_eqb}
+use Rattle.std.proofs.lemmas.Bool.{cases_Bool}
 use Rattle.std.proofs.lemmas.List.{append_assoc, append-nil}
 use Rattle.std.proofs.lemmas.List.Concat.{flat_map-append}
 use Rattle.ra_labels.specs.declared.kind.Kind.{Kind}
@@ -12,10 +12,10 @@ use Rattle.ra_labels.specs.Answer.{answer_of, answers_to, records_after, records
 use Rattle.ra_history_text.specs.Grammar.{fields_of}
 use Rattle.ra_history_text.specs.Output.{reply_line, answers_in, records_in, replies_of, last_line_at, output_of}
 use Rattle.ra_history_text.specs.Laws.{BeginsWith}
-use Rattle.ra_history_text.specs.Reading.{kind_read, names_read, command_read}
-use Rattle.ra_history_text.specs.Text.{Said, Nothing, OfKind, OfHistory, Progress, Stop, Syntax, Full, LineTooLong, Regular, next_line, with_command, said_behind, is_full, line_start, text_start, stop_at, line_taken_as, line_taken, byte_taken, unless_stopped, taken, ending_at, end_of, ending_of, said_by}
+use Rattle.ra_history_text.specs.Reading.{command_read}
+use Rattle.ra_history_text.specs.Text.{Said, Nothing, OfKind, OfHistory, Progress, Stop, with_command, said_behind, is_full, text_start, line_taken_as, byte_taken, unless_stopped, taken, end_of}
 use Rattle.ra_history_text.proofs.Lists.{mapped}
-use Rattle.ra_history_text.proofs.Taking.{taken_then, stopped_then}
+use Rattle.ra_history_text.proofs.Taking.{taken_then}
 
 pub begins_same : (xs : List ℕ) → BeginsWith xs xs
 begins_same xs = ([], sym (append-nil xs))

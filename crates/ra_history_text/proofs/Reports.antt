@@ -1,8 +1,6 @@
 -- The text of a report's object.
-use Rattle.std.proofs.Common.{◌≡◌, ℕ, false, List, [], ◌∷◌, ◌++◌, Option, Some, None, refl, sym, ap, ◌∙◌}
+use Rattle.std.proofs.Common.{◌≡◌, ℕ, false, ◌++◌, Option, Some, None, refl}
 use Rattle.std.specs.Prelude.{codes, decimal}
-use Rattle.std.proofs.lemmas.List.{append_assoc}
-use Rattle.serde_json.specs.Data.{Data, string, number, unsigned, object, member, no_members}
 use Rattle.serde_json.specs.Written.{has_float, compact_text}
 use Rattle.serde_json.proofs.OnLiterals.{serde_json_on_literals}
 use Rattle.ra_labels.specs.declared.kind.Kind.{Kind}
@@ -11,9 +9,7 @@ use Rattle.ra_labels.specs.declared.reply.Cause.{Cause}
 use Rattle.ra_labels.specs.declared.reply.Cause.TheVariants.{Order, Update, Query}
 use Rattle.ra_labels.specs.declared.reply.Fault.{Fault}
 use Rattle.ra_monitor.specs.declared.report.Report.{Report}
-use Rattle.ra_history_text.specs.Grammar.{kind_word}
-use Rattle.ra_history_text.specs.Output.{cause_word}
-use Rattle.ra_history_text.specs.Report.{members_by_fault, report_object, members_data, report_data}
+use Rattle.ra_history_text.specs.Report.{members_by_fault, members_data}
 
 -- a report by its parts
 abbrev report_of : Kind → ℕ → ℕ → ℕ → Option Fault → Report

@@ -6,7 +6,7 @@ use Rattle.ra_monitor.specs.declared.report.Report.{Report}
 use Rattle.ra_history_text.specs.Output.{replies_of, last_line_of, last_line_at, output_of, Reports}
 use Rattle.ra_history_text.specs.Run.{WritesAnswer, HasRead, IsRunning}
 use Rattle.ra_history_text.specs.Sessions.{AddsReplies, EndsText}
-use Rattle.ra_history_text.specs.Text.{Said, Progress, Stop, Ending, Regular, text_start, taken, ending_at, end_of, ending_of, said_by}
+use Rattle.ra_history_text.specs.Text.{Said, Progress, Ending, Regular, text_start, taken, ending_at, end_of, ending_of, said_by}
 use Rattle.ra_history_text.specs.Written.{HasWritten}
 use Rattle.ra_history_text.proofs.Taking.{taken_then}
 

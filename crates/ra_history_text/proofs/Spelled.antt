@@ -1,5 +1,5 @@
 -- The line that is written of a command spells it.
-use Rattle.std.proofs.Common.{◌≡◌, ◌≢◌, ◌^◌, ℕ, zero, suc, ◌+◌, ◌<◌, ◌≤◌, Bool, true, false, eqb, ltb, leb, List, [], ◌∷◌, ◌++◌, length, map, All, Option, Some, None, ℤ, pos, negsuc, refl, sym, ap, subst, ◌∙◌, arith, inl, inr}
+use Rattle.std.proofs.Common.{◌≡◌, ◌≢◌, ◌^◌, ℕ, zero, suc, ◌<◌, ◌≤◌, true, false, eqb, ltb, leb, List, [], ◌∷◌, ◌++◌, length, map, All, Option, Some, None, ℤ, pos, negsuc, refl, sym, ap, ◌∙◌, arith, inl, inr}
 use Rattle.std.specs.Prelude.{codes, decimal, bytes_eq, IfSome, FitsSigned, ◌&&◌}
 use Rattle.std.specs.Fmt.{signed_decimal}
 use Rattle.std.specs.Int.{w32}
@@ -20,7 +20,7 @@ use Rattle.ra_labels.specs.declared.operation.Op.{Op}
 use Rattle.ra_labels.specs.declared.operation.Op.TheVariants.{Inc, Dec, Count, Write, Last, LwwAdd, LwwRemove, LwwRead, OrAdd, OrRemove, OrRead, After, RgaRemove, RgaRead}
 use Rattle.ra_labels.specs.declared.command.Command.{Command}
 use Rattle.ra_labels.specs.declared.command.Command.TheVariants.{Operate, Deliver, Verdict}
-use Rattle.ra_history_text.specs.Grammar.{IsSmall, is_name, has_form_of_name, may_follow, place_of, fields_of, list_word, value_word, marked, operation_fields, clock_fields, HasSmallNumbers, AreNames, NamesReplica, Spells}
+use Rattle.ra_history_text.specs.Grammar.{IsSmall, is_name, has_form_of_name, may_follow, place_of, fields_of, list_word, value_word, operation_fields, clock_fields, HasSmallNumbers, AreNames, Spells}
 use Rattle.ra_history_text.specs.Spelling.{spaced, name_of, line_of, AreSmall, HasLine}
 
 -- ---- bytes of fields

@@ -1,16 +1,15 @@
 -- A text has a regular end just where it is the lines of a history.
-use Rattle.std.proofs.Common.{◌≡◌, ◌≢◌, ◌⊎◌, inl, inr, ℕ, zero, suc, ◌+◌, ◌<◌, ◌≤◌, Bool, true, false, eqb, ltb, cond, List, [], ◌∷◌, ◌++◌, length, All, Option, Some, None, Result, Ok, Err, refl, sym, ap, subst, ◌∙◌, arith}
-use Rattle.std.specs.Prelude.{◌↔◌, ◌&&◌, option_map, codes}
+use Rattle.std.proofs.Common.{◌≡◌, ◌≢◌, inl, inr, ℕ, zero, suc, ◌+◌, ◌<◌, ◌≤◌, Bool, true, false, eqb, ltb, cond, List, [], ◌∷◌, ◌++◌, length, All, Option, Some, None, Result, Ok, Err, refl, sym, ap, subst, ◌∙◌, arith}
+use Rattle.std.specs.Prelude.{◌&&◌, option_map}
 use Rattle.std.specs.List.{AllByRecursion}
 use Rattle.std.proofs.lemmas.Bool.{cases_Bool, and_parts, ne_eqb, eqb-true, eqb-false, ltb-true}
 use Rattle.std.proofs.lemmas.List.{append_assoc, append-nil, length_push, nil_from_length}
 use Rattle.std.proofs.lemmas.List.Elements.{All-append}
 use Rattle.ra_labels.specs.declared.kind.Kind.{Kind}
-use Rattle.ra_labels.specs.declared.kind.Kind.TheVariants.{Counter, Register, LwwSet, OrSet, Rga}
 use Rattle.ra_labels.specs.declared.command.Command.{Command}
-use Rattle.ra_history_text.specs.Grammar.{IsLine, bytes_of, fields_of, first_line, ListsNames, Spells, SpellEach, Says}
+use Rattle.ra_history_text.specs.Grammar.{IsLine, bytes_of, fields_of, first_line, ListsNames, SpellEach, Says}
 use Rattle.ra_history_text.specs.Reading.{kind_read, names_read, command_read}
-use Rattle.ra_history_text.specs.Text.{Said, Nothing, OfKind, OfHistory, Progress, Stop, Ending, Regular, Truncated, Full, stop_at, next_line, with_command, said_behind, is_full, has_names, line_start, text_start, line_taken_as, line_taken, byte_taken, unless_stopped, taken, ending_at, end_of, ending_of, said_by}
+use Rattle.ra_history_text.specs.Text.{Said, Nothing, OfKind, OfHistory, Progress, Stop, Regular, Full, stop_at, next_line, with_command, said_behind, is_full, has_names, line_start, text_start, line_taken_as, line_taken, byte_taken, unless_stopped, taken, end_of, ending_of, said_by}
 use Rattle.ra_history_text.proofs.Commands.{command_found, command_only}
 use Rattle.ra_history_text.proofs.Heads.{kind_only, kind_found, names_read-Some, names_read-listed}
 use Rattle.ra_history_text.proofs.Lists.{mapped}

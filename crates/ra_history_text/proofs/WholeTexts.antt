@@ -1,19 +1,19 @@
 -- The text that is written says the monitor's history.
-use Rattle.std.proofs.Common.{◌≡◌, ◌≢◌, ℕ, suc, ◌+◌, ◌*◌, ◌<◌, ◌≤◌, Bool, true, false, not, eqb, ltb, cond, List, [], ◌∷◌, ◌++◌, length, map, All, refl, sym, ap, subst, ◌∙◌, arith}
-use Rattle.std.specs.Prelude.{codes, decimal, bytes_eq, ◌&&◌, ◌||◌}
+use Rattle.std.proofs.Common.{◌≡◌, ◌≢◌, ℕ, ◌*◌, ◌<◌, ◌≤◌, Bool, true, false, not, eqb, ltb, cond, List, [], ◌∷◌, ◌++◌, length, map, All, refl, sym, ap, subst, ◌∙◌, arith}
+use Rattle.std.specs.Prelude.{codes, decimal, ◌&&◌, ◌||◌}
 use Rattle.std.specs.Char.{is_ascii_lowercase}
 use Rattle.std.specs.List.{list_all, AllByRecursion}
 use Rattle.std.proofs.lemmas.Bool.{and_parts, ltb-true, eqb-false}
-use Rattle.std.proofs.lemmas.List.{append_assoc, append-nil, length-append}
+use Rattle.std.proofs.lemmas.List.{length-append}
 use Rattle.std.proofs.lemmas.List.Concat.{flat_map-append}
 use Rattle.std.proofs.lemmas.List.Elements.{All-from_recursion}
 use Rattle.ra_labels.specs.declared.kind.Kind.{Kind}
 use Rattle.ra_labels.specs.declared.kind.Kind.TheVariants.{Counter, Register, LwwSet, OrSet, Rga}
 use Rattle.ra_labels.specs.declared.command.Command.{Command}
 use Rattle.ra_labels.specs.declared.command.Command.TheVariants.{Operate, Deliver, Verdict}
-use Rattle.ra_monitor.specs.Monitor.{Monitor, MonitorEntry, IsLegalLog, records_of}
+use Rattle.ra_monitor.specs.Monitor.{Monitor, MonitorEntry, IsLegalLog}
 use Rattle.ra_history_text.specs.Accepted.{is_no, tells_accepted, accepted_in}
-use Rattle.ra_history_text.specs.Grammar.{IsLine, bytes_of, first_line, fields_of, is_name, has_form_of_name, may_follow, operation_fields, clock_fields, AreNames, ListsNames, SpellEach, Says}
+use Rattle.ra_history_text.specs.Grammar.{IsLine, bytes_of, first_line, is_name, has_form_of_name, may_follow, operation_fields, clock_fields, AreNames, ListsNames, SpellEach, Says}
 use Rattle.ra_history_text.specs.Names.{AreNamesSoFar}
 use Rattle.ra_history_text.specs.Spelling.{spaced, name_of, line_of, names_line, AreSmall, HasLine}
 use Rattle.ra_history_text.specs.Text.{OfHistory}

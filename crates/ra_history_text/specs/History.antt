@@ -1,5 +1,5 @@
 -- What contracts see of a history that is recorded: the kind, the names, and the commands so far.
-use Rattle.std.specs.Prelude.{◌≡◌, ℕ, ◌+◌, ◌<◌, List, [], ◌∷◌, ◌++◌, length, Some, is_some, true, ⊤}
+use Rattle.std.specs.Prelude.{◌≡◌, ℕ, ◌+◌, ◌<◌, List, [], ◌∷◌, ◌++◌, length, ⊤}
 use Rattle.ra_labels.specs.declared.kind.Kind.{Kind}
 use Rattle.ra_labels.specs.declared.command.Command.{Command}
 use Rattle.ra_labels.specs.declared.reply.Reply.{Reply}
@@ -9,7 +9,7 @@ use Rattle.ra_ticket.specs.declared.journal.StepFault.TheVariants as handed
 use Rattle.ra_history_text.specs.declared.fault.CheckFault.{CheckFault}
 use Rattle.ra_history_text.specs.declared.fault.CheckFault.TheVariants.{NoMemory, Full}
 use Rattle.ra_history_text.specs.declared.limits.TheConstants.{MOST_COMMANDS}
-use Rattle.ra_history_text.specs.Output.{reply_line, records_in}
+use Rattle.ra_history_text.specs.Output.{records_in}
 use Rattle.ra_history_text.specs.Text.{Said, OfHistory}
 
 pub record History : Type 0 where

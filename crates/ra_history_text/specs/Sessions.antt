@@ -1,6 +1,5 @@
 -- What one call of a session does.
 use Rattle.std.specs.Prelude.{◌≡◌, ◌⊎◌, ℕ, true, None, ◌+◌, ◌≤◌, List, [], ◌∷◌, ◌++◌, length, Ok, Err, MatchOption, ⊤}
-use Rattle.ra_labels.specs.declared.kind.Kind.{Kind}
 use Rattle.ra_history_text.specs.declared.fault.CheckFault.{CheckFault}
 use Rattle.ra_history_text.specs.declared.fault.CheckFault.TheVariants.{NoMemory}
 use Rattle.ra_history_text.specs.declared.session.Stage.{Stage}
@@ -12,7 +11,7 @@ use Rattle.ra_history_text.specs.Grammar.{fields_of}
 use Rattle.ra_history_text.specs.History.{said_of}
 use Rattle.ra_history_text.specs.Output.{replies_of, last_line_of, Reports}
 use Rattle.ra_history_text.specs.Reading.{command_read, may_have_list}
-use Rattle.ra_history_text.specs.Text.{Said, Nothing, OfKind, OfHistory, Progress, Regular, line_start, stop_at, line_taken, taken, ending_at}
+use Rattle.ra_history_text.specs.Text.{Said, Nothing, OfKind, OfHistory, Progress, Regular, stop_at, line_taken, taken, ending_at}
 
 -- what the lines that led to a stage say
 abbrev pub said_at : Stage → Said

@@ -1,7 +1,6 @@
 -- How a history is written: the line of each command, and the whole text.
-use Rattle.std.specs.Prelude.{◌≡◌, ℕ, ◌+◌, ◌<◌, ◌≤◌, Bool, true, List, [], ◌∷◌, ◌++◌, length, map, slice_get, unwrap_or, IfSome, codes, decimal}
+use Rattle.std.specs.Prelude.{◌≡◌, ℕ, ◌<◌, true, List, [], ◌∷◌, ◌++◌, length, map, slice_get, unwrap_or, IfSome, codes, decimal}
 use Rattle.ra_labels.specs.declared.kind.Kind.{Kind}
-use Rattle.ra_labels.specs.declared.operation.Op.{Op}
 use Rattle.ra_labels.specs.declared.command.Command.{Command}
 use Rattle.ra_labels.specs.declared.command.Command.TheVariants.{Operate, Deliver, Verdict}
 use Rattle.ra_history_text.specs.Grammar.{bytes_of, first_line, operation_fields, clock_fields, has_words, HasSmallNumbers, IsSmall}

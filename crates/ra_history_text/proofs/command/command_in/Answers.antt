@@ -1,4 +1,4 @@
-use Rattle.std.proofs.Common.{◌≡◌, Some, sym, ◌∙◌, rules, ◌∷◌}
+use Rattle.std.proofs.Common.{◌≡◌, Some, rules, ◌∷◌}
 use Rattle.ra_history_text.specs.Reading.{replica_read}
 use Rattle.ra_history_text.proofs.NameLists.{replica_leads}
 use Rattle.ra_history_text.proofs.command.command_in.Goals as goal

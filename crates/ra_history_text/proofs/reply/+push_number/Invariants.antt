@@ -1,4 +1,3 @@
-use Rattle.std.proofs.Common.{ℕ}
 use Rattle.ra_history_text.proofs.reply.+push_number.Given as goal
 
 -- proposed from what the function passes where it calls itself

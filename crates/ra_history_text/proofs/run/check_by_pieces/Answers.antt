@@ -1,4 +1,4 @@
-use Rattle.std.proofs.Common.{rules, ℕ, List, take, arith, subst, ◌∙◌, string_bytes}
+use Rattle.std.proofs.Common.{rules, ℕ, List, take, arith, subst, string_bytes}
 use Rattle.std.proofs.lemmas.Result.{err_from_is_err_and}
 use Rattle.std.specs.Io.KnownBytes.{Appends}
 use Rattle.ra_history_text.proofs.Runs.{read_none_left, run_first, run_next, run_last}

@@ -1,4 +1,4 @@
-use Rattle.std.proofs.Common.{◌≡◌, ◌+◌, ◌-◌, ◌<◌, ◌≤◌, length, arith, rules}
+use Rattle.std.proofs.Common.{◌-◌, ◌<◌, ◌≤◌, length, arith, rules}
 use Rattle.ra_history_text.proofs.Closing.{extend_takes, extend_stops}
 use Rattle.ra_history_text.proofs.session.Session.extend.Goals as goal
 
