@@ -53,7 +53,8 @@ WritesHistory monitor names old new = (text : List ℕ) × SaysHistory monitor n
 -- a part of such a text was written, and not all of it
 abbrev pub WritesPartOfHistory : Monitor → List (List ℕ) → Option (List ℕ) → Option (List ℕ) → Type 0
 WritesPartOfHistory monitor names old new =
-    (part : List ℕ) × (more : List ℕ) × SaysHistory monitor names (part ++ more) × (0 < length more) × Appends old new part
+    (part : List ℕ) × (more : List ℕ) × SaysHistory monitor names (part ++ more)
+    × (0 < length more) × Appends old new part
 
 -- there are as many names as replicas
 abbrev pub AreAsMany : Monitor → List (List ℕ) → Type 0

@@ -18,8 +18,7 @@ pub fn put_command(out: &mut Vec<u8>, names: &Names, command: &Command) -> Resul
         Command::Verdict => Ok(out.extend_from_slice(b"verdict")?),
         Command::Deliver { replica, label } => {
             put_name(out, names, *replica)?;
-            out.extend_from_slice(b" got ")?;
-            put_number(out, *label)
+            put_numbered(out, b" got ", *label)
         }
         Command::Operate { replica, op, stamp } => {
             put_name(out, names, *replica)?;
@@ -55,10 +54,7 @@ fn put_clock(out: &mut Vec<u8>, clock: Option<u32>) -> Result<(), NoMemory>
 {
     match clock {
         None => Ok(()),
-        Some(clock) => {
-            out.extend_from_slice(b" @")?;
-            put_number(out, clock)
-        }
+        Some(clock) => put_numbered(out, b" @", clock),
     }
 }
 
@@ -81,37 +77,31 @@ fn put_operation(out: &mut Vec<u8>, op: &Op) -> Result<(), NoMemory>
             out.extend_from_slice(b" read ")?;
             put_list(out, list)
         }
-        Op::Write(value) => {
-            out.extend_from_slice(b" write ")?;
-            put_number(out, *value)
-        }
-        Op::LwwAdd(element) => {
-            out.extend_from_slice(b" add ")?;
-            put_number(out, *element)
-        }
+        Op::Write(value) => put_numbered(out, b" write ", *value),
+        Op::LwwAdd(element) => put_numbered(out, b" add ", *element),
         Op::OrAdd { element, id } => {
-            out.extend_from_slice(b" add ")?;
-            put_number(out, *element)?;
-            out.extend_from_slice(b" #")?;
-            put_number(out, *id)
+            put_numbered(out, b" add ", *element)?;
+            put_numbered(out, b" #", *id)
         }
-        Op::LwwRemove(element) | Op::RgaRemove(element) => {
-            out.extend_from_slice(b" remove ")?;
-            put_number(out, *element)
-        }
+        Op::LwwRemove(element) | Op::RgaRemove(element) => put_numbered(out, b" remove ", *element),
         Op::OrRemove { element, ids } => {
-            out.extend_from_slice(b" remove ")?;
-            put_number(out, *element)?;
+            put_numbered(out, b" remove ", *element)?;
             out.extend_from_slice(b" #")?;
             put_list(out, ids)
         }
         Op::After { anchor, element } => {
-            out.extend_from_slice(b" after ")?;
-            put_number(out, *anchor)?;
-            out.push(b' ')?;
-            put_number(out, *element)
+            put_numbered(out, b" after ", *anchor)?;
+            put_numbered(out, b" ", *element)
         }
     }
+}
+
+// The words, and the number behind them.
+fn put_numbered(out: &mut Vec<u8>, words: &[u8], number: u32) -> Result<(), NoMemory>
+    ensures { OnOk result (out.new.items ≡ out.old.items ++ (words.now ++ decimal number)) }
+{
+    out.extend_from_slice(words)?;
+    put_number(out, number)
 }
 
 fn put_value(out: &mut Vec<u8>, value: Option<u32>) -> Result<(), NoMemory>
