@@ -2,4 +2,4 @@ use Rattle.std.proofs.Common.{rules}
 use Rattle.ra_history_text.proofs.history.fault_at.Goals as goal
 
 pub returns-in-Full : goal.returns-in-Full
-returns-in-Full c = search rules steps 300000
+returns-in-Full c = search rules steps 100000

@@ -2,4 +2,4 @@ use Rattle.std.proofs.Common.{rules}
 use Rattle.ra_history_text.proofs.operation.query.Goals as goal
 
 pub returns-in_ok-list-in-OrSet-clause-read : goal.returns-in_ok-list-in-OrSet-clause-read
-returns-in_ok-list-in-OrSet-clause-read c = search rules steps 300000
+returns-in_ok-list-in-OrSet-clause-read c = search rules steps 400000

@@ -8,4 +8,4 @@ returns-clause-replied c =
     (c.in_ok-push_str.ensures.bytes ∙ ap (λ (bs : List ℕ). string_bytes c.args.out.now ++ bs) (c.as_str.ensures.value ∙ c.in_ok-spell_reply.ensures))
 
 pub returns-in_default-clause-fault : goal.returns-in_default-clause-fault
-returns-in_default-clause-fault c = search rules steps 500000
+returns-in_default-clause-fault c = search rules steps 700000

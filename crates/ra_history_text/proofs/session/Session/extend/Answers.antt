@@ -15,4 +15,4 @@ returns-clause-taken c =
     extend_takes _ c.args.self.now c.args.part.now c.extend_from_slice.new.self.items c.self.view_is c.in_ok-extend_from_slice.ensures.items c.requires short
 
 pub returns-in_err-extend_from_slice-clause-fault : goal.returns-in_err-extend_from_slice-clause-fault
-returns-in_err-extend_from_slice-clause-fault c = search rules steps 500000
+returns-in_err-extend_from_slice-clause-fault c = search rules steps 250000
