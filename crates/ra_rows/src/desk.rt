@@ -34,14 +34,10 @@ fn one_pass_fills_a_desk_at_once(rt: HostRuntime) -> Result<(), Fail> {
         panic!(rt; "no desk");
     };
     let mut pass = passes.pop().ok_or("a pass")?;
-    assert_eq!(rt;
-        desk.try_submit(&mut pass, Command::Verdict),
-        Ok(Reply::Yes(0))
-    );
-    assert_eq!(rt;
-        desk.try_submit(&mut pass, Command::Verdict),
-        Ok(Reply::Yes(0))
-    );
+    let verdict = Command::Verdict;
+    assert_eq!(rt; desk.try_submit(&mut pass, verdict), Ok(Reply::Yes(0)));
+    let verdict = Command::Verdict;
+    assert_eq!(rt; desk.try_submit(&mut pass, verdict), Ok(Reply::Yes(0)));
     let full = Err(CallFault::Full(Command::Verdict));
     assert_eq!(rt; desk.try_submit(&mut pass, Command::Verdict), full);
     Ok(())
@@ -85,10 +81,8 @@ fn a_desk_is_worn_after_the_greatest_ticket(rt: HostRuntime) -> Result<(), Fail>
         panic!(rt; "no desk");
     };
     let mut pass = passes.pop().ok_or("a pass")?;
-    assert_eq!(rt;
-        desk.submit(&rt, &mut pass, Command::Verdict),
-        Ok(Reply::Yes(0))
-    );
+    let verdict = Command::Verdict;
+    assert_eq!(rt; desk.submit(&rt, &mut pass, verdict), Ok(Reply::Yes(0)));
     let worn = Err(CallFault::Worn(Command::Verdict));
     assert_eq!(rt; desk.submit(&rt, &mut pass, Command::Verdict), worn);
     let one = Glance {
@@ -106,10 +100,8 @@ fn a_worn_desk_is_worn_for_an_attempt_too(rt: HostRuntime) -> Result<(), Fail> {
         panic!(rt; "no desk");
     };
     let mut pass = passes.pop().ok_or("a pass")?;
-    assert_eq!(rt;
-        desk.submit(&rt, &mut pass, Command::Verdict),
-        Ok(Reply::Yes(0))
-    );
+    let verdict = Command::Verdict;
+    assert_eq!(rt; desk.submit(&rt, &mut pass, verdict), Ok(Reply::Yes(0)));
     let worn = Err(CallFault::Worn(Command::Verdict));
     assert_eq!(rt; desk.try_submit(&mut pass, Command::Verdict), worn);
     Ok(())
