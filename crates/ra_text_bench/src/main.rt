@@ -12,9 +12,8 @@ use crate::texts::text_of;
 use anyhow::{Result, bail};
 use ra_history_text::check;
 use std::alloc::Global;
-use std::env;
-use std::io;
 use std::time::{Clock, Duration, Instant};
+use std::{env, io};
 
 /// How many lines are timed.
 const LINES: u32 = 1_000_000;
