@@ -1,0 +1,9 @@
+mod Least
+mod Found
+mod Joined
+mod Passing
+mod Grouped
+mod Members
+mod Standing
+mod Starting
+mod Entering

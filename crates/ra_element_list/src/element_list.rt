@@ -1,0 +1,123 @@
+ghost use Rattle.std.specs.Prelude.{◌≡◌, ◌↔◌, ℕ, ◌<◌, true, Bool, List, ◌++◌, ◌∷◌, [], length, Some, IsTrue, IfOk, OnOk};
+ghost use Rattle.ra_labels.specs.Laws.{elements_in};
+ghost use Rattle.ra_labels.specs.Late.{put_after};
+ghost use Rattle.ra_element_list.specs.ElementList.{root, arrival_at, IsBelowByStamp, is_marked, IsKeptByMark, StandsBehind, IsNearestBefore};
+
+use crate::chunk::Chunk;
+use crate::element::Element;
+use crate::entry::Entry;
+use crate::link::link;
+use crate::spot::{number_behind, spot_behind};
+use crate::split::{regroup, shift, split};
+use ra_labels::{NoMemory, Stamp};
+use std::alloc::Global;
+use std::collections::HashMap;
+use std::marker::Model;
+
+/// The number of the element before all others.
+pub const ROOT: u32 = 0;
+
+/// Below every stamp.
+pub const LOWEST: Stamp = Stamp {
+    clock: 0,
+    replica: 0,
+};
+
+/// The elements of all labels, in the order of the list after the updates of all labels. An element goes by its number:
+/// elements are numbered as they come, the root first.
+#[derive(Debug, Drop)]
+pub struct ElementList {
+    /// Each element's number.
+    numbers: HashMap<u32, u32>,
+    /// The elements, by their numbers.
+    elements: Vec<Element>,
+    /// The chunks, in the order of the list.
+    chunks: Vec<Chunk>,
+    /// Of each group the place of the chunk in which its elements stand.
+    places: Vec<usize>,
+    /// The place of the chunk in which the newest element stands: no other one is full.
+    newest: usize,
+}
+
+impl Model for ElementList {
+    ghost use Rattle.std.specs.Prelude.{nat_eq, nat_lt, ◌&&◌};
+    ghost use Rattle.std.specs.Vec.{vec_len, vec_capacity};
+    ghost use Rattle.std.specs.HashMap.{get, spare};
+    ghost use Rattle.ra_element_list.specs.ElementList.{ElementList};
+    ghost use Rattle.ra_element_list.specs.Kept.{list_of, ElementListKept};
+
+    ghost Value = { ElementList };
+
+    ghost view = { λ a. list_of a.elements.items a.chunks.items
+        (nat_lt (vec_len a.elements) (vec_capacity a.elements) && nat_lt 0 (spare a.numbers)) };
+
+    ghost invariant = { λ a. ElementListKept (get nat_eq a.numbers) a.elements.items a.chunks.items a.places.items a.newest };
+}
+
+impl ElementList {
+    /// The root alone.
+    pub fn new(alloc: Global) -> Result<ElementList, NoMemory>
+        ensures elements { IfOk result (λ list. list.elements ≡ 0 ∷ []) }
+        ensures arrivals { IfOk result (λ list. list.arrivals ≡ root ∷ []) }
+    {
+        let mut numbers = HashMap::new(alloc);
+        numbers.insert(ROOT, ROOT)?;
+        let root = Element {
+            element: ROOT,
+            stamp: LOWEST,
+            anchor: ROOT,
+            before: ROOT,
+            group: 0,
+        };
+        let chunk = Chunk::new(alloc, Entry {
+            number: ROOT,
+            stamp: LOWEST,
+        })?;
+        Ok(ElementList {
+            numbers,
+            elements: vec![in alloc; root]?,
+            chunks: vec![in alloc; chunk]?,
+            places: vec![in alloc; 0]?,
+            newest: 0,
+        })
+    }
+
+    /// How many elements there are, the root among them: the next one's number.
+    pub fn len(&self) -> usize
+        ensures { result ≡ length self.now.arrivals }
+    {
+        self.elements.len()
+    }
+
+    /// The element's number, or none where it is not in the list. Costs a look-up.
+    pub fn number_of(&self, element: u32) -> Option<u32>
+        ensures { (n : ℕ) → (result ≡ Some n)
+            ↔ ((n < length self.now.arrivals) × ((arrival_at self.now.arrivals n).element ≡ element)) }
+    {
+        self.numbers.get(&element).copied()
+    }
+
+    /// The element of this number.
+    pub fn element(&self, number: u32) -> u32
+        requires { number < length self.now.arrivals }
+        ensures { result ≡ (arrival_at self.now.arrivals number).element }
+    {
+        self.elements[number as usize].element
+    }
+
+    /// Its stamp, or the lowest one of the root.
+    pub fn stamp(&self, number: u32) -> Stamp
+        requires { number < length self.now.arrivals }
+        ensures { result ≡ (arrival_at self.now.arrivals number).stamp }
+    {
+        self.elements[number as usize].stamp
+    }
+
+    /// The number of its anchor.
+    pub fn anchor(&self, number: u32) -> u32
+        requires { number < length self.now.arrivals }
+        ensures { result ≡ (arrival_at self.now.arrivals number).anchor }
+    {
+        self.elements[number as usize].anchor
+    }
+}
