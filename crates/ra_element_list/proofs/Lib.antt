@@ -7,3 +7,9 @@ mod Members
 mod Standing
 mod Starting
 mod Entering
+mod Placing
+mod Putting
+mod Numbering
+mod Halves
+mod Same
+mod Splitting

@@ -32,3 +32,8 @@ pub record IsRegrouped (elements : List Element) (entries : List Entry) (group :
   pub moved : (number : ℕ) → Contains (numbers_in entries) number → (element_at new number).group ≡ group
   pub others : (number : ℕ) → ¬ Contains (numbers_in entries) number
       → (element_at new number).group ≡ (element_at elements number).group
+
+-- they are as they were, but for their groups
+pub record AreSameButGroups (elements new : List Element) : Type 0 where
+  pub same : length new ≡ length elements
+  pub kept : (number other : ℕ) → in_group other (element_at new number) ≡ in_group other (element_at elements number)

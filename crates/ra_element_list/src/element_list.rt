@@ -7,8 +7,8 @@ use crate::chunk::Chunk;
 use crate::element::Element;
 use crate::entry::Entry;
 use crate::link::link;
+use crate::room::make_room;
 use crate::spot::{number_behind, spot_behind};
-use crate::split::{regroup, shift, split};
 use ra_labels::{NoMemory, Stamp};
 use std::alloc::Global;
 use std::collections::HashMap;
@@ -119,5 +119,94 @@ impl ElementList {
         ensures { result ≡ (arrival_at self.now.arrivals number).anchor }
     {
         self.elements[number as usize].anchor
+    }
+
+    /// Does it stand directly behind its anchor? Then no element with this anchor has a greater stamp.
+    pub fn is_youngest(&self, number: u32) -> bool
+        requires some { 0 < number }
+        requires there { number < length self.now.arrivals }
+        ensures { let arrival = arrival_at self.now.arrivals number in IsTrue result
+            ↔ StandsBehind self.now.elements arrival.element (arrival_at self.now.arrivals arrival.anchor).element }
+    {
+        let element = self.elements[number as usize];
+        element.before == element.anchor
+    }
+
+    /// Room for one more element, and nothing else changes. Costs a constant, or a move of half a chunk and a step for
+    /// each chunk where the newest element filled its own.
+    pub fn spare(&mut self) -> Result<(), NoMemory>
+        ensures elements { self.new.elements ≡ self.old.elements }
+        ensures arrivals { self.new.arrivals ≡ self.old.arrivals }
+        ensures room { OnOk result (self.new.has_room ≡ true) }
+    {
+        self.numbers.reserve(1)?;
+        self.elements.reserve(1)?;
+        make_room(
+            &mut self.chunks,
+            &mut self.places,
+            self.elements.as_mut_slice(),
+            self.newest,
+        )
+    }
+
+    /// Puts a new element behind the anchor of this number, and behind all with a greater stamp that follow. Costs a
+    /// walk along a chunk at each end, a step for each chunk between, and a move within a chunk.
+    pub fn insert(&mut self, element: u32, stamp: Stamp, anchor: u32)
+        requires room { self.old.has_room ≡ true }
+        requires few { length self.old.arrivals < 4294967296 }
+        requires anchor { anchor < length self.old.arrivals }
+        requires new { (n : ℕ) → n < length self.old.arrivals
+            → ¬ ((arrival_at self.old.arrivals n).element ≡ element) }
+        ensures arrivals { self.new.arrivals
+            ≡ self.old.arrivals ++ record { element = element; stamp = stamp; anchor = anchor } ∷ [] }
+        ensures elements { (below : ℕ → ℕ → Bool) (all : List (ℕ × Bool))
+            → IsBelowByStamp below element stamp self.old.arrivals → elements_in all ≡ self.old.elements
+            → self.new.elements
+            ≡ elements_in (put_after below (arrival_at self.old.arrivals anchor).element element all) }
+    {
+        let number = self.elements.len() as u32;
+        let place = self.places[self.elements[anchor as usize].group];
+        let spot = spot_behind(&self.chunks, place, anchor, stamp);
+        let next = number_behind(&self.chunks, spot);
+        let before = self.chunks[spot.place].number(spot.position - 1);
+        let group = self.elements[before as usize].group;
+        self.chunks[spot.place].insert(spot.position, Entry { number, stamp });
+        self.newest = spot.place;
+        let _ = self.numbers.insert(element, number);
+        link(&mut self.elements, next, Element {
+            element,
+            stamp,
+            anchor,
+            before,
+            group,
+        });
+    }
+
+    /// The number of the nearest element before this one that is marked, as the root is. Costs a step for each element
+    /// between.
+    pub fn nearest_before(&self, number: u32, marks: &[bool]) -> u32
+        requires some { 0 < number }
+        requires there { number < length self.now.arrivals }
+        requires root { is_marked marks.now 0 ≡ true }
+        ensures among { result < length self.now.arrivals }
+        ensures nearest { (keep : ℕ → Bool) (all : List (ℕ × Bool)) → elements_in all ≡ self.now.elements
+            → IsKeptByMark keep marks.now self.now.arrivals → IsNearestBefore keep all
+            (arrival_at self.now.arrivals number).element (arrival_at self.now.arrivals result).element }
+    {
+        let mut found = self.elements[number as usize].before;
+        while !is_marked(marks, found) {
+            found = self.elements[found as usize].before;
+        }
+        found
+    }
+}
+
+// Is the number marked? None beyond the end is.
+fn is_marked(marks: &[bool], number: u32) -> bool
+    ensures { result ≡ is_marked marks.now number }
+{
+    match marks.get(number as usize) {
+        Some(mark) => *mark,
+        None => false,
     }
 }

@@ -15,6 +15,7 @@ mod element;
 mod element_list;
 mod entry;
 mod link;
+mod room;
 mod spot;
 mod split;
 

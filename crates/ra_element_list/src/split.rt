@@ -28,13 +28,16 @@ pub fn split(chunks: &mut Vec<Chunk>, at: usize) -> Result<(), NoMemory>
     Ok(())
 }
 
-/// The chunks behind this place stand one further.
-pub fn shift(places: &mut Vec<usize>, at: usize)
-    requires { All (λ place. place < 18446744073709551615) places.old.items }
-    ensures { places.new.items ≡ map (shifted at) places.old.items }
+/// The chunks behind this place, up to the last one, stand one further.
+pub fn shift(places: &mut [usize], at: usize, last: usize)
+    requires few { last < 18446744073709551615 }
+    requires last { All (λ place. place ≤ last) places.old }
+    ensures { places.new ≡ map (shifted at) places.old }
 {
-    for group in 0..places.len() {
-        places[group] = shifted(at, places[group]);
+    if at < last {
+        for group in 0..places.len() {
+            places[group] = shifted(at, places[group]);
+        }
     }
 }
 
@@ -47,9 +50,9 @@ fn shifted(at: usize, place: usize) -> usize
 }
 
 /// These elements are of this group from now on.
-pub fn regroup(elements: &mut Vec<Element>, entries: &[Entry], group: usize)
-    requires { All (λ entry. entry.number < length elements.old.items) entries.now }
-    ensures { IsRegrouped elements.old.items entries.now group elements.new.items }
+pub fn regroup(elements: &mut [Element], entries: &[Entry], group: usize)
+    requires { All (λ entry. entry.number < length elements.old) entries.now }
+    ensures { IsRegrouped elements.old entries.now group elements.new }
 {
     for entry in entries {
         let element = &mut elements[entry.number as usize];
