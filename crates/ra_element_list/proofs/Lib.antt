@@ -13,3 +13,4 @@ mod Numbering
 mod Halves
 mod Same
 mod Splitting
+mod Inserting
