@@ -14,3 +14,4 @@ mod Halves
 mod Same
 mod Splitting
 mod Inserting
+mod Nearest

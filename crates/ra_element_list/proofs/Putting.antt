@@ -57,11 +57,12 @@ elements_with elements after next new entries q linked of =
     let at = index_in entries n among in
     element_kept elements after next new linked n (subst (λ m. m < length elements) at.2 (of.known at.0 at.1))))
 
+-- no entry of the list
+abbrev pub nothing : ℕ × Bool
+nothing = (0, false)
+
 module _ (number_of : ℕ → Option ℕ) (elements : List Element) (entries : List Entry) (numbers : AreNumbers number_of elements) (of : AreEntriesOf elements entries)
     (all : List (ℕ × Bool)) (same : elements_in all ≡ elements_by elements entries) where
-  abbrev nothing : ℕ × Bool
-  nothing = (0, false)
-
   pub long : length all ≡ length entries
   long =
       let a = length-map all (λ (e : ℕ × Bool). e.0) in
