@@ -1,15 +1,13 @@
 -- One more element among the others.
-use Rattle.std.proofs.Common.{◌≡◌, ℕ, zero, suc, ◌+◌, ◌-◌, ◌<◌, ◌≤◌, List, [], ◌∷◌, ◌++◌, length, get_or, map, refl, sym, ap, ◌∙◌, subst, inl, inr, arith, Option, Some, None}
-use Rattle.std.specs.Prelude.{Contains}
+use Rattle.std.proofs.Common.{◌≡◌, ℕ, suc, ◌+◌, ◌-◌, ◌<◌, ◌≤◌, List, length, sym, ap, ◌∙◌, subst, inl, inr, arith, Option}
 use Rattle.std.specs.List.{insert}
 use Rattle.std.proofs.lemmas.Bool.{cases_lt, cases_eq}
 use Rattle.std.proofs.lemmas.List.Edits.{length-insert, get_or-insert_below, get_or-insert_at, get_or-insert_above}
-use Rattle.ra_labels.specs.declared.label.Stamp.{Stamp}
 use Rattle.ra_element_list.specs.declared.entry.Entry.{Entry}
 use Rattle.ra_element_list.specs.declared.element.Element.{Element}
 use Rattle.ra_element_list.specs.Entries.{no_entry, entry_at, IsNumberAt}
-use Rattle.ra_element_list.specs.Groups.{no_element, element_at}
-use Rattle.ra_element_list.specs.Links.{with_before, IsLinked}
+use Rattle.ra_element_list.specs.Groups.{element_at}
+use Rattle.ra_element_list.specs.Links.{IsLinked}
 use Rattle.ra_element_list.specs.Kept.{AreEntriesOf, AreLinked}
 use Rattle.ra_element_list.proofs.Members.{IsFrom, Before, Here, Behind, from_insert}
 use Rattle.ra_element_list.proofs.Standing.{one_index, next_is, next_some}

@@ -1,6 +1,6 @@
 -- An insertion, of what the code reads and writes.
-use Rattle.std.proofs.Common.{◌≡◌, ℕ, zero, suc, ◌+◌, ◌-◌, ◌<◌, ◌≤◌, Bool, true, List, [], ◌∷◌, ◌++◌, length, get_or, map, cond, refl, sym, ap, ◌∙◌, subst, inl, inr, arith, Option, Some, None, Result, Ok, Err}
-use Rattle.std.specs.Prelude.{◌==◌, ◌&&◌, Contains, set, OnOk, IsOk}
+use Rattle.std.proofs.Common.{◌≡◌, ℕ, ◌+◌, ◌-◌, ◌<◌, Bool, true, List, [], ◌∷◌, ◌++◌, length, get_or, map, sym, ap, ◌∙◌, subst, inl, inr, arith, Option, Result, Ok, Err}
+use Rattle.std.specs.Prelude.{Contains, set, OnOk, IsOk}
 use Rattle.std.specs.List.{insert}
 use Rattle.std.proofs.lemmas.Bool.{false≢true, cases_lt}
 use Rattle.std.proofs.lemmas.List.{get_or_read, length-map, ext_get_or, get_or-map, get_or_append_left, get_or_push, length_push}
@@ -15,14 +15,14 @@ use Rattle.ra_element_list.specs.Chunk.{Chunk}
 use Rattle.ra_element_list.specs.Chunks.{no_chunk, chunk_at, joined, offset, IsSpotFor}
 use Rattle.ra_element_list.specs.Groups.{no_element, element_at}
 use Rattle.ra_element_list.specs.Links.{IsLinked}
-use Rattle.ra_element_list.specs.ElementList.{Arrival, root, arrival_at, IsBelowByStamp}
-use Rattle.ra_element_list.specs.Kept.{arrival_of, elements_by, have_room, AreNumbers, ChunksKept, ElementListKept, place_at, place_of}
+use Rattle.ra_element_list.specs.ElementList.{root, IsBelowByStamp}
+use Rattle.ra_element_list.specs.Kept.{arrival_of, elements_by, have_room, ChunksKept, ElementListKept, place_at, place_of}
 use Rattle.ra_element_list.proofs.Joined.{joined_set}
-use Rattle.ra_element_list.proofs.Standing.{in_numbers, known_in_chunk, arrival_is}
+use Rattle.ra_element_list.proofs.Standing.{in_numbers, known_in_chunk}
 use Rattle.ra_element_list.proofs.Entering.{element_kept, stamp_kept, anchor_kept}
 use Rattle.ra_element_list.proofs.Placing.{before_is, kept_entered}
 use Rattle.ra_element_list.proofs.Putting.{elements_with, put_in_all}
-use Rattle.ra_element_list.proofs.Numbering.{numbers_with, fresh_among, length_came, room_at}
+use Rattle.ra_element_list.proofs.Numbering.{room_at}
 
 -- what a call that succeeds ensures
 pub on_ok : {T E P : Type 0} (r : Result T E) → OnOk r P → IsOk r → P

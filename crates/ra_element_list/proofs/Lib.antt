@@ -15,3 +15,4 @@ mod Same
 mod Splitting
 mod Inserting
 mod Nearest
+mod Youngest

@@ -1,19 +1,17 @@
 -- The way back to the nearest element that is kept.
-use Rattle.std.proofs.Common.{◌≡◌, ℕ, zero, suc, ◌+◌, ◌-◌, ◌<◌, ◌≤◌, Bool, true, false, List, [], ◌∷◌, ◌++◌, length, get_or, map, refl, sym, ap, ◌∙◌, subst, inl, inr, arith, Option, Some, None}
-use Rattle.std.specs.Prelude.{◌==◌, ◌↔◌, ◌&&◌, not, nat_eq, if◌then◌else◌, Contains, IsTrue}
+use Rattle.std.proofs.Common.{◌≡◌, ℕ, zero, suc, ◌<◌, Bool, true, false, List, [], ◌∷◌, ◌++◌, length, get_or, map, refl, sym, ap, ◌∙◌, subst, inl, inr, arith, Option}
+use Rattle.std.specs.Prelude.{◌==◌, not, if◌then◌else◌}
 use Rattle.std.specs.List.{list_all}
-use Rattle.std.proofs.lemmas.Bool.{true≢false, false≢true, cases_lt, cases_eq, cond-true, cond-false, eq-eqb, eqb-true, ne_eqb, and_from, not_from_false}
-use Rattle.std.proofs.lemmas.List.{length-map, length-append, get_or-map, get_or_read, get_or_at, get_or-append-add}
+use Rattle.std.proofs.lemmas.Bool.{true≢false, cases_eq, cond-true, cond-false, eq-eqb, ne_eqb, and_from, not_from_false}
+use Rattle.std.proofs.lemmas.List.{length-map, get_or_read}
 use Rattle.ra_labels.specs.Laws.{elements_in}
 use Rattle.ra_element_list.specs.declared.entry.Entry.{Entry}
 use Rattle.ra_element_list.specs.declared.element.Element.{Element}
 use Rattle.ra_element_list.specs.Entries.{entry_at, numbers_in}
-use Rattle.ra_element_list.specs.Chunk.{Chunk}
-use Rattle.ra_element_list.specs.Chunks.{joined}
 use Rattle.ra_element_list.specs.Groups.{no_element, element_at}
-use Rattle.ra_element_list.specs.ElementList.{Arrival, arrival_at, is_marked, IsKeptByMark, StandsBehind, IsNearestBefore}
-use Rattle.ra_element_list.specs.Kept.{arrival_of, elements_by, AreEntriesOf, AreLinked, AreNumbers, ChunksKept}
-use Rattle.ra_element_list.proofs.Standing.{number_is, index_of, one_index, one_number, arrival_is, element_is}
+use Rattle.ra_element_list.specs.ElementList.{Arrival, is_marked, IsKeptByMark, IsNearestBefore}
+use Rattle.ra_element_list.specs.Kept.{arrival_of, elements_by, AreEntriesOf, AreLinked, AreNumbers}
+use Rattle.ra_element_list.proofs.Standing.{number_is, arrival_is}
 use Rattle.ra_element_list.proofs.Putting.{nothing, long, at_index}
 
 -- how many stand before the first n
@@ -53,7 +51,7 @@ module _ (elements : List Element) (entries : List Entry) (of : AreEntriesOf ele
   found_known marks number found walking = subst (λ n. n < length elements) walking.is_found (of.known walking.from (omega (arith, walking.before, walking.there)))
 
   module _ (links : AreLinked elements entries) where
-    before_of : (k n : ℕ) (read : Element) → suc k < length entries → (entry_at entries (suc k)).number ≡ n → read ≡ get_or elements n read → read.before ≡ (entry_at entries k).number
+    pub before_of : (k n : ℕ) (read : Element) → suc k < length entries → (entry_at entries (suc k)).number ≡ n → read ≡ get_or elements n read → read.before ≡ (entry_at entries k).number
     before_of k n read there is reads =
         let known : n < length elements = subst (λ m. m < length elements) is (of.known (suc k) there) in
         ap (λ (e : Element). e.before) (get_or_read elements n read known reads no_element)
@@ -121,7 +119,7 @@ near_on : (keep : ℕ → Bool) (entry : ℕ × Bool) (list : List (ℕ × Bool)
 near_on keep entry list x p (before, between, behind, is_shown, was_shown, same, is, none) =
     (entry ∷ before, between, behind, is_shown, was_shown, ap (λ (es : List (ℕ × Bool)). entry ∷ es) same, is, none)
 
-near_at : (keep : ℕ → Bool) (d : ℕ × Bool) (list : List (ℕ × Bool)) (i j : ℕ) → i < j → j < length list → keep (get_or list i d).0 ≡ true
+pub near_at : (keep : ℕ → Bool) (d : ℕ × Bool) (list : List (ℕ × Bool)) (i j : ℕ) → i < j → j < length list → keep (get_or list i d).0 ≡ true
     → ((k : ℕ) → i < k → k < j → keep (get_or list k d).0 ≡ false) → IsNearestBefore keep list (get_or list j d).0 (get_or list i d).0
 near_at keep d [] i j before there is none = absurd (omega arith)
 near_at keep d (entry ∷ list) i zero before there is none = absurd (omega arith)

@@ -1,13 +1,11 @@
 -- The way from an anchor past those with a greater stamp.
-use Rattle.std.proofs.Common.{◌≡◌, ℕ, zero, suc, ◌+◌, ◌-◌, ◌<◌, ◌≤◌, true, false, List, [], ◌∷◌, ◌++◌, length, get_or, Some, refl, sym, ap, ◌∙◌, subst, inl, inr, arith}
-use Rattle.std.specs.Prelude.{Contains}
+use Rattle.std.proofs.Common.{◌≡◌, ℕ, suc, ◌+◌, ◌-◌, ◌<◌, ◌≤◌, true, false, List, length, get_or, Some, sym, ap, ◌∙◌, subst, inl, inr, arith}
 use Rattle.std.specs.Ordering.{is_lt}
 use Rattle.std.proofs.lemmas.Bool.{cases_lt}
 use Rattle.std.proofs.lemmas.List.{get_or_read}
 use Rattle.ra_labels.specs.declared.label.Stamp.{Stamp}
 use Rattle.ra_labels.specs.NamedOrder.{stamp_cmp}
 use Rattle.ra_element_list.specs.declared.entry.Entry.{Entry}
-use Rattle.ra_element_list.specs.declared.spot.Spot.{Spot}
 use Rattle.ra_element_list.specs.Entries.{entry_at, IsNumberAt, IsBehind, IsPast}
 use Rattle.ra_element_list.specs.Chunk.{Chunk}
 use Rattle.ra_element_list.specs.Chunks.{no_chunk, chunk_at, joined, offset, AreFilled, IsSpotFor}

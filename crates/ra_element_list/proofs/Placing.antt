@@ -1,5 +1,5 @@
 -- One more element in its chunk.
-use Rattle.std.proofs.Common.{◌≡◌, ℕ, zero, suc, ◌+◌, ◌-◌, ◌<◌, ◌≤◌, List, [], ◌∷◌, ◌++◌, length, get_or, map, refl, sym, ap, ◌∙◌, subst, inl, inr, arith, Option, Some, None}
+use Rattle.std.proofs.Common.{◌≡◌, ℕ, ◌+◌, ◌-◌, ◌<◌, ◌≤◌, List, length, sym, ap, ◌∙◌, subst, inl, inr, arith, Option}
 use Rattle.std.specs.Prelude.{Contains, set}
 use Rattle.std.specs.List.{insert}
 use Rattle.std.proofs.lemmas.Bool.{cases_lt, cases_eq}
@@ -7,11 +7,11 @@ use Rattle.std.proofs.lemmas.List.{length-set, get_or-set_same, get_or-set_other
 use Rattle.std.proofs.lemmas.List.Edits.{length-insert}
 use Rattle.ra_element_list.specs.declared.entry.Entry.{Entry}
 use Rattle.ra_element_list.specs.declared.element.Element.{Element}
-use Rattle.ra_element_list.specs.Entries.{no_entry, entry_at, numbers_in, IsNumberAt}
+use Rattle.ra_element_list.specs.Entries.{entry_at, numbers_in, IsNumberAt}
 use Rattle.ra_element_list.specs.Chunk.{Chunk}
 use Rattle.ra_element_list.specs.Chunks.{no_chunk, chunk_at, joined, offset, AreFilled}
-use Rattle.ra_element_list.specs.Groups.{no_element, element_at}
-use Rattle.ra_element_list.specs.Links.{with_before, IsLinked}
+use Rattle.ra_element_list.specs.Groups.{element_at}
+use Rattle.ra_element_list.specs.Links.{IsLinked}
 use Rattle.ra_element_list.specs.Kept.{AreEntriesOf, AreLinked, ArePlaced, place_at, place_of, ChunksKept}
 use Rattle.ra_element_list.proofs.Members.{map-insert, new_in_insert, old_in_insert, insert_cases}
 use Rattle.ra_element_list.proofs.Joined.{entry_joined, offset_within, joined_set}

@@ -1,6 +1,6 @@
 -- An element put in at its index is put in as the definition says.
-use Rattle.std.proofs.Common.{◌≡◌, ℕ, zero, suc, ◌+◌, ◌-◌, ◌<◌, ◌≤◌, Bool, true, false, List, [], ◌∷◌, ◌++◌, length, get_or, map, refl, sym, ap, ◌∙◌, subst, inl, inr, arith, Option, Some, None}
-use Rattle.std.specs.Prelude.{◌==◌, Contains}
+use Rattle.std.proofs.Common.{◌≡◌, ℕ, zero, suc, ◌<◌, ◌≤◌, Bool, true, false, List, [], ◌∷◌, length, get_or, map, refl, sym, ap, ◌∙◌, subst, arith, Option}
+use Rattle.std.specs.Prelude.{◌==◌}
 use Rattle.std.specs.List.{insert}
 use Rattle.std.specs.Ordering.{is_lt}
 use Rattle.std.proofs.lemmas.Bool.{cond-true, cond-false, eq-eqb, ne_eqb}
@@ -11,13 +11,13 @@ use Rattle.ra_labels.specs.Laws.{elements_in}
 use Rattle.ra_labels.specs.Late.{put_past, put_after}
 use Rattle.ra_element_list.specs.declared.entry.Entry.{Entry}
 use Rattle.ra_element_list.specs.declared.element.Element.{Element}
-use Rattle.ra_element_list.specs.Entries.{no_entry, entry_at, numbers_in, IsPast}
-use Rattle.ra_element_list.specs.Groups.{no_element, element_at}
+use Rattle.ra_element_list.specs.Entries.{entry_at, numbers_in, IsPast}
+use Rattle.ra_element_list.specs.Groups.{element_at}
 use Rattle.ra_element_list.specs.Links.{IsLinked}
-use Rattle.ra_element_list.specs.ElementList.{Arrival, arrival_at, IsBelowByStamp}
+use Rattle.ra_element_list.specs.ElementList.{Arrival, IsBelowByStamp}
 use Rattle.ra_element_list.specs.Kept.{arrival_of, elements_by, AreEntriesOf, AreNumbers}
 use Rattle.ra_element_list.proofs.Members.{map-insert, map_same}
-use Rattle.ra_element_list.proofs.Standing.{index_in, one_number, one_index, arrival_is, element_is}
+use Rattle.ra_element_list.proofs.Standing.{index_in, one_number, arrival_is, element_is}
 use Rattle.ra_element_list.proofs.Entering.{element_kept}
 
 module _ (below : ℕ → ℕ → Bool) (x : ℕ) (d : ℕ × Bool) where

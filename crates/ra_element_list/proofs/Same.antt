@@ -1,11 +1,11 @@
 -- Elements that are as they were, but for their groups.
-use Rattle.std.proofs.Common.{◌≡◌, ℕ, suc, ◌+◌, ◌<◌, ◌≤◌, List, length, map, sym, ap, ◌∙◌, subst, arith, Option, Some}
+use Rattle.std.proofs.Common.{◌≡◌, ℕ, suc, ◌<◌, List, length, map, sym, ap, ◌∙◌, arith, Option}
 use Rattle.std.proofs.lemmas.List.{ext_get_or, length-map, get_or-map}
 use Rattle.ra_element_list.specs.declared.entry.Entry.{Entry}
 use Rattle.ra_element_list.specs.declared.element.Element.{Element}
 use Rattle.ra_element_list.specs.Entries.{entry_at, numbers_in}
 use Rattle.ra_element_list.specs.Groups.{no_element, element_at, AreSameButGroups}
-use Rattle.ra_element_list.specs.ElementList.{Arrival, root}
+use Rattle.ra_element_list.specs.ElementList.{root}
 use Rattle.ra_element_list.specs.Kept.{arrival_of, elements_by, AreEntriesOf, AreLinked, AreNumbers}
 use Rattle.ra_element_list.proofs.Members.{map_same}
 

@@ -1,5 +1,5 @@
 -- What a split of the chunk with the newest element leaves.
-use Rattle.std.proofs.Common.{◌≡◌, ℕ, zero, suc, ◌+◌, ◌-◌, ◌<◌, ◌≤◌, true, List, [], ◌∷◌, ◌++◌, length, get_or, map, refl, sym, ap, ◌∙◌, subst, inl, inr, arith}
+use Rattle.std.proofs.Common.{◌≡◌, ℕ, ◌+◌, ◌-◌, ◌<◌, ◌≤◌, true, List, [], ◌∷◌, ◌++◌, length, get_or, map, sym, ap, ◌∙◌, subst, inl, inr, arith}
 use Rattle.std.specs.Prelude.{◌⊎◌, Contains, set}
 use Rattle.std.specs.List.{insert}
 use Rattle.std.proofs.lemmas.Bool.{cases_lt, cases_eq}
@@ -8,9 +8,9 @@ use Rattle.ra_element_list.specs.declared.entry.Entry.{Entry}
 use Rattle.ra_element_list.specs.declared.element.Element.{Element}
 use Rattle.ra_element_list.specs.Entries.{no_entry, entry_at, numbers_in}
 use Rattle.ra_element_list.specs.Chunk.{Chunk}
-use Rattle.ra_element_list.specs.Chunks.{no_chunk, chunk_at, joined, AreFilled, IsSplit}
+use Rattle.ra_element_list.specs.Chunks.{no_chunk, chunk_at, joined, IsSplit}
 use Rattle.ra_element_list.specs.Groups.{element_at, shifted, IsRegrouped, AreSameButGroups}
-use Rattle.ra_element_list.specs.Kept.{have_room, AreEntriesOf, AreLinked, ArePlaced, place_at, place_of, ChunksKept}
+use Rattle.ra_element_list.specs.Kept.{have_room, AreEntriesOf, AreLinked, place_at, place_of, ChunksKept}
 use Rattle.ra_element_list.proofs.Standing.{in_numbers, known_in_chunk}
 use Rattle.ra_element_list.proofs.Numbering.{room_all}
 use Rattle.ra_element_list.proofs.Halves.{shifted_low, shifted_high, length_split, left_at, right_at, other_at, IsNow, Left, Right, Other, is_now, joined_split, left_in, right_in, half_of, not_both}

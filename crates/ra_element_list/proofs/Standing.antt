@@ -1,5 +1,5 @@
 -- Where elements stand.
-use Rattle.std.proofs.Common.{◌≡◌, ℕ, zero, suc, ◌+◌, ◌-◌, ◌<◌, ◌≤◌, List, [], ◌∷◌, ◌++◌, length, get_or, map, refl, sym, ap, ◌∙◌, subst, inl, inr, arith, Option, Some, None}
+use Rattle.std.proofs.Common.{◌≡◌, ℕ, ◌+◌, ◌<◌, List, length, get_or, map, sym, ap, ◌∙◌, subst, inl, inr, arith, Option, Some, None}
 use Rattle.std.specs.Prelude.{Contains}
 use Rattle.std.proofs.lemmas.Bool.{cases_order}
 use Rattle.std.proofs.lemmas.List.{length-map, get_or-map}
@@ -9,7 +9,7 @@ use Rattle.ra_element_list.specs.Entries.{no_entry, entry_at, numbers_in, IsNumb
 use Rattle.ra_element_list.specs.Chunk.{Chunk}
 use Rattle.ra_element_list.specs.Chunks.{chunk_at, joined, offset}
 use Rattle.ra_element_list.specs.Groups.{no_element, element_at}
-use Rattle.ra_element_list.specs.ElementList.{Arrival, root, arrival_at}
+use Rattle.ra_element_list.specs.ElementList.{root, arrival_at}
 use Rattle.ra_element_list.specs.Kept.{arrival_of, elements_by, AreEntriesOf, ArePlaced, AreNumbers, place_of}
 use Rattle.ra_element_list.proofs.Joined.{entry_joined, offset_within}
 

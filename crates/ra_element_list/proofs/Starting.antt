@@ -1,17 +1,15 @@
 -- A new list, and its look-ups.
-use Rattle.std.proofs.Common.{◌≡◌, ℕ, zero, suc, ◌+◌, ◌<◌, ◌≤◌, List, [], ◌∷◌, ◌++◌, length, map, get_or, cond, refl, sym, ap, ◌∙◌, subst, inl, inr, arith, Option, Some, None}
+use Rattle.std.proofs.Common.{◌≡◌, ℕ, zero, suc, ◌<◌, List, [], ◌∷◌, length, map, get_or, cond, refl, sym, ap, ◌∙◌, subst, inl, inr, arith, Option, Some, None}
 use Rattle.std.specs.Prelude.{◌↔◌, ◌==◌, Contains}
-use Rattle.std.proofs.lemmas.Bool.{cases_Bool, cond-true, cond-false, eqb-true, eq-eqb}
+use Rattle.std.proofs.lemmas.Bool.{cases_Bool, cond-true, cond-false, eqb-true}
 use Rattle.std.proofs.lemmas.List.{length-map}
-use Rattle.ra_labels.specs.NamedOrder.{lowest_rank}
-use Rattle.ra_element_list.specs.declared.entry.Entry.{Entry}
 use Rattle.ra_element_list.specs.declared.element.Element.{Element}
 use Rattle.ra_element_list.specs.Entries.{no_entry, entry_at, numbers_in}
 use Rattle.ra_element_list.specs.Chunk.{Chunk}
-use Rattle.ra_element_list.specs.Chunks.{chunk_at, joined}
+use Rattle.ra_element_list.specs.Chunks.{chunk_at}
 use Rattle.ra_element_list.specs.Groups.{no_element, element_at}
 use Rattle.ra_element_list.specs.ElementList.{Arrival, arrival_at}
-use Rattle.ra_element_list.specs.Kept.{arrival_of, AreEntriesOf, AreLinked, ArePlaced, AreNumbers, ChunksKept, ElementListKept}
+use Rattle.ra_element_list.specs.Kept.{arrival_of, AreNumbers, ChunksKept, ElementListKept}
 use Rattle.ra_element_list.proofs.Standing.{arrival_is}
 
 abbrev one_chunk : ℕ → Chunk
@@ -85,9 +83,9 @@ pub numbers_exactly : (number_of : ℕ → Option ℕ) (elements : List Element)
 numbers_exactly number_of elements arrivals x result numbers came is n =
     subst (λ came. (result ≡ Some n) ↔ ((n < length came) × ((arrival_at came n).element ≡ x))) came (
       (λ found.
-      let at = numbers.there x n (sym is ∙ found) in
-      (omega (arith, at.0, length-map elements arrival_of), ap (λ (a : Arrival). a.element) (arrival_is elements n at.0) ∙ at.1)),
+          let at = numbers.there x n (sym is ∙ found) in
+          (omega (arith, at.0, length-map elements arrival_of), ap (λ (a : Arrival). a.element) (arrival_is elements n at.0) ∙ at.1)),
       (λ there.
-      let low : n < length elements = omega (arith, there.0, length-map elements arrival_of) in
-      is ∙ ap number_of (sym there.1 ∙ ap (λ (a : Arrival). a.element) (arrival_is elements n low)) ∙ numbers.found n low),
+          let low : n < length elements = omega (arith, there.0, length-map elements arrival_of) in
+          is ∙ ap number_of (sym there.1 ∙ ap (λ (a : Arrival). a.element) (arrival_is elements n low)) ∙ numbers.found n low),
     )

@@ -1,5 +1,5 @@
 -- What contracts see of an element list, and the words of its clauses.
-use Rattle.std.specs.Prelude.{◌≡◌, ℕ, ◌<◌, nat_lt, Bool, true, false, not, ◌&&◌, List, ◌∷◌, ◌++◌, length, map, get_or}
+use Rattle.std.specs.Prelude.{◌≡◌, ℕ, ◌<◌, Bool, true, false, not, List, ◌∷◌, ◌++◌, length, get_or}
 use Rattle.std.specs.List.{list_all}
 use Rattle.std.specs.Ordering.{is_lt}
 use Rattle.ra_labels.specs.declared.label.Stamp.{Stamp}
@@ -41,7 +41,7 @@ abbrev pub IsKeptByMark : (ℕ → Bool) → List Bool → List Arrival → Type
 IsKeptByMark keep marks arrivals = (n : ℕ) → n < length arrivals
     → keep (arrival_at arrivals n).element ≡ is_marked marks n
 
--- p stands directly behind x in the list
+-- x stands directly behind p in the list
 abbrev pub StandsBehind : List ℕ → ℕ → ℕ → Type 0
 StandsBehind elements x p = (before behind : List ℕ) × (elements ≡ before ++ p ∷ x ∷ behind)
 

@@ -1,5 +1,5 @@
 -- What is kept true of the fields of an element list.
-use Rattle.std.specs.Prelude.{◌≡◌, ℕ, suc, ◌+◌, ◌<◌, nat_lt, Bool, ◌&&◌, List, length, map, get_or, Contains, Option, Some}
+use Rattle.std.specs.Prelude.{◌≡◌, ℕ, suc, ◌<◌, nat_lt, Bool, ◌&&◌, List, length, map, get_or, Contains, Option, Some}
 use Rattle.std.specs.List.{list_all}
 use Rattle.ra_element_list.specs.declared.entry.Entry.{Entry}
 use Rattle.ra_element_list.specs.declared.element.Element.{Element}

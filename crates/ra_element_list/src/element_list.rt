@@ -69,10 +69,13 @@ impl ElementList {
             before: ROOT,
             group: 0,
         };
-        let chunk = Chunk::new(alloc, Entry {
-            number: ROOT,
-            stamp: LOWEST,
-        })?;
+        let chunk = Chunk::new(
+            alloc,
+            Entry {
+                number: ROOT,
+                stamp: LOWEST,
+            },
+        )?;
         Ok(ElementList {
             numbers,
             elements: vec![in alloc; root]?,
@@ -116,7 +119,8 @@ impl ElementList {
     /// The number of its anchor.
     pub fn anchor(&self, number: u32) -> u32
         requires { number < length self.now.arrivals }
-        ensures { result ≡ (arrival_at self.now.arrivals number).anchor }
+        ensures anchor { result ≡ (arrival_at self.now.arrivals number).anchor }
+        ensures known { result < length self.now.arrivals }
     {
         self.elements[number as usize].anchor
     }
@@ -125,8 +129,12 @@ impl ElementList {
     pub fn is_youngest(&self, number: u32) -> bool
         requires some { 0 < number }
         requires there { number < length self.now.arrivals }
-        ensures { let arrival = arrival_at self.now.arrivals number in IsTrue result
+        ensures exactly { let arrival = arrival_at self.now.arrivals number in IsTrue result
             ↔ StandsBehind self.now.elements arrival.element (arrival_at self.now.arrivals arrival.anchor).element }
+        ensures nearest { (keep : ℕ → Bool) (all : List (ℕ × Bool)) → let arrival = arrival_at self.now.arrivals number in
+            let anchor = arrival_at self.now.arrivals arrival.anchor in IsTrue result
+            → elements_in all ≡ self.now.elements → keep anchor.element ≡ true
+            → IsNearestBefore keep all arrival.element anchor.element }
     {
         let element = self.elements[number as usize];
         element.before == element.anchor
@@ -173,13 +181,17 @@ impl ElementList {
         self.chunks[spot.place].insert(spot.position, Entry { number, stamp });
         self.newest = spot.place;
         let _ = self.numbers.insert(element, number);
-        link(&mut self.elements, next, Element {
-            element,
-            stamp,
-            anchor,
-            before,
-            group,
-        });
+        link(
+            &mut self.elements,
+            next,
+            Element {
+                element,
+                stamp,
+                anchor,
+                before,
+                group,
+            },
+        );
     }
 
     /// The number of the nearest element before this one that is marked, as the root is. Costs a step for each element

@@ -16,7 +16,7 @@ mod element_list;
 mod entry;
 mod link;
 mod room;
-mod spot;
 mod split;
+mod spot;
 
 pub use element_list::{ElementList, LOWEST, ROOT};

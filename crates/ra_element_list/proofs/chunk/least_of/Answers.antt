@@ -1,4 +1,4 @@
-use Rattle.std.proofs.Common.{rules, arith}
+use Rattle.std.proofs.Common.{arith}
 use Rattle.ra_element_list.proofs.Least.{least_more, least_of_all}
 use Rattle.ra_element_list.proofs.chunk.least_of.Goals as goal
 

@@ -1,5 +1,4 @@
-use Rattle.std.proofs.Common.{◌≡◌, ◌+◌, length, arith, ap, ◌∙◌, subst, sym}
-use Rattle.ra_element_list.specs.Chunks.{chunk_at}
+use Rattle.std.proofs.Common.{arith, ◌∙◌, subst, sym}
 use Rattle.ra_element_list.specs.Entries.{IsPast}
 use Rattle.ra_element_list.proofs.Passing.{passing_first, passing_on, at_end, stops_within, stops_last, stops_between}
 use Rattle.ra_element_list.proofs.spot.spot_behind.Goals as goal

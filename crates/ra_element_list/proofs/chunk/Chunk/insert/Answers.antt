@@ -1,4 +1,4 @@
-use Rattle.std.proofs.Common.{◌≡◌, ◌<◌, vec_capacity, arith, rules}
+use Rattle.std.proofs.Common.{◌≡◌, ◌<◌, vec_capacity, rules}
 use Rattle.std.specs.List.{insert}
 use Rattle.ra_element_list.proofs.Least.{least_insert}
 use Rattle.ra_element_list.proofs.chunk.Chunk.insert.Goals as goal

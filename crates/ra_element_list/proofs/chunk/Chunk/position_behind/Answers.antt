@@ -1,4 +1,4 @@
-use Rattle.std.proofs.Common.{◌≡◌, length, sym, ap, arith, subst}
+use Rattle.std.proofs.Common.{sym, arith, subst}
 use Rattle.std.specs.Prelude.{Contains}
 use Rattle.ra_element_list.specs.Entries.{numbers_in}
 use Rattle.ra_element_list.specs.Chunk.{Chunk}

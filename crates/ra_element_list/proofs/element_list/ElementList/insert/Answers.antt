@@ -1,15 +1,14 @@
-use Rattle.std.proofs.Common.{◌≡◌, ℕ, ◌+◌, ◌-◌, ◌++◌, ◌∷◌, [], ◌<◌, true, List, length, map, cond, Some, sym, ap, ◌∙◌, subst, arith, rules}
+use Rattle.std.proofs.Common.{◌≡◌, ℕ, ◌+◌, ◌++◌, ◌∷◌, [], ◌<◌, length, cond, Some, sym, ap, ◌∙◌, subst, arith}
 use Rattle.std.specs.Prelude.{nat_eq, nat_lt, ◌==◌, ◌&&◌}
 use Rattle.std.specs.Vec.{vec_len, vec_capacity}
 use Rattle.std.specs.HashMap.{get, spare}
 use Rattle.std.proofs.lemmas.Bool.{and_parts, ltb-true}
 use Rattle.ra_labels.specs.Laws.{elements_in}
 use Rattle.ra_labels.specs.Late.{put_after}
-use Rattle.ra_element_list.specs.declared.element.Element.{Element}
 use Rattle.ra_element_list.specs.Chunks.{joined, offset, IsSpotFor}
 use Rattle.ra_element_list.specs.Entries.{IsNumberAt}
 use Rattle.ra_element_list.specs.ElementList.{Arrival, ElementList, arrival_at, IsBelowByStamp}
-use Rattle.ra_element_list.specs.Kept.{arrival_of, elements_by, have_room}
+use Rattle.ra_element_list.specs.Kept.{have_room}
 use Rattle.ra_element_list.proofs.Standing.{arrival_is}
 use Rattle.ra_element_list.proofs.Numbering.{numbers_with, fresh_among, length_came}
 use Rattle.ra_element_list.proofs.Inserting.{on_ok, anchor_in, before_known, chunks_after, elements_after, arrivals_with}
@@ -27,8 +26,12 @@ index-requires-3 c =
     let inside = c.self.inside in
     let spot = c.spot_behind-spot.result in
     let found = subst (λ cs. IsSpotFor cs c.args.anchor c.args.stamp spot) c.deref.ensures.value c.spot_behind-spot.ensures in
-    omega (arith, before_known (get nat_eq inside.numbers) inside.elements.items inside.chunks.items inside.places.items inside.newest c.self.invariant
-    c.args.anchor c.args.stamp spot found c.index-2.result.now c.number-before.result c.index-2.ensures c.number-before.ensures, inside.elements.ok.0)
+    omega (
+      arith,
+      before_known (get nat_eq inside.numbers) inside.elements.items inside.chunks.items inside.places.items inside.newest c.self.invariant
+          c.args.anchor c.args.stamp spot found c.index-2.result.now c.number-before.result c.index-2.ensures c.number-before.ensures,
+      inside.elements.ok.0,
+    )
 
 pub invariant_of-self : goal.invariant_of-self
 invariant_of-self c =

@@ -1,4 +1,4 @@
-use Rattle.std.proofs.Common.{◌≡◌, ◌<◌, ℕ, Bool, true, false, List, length, map, sym, ap, ◌∙◌, subst, arith, rules}
+use Rattle.std.proofs.Common.{◌≡◌, ◌<◌, ℕ, true, false, length, sym, ap, ◌∙◌, subst, arith, rules}
 use Rattle.std.specs.Prelude.{nat_eq}
 use Rattle.std.specs.HashMap.{get}
 use Rattle.ra_element_list.specs.Chunks.{joined}
@@ -6,7 +6,7 @@ use Rattle.ra_element_list.specs.Groups.{element_at}
 use Rattle.ra_element_list.specs.ElementList.{Arrival, ElementList, arrival_at, is_marked, IsKeptByMark, IsNearestBefore}
 use Rattle.ra_element_list.proofs.Standing.{index_of, arrival_is}
 use Rattle.ra_element_list.proofs.Numbering.{length_came}
-use Rattle.ra_element_list.proofs.Nearest.{IsWalking, found_known, walking_first, walking_on, nearest_found}
+use Rattle.ra_element_list.proofs.Nearest.{found_known, walking_first, walking_on, nearest_found}
 use Rattle.ra_element_list.proofs.element_list.ElementList.nearest_before.Goals as goal
 
 pub loop-self-init : goal.loop-self-init

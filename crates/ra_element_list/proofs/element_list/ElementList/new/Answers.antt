@@ -1,7 +1,6 @@
 use Rattle.std.proofs.Common.{◌≡◌, ℕ, ap, ◌∙◌, cond, Some, None, [], ◌∷◌, rules}
 use Rattle.std.specs.Prelude.{nat_eq, ◌==◌}
 use Rattle.std.specs.HashMap.{get}
-use Rattle.ra_element_list.specs.Entries.{no_entry}
 use Rattle.ra_element_list.specs.Groups.{no_element}
 use Rattle.ra_element_list.proofs.Starting.{kept_new}
 use Rattle.ra_element_list.proofs.element_list.ElementList.new.Goals as goal

@@ -1,12 +1,11 @@
-use Rattle.std.proofs.Common.{◌≡◌, List, length, take, drop, ◌++◌, map, sym, ap, ◌∙◌, subst, arith, rules}
+use Rattle.std.proofs.Common.{◌≡◌, length, map, sym, ap, ◌∙◌, subst, arith}
 use Rattle.std.specs.Prelude.{nat_eq}
 use Rattle.std.specs.HashMap.{get}
 use Rattle.std.proofs.lemmas.List.{take_at}
-use Rattle.ra_element_list.specs.declared.element.Element.{Element}
 use Rattle.ra_element_list.specs.Chunks.{joined}
 use Rattle.ra_element_list.specs.Groups.{AreSameButGroups}
 use Rattle.ra_element_list.specs.ElementList.{ElementList}
-use Rattle.ra_element_list.specs.Kept.{arrival_of, elements_by, ChunksKept, ElementListKept}
+use Rattle.ra_element_list.specs.Kept.{arrival_of, elements_by, ElementListKept}
 use Rattle.ra_element_list.proofs.Numbering.{numbers_same}
 use Rattle.ra_element_list.proofs.Same.{numbers_kept, arrivals_same, elements_same}
 use Rattle.ra_element_list.proofs.element_list.ElementList.spare.Goals as goal
