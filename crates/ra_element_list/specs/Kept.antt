@@ -52,7 +52,8 @@ place_of elements places number = place_at places (element_at elements number).g
 pub record ArePlaced (elements : List Element) (chunks : List Chunk) (places : List ℕ) : Type 0 where
   pub grouped : (n : ℕ) → n < length elements → (element_at elements n).group < length places
   pub inside : (group : ℕ) → group < length places → place_at places group < length chunks
-  pub stands : (n : ℕ) → n < length elements → Contains (numbers_in (chunk_at chunks (place_of elements places n)).entries) n
+  pub stands : (n : ℕ) → n < length elements
+      → Contains (numbers_in (chunk_at chunks (place_of elements places n)).entries) n
   pub only : (place n : ℕ) → place < length chunks → Contains (numbers_in (chunk_at chunks place).entries) n
       → place_of elements places n ≡ place
 

@@ -51,7 +51,8 @@ impl Model for ElementList {
     ghost view = { λ a. list_of a.elements.items a.chunks.items
         (nat_lt (vec_len a.elements) (vec_capacity a.elements) && nat_lt 0 (spare a.numbers)) };
 
-    ghost invariant = { λ a. ElementListKept (get nat_eq a.numbers) a.elements.items a.chunks.items a.places.items a.newest };
+    ghost invariant = { λ a.
+        ElementListKept (get nat_eq a.numbers) a.elements.items a.chunks.items a.places.items a.newest };
 }
 
 impl ElementList {
@@ -131,7 +132,8 @@ impl ElementList {
         requires there { number < length self.now.arrivals }
         ensures exactly { let arrival = arrival_at self.now.arrivals number in IsTrue result
             ↔ StandsBehind self.now.elements arrival.element (arrival_at self.now.arrivals arrival.anchor).element }
-        ensures nearest { (keep : ℕ → Bool) (all : List (ℕ × Bool)) → let arrival = arrival_at self.now.arrivals number in
+        ensures nearest { (keep : ℕ → Bool) (all : List (ℕ × Bool))
+            → let arrival = arrival_at self.now.arrivals number in
             let anchor = arrival_at self.now.arrivals arrival.anchor in IsTrue result
             → elements_in all ≡ self.now.elements → keep anchor.element ≡ true
             → IsNearestBefore keep all arrival.element anchor.element }
