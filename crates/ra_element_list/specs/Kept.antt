@@ -20,7 +20,7 @@ elements_by elements entries = map (λ number. (element_at elements number).elem
 abbrev pub have_room : List Chunk → Bool
 have_room chunks = list_all (λ chunk. nat_lt 0 chunk.room) chunks
 
--- the list, where each vector and map has this much room
+-- the list: the vector of elements and the map have room where it fits
 abbrev pub list_of : List Element → List Chunk → Bool → ElementList
 list_of elements chunks fits = record {
   elements = elements_by elements (joined chunks);

@@ -159,8 +159,8 @@ impl ElementList {
         )
     }
 
-    /// Puts a new element behind the anchor of this number, and behind all with a greater stamp that follow. Costs a
-    /// walk along a chunk at each end, a step for each chunk between, and a move within a chunk.
+    /// Puts a new element behind the anchor of this number, and behind all with a greater stamp that follow. Takes no
+    /// memory. Costs a walk along a chunk at each end, a step for each chunk between, and a move within a chunk.
     pub fn insert(&mut self, element: u32, stamp: Stamp, anchor: u32)
         requires room { self.old.has_room ≡ true }
         requires few { length self.old.arrivals < 4294967296 }
