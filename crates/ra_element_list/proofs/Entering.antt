@@ -8,7 +8,7 @@ use Rattle.ra_element_list.specs.declared.element.Element.{Element}
 use Rattle.ra_element_list.specs.Entries.{no_entry, entry_at, IsNumberAt}
 use Rattle.ra_element_list.specs.Groups.{element_at}
 use Rattle.ra_element_list.specs.Links.{IsLinked}
-use Rattle.ra_element_list.specs.Kept.{AreEntriesOf, AreLinked}
+use Rattle.ra_element_list.specs.Kept.{AreEntriesOf, AreLinked, AreBehindAnchors}
 use Rattle.ra_element_list.proofs.Members.{IsFrom, Before, Here, Behind, from_insert}
 use Rattle.ra_element_list.proofs.Standing.{one_index, next_is, next_some}
 
@@ -81,6 +81,41 @@ module _ (elements after : List Element) (next : Option ℕ) (new : Element) (li
       stamps = λ k there. stamp_from k (from_all k there);
       distinct = λ j k low high. apart_from j k low (from_all j (omega arith)) (from_all k high);
     }
+
+    -- behind its anchor
+    module _ (behind : AreBehindAnchors elements entries) (i : ℕ) (low : i < q) (is : (entry_at entries i).number ≡ new.anchor) where
+      -- where an old element stands now
+      now_at : (j : ℕ) → j < length entries → (l : ℕ) × (l ≤ suc j) × (entry_at all l ≡ entry_at entries j)
+      now_at j high = elim (cases_lt j q) [
+        | inl under ↦ (j, omega arith, get_or-insert_below entries q one no_entry j under few)
+        | inr over ↦ (j + 1, omega arith, get_or-insert_above entries q one no_entry j over few)
+      ]
+
+      anchor_at : (k j : ℕ) → j < length entries → entry_at all k ≡ entry_at entries j
+          → (element_at after (entry_at all k).number).anchor ≡ (element_at elements (entry_at entries j).number).anchor
+      anchor_at k j high same = ap (λ (e : Entry). (element_at after e.number).anchor) same ∙ anchor_kept (entry_at entries j).number (of.known j high)
+
+      abbrev IsBehindNow : ℕ → Type 0
+      IsBehindNow k = (j : ℕ) × (j < k) × ((entry_at all j).number ≡ (element_at after (entry_at all k).number).anchor)
+
+      behind_from : (k : ℕ) → 0 < k → FromAll k → IsBehindNow k
+      behind_from k more (Before under same) =
+          let old = behind k more (omega arith) in
+          (old.0, old.1, ap (λ (e : Entry). e.number) (get_or-insert_below entries q one no_entry old.0 (omega (arith, old.1)) few) ∙ old.2 ∙ sym (anchor_at k k (omega arith) same))
+      behind_from k more (Here at same) = (
+        i,
+        omega arith,
+        ap (λ (e : Entry). e.number) (get_or-insert_below entries q one no_entry i low few)
+            ∙ is
+            ∙ sym (ap (λ (e : Entry). (element_at after e.number).anchor) same ∙ ap (λ (e : Element). e.anchor) linked.newest),
+      )
+      behind_from k more (Behind j step from high same) =
+          let old = behind j (omega arith) high in
+          let now = now_at old.0 (omega (arith, old.1)) in
+          (now.0, omega (arith, now.1, old.1), ap (λ (e : Entry). e.number) now.2 ∙ old.2 ∙ sym (anchor_at k j high same))
+
+      pub behind_entered : AreBehindAnchors after all
+      behind_entered = λ k more there. behind_from k more (from_all k there)
 
     module _ (links : AreLinked elements entries) (at : IsNumberAt entries q next) (before : new.before ≡ (entry_at entries (q - 1)).number) where
       -- an old element whose place is not the new one's keeps what is before it

@@ -84,7 +84,7 @@ module _ (number_of : ℕ → Option ℕ) (elements : List Element) (chunks : Li
     pub chunks_after : have_room chunks ≡ true → ChunksKept after (set chunks spot.place changed) places spot.place
     chunks_after room =
         kept_entered elements after next new linked chunks places newest spot.place spot.position changed kept.chunks_kept found.there found.behind found.among made_here
-        group_is at before_joined known (room_at chunks room)
+        group_is at before_joined known (room_at chunks room) found.index (omega (arith, found.past.behind)) found.is_anchor
 
     pub elements_after : (all : List (ℕ × Bool)) (below : ℕ → ℕ → Bool) → elements_in all ≡ elements_by elements (joined chunks) → IsBelowByStamp below x stamp (map arrival_of elements)
         → elements_by after (joined (set chunks spot.place changed)) ≡ elements_in (put_after below (element_at elements anchor).element x all)

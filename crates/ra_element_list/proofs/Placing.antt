@@ -12,11 +12,11 @@ use Rattle.ra_element_list.specs.Chunk.{Chunk}
 use Rattle.ra_element_list.specs.Chunks.{no_chunk, chunk_at, joined, offset, AreFilled}
 use Rattle.ra_element_list.specs.Groups.{element_at}
 use Rattle.ra_element_list.specs.Links.{IsLinked}
-use Rattle.ra_element_list.specs.Kept.{AreEntriesOf, AreLinked, ArePlaced, place_at, place_of, ChunksKept}
+use Rattle.ra_element_list.specs.Kept.{AreEntriesOf, AreLinked, AreBehindAnchors, ArePlaced, place_at, place_of, ChunksKept}
 use Rattle.ra_element_list.proofs.Members.{map-insert, new_in_insert, old_in_insert, insert_cases}
 use Rattle.ra_element_list.proofs.Joined.{entry_joined, offset_within, joined_set}
 use Rattle.ra_element_list.proofs.Standing.{in_numbers, known_in_chunk}
-use Rattle.ra_element_list.proofs.Entering.{group_kept, anchor_kept, entries_entered, links_entered}
+use Rattle.ra_element_list.proofs.Entering.{group_kept, anchor_kept, entries_entered, links_entered, behind_entered}
 
 -- at a place where a chunk is put, and at another one
 pub chunk_set_here : (chunks : List Chunk) (place : ℕ) (chunk : Chunk) → place < length chunks → chunk_at (set chunks place chunk) place ≡ chunk
@@ -134,8 +134,9 @@ module _ (elements after : List Element) (next : Option ℕ) (new : Element) (li
 
     pub kept_entered : IsNumberAt (joined chunks) (offset chunks place + position) next
         → new.before ≡ (entry_at (joined chunks) (offset chunks place + position - 1)).number → new.anchor < length elements
-        → ((other : ℕ) → other < length chunks → 0 < (chunk_at chunks other).room) → ChunksKept after now places place
-    kept_entered at before anchor room =
+        → ((other : ℕ) → other < length chunks → 0 < (chunk_at chunks other).room) → (index : ℕ) → index < offset chunks place + position
+        → (entry_at (joined chunks) index).number ≡ new.anchor → ChunksKept after now places place
+    kept_entered at before anchor room index low is =
         let joined_now = joined_set chunks place position chunk one there made few in
         let q = offset chunks place + position in
         let inside : q ≤ length (joined chunks) = omega (arith, offset_within chunks place there) in
@@ -150,6 +151,7 @@ module _ (elements after : List Element) (next : Option ℕ) (new : Element) (li
           ];
           entries = subst (AreEntriesOf after) (sym joined_now) (entries_entered elements after next new linked (joined chunks) q kept.entries q_some inside);
           linked = subst (AreLinked after) (sym joined_now) (links_entered elements after next new linked (joined chunks) q kept.entries q_some inside kept.linked at before);
+          behind = subst (AreBehindAnchors after) (sym joined_now) (behind_entered elements after next new linked (joined chunks) q kept.entries q_some inside kept.behind index low is);
           placed = placed_now;
           filled = filled_now;
           there = omega (arith, length-set chunks place chunk);

@@ -6,7 +6,7 @@ use Rattle.ra_element_list.specs.declared.element.Element.{Element}
 use Rattle.ra_element_list.specs.Entries.{entry_at, numbers_in}
 use Rattle.ra_element_list.specs.Groups.{no_element, element_at, AreSameButGroups}
 use Rattle.ra_element_list.specs.ElementList.{root}
-use Rattle.ra_element_list.specs.Kept.{arrival_of, elements_by, AreEntriesOf, AreLinked, AreNumbers}
+use Rattle.ra_element_list.specs.Kept.{arrival_of, elements_by, AreEntriesOf, AreLinked, AreBehindAnchors, AreNumbers}
 use Rattle.ra_element_list.proofs.Members.{map_same}
 
 module _ (elements new : List Element) (same : AreSameButGroups elements new) where
@@ -23,6 +23,11 @@ module _ (elements new : List Element) (same : AreSameButGroups elements new) wh
 
   pub links_same : (entries : List Entry) → AreLinked elements entries → AreLinked new entries
   links_same entries links = λ k there. ap (λ (e : Element). e.before) (same.kept (entry_at entries (suc k)).number 0) ∙ links k there
+
+  pub behind_same : (entries : List Entry) → AreBehindAnchors elements entries → AreBehindAnchors new entries
+  behind_same entries behind = λ k some there.
+      let old = behind k some there in
+      (old.0, old.1, old.2 ∙ sym (ap (λ (e : Element). e.anchor) (same.kept (entry_at entries k).number 0)))
 
   pub anchors_same : ((n : ℕ) → n < length elements → (element_at elements n).anchor < length elements) → (n : ℕ) → n < length new → (element_at new n).anchor < length new
   anchors_same anchored n there = omega (arith, ap (λ (e : Element). e.anchor) (same.kept n 0), anchored n (omega (arith, same.same)), same.same)

@@ -10,11 +10,11 @@ use Rattle.ra_element_list.specs.Entries.{no_entry, entry_at, numbers_in}
 use Rattle.ra_element_list.specs.Chunk.{Chunk}
 use Rattle.ra_element_list.specs.Chunks.{no_chunk, chunk_at, joined, IsSplit}
 use Rattle.ra_element_list.specs.Groups.{element_at, shifted, IsRegrouped, AreSameButGroups}
-use Rattle.ra_element_list.specs.Kept.{have_room, AreEntriesOf, AreLinked, place_at, place_of, ChunksKept}
+use Rattle.ra_element_list.specs.Kept.{have_room, AreEntriesOf, AreLinked, AreBehindAnchors, place_at, place_of, ChunksKept}
 use Rattle.ra_element_list.proofs.Standing.{in_numbers, known_in_chunk}
 use Rattle.ra_element_list.proofs.Numbering.{room_all}
 use Rattle.ra_element_list.proofs.Halves.{shifted_low, shifted_high, length_split, left_at, right_at, other_at, IsNow, Left, Right, Other, is_now, joined_split, left_in, right_in, half_of, not_both}
-use Rattle.ra_element_list.proofs.Same.{entries_same, links_same, anchors_same}
+use Rattle.ra_element_list.proofs.Same.{entries_same, links_same, behind_same, anchors_same}
 
 pub same_but_groups : (elements new : List Element) (entries : List Entry) (group : ℕ) → IsRegrouped elements entries group new → AreSameButGroups elements new
 same_but_groups elements new entries group regrouped = record { same = regrouped.same; kept = regrouped.kept }
@@ -146,6 +146,7 @@ module _ (elements after : List Element) (chunks : List Chunk) (places : List �
         anchored = anchors_same elements after same kept.anchored;
         entries = subst (AreEntriesOf after) (sym joins) (entries_same elements after same (joined chunks) kept.entries);
         linked = subst (AreLinked after) (sym joins) (links_same elements after same (joined chunks) kept.linked);
+        behind = subst (AreBehindAnchors after) (sym joins) (behind_same elements after same (joined chunks) kept.behind);
         placed = record {
           grouped = λ n high. grouped_now n (omega (arith, regrouped.same));
           inside = inside_now;

@@ -45,6 +45,7 @@ chunks_new room = record {
     distinct = λ j k low high. absurd (omega arith);
   };
   linked = λ k there. absurd (omega arith);
+  behind = λ k some there. absurd (omega arith);
   placed = record {
     grouped = λ n there. only_zero n there (λ m. (element_at (no_element ∷ []) m).group < 1) (omega arith);
     inside = λ group there. only_zero group there (λ m. get_or (0 ∷ []) m 0 < 1) (omega arith);

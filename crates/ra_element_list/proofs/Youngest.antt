@@ -1,5 +1,5 @@
 -- An element directly behind its anchor.
-use Rattle.std.proofs.Common.{◌≡◌, ℕ, zero, suc, ◌+◌, ◌<◌, Bool, true, List, [], ◌∷◌, length, get_or, map, refl, sym, ap, ◌∙◌, subst, arith, Option}
+use Rattle.std.proofs.Common.{◌≡◌, ℕ, zero, suc, ◌+◌, ◌<◌, Bool, true, List, [], ◌∷◌, ◌++◌, length, get_or, map, refl, sym, ap, ◌∙◌, subst, arith, Option}
 use Rattle.std.specs.Prelude.{◌↔◌, ◌==◌, IsTrue}
 use Rattle.std.proofs.lemmas.Bool.{eqb-true, eq-eqb}
 use Rattle.std.proofs.lemmas.List.{length-map, length-append, get_or_read, get_or_at, get_or-append-add}
@@ -10,7 +10,7 @@ use Rattle.ra_element_list.specs.Entries.{entry_at, numbers_in}
 use Rattle.ra_element_list.specs.Chunks.{joined}
 use Rattle.ra_element_list.specs.Chunk.{Chunk}
 use Rattle.ra_element_list.specs.Groups.{no_element, element_at}
-use Rattle.ra_element_list.specs.ElementList.{Arrival, arrival_at, StandsBehind, IsNearestBefore}
+use Rattle.ra_element_list.specs.ElementList.{Arrival, arrival_at, StandsBehind, IsNearestBefore, IsSomewhereBehind}
 use Rattle.ra_element_list.specs.Kept.{arrival_of, elements_by, AreEntriesOf, AreNumbers, ChunksKept}
 use Rattle.ra_element_list.proofs.Standing.{index_of, one_number, arrival_is, element_is}
 use Rattle.ra_element_list.proofs.Putting.{nothing, long, at_index}
@@ -23,6 +23,42 @@ stands_at (p ∷ (x ∷ xs)) zero d there = ([], xs, refl)
 stands_at (p ∷ (x ∷ xs)) (suc i) d there =
     let rest = stands_at (x ∷ xs) i d (omega arith) in
     (p ∷ rest.0, rest.1, ap (λ ys. p ∷ ys) rest.2)
+
+-- an element that stands further on than another
+until_at : (d : ℕ × Bool) (list : List (ℕ × Bool)) (j : ℕ) → j < length list
+    → (between behind : List (ℕ × Bool)) × (was_shown : Bool) × (list ≡ between ++ ((get_or list j d).0, was_shown) ∷ behind)
+until_at d [] j there = absurd (omega arith)
+until_at d (entry ∷ list) zero there = ([], list, entry.1, refl)
+until_at d (entry ∷ list) (suc j) there =
+    let rest = until_at d list j (omega arith) in
+    (entry ∷ rest.0, rest.1, rest.2, ap (λ (es : List (ℕ × Bool)). entry ∷ es) rest.3)
+
+further_on : (entry : ℕ × Bool) (list : List (ℕ × Bool)) (x p : ℕ) → IsSomewhereBehind list x p → IsSomewhereBehind (entry ∷ list) x p
+further_on entry list x p (before, between, behind, is_shown, was_shown, same) =
+    (entry ∷ before, between, behind, is_shown, was_shown, ap (λ (es : List (ℕ × Bool)). entry ∷ es) same)
+
+further_at : (d : ℕ × Bool) (list : List (ℕ × Bool)) (i j : ℕ) → i < j → j < length list → IsSomewhereBehind list (get_or list j d).0 (get_or list i d).0
+further_at d [] i j before there = absurd (omega arith)
+further_at d (entry ∷ list) i zero before there = absurd (omega arith)
+further_at d (entry ∷ list) zero (suc j) before there =
+    let rest = until_at d list j (omega arith) in
+    ([], rest.0, rest.1, entry.1, rest.2, ap (λ (es : List (ℕ × Bool)). entry ∷ es) rest.3)
+further_at d (entry ∷ list) (suc i) (suc j) before there =
+    further_on entry list (get_or list j d).0 (get_or list i d).0 (further_at d list i j (omega arith) (omega arith))
+
+-- the names of an element and of its anchor
+own_element : (elements : List Element) (arrivals : List Arrival) (number : ℕ) → number < length elements → map arrival_of elements ≡ arrivals
+    → (element_at elements number).element ≡ (arrival_at arrivals number).element
+own_element elements arrivals number known came =
+    sym (ap (λ (a : Arrival). a.element) (arrival_is elements number known)) ∙ ap (λ xs. (arrival_at xs number).element) came
+
+anchor_element : (elements : List Element) (arrivals : List Arrival) (number : ℕ) → number < length elements → (element_at elements number).anchor < length elements
+    → map arrival_of elements ≡ arrivals
+    → (element_at elements (element_at elements number).anchor).element ≡ (arrival_at arrivals (arrival_at arrivals number).anchor).element
+anchor_element elements arrivals number known anchored came =
+    sym (ap (λ (a : Arrival). (arrival_at (map arrival_of elements) a.anchor).element) (arrival_is elements number known)
+    ∙ ap (λ (a : Arrival). a.element) (arrival_is elements (element_at elements number).anchor anchored))
+    ∙ ap (λ xs. (arrival_at xs (arrival_at xs number).anchor).element) came
 
 -- a root has nothing before it
 behind_root : (elements : List Element) (entries : List Entry) (j number : ℕ) → AreEntriesOf elements entries → 0 < number → (entry_at entries j).number ≡ number → (i : ℕ) × (j ≡ suc i)
@@ -96,13 +132,10 @@ module _ (number_of : ℕ → Option ℕ) (elements : List Element) (chunks : Li
 
   -- the same of what contracts see
   own_name : (arrivals : List Arrival) → map arrival_of elements ≡ arrivals → x ≡ (arrival_at arrivals number).element
-  own_name arrivals came = sym (ap (λ (a : Arrival). a.element) (arrival_is elements number known)) ∙ ap (λ xs. (arrival_at xs number).element) came
+  own_name arrivals came = own_element elements arrivals number known came
 
   anchor_name : (arrivals : List Arrival) → map arrival_of elements ≡ arrivals → p ≡ (arrival_at arrivals (arrival_at arrivals number).anchor).element
-  anchor_name arrivals came =
-      sym (ap (λ (a : Arrival). (arrival_at (map arrival_of elements) a.anchor).element) (arrival_is elements number known)
-      ∙ ap (λ (a : Arrival). a.element) (arrival_is elements (element_at elements number).anchor (kept.anchored number known)))
-      ∙ ap (λ xs. (arrival_at xs (arrival_at xs number).anchor).element) came
+  anchor_name arrivals came = anchor_element elements arrivals number known (kept.anchored number known) came
 
   pub stands_exactly : (listed : List ℕ) (arrivals : List Arrival) → names ≡ listed → map arrival_of elements ≡ arrivals
       → IsTrue (read.before == read.anchor) ↔ StandsBehind listed (arrival_at arrivals number).element (arrival_at arrivals (arrival_at arrivals number).anchor).element
@@ -126,3 +159,24 @@ module _ (number_of : ℕ → Option ℕ) (elements : List Element) (chunks : Li
       subst (λ y. IsNearestBefore keep all y (arrival_at arrivals (arrival_at arrivals number).anchor).element) (own_name arrivals came)
       (subst (λ q. IsNearestBefore keep all x q) anchor
       (youngest_nearest (eqb-true read.before read.anchor holds) keep all (lists ∙ sym same) (ap keep anchor ∙ keeps)))
+
+-- each element but the root stands somewhere behind its anchor
+pub anchor_behind : (number_of : ℕ → Option ℕ) (elements : List Element) (chunks : List Chunk) (places : List ℕ) (newest number : ℕ) → AreNumbers number_of elements
+    → ChunksKept elements chunks places newest → 0 < number → number < length elements → (listed : List ℕ) (arrivals : List Arrival) → elements_by elements (joined chunks) ≡ listed
+    → map arrival_of elements ≡ arrivals → (all : List (ℕ × Bool)) → elements_in all ≡ listed
+    → IsSomewhereBehind all (arrival_at arrivals number).element (arrival_at arrivals (arrival_at arrivals number).anchor).element
+anchor_behind number_of elements chunks places newest number numbers kept some known listed arrivals same came all lists =
+    let entries = joined chunks in
+    let at = index_of elements chunks places number kept.placed known in
+    let back = behind_root elements entries at.0 number kept.entries some at.2 in
+    let old = kept.behind at.0 (omega (arith, back.1)) at.1 in
+    let here : old.0 < length entries = omega (arith, old.1, at.1) in
+    let lists_them = lists ∙ sym same in
+    let name : (k : ℕ) → k < length entries → (get_or all k nothing).0 ≡ (element_at elements (entry_at entries k).number).element =
+    λ k low. at_index number_of elements entries numbers kept.entries all lists_them k low in
+    let x_is = name at.0 at.1 ∙ ap (λ n. (element_at elements n).element) at.2 ∙ own_element elements arrivals number known came in
+    let p_is =
+    name old.0 here ∙ ap (λ n. (element_at elements n).element) (old.2 ∙ ap (λ n. (element_at elements n).anchor) at.2) ∙ anchor_element elements arrivals number known (kept.anchored number known) came in
+    subst (λ y. IsSomewhereBehind all y (arrival_at arrivals (arrival_at arrivals number).anchor).element) x_is
+    (subst (λ q. IsSomewhereBehind all (get_or all at.0 nothing).0 q) p_is
+    (further_at nothing all old.0 at.0 old.1 (omega (arith, at.1, long number_of elements entries numbers kept.entries all lists_them))))

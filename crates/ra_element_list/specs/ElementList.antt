@@ -50,3 +50,8 @@ abbrev pub IsNearestBefore : (ℕ → Bool) → List (ℕ × Bool) → ℕ → �
 IsNearestBefore keep list x p = (before between behind : List (ℕ × Bool)) × (is_shown was_shown : Bool)
     × (list ≡ before ++ (p, is_shown) ∷ between ++ (x, was_shown) ∷ behind)
     × (keep p ≡ true) × (list_all (λ entry. not (keep entry.0)) between ≡ true)
+
+-- x stands somewhere behind p
+abbrev pub IsSomewhereBehind : List (ℕ × Bool) → ℕ → ℕ → Type 0
+IsSomewhereBehind list x p = (before between behind : List (ℕ × Bool)) × (is_shown was_shown : Bool)
+    × (list ≡ before ++ (p, is_shown) ∷ between ++ (x, was_shown) ∷ behind)

@@ -41,6 +41,11 @@ abbrev pub AreLinked : List Element → List Entry → Type 0
 AreLinked elements entries = (k : ℕ) → suc k < length entries
     → (element_at elements (entry_at entries (suc k)).number).before ≡ (entry_at entries k).number
 
+-- each element but the root stands somewhere behind its anchor
+abbrev pub AreBehindAnchors : List Element → List Entry → Type 0
+AreBehindAnchors elements entries = (k : ℕ) → 0 < k → k < length entries
+    → (j : ℕ) × (j < k) × ((entry_at entries j).number ≡ (element_at elements (entry_at entries k).number).anchor)
+
 abbrev pub place_at : List ℕ → ℕ → ℕ
 place_at places group = get_or places group 0
 
@@ -68,6 +73,7 @@ pub record ChunksKept (elements : List Element) (chunks : List Chunk) (places : 
   pub anchored : (n : ℕ) → n < length elements → (element_at elements n).anchor < length elements
   pub entries : AreEntriesOf elements (joined chunks)
   pub linked : AreLinked elements (joined chunks)
+  pub behind : AreBehindAnchors elements (joined chunks)
   pub placed : ArePlaced elements chunks places
   pub filled : AreFilled chunks
   pub there : newest < length chunks

@@ -1,7 +1,7 @@
 ghost use Rattle.std.specs.Prelude.{◌≡◌, ◌↔◌, ℕ, ◌<◌, true, Bool, List, ◌++◌, ◌∷◌, [], length, Some, IsTrue, IfOk, OnOk};
 ghost use Rattle.ra_labels.specs.Laws.{elements_in};
 ghost use Rattle.ra_labels.specs.Late.{put_after};
-ghost use Rattle.ra_element_list.specs.ElementList.{root, arrival_at, IsBelowByStamp, is_marked, IsKeptByMark, StandsBehind, IsNearestBefore};
+ghost use Rattle.ra_element_list.specs.ElementList.{root, arrival_at, IsBelowByStamp, is_marked, IsKeptByMark, StandsBehind, IsNearestBefore, IsSomewhereBehind};
 
 use crate::chunk::Chunk;
 use crate::element::Element;
@@ -117,11 +117,14 @@ impl ElementList {
         self.elements[number as usize].stamp
     }
 
-    /// The number of its anchor.
+    /// The number of its anchor, behind which it stands.
     pub fn anchor(&self, number: u32) -> u32
         requires { number < length self.now.arrivals }
         ensures anchor { result ≡ (arrival_at self.now.arrivals number).anchor }
         ensures known { result < length self.now.arrivals }
+        ensures behind { 0 < number → (all : List (ℕ × Bool)) → elements_in all ≡ self.now.elements
+            → let arrival = arrival_at self.now.arrivals number in
+            IsSomewhereBehind all arrival.element (arrival_at self.now.arrivals arrival.anchor).element }
     {
         self.elements[number as usize].anchor
     }
