@@ -129,7 +129,7 @@ impl ElementList {
         self.elements[number as usize].anchor
     }
 
-    /// Does it stand directly behind its anchor? Then no element with this anchor has a greater stamp.
+    /// Does it stand directly behind its anchor?
     pub fn is_youngest(&self, number: u32) -> bool
         requires some { 0 < number }
         requires there { number < length self.now.arrivals }
