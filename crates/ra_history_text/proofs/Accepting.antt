@@ -206,7 +206,7 @@ all_of_one : (P : Command → Type 0) (b : Bool) (command : Command) → (b ≡ 
 all_of_one P true command holds = (holds refl, tt)
 all_of_one P false command holds = tt
 
-all-append : (P : Command → Type 0) (xs ys : List Command) → AllByRecursion P xs → AllByRecursion P ys → AllByRecursion P (xs ++ ys)
+pub all-append : (P : Command → Type 0) (xs ys : List Command) → AllByRecursion P xs → AllByRecursion P ys → AllByRecursion P (xs ++ ys)
 all-append P [] ys p q = q
 all-append P (x ∷ xs) ys p q = (p.0, all-append P xs ys p.1 q)
 

@@ -10,6 +10,7 @@ use Rattle.ra_history_text.specs.Accepted.{is_no, tells_accepted, accepted_one, 
 use Rattle.ra_history_text.specs.Grammar.{bytes_of}
 use Rattle.ra_history_text.specs.Spelling.{spaced, name_of, line_of, AreSmall}
 use Rattle.ra_history_text.specs.Writing.{IsShort, AreShort, IsFirstLong}
+use Rattle.ra_history_text.proofs.Accepting.{all-append}
 
 -- ---- names
 
@@ -52,7 +53,7 @@ pub record IsWalkedUpTo (log rest : List MonitorEntry) (failed : Bool) (done : L
 walked_none : (log : List MonitorEntry) → IsWalkedUpTo log log false []
 walked_none log = record { parts = refl; bounded = omega arith }
 
-one_at_most : (entry : MonitorEntry) (b : Bool) → length (cond b (entry.command ∷ []) []) ≤ 1
+pub one_at_most : (entry : MonitorEntry) (b : Bool) → length (cond b (entry.command ∷ []) []) ≤ 1
 one_at_most entry true = omega arith
 one_at_most entry false = omega arith
 
@@ -72,10 +73,6 @@ walked_next log rest more entry failed next done so_far is told =
 walked_all : (log rest : List MonitorEntry) (failed : Bool) (done : List Command) → IsWalkedUpTo log rest failed done → rest ≡ [] → accepted_in false log ≡ done
 walked_all log rest failed done so_far nothing =
     so_far.parts ∙ ap (λ (es : List MonitorEntry). done ++ accepted_in failed es) nothing ∙ append-nil done
-
-all-append : (P : Command → Type 0) (xs ys : List Command) → AllByRecursion P xs → AllByRecursion P ys → AllByRecursion P (xs ++ ys)
-all-append P [] ys p q = q
-all-append P (x ∷ xs) ys p q = (p.0, all-append P xs ys p.1 q)
 
 -- ---- what is put
 

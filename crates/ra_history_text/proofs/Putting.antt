@@ -2,9 +2,11 @@
 use Rattle.std.proofs.Common.{◌≡◌, ℕ, suc, ◌+◌, ◌/◌, ◌%◌, ◌^◌, ◌<◌, ◌≤◌, List, [], ◌∷◌, ◌++◌, length, map, take, get_or, Result, Ok, Err, refl, sym, ap, ◌∙◌, arith}
 use Rattle.std.specs.Prelude.{decimal, OnOk}
 use Rattle.std.specs.List.{join_with_byte, AllByRecursion}
+use Rattle.std.proofs.Math.Seq.{take-append_seam}
 use Rattle.std.proofs.lemmas.Fmt.{decimal_digit, decimal_step}
 use Rattle.std.proofs.lemmas.List.{append_assoc, append-nil, take_more}
 use Rattle.ra_history_text.specs.Grammar.{list_word, IsSmall}
+use Rattle.ra_history_text.specs.Laws.{BeginsWith}
 use Rattle.ra_history_text.specs.Spelling.{commas}
 
 pub number_step : (out mid new : List ℕ) (n : ℕ) → 10 ≤ n → n < 2 ^ 64 → mid ≡ out ++ decimal (n / 10) → new ≡ mid ++ (48 + n % 10) ∷ [] → new ≡ out ++ decimal n
@@ -16,6 +18,20 @@ pub number_one : (out new : List ℕ) (n : ℕ) → n < 10 → new ≡ out ++ (4
 number_one out new n small last =
     let same : n % 10 ≡ n = omega arith in
     last ∙ ap (λ (d : ℕ). out ++ (48 + d) ∷ []) same ∙ ap (λ (ds : List ℕ). out ++ ds) (sym (decimal_digit n small))
+
+-- ---- what is put where a growth is refused
+
+pub begins_same : (front all : List ℕ) → all ≡ front → BeginsWith front all
+begins_same front all same = ([], same ∙ sym (append-nil front))
+
+-- more is put behind what was put
+pub begins_on : (front more mid all : List ℕ) → mid ≡ front ++ more → BeginsWith mid all → BeginsWith front all
+begins_on front more mid all put begins =
+    (more ++ begins.0, begins.1 ∙ ap (λ (bs : List ℕ). bs ++ begins.0) put ∙ append_assoc front more begins.0)
+
+-- it is cut back
+pub cut_back : (front all cut : List ℕ) → BeginsWith front all → cut ≡ take (length front) all → cut ≡ front
+cut_back front all cut begins is = is ∙ ap (take (length front)) begins.1 ∙ take-append_seam front begins.0
 
 -- ---- lists
 

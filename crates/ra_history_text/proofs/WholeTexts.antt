@@ -19,7 +19,7 @@ use Rattle.ra_history_text.specs.Spelling.{spaced, name_of, line_of, names_line,
 use Rattle.ra_history_text.specs.Text.{OfHistory}
 use Rattle.ra_history_text.specs.Writing.{IsWritable, AreShort, SaysHistory, records_in_order}
 use Rattle.ra_history_text.proofs.Accepting.{accepted_are, accepted_have_lines}
-use Rattle.ra_history_text.proofs.Entries.{lines_of}
+use Rattle.ra_history_text.proofs.Entries.{lines_of, one_at_most}
 use Rattle.ra_history_text.proofs.Spelled.{ArePlain, fields-spaced, one_line, plain_name, plain_word, plain_number, plain_operation, plain_clock, fields-append, named_at, line_spells}
 use Rattle.ra_history_text.proofs.Texts.{says_only}
 
@@ -94,17 +94,13 @@ lines_spell : (kind : Kind) (names : List (List ℕ)) (commands : List Command) 
 lines_spell kind names [] are have good = tt
 lines_spell kind names (c ∷ commands) are have good = (line_spells kind names c are have.0 good.0.1, lines_spell kind names commands are have.1 good.1)
 
-one_or_none : (b : Bool) (command : Command) → length (cond b (command ∷ []) []) ≤ 1
-one_or_none true command = omega arith
-one_or_none false command = omega arith
-
 as_few : (failed : Bool) (log : List MonitorEntry) → length (accepted_in failed log) ≤ length log
 as_few failed [] = omega arith
 as_few failed (entry ∷ log) =
     let one : List Command = cond (tells_accepted failed entry.reply) (entry.command ∷ []) [] in
     omega (
       arith,
-      one_or_none (tells_accepted failed entry.reply) entry.command,
+      one_at_most entry (tells_accepted failed entry.reply),
       as_few (failed || is_no entry.reply) log,
       length-append one (accepted_in (failed || is_no entry.reply) log),
     )

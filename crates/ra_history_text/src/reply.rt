@@ -1,105 +1,111 @@
 //! The lines that are written.
-ghost use Rattle.std.specs.Prelude.{◌≡◌, ◌<◌, ◌+◌, ◌∷◌, ◌++◌, [], OnOk, decimal, string_bytes};
+ghost use Rattle.std.specs.Prelude.{◌≡◌, ◌∷◌, ◌++◌, [], OnErr, OnOk, decimal};
 ghost use Rattle.ra_history_text.specs.Output as output;
-ghost use Rattle.ra_labels.specs.declared.reply.Reply.TheVariants.{No, Refused};
-ghost use Rattle.ra_labels.specs.declared.refusal.Refusal.TheVariants.{NotCausal};
+ghost use Rattle.ra_history_text.specs.Laws.{BeginsWith};
+ghost use Rattle.ra_labels.specs.declared.reply.Reply.TheVariants.{Refused};
 
-use ra_labels::{Cause, Fault, Refusal, Reply};
-use std::alloc::AllocError;
+use crate::spelling::put_numbered;
+use ra_labels::{Cause, Fault, NoMemory, Refusal, Reply};
 
-/// Makes the line that of the reply, its line feed included.
-pub fn spell_reply(line: &mut String, reply: Reply) -> Result<(), AllocError>
-    ensures { OnOk result (string_bytes line.new ≡ output.reply_line reply) }
+/// Puts the line of the reply behind the bytes, its line feed included. Where a growth is refused, they stay as they
+/// are.
+pub fn put_reply(out: &mut Vec<u8>, reply: Reply) -> Result<(), NoMemory>
+    ensures put { OnOk result (out.new.items ≡ out.old.items ++ output.reply_line reply) }
+    ensures err { OnErr result (out.new.items ≡ out.old.items) }
 {
-    line.clear();
+    let before = out.len();
+    let put = spell_reply(out, reply);
+    if put.is_err() {
+        out.truncate(before);
+    }
+    put
+}
+
+/// Puts the last line behind the bytes, by the number of labels and the fault, its line feed included. Where a growth
+/// is refused, they stay as they are.
+pub fn put_end(out: &mut Vec<u8>, labels: u32, fault: Option<Fault>) -> Result<(), NoMemory>
+    ensures put { OnOk result (out.new.items ≡ out.old.items ++ output.end_line labels fault) }
+    ensures err { OnErr result (out.new.items ≡ out.old.items) }
+{
+    let before = out.len();
+    let put = spell_end(out, labels, fault);
+    if put.is_err() {
+        out.truncate(before);
+    }
+    put
+}
+
+// The line of a reply, or a part of it where a growth is refused.
+fn spell_reply(out: &mut Vec<u8>, reply: Reply) -> Result<(), NoMemory>
+    ensures put { OnOk result (out.new.items ≡ out.old.items ++ output.reply_line reply) }
+    ensures part { OnErr result (BeginsWith out.old.items out.new.items) }
+{
     match reply {
-        Reply::Ok(label) => push_numbered(line, "ok ", label),
-        Reply::Got(label) => push_numbered(line, "got ", label),
-        Reply::Yes(labels) => push_numbered(line, "yes ", labels),
-        Reply::No { label, cause } => spell_no(line, label, cause),
-        Reply::Refused(refusal) => spell_refusal(line, refusal),
+        Reply::Ok(label) => put_counted(out, b"ok ", label),
+        Reply::Got(label) => put_counted(out, b"got ", label),
+        Reply::Yes(labels) => put_counted(out, b"yes ", labels),
+        Reply::No { label, cause } => put_caused(out, b"no ", label, cause),
+        Reply::Refused(refusal) => put_refusal(out, refusal),
     }
 }
 
-// Makes a line that is empty that of a no. What `write!` needs is kept out of the way of the other replies.
-#[inline(never)]
-fn spell_no(line: &mut String, label: u32, cause: Cause) -> Result<(), AllocError>
-    requires { string_bytes line.old ≡ [] }
-    ensures { OnOk result (string_bytes line.new ≡ output.reply_line (No label cause)) }
+// The last line, or a part of it where a growth is refused.
+fn spell_end(out: &mut Vec<u8>, labels: u32, fault: Option<Fault>) -> Result<(), NoMemory>
+    ensures put { OnOk result (out.new.items ≡ out.old.items ++ output.end_line labels fault) }
+    ensures part { OnErr result (BeginsWith out.old.items out.new.items) }
 {
-    let cause = cause_word(cause);
-    write!(line, "no {label} {cause}\n")
-}
-
-/// Makes the line the last one, by the number of labels and the fault, its line feed included.
-pub fn spell_end(line: &mut String, labels: u32, fault: Option<Fault>) -> Result<(), AllocError>
-    ensures { OnOk result (string_bytes line.new ≡ output.end_line labels fault) }
-{
-    line.clear();
     match fault {
-        None => push_numbered(line, "end yes ", labels),
-        Some(Fault { label, cause }) => {
-            let cause = cause_word(cause);
-            write!(line, "end no {label} {cause}\n")
-        }
+        None => put_counted(out, b"end yes ", labels),
+        Some(Fault { label, cause }) => put_caused(out, b"end no ", label, cause),
     }
 }
 
-// The words, the number and a line feed. Nearly every reply line is of this form, and `write!` takes longer for it.
-fn push_numbered(line: &mut String, words: &str, number: u32) -> Result<(), AllocError>
-    ensures { OnOk result (string_bytes line.new
-        ≡ string_bytes line.old ++ (words.now ++ (decimal number ++ 10 ∷ []))) }
+// The words, the number and a line feed.
+fn put_counted(out: &mut Vec<u8>, words: &[u8], number: u32) -> Result<(), NoMemory>
+    ensures put { OnOk result (out.new.items ≡ out.old.items ++ (words.now ++ (decimal number ++ 10 ∷ []))) }
+    ensures part { OnErr result (BeginsWith out.old.items out.new.items) }
 {
-    line.push_str(words)?;
-    push_number(line, number)?;
-    line.push('\n')
+    put_numbered(out, words, number)?;
+    Ok(out.push(b'\n')?)
 }
 
-fn push_number(line: &mut String, number: u32) -> Result<(), AllocError>
-    ensures { OnOk result (string_bytes line.new ≡ string_bytes line.old ++ decimal number) }
+// The words, the label, the word of the cause and a line feed.
+fn put_caused(out: &mut Vec<u8>, words: &[u8], label: u32, cause: Cause) -> Result<(), NoMemory>
+    ensures put { OnOk result (out.new.items
+        ≡ out.old.items ++ (words.now ++ (output.fault_words label cause ++ 10 ∷ []))) }
+    ensures part { OnErr result (BeginsWith out.old.items out.new.items) }
 {
-    if number < 10 {
-        return push_digit(line, number);
+    put_numbered(out, words, label)?;
+    out.push(b' ')?;
+    out.extend_from_slice(cause_word(cause).as_bytes())?;
+    Ok(out.push(b'\n')?)
+}
+
+// The line of a refusal, or a part of it where a growth is refused.
+fn put_refusal(out: &mut Vec<u8>, refusal: Refusal) -> Result<(), NoMemory>
+    ensures put { OnOk result (out.new.items ≡ out.old.items ++ output.reply_line (Refused refusal)) }
+    ensures part { OnErr result (BeginsWith out.old.items out.new.items) }
+{
+    match refusal {
+        Refusal::UnknownReplica => put_bytes(out, b"refused unknown-replica\n"),
+        Refusal::WrongKind => put_bytes(out, b"refused wrong-kind\n"),
+        Refusal::BadList => put_bytes(out, b"refused bad-list\n"),
+        Refusal::StampMissing => put_bytes(out, b"refused stamp-missing\n"),
+        Refusal::StampUnwanted => put_bytes(out, b"refused stamp-unwanted\n"),
+        Refusal::StampTaken => put_bytes(out, b"refused stamp-taken\n"),
+        Refusal::IdTaken => put_bytes(out, b"refused id-taken\n"),
+        Refusal::UnknownLabel => put_bytes(out, b"refused unknown-label\n"),
+        Refusal::NotAnUpdate => put_bytes(out, b"refused not-an-update\n"),
+        Refusal::AlreadySeen => put_bytes(out, b"refused already-seen\n"),
+        Refusal::NotCausal(missing) => put_counted(out, b"refused not-causal ", missing),
     }
-    push_number(line, number / 10)?;
-    push_digit(line, number % 10)
 }
 
-fn push_digit(line: &mut String, digit: u32) -> Result<(), AllocError>
-    requires { digit < 10 }
-    ensures { OnOk result (string_bytes line.new ≡ string_bytes line.old ++ (48 + digit) ∷ []) }
+fn put_bytes(out: &mut Vec<u8>, bytes: &[u8]) -> Result<(), NoMemory>
+    ensures put { OnOk result (out.new.items ≡ out.old.items ++ bytes.now) }
+    ensures part { OnErr result (BeginsWith out.old.items out.new.items) }
 {
-    line.push(char::from(b'0' + digit as u8))
-}
-
-// Makes a line that is empty that of a refusal.
-fn spell_refusal(line: &mut String, refusal: Refusal) -> Result<(), AllocError>
-    requires { string_bytes line.old ≡ [] }
-    ensures { OnOk result (string_bytes line.new ≡ output.reply_line (Refused refusal)) }
-{
-    let spelled = match refusal {
-        Refusal::UnknownReplica => "refused unknown-replica\n",
-        Refusal::WrongKind => "refused wrong-kind\n",
-        Refusal::BadList => "refused bad-list\n",
-        Refusal::StampMissing => "refused stamp-missing\n",
-        Refusal::StampUnwanted => "refused stamp-unwanted\n",
-        Refusal::StampTaken => "refused stamp-taken\n",
-        Refusal::IdTaken => "refused id-taken\n",
-        Refusal::UnknownLabel => "refused unknown-label\n",
-        Refusal::NotAnUpdate => "refused not-an-update\n",
-        Refusal::AlreadySeen => "refused already-seen\n",
-        Refusal::NotCausal(missing) => return spell_not_causal(line, missing),
-    };
-    line.push_str(spelled)
-}
-
-// The same of a refusal that names a label.
-#[inline(never)]
-fn spell_not_causal(line: &mut String, missing: u32) -> Result<(), AllocError>
-    requires { string_bytes line.old ≡ [] }
-    ensures { OnOk result (string_bytes line.new ≡ output.reply_line (Refused (NotCausal missing))) }
-{
-    write!(line, "refused not-causal {missing}\n")
+    Ok(out.extend_from_slice(bytes)?)
 }
 
 /// The word of a cause.

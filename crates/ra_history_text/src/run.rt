@@ -1,5 +1,5 @@
 //! The check of a text, bytes in and bytes out.
-ghost use Rattle.std.specs.Prelude.{◌≡◌, ◌<◌, [], length, string_bytes, OnOk, IfOk, IfErr, IfSome, IsErrOf};
+ghost use Rattle.std.specs.Prelude.{◌≡◌, ◌<◌, [], length, OnOk, IfOk, IfErr, IfSome, IsErrOf};
 ghost use Rattle.std.specs.Io.KnownBytes.{IsAtEnd};
 ghost use Rattle.ra_history_text.specs.declared.fault.CheckFault.TheVariants.{Endless};
 ghost use Rattle.ra_history_text.specs.declared.limits.TheConstants.{MOST_READS};
@@ -44,7 +44,7 @@ pub fn check<R: Read, W: Write>(
     ensures endless { IsErrOf result Endless → HasGiven (R.remaining reader.old) (R.remaining reader.new) MOST_READS }
 {
     let mut session = Session::new(alloc);
-    let mut out = String::new(alloc);
+    let mut out = Vec::new(alloc);
     let mut piece = [0u8; PIECE];
     let answer = check_by_pieces(reader, writer, &mut session, &mut out, &mut piece);
     // A session has many parts, so it is let go by a call: the proof goes through them once, and not at each return.
@@ -57,11 +57,11 @@ fn check_by_pieces<R: Read, W: Write>(
     reader: &mut R,
     writer: &mut W,
     session: &mut Session,
-    out: &mut String,
+    out: &mut Vec<u8>,
     piece: &mut [u8],
 ) -> Result<Outcome, CheckFault>
     requires start { session.old ≡ text_start }
-    requires none { string_bytes out.old ≡ [] }
+    requires none { out.old.items ≡ [] }
     requires room { 0 < length piece.old }
     ensures end { OnOk result (IsAtEnd (R.remaining reader.new)) }
     ensures answered { IfOk result (λ outcome. IfSome (R.remaining reader.old) (λ text.
@@ -76,11 +76,11 @@ fn check_by_pieces<R: Read, W: Write>(
         };
         if count == 0 {
             let report = session.finish(out)?;
-            write_out(writer, out.as_bytes())?;
+            write_out(writer, out.as_slice())?;
             return Ok(Outcome { report });
         }
         let fed = session.feed(&piece[..count], out);
-        write_out(writer, out.as_bytes())?;
+        write_out(writer, out.as_slice())?;
         fed?;
         out.clear();
     }

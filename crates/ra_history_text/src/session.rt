@@ -1,5 +1,5 @@
 //! A text that is taken in piece by piece.
-ghost use Rattle.std.specs.Prelude.{◌≡◌, ◌≢◌, ◌++◌, ◌∷◌, [], All, Ok, IfErr, IfOk, OnErr, OnOk, string_bytes};
+ghost use Rattle.std.specs.Prelude.{◌≡◌, ◌≢◌, ◌++◌, ◌∷◌, [], All, Ok, IfErr, IfOk, OnErr, OnOk};
 ghost use Rattle.ra_history_text.specs.History.{said_of};
 ghost use Rattle.ra_history_text.specs.Output.{replies_of};
 ghost use Rattle.ra_history_text.specs.Sessions.{said_at, AddsReplies, StopsLine, StopsExtending, StopsClosing, StopsInside, EndsText, StopsEnding};
@@ -13,7 +13,7 @@ use crate::history::History;
 use crate::kind_line::kind_of;
 use crate::limits::LONGEST_LINE;
 use crate::name::Names;
-use crate::reply::{spell_end, spell_reply};
+use crate::reply::{put_end, put_reply};
 use ra_labels::Kind;
 use ra_monitor::Report;
 use std::alloc::Global;
@@ -43,17 +43,12 @@ impl Stage {
     }
 
     // Takes a whole line, and puts the line of its reply, if it has one, behind the others.
-    fn take_line(
-        &mut self,
-        line: &[u8],
-        reply: &mut String,
-        out: &mut String,
-    ) -> Result<(), CheckFault>
+    fn take_line(&mut self, line: &[u8], out: &mut Vec<u8>) -> Result<(), CheckFault>
         ensures taken { OnOk result (line_taken (said_at self.old) line.now ≡ Ok (line_start (said_at self.new))) }
         ensures replied { OnOk result (AddsReplies (said_at self.old) (said_at self.new)
-            (string_bytes out.old) (string_bytes out.new)) }
+            out.old.items out.new.items) }
         ensures fault { IfErr result (StopsLine (said_at self.old) line.now) }
-        ensures err { OnErr result (string_bytes out.new ≡ string_bytes out.old) }
+        ensures err { OnErr result (out.new.items ≡ out.old.items) }
     {
         match self {
             Stage::Nothing => self.take_first(line),
@@ -61,7 +56,7 @@ impl Stage {
                 let kind = *kind;
                 self.take_names(*out.allocator(), kind, line)
             }
-            Stage::OfHistory(history) => take_command(history, line, reply, out),
+            Stage::OfHistory(history) => take_command(history, line, out),
         }
     }
 
@@ -114,25 +109,19 @@ fn after_names(alloc: Global, kind: Kind, line: &[u8]) -> Result<Stage, CheckFau
 }
 
 // Takes a line behind the first two.
-fn take_command(
-    history: &mut History,
-    line: &[u8],
-    reply: &mut String,
-    out: &mut String,
-) -> Result<(), CheckFault>
+fn take_command(history: &mut History, line: &[u8], out: &mut Vec<u8>) -> Result<(), CheckFault>
     ensures taken { OnOk result (line_taken (said_of history.old) line.now ≡ Ok (line_start (said_of history.new))) }
     ensures replied { OnOk result (AddsReplies (said_of history.old) (said_of history.new)
-        (string_bytes out.old) (string_bytes out.new)) }
+        out.old.items out.new.items) }
     ensures fault { IfErr result (StopsLine (said_of history.old) line.now) }
-    ensures err { OnErr result (string_bytes out.new ≡ string_bytes out.old) }
+    ensures err { OnErr result (out.new.items ≡ out.old.items) }
 {
     let found = command(*out.allocator(), history.kind(), history.names(), line)?;
     let Some(command) = found else {
         return Err(CheckFault::Syntax(history.line()));
     };
     let answer = history.answer(command)?;
-    spell_reply(reply, answer)?;
-    out.push_str(reply.as_str())?;
+    put_reply(out, answer)?;
     Ok(())
 }
 
@@ -142,8 +131,6 @@ fn take_command(
 pub struct Session {
     stage: Stage,
     partial: Vec<u8>,
-    // The line of the reply that is written next, kept so that a reply takes no memory of its own.
-    reply: String,
 }
 
 impl Model for Session {
@@ -164,18 +151,17 @@ impl Session {
         Session {
             stage: Stage::Nothing,
             partial: Vec::new(alloc),
-            reply: String::new(alloc),
         }
     }
 
     /// Takes the next piece of the text, and puts the reply lines of the lines that are whole now behind the others.
     /// After a fault the session is of no further use; the reply lines of the lines before are there. Costs as much as
     /// the piece is long, and what the monitor's steps cost; a line that lies in one piece is read where it lies.
-    pub fn feed(&mut self, piece: &[u8], out: &mut String) -> Result<(), CheckFault>
+    pub fn feed(&mut self, piece: &[u8], out: &mut Vec<u8>) -> Result<(), CheckFault>
         ensures taken { OnOk result (taken self.old piece.now ≡ Ok self.new) }
         ensures replied { OnOk result (AddsReplies self.old.said self.new.said
-            (string_bytes out.old) (string_bytes out.new)) }
-        ensures fault { IfErr result (StopsInside self.old piece.now (string_bytes out.old) (string_bytes out.new)) }
+            out.old.items out.new.items) }
+        ensures fault { IfErr result (StopsInside self.old piece.now out.old.items out.new.items) }
     {
         let mut rest = piece;
         while let Some((front, behind)) = cut_at(b'\n', rest) {
@@ -187,10 +173,10 @@ impl Session {
 
     /// Ends the text, and puts its last line behind the others. `Truncated` where it may not end here; a fault puts
     /// nothing there.
-    pub fn finish(&self, out: &mut String) -> Result<Report, CheckFault>
-        ensures ended { IfOk result (EndsText self.now (string_bytes out.old) (string_bytes out.new)) }
+    pub fn finish(&self, out: &mut Vec<u8>) -> Result<Report, CheckFault>
+        ensures ended { IfOk result (EndsText self.now out.old.items out.new.items) }
         ensures fault { IfErr result (StopsEnding self.now) }
-        ensures err { OnErr result (string_bytes out.new ≡ string_bytes out.old) }
+        ensures err { OnErr result (out.new.items ≡ out.old.items) }
     {
         if !self.partial.is_empty() {
             return Err(CheckFault::Truncated(self.stage.line()));
@@ -198,9 +184,7 @@ impl Session {
         match &self.stage {
             Stage::OfHistory(history) => {
                 let report = history.report();
-                let mut line = String::new(*out.allocator());
-                spell_end(&mut line, report.labels, report.fault)?;
-                out.push_str(line.as_str())?;
+                put_end(out, report.labels, report.fault)?;
                 Ok(report)
             }
             Stage::Nothing | Stage::OfKind(_) => Err(CheckFault::Truncated(self.stage.line())),
@@ -224,19 +208,19 @@ impl Session {
 
     // Takes the last part of the next line, which has no line feed, and the line feed behind it. A line that lies in
     // one piece is read there.
-    fn close_line(&mut self, last: &[u8], out: &mut String) -> Result<(), CheckFault>
+    fn close_line(&mut self, last: &[u8], out: &mut Vec<u8>) -> Result<(), CheckFault>
         requires { All (λ b. b ≢ 10) last.now }
         ensures taken { OnOk result (taken self.old (last.now ++ 10 ∷ []) ≡ Ok self.new) }
         ensures replied { OnOk result (AddsReplies self.old.said self.new.said
-            (string_bytes out.old) (string_bytes out.new)) }
+            out.old.items out.new.items) }
         ensures fault { IfErr result (StopsClosing self.old last.now) }
-        ensures err { OnErr result (string_bytes out.new ≡ string_bytes out.old) }
+        ensures err { OnErr result (out.new.items ≡ out.old.items) }
     {
         if self.partial.is_empty() && last.len() <= LONGEST_LINE {
-            return self.stage.take_line(last, &mut self.reply, out);
+            return self.stage.take_line(last, out);
         }
         self.extend(last)?;
-        self.stage.take_line(&self.partial, &mut self.reply, out)?;
+        self.stage.take_line(&self.partial, out)?;
         self.partial.clear();
         Ok(())
     }

@@ -1,8 +1,9 @@
 //! The lines that spell commands.
-ghost use Rattle.std.specs.Prelude.{◌≡◌, ◌++◌, decimal, OnOk, IfSome};
+ghost use Rattle.std.specs.Prelude.{◌≡◌, ◌++◌, decimal, OnErr, OnOk, IfSome};
 ghost use Rattle.std.specs.List.{AllByRecursion};
 ghost use Rattle.std.specs.Fmt.{signed_decimal};
 ghost use Rattle.ra_history_text.specs.Grammar.{operation_fields, clock_fields, list_word, value_word, HasSmallNumbers, IsSmall};
+ghost use Rattle.ra_history_text.specs.Laws.{BeginsWith};
 ghost use Rattle.ra_history_text.specs.Spelling.{spaced, commas, line_of, name_of, AreSmall};
 
 use crate::name::Names;
@@ -96,9 +97,10 @@ fn put_operation(out: &mut Vec<u8>, op: &Op) -> Result<(), NoMemory>
     }
 }
 
-// The words, and the number behind them.
-fn put_numbered(out: &mut Vec<u8>, words: &[u8], number: u32) -> Result<(), NoMemory>
-    ensures { OnOk result (out.new.items ≡ out.old.items ++ (words.now ++ decimal number)) }
+/// Puts the words and the number behind the bytes; a part of them where a growth is refused.
+pub fn put_numbered(out: &mut Vec<u8>, words: &[u8], number: u32) -> Result<(), NoMemory>
+    ensures put { OnOk result (out.new.items ≡ out.old.items ++ (words.now ++ decimal number)) }
+    ensures part { OnErr result (BeginsWith out.old.items out.new.items) }
 {
     out.extend_from_slice(words)?;
     put_number(out, number)
@@ -153,9 +155,10 @@ fn put_signed(out: &mut Vec<u8>, value: i32) -> Result<(), NoMemory>
     put_number(out, value.unsigned_abs())
 }
 
-// The digits of the number, the first of them first.
+// The digits of the number, the first of them first; a part of them where a growth is refused.
 fn put_number(out: &mut Vec<u8>, number: u32) -> Result<(), NoMemory>
-    ensures { OnOk result (out.new.items ≡ out.old.items ++ decimal number) }
+    ensures put { OnOk result (out.new.items ≡ out.old.items ++ decimal number) }
+    ensures part { OnErr result (BeginsWith out.old.items out.new.items) }
 {
     if number >= 10 {
         put_number(out, number / 10)?;

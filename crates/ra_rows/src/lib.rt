@@ -23,8 +23,6 @@ mod rows;
 #[cfg(test)]
 mod sizes;
 #[cfg(test)]
-mod text;
-#[cfg(test)]
 mod timestamps;
 #[cfg(test)]
 mod visibility;

@@ -1,10 +1,10 @@
-use Rattle.std.proofs.Common.{length, string_bytes}
+use Rattle.std.proofs.Common.{length}
 use Rattle.ra_history_text.specs.Sessions.{IsFedUpTo}
 use Rattle.ra_history_text.proofs.session.Session.feed.Given as goal
 
 -- the lines that were whole are taken, and the rest is left
 abbrev pub invariant-loop-front : goal.invariant-loop-front
-invariant-loop-front l = IsFedUpTo l.initial.self l.self l.piece l.rest (string_bytes l.initial.out) (string_bytes l.out)
+invariant-loop-front l = IsFedUpTo l.initial.self l.self l.piece l.rest l.initial.out.items l.out.items
 
 abbrev pub decreases-loop-front : goal.decreases-loop-front
 decreases-loop-front l = length l.rest

@@ -11,7 +11,7 @@ fn in_two_pieces(
     alloc: Global,
     text: &[u8],
     first: usize,
-    out: &mut String,
+    out: &mut Vec<u8>,
 ) -> Result<Report, CheckFault> {
     let (front, behind) = text.split_at(first.min(text.len()));
     let mut session = Session::new(alloc);
@@ -23,10 +23,10 @@ fn in_two_pieces(
 #[test]
 fn takes_pieces(rt: HostRuntime) -> Result<(), Fail> {
     for first in 0..SETS.len() {
-        let mut out = String::new(rt.alloc());
+        let mut out = Vec::new(rt.alloc());
         let report = in_two_pieces(rt.alloc(), SETS.as_bytes(), first, &mut out)?;
         assert_eq!(rt; report.labels, 4);
-        assert_eq!(rt; out.as_str(), REPLIES);
+        assert_eq!(rt; out.as_slice(), REPLIES.as_bytes());
     }
     Ok(())
 }
@@ -45,7 +45,7 @@ fn reports(rt: HostRuntime) -> Result<(), Fail> {
 \"verdict\":\"no\"}",
         ),
     ] {
-        let mut out = String::new(rt.alloc());
+        let mut out = Vec::new(rt.alloc());
         let report = in_two_pieces(rt.alloc(), text.as_bytes(), 0, &mut out)?;
         match report_json(rt.alloc(), &report) {
             Ok(written) => assert_eq!(rt; written.as_str(), object),

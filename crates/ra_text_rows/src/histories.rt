@@ -3,10 +3,10 @@
 use super::SETS;
 use super::worked::TEXTS;
 use super::writers::Trickle;
-use crate::commands::{bare, reply_to};
 use ra_history_text::{Item, Names, Reading, WriteFault, check, status, write_history};
-use ra_labels::{Cause, Elements, Op, Reply};
+use ra_labels::{Cause, Command, Elements, Op, Reply};
 use ra_monitor::Monitor;
+use ra_ticket::Journal;
 use std::alloc::{AllocError, Global};
 use std::process::Abort;
 use std::test::Fail;
@@ -123,7 +123,12 @@ fn the_longest_line_is_written(rt: HostRuntime) -> Result<(), Fail> {
             label: 1,
             cause: Cause::Query,
         };
-        assert_eq!(rt; reply_to(&rt, &mut monitor, bare(0, read)), no);
+        let command = Command::Operate {
+            replica: 0,
+            op: read,
+            stamp: None,
+        };
+        assert_eq!(rt; reply_to(&rt, &mut monitor, command), no);
         let mut text = Vec::new(rt.alloc());
         let wrote = write_history(rt.alloc(), &monitor, &names, &mut text);
         assert_eq!(rt; wrote, wanted);
@@ -170,5 +175,21 @@ fn monitor_of(rt: &impl Abort, alloc: Global, text: &str) -> Monitor {
     match monitor {
         Some(monitor) => monitor,
         None => panic!(rt; "no monitor"),
+    }
+}
+
+// The reply to one command of pass 0, with the number of commands before it as its ticket.
+fn reply_to(rt: &impl Abort, monitor: &mut Monitor, command: Command) -> Reply {
+    let ticket = monitor.log().len() as u64;
+    let step = match monitor.last_ticket() {
+        Some(last) => {
+            assert!(rt; last < ticket);
+            monitor.step(0, ticket, command)
+        }
+        None => monitor.step(0, ticket, command),
+    };
+    match step {
+        Ok(reply) => reply,
+        Err(_) => panic!(rt; "no reply"),
     }
 }

@@ -1,19 +1,31 @@
-//! The text of a history, bytes in and bytes out: what neither a clause nor a text of tests/texts/ shows. These are
-//! readers and writers that fail or give and take little, histories that are written, and that memory that is there is
-//! used.
+//! Tests of the text of a history, bytes in and bytes out: what neither a clause nor a text of tests/texts/ shows.
+//! These are readers and writers that fail or give and take little, histories that are written, and that memory that is
+//! there is used. There is nothing else here.
+#![tactic(auto)]
+
+#[cfg(test)]
 mod faults;
+#[cfg(test)]
 mod histories;
+#[cfg(test)]
 mod lines;
+#[cfg(test)]
 mod readers;
+#[cfg(test)]
 mod sessions;
+#[cfg(test)]
 mod worked;
+#[cfg(test)]
 mod writers;
 
+#[cfg(test)]
 const TEXT: &str = "RAH 1 counter\nreplicas a b\na inc\nb got 0\nb read 1\n";
 
+#[cfg(test)]
 const WRITTEN: &str = "ok 0\ngot 0\nok 1\nend yes 2\n";
 
 // A delivery comes before one that its label saw, and once more behind it.
+#[cfg(test)]
 const SETS: &str = "RAH 1 orset
 replicas a b c
 a add 4 #1
@@ -27,6 +39,7 @@ c got 2
 c read 4
 ";
 
+#[cfg(test)]
 const REPLIES: &str = "ok 0
 got 0
 ok 1
