@@ -1,5 +1,5 @@
 -- What a history stands for after one record more.
-use Rattle.std.proofs.Common.{◌≡◌, ℕ, ◌+◌, ◌<◌, Bool, [], ◌∷◌, Option, Some, None, Ok, refl, sym, ap, ◌∙◌, subst, arith}
+use Rattle.std.proofs.Common.{◌≡◌, ℕ, ◌+◌, ◌<◌, ◌∷◌, Option, Some, None, refl, sym, ap, ◌∙◌, arith}
 use Rattle.std.specs.Prelude.{option_map, cond, is_none, vec_len}
 use Rattle.std.specs.Option.{option_or, option_map_or}
 use Rattle.ra_labels.specs.declared.kind.Kind.{Kind}
@@ -16,7 +16,6 @@ use Rattle.ra_labels.specs.Answer.{no_at, misfit_of, refusal_of, answer_to_accep
 use Rattle.ra_labels.proofs.TheLaws.{records_before_fault_have_none-all}
 use Rattle.ra_visibility.specs.Seen.{Seen}
 use Rattle.ra_visibility.specs.Tracked.{IsVisibilityOf, seen_in}
-use Rattle.ra_visibility.specs.Order.{ComesNext}
 use Rattle.ra_visibility.proofs.TheLaws.{what_a_label_sees}
 use Rattle.ra_witness.specs.Witness.{IsWitnessOf, IsNext}
 use Rattle.ra_monitor.specs.declared.setup.Setup.{Setup}

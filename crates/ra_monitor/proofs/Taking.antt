@@ -1,22 +1,15 @@
 -- What is taken, as it is looked up.
-use Rattle.std.proofs.Common.{◌≡◌, ℕ, ◌<◌, Bool, true, false, [], ◌∷◌, Option, Some, None, refl, sym, ap, ◌∙◌, subst, arith, Ordering}
+use Rattle.std.proofs.Common.{◌≡◌, ℕ, ◌<◌, false, ◌∷◌, Option, Some, None, refl, ap, ◌∙◌}
 use Rattle.std.specs.Prelude.{◌||◌, ◌==◌, vec_len}
 use Rattle.std.specs.Option.{option_map_or}
-use Rattle.std.specs.Ordering.{MatchOrdering, is_eq, nat_cmp}
-use Rattle.std.specs.declared.cmp.Ordering.TheVariants.{Less, Equal, Greater}
-use Rattle.std.proofs.lemmas.Bool.{eq-eqb, ne_eqb}
-use Rattle.std.proofs.lemmas.Cmp.{ranked}
 use Rattle.ra_labels.specs.declared.kind.Kind.{Kind}
 use Rattle.ra_labels.specs.declared.operation.Op.{Op}
 use Rattle.ra_labels.specs.declared.operation.Op.TheVariants as op
 use Rattle.ra_labels.specs.declared.label.Stamp.{Stamp}
-use Rattle.ra_labels.specs.declared.label.Label.{Label}
 use Rattle.ra_labels.specs.declared.command.Command.TheVariants.{Operate}
 use Rattle.ra_labels.specs.Records.{Records, next_label}
-use Rattle.ra_labels.specs.NamedOrder.{stamp_cmp}
 use Rattle.ra_labels.specs.Answer.{misfit_of, carries_stamp, has_stamp, is_taken, identifier_of, is_identifier_taken}
 use Rattle.ra_labels.proofs.TheLaws.{forms_that_deserve_no_refusal}
-use Rattle.ra_monitor.specs.declared.brought.Brought.TheVariants as brought
 use Rattle.ra_monitor.specs.declared.taken.Taken.{Taken}
 use Rattle.ra_monitor.specs.Taken.{HasRoom, CanKeep, is_stamp_in, is_identifier_in, brought_with, brought_by, has_brought, gives_brought, IsTakenIn}
 

@@ -1,5 +1,5 @@
 -- What accepted labels have and no other may have: their own stamps, and the identifiers that they give.
-use Rattle.std.specs.Prelude.{◌≡◌, ℕ, ◌<◌, ◌==◌, nat_eq, Bool, false, List, [], Option, Some, None, get_or, length, vec_len}
+use Rattle.std.specs.Prelude.{◌≡◌, ℕ, ◌<◌, ◌==◌, nat_eq, Bool, false, List, [], Option, Some, None, get_or, vec_len}
 use Rattle.std.specs.HashSet.{contains, spare}
 use Rattle.std.specs.Ordering.{is_eq}
 use Rattle.ra_labels.specs.declared.label.Stamp.{Stamp}

@@ -1,8 +1,8 @@
-use Rattle.std.proofs.Common.{◌≡◌, ℕ, List, length, get_or, sym, ap, ◌∙◌, subst, refl, true, false, arith}
-use Rattle.std.specs.Prelude.{nat_eq, nat_lt}
+use Rattle.std.proofs.Common.{◌≡◌, ℕ, List, length, get_or, sym, ap, ◌∙◌, subst, refl, arith}
+use Rattle.std.specs.Prelude.{nat_eq}
 use Rattle.std.specs.List.Sorted.{IsNonDecreasing}
 use Rattle.std.proofs.lemmas.Bool.{ltb-true, ltb-false}
-use Rattle.ra_monitor.specs.Clocks.{Clocks, is_clock_in}
+use Rattle.ra_monitor.specs.Clocks.{Clocks}
 use Rattle.ra_monitor.proofs.Clocking.{found_at, not_found}
 use Rattle.ra_monitor.proofs.clocks.Clocks.has.Goals as goal
 

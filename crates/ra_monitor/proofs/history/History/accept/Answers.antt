@@ -1,16 +1,9 @@
-use Rattle.std.proofs.Common.{◌≡◌, ℕ, ◌<◌, ◌∷◌, Option, Some, None, Ok, Err, refl, sym, ap, ◌∙◌, subst, arith}
+use Rattle.std.proofs.Common.{◌≡◌, ◌<◌, Some, refl, sym, ap, ◌∙◌, arith}
 use Rattle.std.specs.Prelude.{vec_len}
-use Rattle.ra_labels.specs.declared.label.Label.{Label}
-use Rattle.ra_labels.specs.declared.command.Command.TheVariants.{Operate}
-use Rattle.ra_labels.specs.Records.{Records, label_count, next_label}
-use Rattle.ra_labels.specs.Visibility.{is_update}
-use Rattle.ra_labels.specs.Fault.{fault_of, records_before_fault}
-use Rattle.ra_labels.specs.Answer.{misfit_of, refusal_of}
+use Rattle.ra_labels.specs.Fault.{records_before_fault}
 use Rattle.ra_visibility.specs.Tracked.{Tracked}
-use Rattle.ra_monitor.specs.declared.setup.Setup.{Setup}
 use Rattle.ra_monitor.specs.declared.history.History.{History}
 use Rattle.ra_monitor.specs.declared.taken.Taken.{Taken}
-use Rattle.ra_monitor.specs.History.{StandsFor, HasNewest}
 use Rattle.ra_monitor.proofs.Growth.{newest_stands, stands_same, taken_alike, taken_known}
 use Rattle.ra_monitor.proofs.history.History.accept.Goals as goal
 

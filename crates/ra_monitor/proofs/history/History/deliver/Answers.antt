@@ -1,10 +1,10 @@
-use Rattle.std.proofs.Common.{◌≡◌, ◌<◌, ◌∷◌, Option, Some, None, Ok, refl, sym, ap, ◌∙◌, subst, arith}
+use Rattle.std.proofs.Common.{◌≡◌, ◌<◌, ◌∷◌, Option, Some, None, refl, sym, ap, ◌∙◌, subst, arith}
 use Rattle.std.specs.Prelude.{is_some, if◌then◌else◌}
 use Rattle.std.specs.Option.{option_map_or}
 use Rattle.ra_labels.specs.declared.command.Command.TheVariants.{Deliver}
 use Rattle.ra_labels.specs.declared.refusal.Refusal.{Refusal}
 use Rattle.ra_labels.specs.declared.reply.Reply.TheVariants as reply
-use Rattle.ra_labels.specs.Answer.{refusal_at, refusal_of}
+use Rattle.ra_labels.specs.Answer.{refusal_at}
 use Rattle.ra_visibility.specs.declared.fault.DeliverFault.TheVariants as fault
 use Rattle.ra_visibility.specs.Tracked.{replicas_in}
 use Rattle.ra_visibility.proofs.TheLaws.{refused_as_the_records_say}

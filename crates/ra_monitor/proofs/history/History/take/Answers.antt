@@ -11,7 +11,6 @@ use Rattle.ra_labels.specs.declared.reply.Reply.TheVariants.{Refused, Got}
 use Rattle.ra_labels.specs.Records.{Records}
 use Rattle.ra_labels.specs.Fault.{fault_of}
 use Rattle.ra_labels.specs.Answer.{no_at, misfit_of, refusal_of, refusal_at, answer_of, answer_to_accepted, records_after}
-use Rattle.ra_labels.proofs.TheLaws.{forms_that_deserve_no_refusal}
 use Rattle.ra_monitor.specs.History.{StandsFor, IsAtReplica, refusal_left}
 use Rattle.ra_monitor.proofs.Growth.{taken_known}
 use Rattle.ra_monitor.proofs.history.History.take.Goals as goal
