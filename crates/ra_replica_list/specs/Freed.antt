@@ -17,7 +17,7 @@ use Rattle.ra_replica_list.specs.ReplicaList.{ReplicaList, AreThere, AreWaiting,
 
 -- does it put in the element of this number?
 abbrev pub puts : ℕ → Deed → Bool
-puts number (PutsIn n) = n == number
+puts number (PutsIn n) = number == n
 puts number (Removes n) = false
 
 -- does one of the labels put it in?

@@ -1,0 +1,7 @@
+pub mod Places
+pub mod Deeds
+pub mod Getting
+pub mod Alike
+pub mod Greatest
+pub mod Stepping
+pub mod Taking
