@@ -5,3 +5,4 @@ pub mod Alike
 pub mod Greatest
 pub mod Stepping
 pub mod Taking
+pub mod Entries
