@@ -17,6 +17,12 @@ use Rattle.ra_replica_list.specs.Deeds.{element_at}
 use Rattle.ra_replica_list.specs.ReplicaList.{ReplicaList, AreThere, IsGreatestOf, AreWaiting, IsKept, IsListBy}
 use Rattle.ra_replica_list.specs.Freed.{AreAlike}
 
+-- what is kept of a list is kept of an equal one
+pub kept_in : {arrivals : List Arrival} {deeds : List (Option Deed)} {records : Records} {had settled : ℕ → Bool} (list next : ReplicaList) → next ≡ list → IsKept list.state list.marks list.waiting arrivals deeds records had settled
+    → IsKept next.state next.marks next.waiting arrivals deeds records had settled
+kept_in {arrivals = arrivals} {deeds = deeds} {records = records} {had = had} {settled = settled} list next is kept =
+    subst (λ (l : ReplicaList). IsKept l.state l.marks l.waiting arrivals deeds records had settled) (sym is) kept
+
 module _ {arrivals : List Arrival} {deeds : List (Option Deed)} {records : Records} where
   -- a list that says the same is that of the same labels
   pub list_alike : {had : ℕ → Bool} (list next : ReplicaList) → AreAlike list next → IsListBy list arrivals deeds records had → IsListBy next arrivals deeds records had

@@ -6,3 +6,8 @@ pub mod Greatest
 pub mod Stepping
 pub mod Taking
 pub mod Entries
+pub mod Telling
+pub mod Starting
+pub mod Freeing
+pub mod Following
+pub mod Finishing

@@ -56,7 +56,7 @@ leads_with {records = records} passes stand label none state u after is =
 
 module _ {arrivals : List Arrival} {deeds : List (Option Deed)} {records : Records} {marks : List Bool} {passes : ℕ → Bool} where
   -- with the label none waits
-  none_waits_with : AreDeedsOf arrivals deeds records → NoneWaits records passes → AreThere marks arrivals records passes → (label : ℕ) (deed : Deed) → deed_at deeds label ≡ Some deed → passes label ≡ false
+  pub none_waits_with : AreDeedsOf arrivals deeds records → NoneWaits records passes → AreThere marks arrivals records passes → (label : ℕ) (deed : Deed) → deed_at deeds label ≡ Some deed → passes label ≡ false
       → is_marked marks (needed_number arrivals deed) ≡ true → NoneWaits records (or_label passes label)
   none_waits_with stand none there label deed is new needs =
       let (l, l_in, l_num, l_makes) = stand.makes label deed is in

@@ -23,7 +23,7 @@ use Rattle.ra_replica_list.proofs.Deeds.{AreMarksWith, deeds_stand}
 use Rattle.ra_replica_list.proofs.Stepping.{removal_leads, insertion_leads}
 use Rattle.ra_replica_list.proofs.Getting.{goes_in}
 
-or_nothing : (b : Bool) → b ≡ (b || false)
+pub or_nothing : (b : Bool) → b ≡ (b || false)
 or_nothing true = refl
 or_nothing false = refl
 
