@@ -1,26 +1,29 @@
 -- When all labels have followed.
 use Rattle.std.proofs.Common.{◌≡◌, ℕ, ◌+◌, ◌<◌, ◌≤◌, Bool, true, false, cond, List, [], ◌∷◌, ◌++◌, filter, map, length, take, drop, Option, Some, None, refl, sym, ap, ◌∙◌, subst, inl, inr, arith}
-use Rattle.std.specs.Prelude.{◌⊎◌, ◌==◌, Contains, flat_map, IsPermutation}
+use Rattle.std.specs.Prelude.{◌⊎◌, ◌==◌, Contains, flat_map}
 use Rattle.std.specs.Option.{option_map_or}
 use Rattle.std.specs.List.{list_any, filter_map}
 use Rattle.std.proofs.lemmas.Bool.{false≢true, cases_Bool, cases_eq, false_from_ne_true, eqb-true, eq-eqb, cond-true, cond-false, or_left, or_right, or_cases}
 use Rattle.std.proofs.lemmas.List.{length-append}
 use Rattle.std.proofs.lemmas.List.Elements.{filter-append, filter_map-append}
+use Rattle.std.proofs.lemmas.List.Sorted.{length_permutation}
 use Rattle.std.proofs.Math.Seq.{take-length}
 use Rattle.std.proofs.Math.ListN.{drop_of_length-le}
 use Rattle.ra_labels.specs.declared.kind.Kind.TheVariants.{Rga}
 use Rattle.ra_labels.specs.declared.operation.Op.{Op}
 use Rattle.ra_labels.specs.declared.operation.Op.TheVariants as op
 use Rattle.ra_labels.specs.declared.operation.Update.{Update}
+use Rattle.ra_labels.specs.declared.operation.Query.{Query}
 use Rattle.ra_labels.specs.declared.label.Label.{Label}
+use Rattle.ra_labels.specs.declared.command.Command.TheVariants.{Operate, Deliver, Verdict}
 use Rattle.ra_labels.specs.Records.{Records, label_count, labels_of}
-use Rattle.ra_labels.specs.Rewriting.{Part, Half, Act, Does, Asks, acts_of, part_of, parts_of, updates_of}
+use Rattle.ra_labels.specs.Rewriting.{Part, Half, Act, Does, Asks, acts_of, part_of, parts_of, update_of as act_update, updates_of}
 use Rattle.ra_labels.specs.Specification.{State}
 use Rattle.ra_labels.specs.NamedOrder.{named_labels}
 use Rattle.ra_labels.specs.Laws.{NoneTwice}
 use Rattle.ra_labels.specs.Insertion.{updates_among, updates_passing, or_label}
 use Rattle.ra_labels.specs.Waiting.{is_there, needed_by}
-use Rattle.ra_labels.proofs.TheLaws.{what_is_settled_does_not_wait}
+use Rattle.ra_labels.proofs.TheLaws.{what_is_settled_does_not_wait, named_labels_are_sorted-same}
 use Rattle.ra_element_list.specs.ElementList.{Arrival, ElementList, is_marked}
 use Rattle.ra_replica_list.specs.declared.deed.Deed.{Deed}
 use Rattle.ra_replica_list.specs.declared.deed.Deed.TheVariants.{PutsIn, Removes}
@@ -135,7 +138,7 @@ one_act true label half (Does u) = omega arith
 one_act true label half (Asks q) = omega arith
 one_act false label half act = omega arith
 
-two_acts : (b : Bool) (label : Label) (half other : Half) (u : Update) (q : Rattle.ra_labels.specs.declared.operation.Query.Query)
+two_acts : (b : Bool) (label : Label) (half other : Half) (u : Update) (q : Query)
     → length (updates_of (cond b (part_of label (half, Asks q) ∷ cond b (part_of label (other, Does u) ∷ []) []) (cond b (part_of label (other, Does u) ∷ []) []))) ≤ 1
 two_acts true label half other u q = omega arith
 two_acts false label half other u q = omega arith
@@ -163,5 +166,23 @@ few_updates passes (label ∷ labels) =
     let own = updates_of (filter test (parts_of label)) in
     let split : updates_among passes (label ∷ labels) ≡ own ++ updates_among passes labels =
     ap updates_of (filter-append test (parts_of label) (flat_map parts_of labels))
-    ∙ filter_map-append (λ (p : Part). Rattle.ra_labels.specs.Rewriting.update_of p.act) (filter test (parts_of label)) (filter test (flat_map parts_of labels)) in
+    ∙ filter_map-append (λ (p : Part). act_update p.act) (filter test (parts_of label)) (filter test (flat_map parts_of labels)) in
     omega (arith, few_acts passes label label.op, few_updates passes labels, ap length split, length-append own (updates_among passes labels))
+
+labels_counted : (records : Records) → length (labels_of records) ≡ label_count records
+labels_counted [] = refl
+labels_counted (Operate by o clock ∷ before) = omega (arith, labels_counted before)
+labels_counted (Deliver to label ∷ before) = labels_counted before
+labels_counted (Verdict ∷ before) = labels_counted before
+
+-- so no more labels follow than there are
+pub not_many : {all : ElementList} {deeds : List (Option Deed)} {records : Records} {state : State} {marks : List Bool} {labels : List ℕ} {done : ℕ} {had settled : ℕ → Bool} {first : ℕ} → AreElementsOf all deeds records
+    → IsFreeing state marks labels done all.arrivals deeds records had settled first → done ≤ length deeds
+not_many {records = records} stand free = omega (
+  arith,
+  free.count,
+  few_updates free.passes (named_labels Rga records),
+  length_permutation (labels_of records) (named_labels Rga records) (named_labels_are_sorted-same Rga records),
+  labels_counted records,
+  stand.count,
+)

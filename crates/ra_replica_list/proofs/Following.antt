@@ -14,13 +14,14 @@ use Rattle.ra_element_list.specs.ElementList.{ElementList, is_marked, IsKeptByMa
 use Rattle.ra_replica_list.specs.declared.deed.Deed.{Deed}
 use Rattle.ra_replica_list.specs.declared.deed.Deed.TheVariants.{PutsIn, Removes}
 use Rattle.ra_replica_list.specs.Waiting.{labels_under}
-use Rattle.ra_replica_list.specs.Deeds.{deed_at, element_at, needed_number}
+use Rattle.ra_replica_list.specs.Deeds.{deed_at, element_at, needed_number, AreElementsOf}
+use Rattle.ra_replica_list.specs.ReplicaList.{IsKept}
 use Rattle.ra_replica_list.specs.Freed.{IsFreeing, IsAmidst}
 use Rattle.ra_replica_list.proofs.Places.{at_head}
 use Rattle.ra_replica_list.proofs.Deeds.{deeds_stand, root_marked, AreMarksWith}
 use Rattle.ra_replica_list.proofs.Stepping.{removal_leads, insertion_leads}
 use Rattle.ra_replica_list.proofs.Taking.{or_nothing}
-use Rattle.ra_replica_list.proofs.Freeing.{drop_now, freed_by, none_freed, follows}
+use Rattle.ra_replica_list.proofs.Freeing.{drop_now, first_freed, freed_by, none_freed, follows}
 
 -- the element that this number finds before another one is the nearest that is kept
 abbrev pub FindsNearest : ElementList → List Bool → ℕ → ℕ → Type 0
@@ -88,3 +89,24 @@ module _ {state : State} {marks : List Bool} {labels : List ℕ} {waiting : List
 -- the label's deed, where it was found
 pub deed_found : (deeds : List (Option Deed)) (label : ℕ) (found : Option Deed) (field deed : Deed) → found ≡ deed_at deeds label → found ≡ Some field → field ≡ deed → deed_at deeds label ≡ Some deed
 deed_found deeds label found field deed at is same = sym at ∙ is ∙ ap (λ (d : Deed). Some d) same
+
+-- before any has followed
+pub none_followed : {state : State} {marks : List Bool} {waiting : List (ℕ × List ℕ)} {all : ElementList} {deeds : List (Option Deed)} {records : Records} {had settled : ℕ → Bool} (copy : State) (copied : List Bool) (labels : List ℕ) (first : ℕ) (deed : Deed)
+    → AreElementsOf all deeds records → IsKept state marks waiting all.arrivals deeds records had settled → deed_at deeds first ≡ Some deed → had first ≡ false → is_marked marks (needed_number all.arrivals deed) ≡ true
+    → copy ≡ state → copied ≡ marks → labels ≡ first ∷ [] → IsAmidst copy copied labels waiting 0 all deeds records had settled first
+none_followed {state = state} {marks = marks} {all = all} {deeds = deeds} {records = records} {had = had} {settled = settled} copy copied labels first deed stand kept is new needs same_state same_marks same_labels = record {
+  elements = stand;
+  settles = kept.settles;
+  waiting_labels = kept.waiting_labels;
+  new = new;
+  freeing = subst (λ (s : State). IsFreeing s copied labels 0 all.arrivals deeds records had settled first) (sym same_state)
+  (subst (λ (ms : List Bool). IsFreeing state ms labels 0 all.arrivals deeds records had settled first) (sym same_marks)
+  (subst (λ (ls : List ℕ). IsFreeing state marks ls 0 all.arrivals deeds records had settled first) (sym same_labels)
+  (first_freed first deed (deeds_stand stand) kept is new needs)));
+}
+
+-- at another count of labels
+pub amidst_at : {state : State} {marks : List Bool} {labels : List ℕ} {waiting : List (ℕ × List ℕ)} {all : ElementList} {deeds : List (Option Deed)} {records : Records} {had settled : ℕ → Bool} {first done : ℕ} (count : ℕ) → done ≡ count
+    → IsAmidst state marks labels waiting done all deeds records had settled first → IsAmidst state marks labels waiting count all deeds records had settled first
+amidst_at {state = state} {marks = marks} {labels = labels} {waiting = waiting} {all = all} {deeds = deeds} {records = records} {had = had} {settled = settled} {first = first} count is amidst =
+    subst (λ (n : ℕ). IsAmidst state marks labels waiting n all deeds records had settled first) is amidst
