@@ -11,3 +11,4 @@ pub mod Starting
 pub mod Freeing
 pub mod Following
 pub mod Finishing
+pub mod Nearness
