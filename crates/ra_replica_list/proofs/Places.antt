@@ -1,5 +1,5 @@
 -- Where an element stands in a list, lists with none twice, and tests.
-use Rattle.std.proofs.Common.{◌≡◌, ℕ, zero, suc, Bool, true, false, List, [], ◌∷◌, ◌++◌, refl, sym, ap, ◌∙◌, inl, inr, arith}
+use Rattle.std.proofs.Common.{◌≡◌, ℕ, zero, suc, Bool, true, false, List, [], ◌∷◌, ◌++◌, length, refl, sym, ap, ◌∙◌, inl, inr, arith}
 use Rattle.std.specs.Prelude.{◌⊎◌, ◌==◌, ◌||◌, Contains, Result, Ok, Err, IfOk, OnOk, OnErr, Option, Some, None, option_map}
 use Rattle.std.proofs.lemmas.Bool.{false≢true, cases_Bool, or_left, or_right, eqb-true, eq-eqb, false_from_ne_true, cases_eq, ne_eqb}
 use Rattle.ra_labels.specs.Laws.{NoneTwice}
@@ -80,3 +80,8 @@ on_ok (Err e) p f = tt
 pub on_err : {T E : Type 0} {P Q : Type 0} (r : Result T E) → OnErr r P → (P → Q) → OnErr r Q
 on_err (Ok x) p f = tt
 on_err (Err e) p f = f p
+
+-- a list with no length
+pub empty_if : (xs : List ℕ) → (length xs == 0) ≡ true → xs ≡ []
+empty_if [] is = refl
+empty_if (x ∷ xs) is = absurd (omega (arith, eqb-true (length (x ∷ xs)) 0 is))
