@@ -1,5 +1,5 @@
 -- What labels do to elements, by the elements' numbers, and when that and the elements are those of records.
-use Rattle.std.specs.Prelude.{◌≡◌, ℕ, ◌<◌, Bool, List, length, Option, Some, None, get_or, Contains}
+use Rattle.std.specs.Prelude.{◌≡◌, ℕ, ◌<◌, Bool, true, List, length, Option, Some, None, get_or, Contains}
 use Rattle.ra_labels.specs.declared.kind.Kind.TheVariants.{Rga}
 use Rattle.ra_labels.specs.declared.operation.Update.{Update}
 use Rattle.ra_labels.specs.declared.operation.Update.TheVariants.{After, RgaRemove}
@@ -7,6 +7,7 @@ use Rattle.ra_labels.specs.declared.label.Label.{Label}
 use Rattle.ra_labels.specs.Records.{Records, label_count, labels_of}
 use Rattle.ra_labels.specs.Rewriting.{updates_of}
 use Rattle.ra_labels.specs.Specification.{Listed, state_after}
+use Rattle.ra_labels.specs.Linearization.{updates_admitted}
 use Rattle.ra_labels.specs.NamedOrder.{named_sequence}
 use Rattle.ra_labels.specs.Laws.{elements_in}
 use Rattle.ra_labels.specs.Insertion.{Makes}
@@ -51,6 +52,8 @@ pub record AreElementsOf (list : ElementList) (deeds : List (Option Deed)) (reco
   pub known : (n : ℕ) (deed : Deed) → deed_at deeds n ≡ Some deed → number_of deed < length list.arrivals
   pub stamp : (label : Label) (number : ℕ) → Contains (labels_of records) label
       → deed_at deeds label.number ≡ Some (PutsIn number) → label.stamp ≡ Some (arrival_at list.arrivals number).stamp
+  pub unstamped : (label : Label) (number : ℕ) → Contains (labels_of records) label
+      → deed_at deeds label.number ≡ Some (Removes number) → label.stamp ≡ None
   -- the root came first, and each other element by a label
   pub some : 0 < length list.arrivals
   pub first : arrival_at list.arrivals 0 ≡ root
@@ -64,3 +67,16 @@ pub record AreElementsOf (list : ElementList) (deeds : List (Option Deed)) (reco
   pub listed : (all : List (ℕ × Bool))
       × (state_after Rga (updates_of (named_sequence Rga records)) ≡ Some (Listed all))
       × (elements_in all ≡ list.elements)
+
+-- what holds of deeds and elements by their numbers alone, wherever the elements stand
+pub record AreDeedsOf (arrivals : List Arrival) (deeds : List (Option Deed)) (records : Records) : Type 0 where
+  pub admitted : updates_admitted Rga (named_sequence Rga records) ≡ true
+  pub made : (label : Label) (update : Update) → Contains (labels_of records) label → Makes label.op update
+      → (deed : Deed) × (deed_at deeds label.number ≡ Some deed) × (update_of arrivals deed ≡ update)
+  pub makes : (n : ℕ) (deed : Deed) → deed_at deeds n ≡ Some deed
+      → (label : Label) × Contains (labels_of records) label × (label.number ≡ n)
+      × Makes label.op (update_of arrivals deed)
+  pub known : (n : ℕ) (deed : Deed) → deed_at deeds n ≡ Some deed → number_of deed < length arrivals
+  pub anchored : (number : ℕ) → number < length arrivals → (arrival_at arrivals number).anchor < length arrivals
+  pub once : (m n : ℕ) → m < length arrivals → n < length arrivals
+      → element_at arrivals m ≡ element_at arrivals n → m ≡ n

@@ -9,8 +9,10 @@
 #![tactic(auto)]
 
 mod deed;
+mod freed;
 pub mod laws;
 mod marks;
+mod put;
 mod replica_list;
 mod waiting;
 

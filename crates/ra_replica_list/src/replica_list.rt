@@ -1,4 +1,5 @@
-ghost use Rattle.std.specs.Prelude.{◌≡◌, ℕ, ◌+◌, ◌<◌, ◌≤◌, ◌^◌, true, false, List, ◌++◌, ◌∷◌, [], length, Option, Some, None, option_map, IfOk, OnOk, OnErr};
+ghost use Rattle.std.specs.Prelude.{◌≡◌, ℕ, ◌+◌, ◌<◌, ◌≤◌, ◌^◌, Bool, true, false, List, ◌++◌, ◌∷◌, [], length, Option, Some, None, option_map, IfOk, OnOk, OnErr};
+ghost use Rattle.std.specs.Option.{option_copied};
 ghost use Rattle.ra_labels.specs.declared.kind.Kind.TheVariants.{Rga};
 ghost use Rattle.ra_labels.specs.declared.operation.Op.{Op};
 ghost use Rattle.ra_labels.specs.declared.operation.Update.TheVariants.{After, RgaRemove};
@@ -6,19 +7,24 @@ ghost use Rattle.ra_labels.specs.declared.label.Label.{Label};
 ghost use Rattle.ra_labels.specs.declared.command.Command.TheVariants.{Operate, Deliver};
 ghost use Rattle.ra_labels.specs.Records.{Records, label_count, stamp_at};
 ghost use Rattle.ra_labels.specs.Visibility.{had};
-ghost use Rattle.ra_labels.specs.Specification.{state_after};
+ghost use Rattle.ra_labels.specs.Rewriting.{updates_of};
+ghost use Rattle.ra_labels.specs.Specification.{Listed, state_after};
 ghost use Rattle.ra_labels.specs.Linearization.{extends_visibility, updates_admitted};
-ghost use Rattle.ra_labels.specs.NamedOrder.{named_labels, named_sequence};
-ghost use Rattle.ra_labels.specs.Laws.{StampsAreOneLabels};
-ghost use Rattle.ra_labels.specs.Insertion.{updates_had, updates_among, Makes};
-ghost use Rattle.ra_element_list.specs.ElementList.{Arrival, root};
+ghost use Rattle.ra_labels.specs.NamedOrder.{greater_of, named_labels, named_sequence};
+ghost use Rattle.ra_labels.specs.Laws.{StampsAreOneLabels, elements_in};
+ghost use Rattle.ra_labels.specs.Insertion.{updates_passing, updates_had, updates_among, Makes};
+ghost use Rattle.ra_labels.specs.Waiting.{is_there};
+ghost use Rattle.ra_element_list.specs.ElementList.{Arrival, ElementList, root, arrival_at, is_marked, IsNearestBefore};
 ghost use Rattle.ra_replica_list.specs.declared.deed.Deed.{Deed};
 ghost use Rattle.ra_replica_list.specs.declared.deed.Deed.TheVariants.{PutsIn, Removes};
-ghost use Rattle.ra_replica_list.specs.Deeds.{deed_at, element_at, AreElementsOf};
-ghost use Rattle.ra_replica_list.specs.ReplicaList.{IsListOf, MayGet};
+ghost use Rattle.ra_replica_list.specs.Deeds.{deed_at, element_at, AreElementsOf, AreDeedsOf};
+ghost use Rattle.ra_replica_list.specs.ReplicaList.{IsListBy, IsListOf, MayGet};
+ghost use Rattle.ra_replica_list.specs.Freed.{IsKeptAfter, LeadsTo, AreAlike};
 
 use crate::deed::Deed;
+use crate::freed::{Freed, free_all};
 use crate::marks::Marks;
+use crate::put::put_in;
 use crate::waiting::Waiting;
 use ra_element_list::{ElementList, LOWEST, ROOT};
 use ra_labels::{Kind, NoMemory, Stamp, Update};
@@ -38,8 +44,14 @@ pub struct ReplicaList {
     waiting: Waiting,
 }
 
-// TODO: impl Model for ReplicaList, whose value is the record ReplicaList of specs/ReplicaList; its invariant has
-// that the root is marked, that no list of labels that wait is empty, and that the state is an RGA's.
+impl Model for ReplicaList {
+    ghost use Rattle.ra_replica_list.specs.ReplicaList as specs;
+
+    ghost Value = { specs.ReplicaList };
+
+    ghost view = { λ a. record { state = a.state; marks = a.there.marks.items; greatest = a.greatest;
+        waiting = a.waiting } };
+}
 
 impl ReplicaList {
     /// The replica had nothing.
@@ -60,8 +72,9 @@ impl ReplicaList {
 
     /// The state after all updates that the replica had; none where these are not admitted, since one waits.
     pub fn state(&self) -> Option<&State>
-        // result, with the borrow's value, ≡ state_after Rga (updates_had Rga records replica)
-        // for (arrivals deeds records replica) with AreElementsOf .. and IsListOf self.now arrivals deeds records replica
+        ensures { (all : ElementList) (deeds : List (Option Deed)) (records : Records) (replica : ℕ)
+            → AreElementsOf all deeds records → IsListOf self.now all.arrivals deeds records replica
+            → option_copied result ≡ state_after Rga (updates_had Rga records replica) }
     {
         if self.waiting.is_empty() {
             Some(&self.state)
@@ -105,21 +118,15 @@ impl ReplicaList {
             (replica : ℕ) → IsListOf self.old arrivals deeds records replica
             → IsListOf self.new arrivals deeds records replica) }
     {
-        let number = all.len() as u32;
-        let steps = if self.there.has(anchor) {
-            self.there.make_room(number)?;
-            self.state.apply(&Update::After {
-                anchor: all.element(anchor),
-                element,
-            })?;
-            self.there.put(number);
-            1
-        } else {
+        if !self.there.has(anchor) {
             self.waiting.add(anchor, label)?;
-            0
-        };
+            self.saw(stamp);
+            return Ok(0);
+        }
+        let number = all.len() as u32;
+        put_in(&mut self.state, &mut self.there, number, all.element(anchor), element)?;
         self.saw(stamp);
-        Ok(steps)
+        Ok(1)
     }
 
     /// The replica issues the next label, which removes the element of this number. Answers how many steps that took.
@@ -171,38 +178,61 @@ impl ReplicaList {
             → IsListOf self.new arrivals deeds records replica) }
     {
         match deed {
-            Deed::PutsIn(number) => self.put_in(all, deeds, label, number),
+            Deed::PutsIn(number) => {
+                let steps = self.put_in(all, deeds, label, number)?;
+                self.saw(all.stamp(number));
+                Ok(steps)
+            }
             Deed::Removes(number) => self.remove(all, label, number),
         }
     }
 
-    // It gets the label that puts the element in.
+    // It gets the label that puts the element in, but for its stamp.
     fn put_in(
         &mut self,
         all: &ElementList,
         deeds: &[Option<Deed>],
         label: u32,
         number: u32,
-    ) -> Result<u64, NoMemory> {
+    ) -> Result<u64, NoMemory>
+        requires { MayGet self.old all.now deeds.now label (PutsIn number) }
+        ensures got { IfOk result (λ steps.
+            LeadsTo self.old self.new all.now deeds.now label (PutsIn number) steps) }
+        ensures greatest { self.new.greatest ≡ self.old.greatest }
+        ensures err { OnErr result (AreAlike self.old self.new) }
+    {
         let anchor = all.anchor(number);
-        let steps = if !self.there.has(anchor) {
+        if !self.there.has(anchor) {
             self.waiting.add(anchor, label)?;
-            0
-        } else if self.waiting.under(number).is_empty() {
-            self.there.make_room(number)?;
-            let update = self.insertion(all, number);
-            self.state.apply(&update)?;
-            self.there.put(number);
-            1
-        } else {
-            self.put_in_with_waiting(all, deeds, label)?
-        };
-        self.saw(all.stamp(number));
-        Ok(steps)
+            return Ok(0);
+        }
+        if !self.waiting.under(number).is_empty() {
+            return self.put_in_with_waiting(all, deeds, label, number);
+        }
+        let behind = self.nearest(all, number);
+        put_in(
+            &mut self.state,
+            &mut self.there,
+            number,
+            all.element(behind),
+            all.element(number),
+        )?;
+        Ok(1)
     }
 
     // It gets the label that removes the element, or issues it.
-    fn remove(&mut self, all: &ElementList, label: u32, number: u32) -> Result<u64, NoMemory> {
+    fn remove(&mut self, all: &ElementList, label: u32, number: u32) -> Result<u64, NoMemory>
+        requires { number < length all.now.arrivals }
+        ensures got { IfOk result (λ steps. (deeds : List (Option Deed)) (records : Records) (had : ℕ → Bool)
+            → AreDeedsOf all.now.arrivals deeds records
+            → (held : IsListBy self.old all.now.arrivals deeds records had)
+            → deed_at deeds label ≡ Some (Removes number) → had label ≡ false
+            → IsKeptAfter self.new.state self.new.marks self.new.waiting all.now.arrivals deeds records had
+            held.settled label steps) }
+        ensures steps { IfOk result (λ steps. steps ≤ 1) }
+        ensures greatest { self.new.greatest ≡ self.old.greatest }
+        ensures err { OnErr result (AreAlike self.old self.new) }
+    {
         if self.there.has(number) {
             self.state.apply(&Update::RgaRemove(all.element(number)))?;
             return Ok(1);
@@ -211,19 +241,29 @@ impl ReplicaList {
         Ok(0)
     }
 
-    // The one step that puts the element in where it belongs.
-    fn insertion(&self, all: &ElementList, number: u32) -> Update {
-        let anchor = all.anchor(number);
-        let is_newest = self.greatest < all.stamp(number) || all.is_youngest(number);
-        let behind = if is_newest {
-            anchor
-        } else {
-            all.nearest_before(number, self.there.marks.as_slice())
-        };
-        Update::After {
-            anchor: all.element(behind),
-            element: all.element(number),
+    // The nearest element before this one, whose anchor is there, that is there too.
+    fn nearest(&self, all: &ElementList, number: u32) -> u32
+        requires some { 0 < number }
+        requires known { number < length all.now.arrivals }
+        requires root { is_marked self.now.marks 0 ≡ true }
+        ensures among { result < length all.now.arrivals }
+        ensures nearest { (deeds : List (Option Deed)) (records : Records) (had : ℕ → Bool) (label : ℕ)
+            (list : List (ℕ × Bool)) → AreElementsOf all.now deeds records
+            → (held : IsListBy self.now all.now.arrivals deeds records had)
+            → deed_at deeds label ≡ Some (PutsIn number)
+            → is_marked self.now.marks (arrival_at all.now.arrivals number).anchor ≡ true
+            → state_after Rga (updates_of (named_sequence Rga records)) ≡ Some (Listed list)
+            → elements_in list ≡ all.now.elements
+            → IsNearestBefore (λ x. is_there x (updates_passing Rga records held.settled)) list
+            (element_at all.now.arrivals number) (element_at all.now.arrivals result) }
+    {
+        if self.greatest < all.stamp(number) {
+            return all.anchor(number);
         }
+        if all.is_youngest(number) {
+            return all.anchor(number);
+        }
+        all.nearest_before(number, self.there.marks.as_slice())
     }
 
     // The label puts its element in, and those follow that wait for it, and so on.
@@ -232,77 +272,37 @@ impl ReplicaList {
         all: &ElementList,
         deeds: &[Option<Deed>],
         label: u32,
-    ) -> Result<u64, NoMemory> {
-        let mut freed = Freed {
-            state: self.state.copy()?,
-            there: self.there.copy()?,
-            labels: vec![in self.alloc; label]?,
-        };
-        let mut done = 0;
-        while done < freed.labels.len() {
-            let label = freed.labels[done];
-            self.follow(all, deeds, &mut freed, label)?;
-            done += 1;
-        }
-        for label in &freed.labels {
-            if let Some(Some(Deed::PutsIn(number))) = deeds.get(*label as usize) {
-                self.waiting.free(*number);
-            }
-        }
+        number: u32,
+    ) -> Result<u64, NoMemory>
+        requires may { MayGet self.old all.now deeds.now label (PutsIn number) }
+        requires anchor { is_marked self.old.marks (arrival_at all.now.arrivals number).anchor ≡ true }
+        ensures got { IfOk result (λ steps.
+            LeadsTo self.old self.new all.now deeds.now label (PutsIn number) steps) }
+        ensures greatest { self.new.greatest ≡ self.old.greatest }
+        ensures err { OnErr result (AreAlike self.old self.new) }
+    {
+        let freed = Freed::by(
+            self.alloc,
+            &self.state,
+            &self.there,
+            &self.waiting,
+            all,
+            deeds,
+            label,
+        )?;
         let steps = freed.labels.len() as u64;
-        let Freed {
-            state,
-            there,
-            labels: _,
-        } = freed;
-        self.state = state;
-        self.there = there;
+        free_all(&mut self.waiting, deeds, freed.labels.as_slice());
+        self.state = freed.state;
+        self.there = freed.there;
         Ok(steps)
     }
 
-    // One of the freed labels does what it does, and frees others.
-    fn follow(
-        &self,
-        all: &ElementList,
-        deeds: &[Option<Deed>],
-        freed: &mut Freed,
-        label: u32,
-    ) -> Result<(), NoMemory> {
-        match deeds.get(label as usize) {
-            Some(Some(Deed::PutsIn(number))) => {
-                let behind = all.nearest_before(*number, freed.there.marks.as_slice());
-                freed.there.make_room(*number)?;
-                freed.state.apply(&Update::After {
-                    anchor: all.element(behind),
-                    element: all.element(*number),
-                })?;
-                freed.there.put(*number);
-                freed
-                    .labels
-                    .extend_from_slice(self.waiting.under(*number))?;
-            }
-            Some(Some(Deed::Removes(number))) => {
-                freed
-                    .state
-                    .apply(&Update::RgaRemove(all.element(*number)))?;
-            }
-            _ => {}
-        }
-        Ok(())
-    }
-
     // It had a label with this stamp.
-    fn saw(&mut self, stamp: Stamp) {
+    fn saw(&mut self, stamp: Stamp)
+        ensures { self.new ≡ record self.old { greatest = greater_of self.old.greatest stamp } }
+    {
         if self.greatest < stamp {
             self.greatest = stamp;
         }
     }
-}
-
-// What becomes of a replica when labels are freed, and these labels.
-#[derive(Debug, Drop)]
-struct Freed {
-    state: State,
-    there: Marks,
-    labels: Vec<u32>,
 }

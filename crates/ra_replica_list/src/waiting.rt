@@ -1,23 +1,35 @@
-ghost use Rattle.std.specs.Prelude.{◌≡◌, true, ℕ, nat_eq, ◌++◌, ◌∷◌, [], ◌≢◌, OnOk, OnErr};
-ghost use Rattle.std.specs.HashMap.{get};
+ghost use Rattle.std.specs.Prelude.{◌≡◌, true, false, ℕ, ◌++◌, ◌∷◌, [], ◌≢◌, Contains, OnOk, OnErr};
 ghost use Rattle.ra_replica_list.specs.Waiting.{labels_under};
 
 use ra_labels::NoMemory;
 use std::alloc::Global;
 use std::collections::HashMap;
+use std::marker::Model;
 
 /// The labels that wait at a replica, by the number of the element that each waits for.
 #[derive(Debug, Drop)]
 pub struct Waiting {
-    pub alloc: Global,
+    alloc: Global,
     /// Of each element that labels wait for, these labels in the order in which they came.
-    pub under: HashMap<u32, Vec<u32>>,
+    under: HashMap<u32, Vec<u32>>,
+}
+
+impl Model for Waiting {
+    ghost use Rattle.std.specs.Prelude.{List, ℕ};
+
+    ghost Value = { List (ℕ × List ℕ) };
+
+    ghost use Rattle.ra_replica_list.specs.Waiting.{waiting_in, NoneEmpty};
+
+    ghost view = { λ w. waiting_in w.under.entries };
+
+    ghost invariant = { λ w. NoneEmpty (waiting_in w.under.entries) };
 }
 
 impl Waiting {
     /// None waits. It takes no memory.
     pub fn new(alloc: Global) -> Waiting
-        ensures { (element : ℕ) → labels_under (get nat_eq result.under) element ≡ [] }
+        ensures { result ≡ [] }
     {
         Waiting {
             alloc,
@@ -25,47 +37,47 @@ impl Waiting {
         }
     }
 
-    /// Is it known that none waits?
+    /// Does none wait?
     pub fn is_empty(&self) -> bool
-        ensures { result ≡ true → (element : ℕ) → labels_under (get nat_eq self.now.under) element ≡ [] }
+        ensures none { result ≡ true → (number : ℕ) → labels_under self.now number ≡ [] }
+        ensures some { result ≡ false
+            → (number : ℕ) × (label : ℕ) × Contains (labels_under self.now number) label }
     {
         self.under.is_empty()
     }
 
     /// The labels that wait for the element.
-    pub fn under(&self, element: u32) -> &[u32]
-        ensures { result.now ≡ labels_under (get nat_eq self.now.under) element }
+    pub fn under(&self, number: u32) -> &[u32]
+        ensures { result.now ≡ labels_under self.now number }
     {
-        match self.under.get(&element) {
+        match self.under.get(&number) {
             Some(labels) => labels.as_slice(),
             None => &[],
         }
     }
 
     /// The label waits for the element from now on.
-    pub fn add(&mut self, element: u32, label: u32) -> Result<(), NoMemory>
-        ensures added { OnOk result (labels_under (get nat_eq self.new.under) element
-            ≡ labels_under (get nat_eq self.old.under) element ++ label ∷ []) }
-        ensures others { (other : ℕ) → other ≢ element
-            → labels_under (get nat_eq self.new.under) other ≡ labels_under (get nat_eq self.old.under) other }
-        ensures err { OnErr result (labels_under (get nat_eq self.new.under) element
-            ≡ labels_under (get nat_eq self.old.under) element) }
+    pub fn add(&mut self, number: u32, label: u32) -> Result<(), NoMemory>
+        ensures added { OnOk result (labels_under self.new number ≡ labels_under self.old number ++ label ∷ []) }
+        ensures others { (other : ℕ) → other ≢ number
+            → labels_under self.new other ≡ labels_under self.old other }
+        ensures err { OnErr result (labels_under self.new number ≡ labels_under self.old number) }
     {
-        if let Some(labels) = self.under.get_mut(&element) {
+        if let Some(labels) = self.under.get_mut(&number) {
             labels.push(label)?;
             return Ok(());
         }
         let labels = vec![in self.alloc; label]?;
-        self.under.insert(element, labels)?;
+        self.under.insert(number, labels)?;
         Ok(())
     }
 
     /// None waits for the element any more.
-    pub fn free(&mut self, element: u32)
-        ensures freed { labels_under (get nat_eq self.new.under) element ≡ [] }
-        ensures others { (other : ℕ) → other ≢ element
-            → labels_under (get nat_eq self.new.under) other ≡ labels_under (get nat_eq self.old.under) other }
+    pub fn free(&mut self, number: u32)
+        ensures freed { labels_under self.new number ≡ [] }
+        ensures others { (other : ℕ) → other ≢ number
+            → labels_under self.new other ≡ labels_under self.old other }
     {
-        let _ = self.under.remove(&element);
+        let _ = self.under.remove(&number);
     }
 }

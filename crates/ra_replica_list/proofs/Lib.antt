@@ -1,0 +1,14 @@
+pub mod Places
+pub mod Deeds
+pub mod Getting
+pub mod Alike
+pub mod Greatest
+pub mod Stepping
+pub mod Taking
+pub mod Entries
+pub mod Telling
+pub mod Starting
+pub mod Freeing
+pub mod Following
+pub mod Finishing
+pub mod Nearness
