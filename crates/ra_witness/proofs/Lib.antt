@@ -10,3 +10,4 @@ pub mod Overridden
 pub mod Doing
 pub mod LastMade
 pub mod Taken
+pub mod Offering
