@@ -11,3 +11,7 @@ pub mod Doing
 pub mod LastMade
 pub mod Taken
 pub mod Offering
+pub mod Range
+pub mod Forms
+pub mod Halves
+pub mod Carrying

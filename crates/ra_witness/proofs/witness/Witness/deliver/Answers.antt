@@ -23,4 +23,4 @@ pub returns-clause-few_steps : goal.returns-clause-few_steps
 returns-clause-few_steps g c = λ kind first records before behind it stands accepted is number.
     let told = is_told g.O.NamedOrder.stands_for c.args.self.now kind first records c.args.replica c.args.label stands accepted in
     let few = c.in_ok-steps.ensures.few_steps kind first records before behind it stands.kept told is number in
-    ?
+    omega (arith, few, c.saturating_add-self.ensures)
