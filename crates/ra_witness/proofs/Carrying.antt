@@ -1,6 +1,7 @@
 -- What is kept, kind by kind, with one label or delivery more: of a counter and an OR-Set, and what all kinds share.
 use Rattle.std.proofs.Common.{◌≡◌, ℕ, ◌<◌, ◌≤◌, ◌+◌, true, cond, List, [], ◌∷◌, ◌++◌, length, Option, Some, None, refl, sym, ap, ◌∙◌, subst, inl, inr, arith}
-use Rattle.std.specs.Prelude.{◌⊎◌, not, Result, OnOk, Ok, Err, IfOk}
+use Rattle.std.specs.Prelude.{◌⊎◌, not, Result, OnOk, Ok, Err, IfSome}
+use Rattle.std.proofs.lemmas.Option.{none-some}
 use Rattle.ra_labels.specs.declared.kind.Kind.{Kind}
 use Rattle.ra_labels.specs.declared.kind.Kind.TheVariants as variant
 use Rattle.ra_labels.specs.declared.operation.Op.{Op}
@@ -8,7 +9,7 @@ use Rattle.ra_labels.specs.declared.operation.Update.{Update}
 use Rattle.ra_labels.specs.declared.label.Label.{Label}
 use Rattle.ra_labels.specs.declared.command.Command.TheVariants.{Operate, Deliver}
 use Rattle.ra_labels.specs.declared.reply.Cause.TheVariants as cause
-use Rattle.ra_labels.specs.Records.{Records, label_count}
+use Rattle.ra_labels.specs.Records.{Records, label_count, stamp_at}
 use Rattle.ra_labels.specs.Rewriting.{Half, Act, acts_of}
 use Rattle.ra_labels.specs.Specification.{State, state_after}
 use Rattle.ra_labels.specs.Fault.{Holds, cause_of}
@@ -29,11 +30,14 @@ use Rattle.ra_witness.proofs.Found.{updates_counted}
 use Rattle.ra_witness.proofs.Causes.{cause_where_it_fits, still_admitted}
 use Rattle.ra_witness.proofs.Keeping.{kept-label, kept-counter, kept-or_set}
 use Rattle.ra_witness.proofs.Range.{can_step}
-use Rattle.ra_witness.proofs.Forms.{is_of_kind, its_replica}
+use Rattle.ra_witness.proofs.Forms.{of_its_kind, is_of_kind, its_replica, has_stamp, writes_are_stamped}
 
 pub on_ok_two : {T E : Type 0} {P Q R : Type 0} (r : Result T E) → OnOk r P → OnOk r Q → (P → Q → R) → OnOk r R
 on_ok_two (Ok x) p q f = f p q
 on_ok_two (Err e) p q f = tt
+
+pub if_some_use : {A : Type 0} (o : Option A) (x : A) (P : A → Type 0) → o ≡ Some x → IfSome o P → P x
+if_some_use o x P is p = subst (λ a. IfSome a P) is p
 
 module _ (k : Kept) (kind : Kind) (first : ℕ) (records : Records) (stands : IsKept k kind first records) where
   pub is_commuting : (kept : commuting.Commuting) → k ≡ Commuting kept → IsCommutingOf kept kind first records
@@ -56,6 +60,10 @@ not_rga-overriding kind (inr is) rga = let e : variant.LwwSet ≡ variant.Rga = 
 pub not_or_set-overriding : (kind : Kind) → (kind ≡ variant.Register) ⊎ (kind ≡ variant.LwwSet) → ¬ (kind ≡ variant.OrSet)
 not_or_set-overriding kind (inl is) other = let e : variant.Register ≡ variant.OrSet = sym is ∙ other in cc (e)
 not_or_set-overriding kind (inr is) other = let e : variant.LwwSet ≡ variant.OrSet = sym is ∙ other in cc (e)
+
+pub not_counter-overriding : (kind : Kind) → (kind ≡ variant.Register) ⊎ (kind ≡ variant.LwwSet) → ¬ (kind ≡ variant.Counter)
+not_counter-overriding kind (inl is) other = let e : variant.Register ≡ variant.Counter = sym is ∙ other in cc (e)
+not_counter-overriding kind (inr is) other = let e : variant.LwwSet ≡ variant.Counter = sym is ∙ other in cc (e)
 
 module _ (updates : List (Option Update)) (states : List State) (kind : Kind) (first : ℕ) (records : Records) (kept : IsKeptOf updates states kind first records) where
   -- what fails with the label is what it asks of the state of its replica
@@ -146,3 +154,12 @@ pub can_tell : (kept : commuting.Commuting) (kind : Kind) (first : ℕ) (records
 can_tell kept kind first records to n few stands told =
     can_step kept.updates.items kept.states.items kind first (Deliver to n ∷ records) to (update_at kept.updates.items n)
     (states_told kept.updates.items kept.states.items kind first records stands.states to n stands.one told) (omega (arith, stands.states.replicas, told.replica)) few
+
+-- of a register or an LWW set, a label that does something has a stamp
+pub stamp_missing : (kind : Kind) (first : ℕ) (records : Records) (by : ℕ) (op : Op) (clock : Option ℕ) (label : Label) (u : Update)
+    → (kind ≡ variant.Register) ⊎ (kind ≡ variant.LwwSet) → IsOffered kind first records by op clock label → update_in op ≡ Some u → label.stamp ≡ None → ⊥
+stamp_missing kind first records by op clock label u one offered does none =
+    let of = of_its_kind kind first records by op clock label offered in
+    let carries = writes_are_stamped op u (λ is. not_counter-overriding kind one (sym of ∙ is)) (λ is. not_or_set-overriding kind one (sym of ∙ is)) (λ is. not_rga-overriding kind one (sym of ∙ is)) does in
+    let (at, is, least, stamped) = has_stamp kind first records by op clock label offered carries in
+    none-some (stamp_at by at) (sym none ∙ stamped)

@@ -1,21 +1,23 @@
 -- What is known of an operation that is offered, by its form.
-use Rattle.std.proofs.Common.{◌≡◌, ℕ, true, false, List, Option, Some, None, refl, sym, ap, ◌∙◌, subst}
-use Rattle.std.specs.Prelude.{◌&&◌}
+use Rattle.std.proofs.Common.{◌≡◌, ℕ, ◌≤◌, true, false, List, Option, Some, None, refl, sym, ap, ◌∙◌, subst}
+use Rattle.std.specs.Prelude.{◌&&◌, option_map}
 use Rattle.std.specs.List.{list_all}
 use Rattle.std.proofs.lemmas.Bool.{and_from}
+use Rattle.std.proofs.lemmas.Option.{none-some}
 use Rattle.ra_labels.specs.declared.kind.Kind.{Kind}
 use Rattle.ra_labels.specs.declared.kind.Kind.TheVariants.{Counter, Register, LwwSet, OrSet, Rga}
 use Rattle.ra_labels.specs.declared.operation.Op.{Op}
 use Rattle.ra_labels.specs.declared.operation.Op.TheVariants as op
+use Rattle.ra_labels.specs.declared.operation.Update.{Update}
 use Rattle.ra_labels.specs.declared.label.Label.{Label}
-use Rattle.ra_labels.specs.Records.{Records, next_label}
+use Rattle.ra_labels.specs.Records.{Records, next_label, stamp_at}
 use Rattle.ra_labels.specs.Rewriting.{acts_of}
 use Rattle.ra_labels.specs.Lists.{rises}
 use Rattle.ra_labels.specs.Answer.{kind_of, is_kind, has_rising_list, carries_stamp}
 use Rattle.ra_labels.specs.Laws.{HasItsClock}
 use Rattle.ra_labels.proofs.TheLaws.{forms_that_deserve_no_refusal}
 use Rattle.ra_seqspec.specs.Asked.{asks_rising}
-use Rattle.ra_witness.specs.Labels.{queries_in}
+use Rattle.ra_witness.specs.Labels.{queries_in, update_in}
 use Rattle.ra_witness.specs.Offered.{IsOffered}
 
 pub same_kind : (kind : Kind) → is_kind kind kind ≡ true
@@ -59,3 +61,27 @@ module _ (kind : Kind) (first : ℕ) (records : Records) (by : ℕ) (op : Op) (c
 
   pub its_op : label.op ≡ op
   its_op = ap (λ (l : Label). l.op) offered.next
+
+  -- of a register and an LWW set, and of an RGA, an operation that puts something in has a stamp
+  pub has_stamp : carries_stamp op ≡ true → (at : ℕ) × (clock ≡ Some at) × (1 ≤ at) × (label.stamp ≡ Some (stamp_at by at))
+  has_stamp carries =
+      let (at, least, is) = its_clock.0 carries in
+      (at, is, least, ap (λ (l : Label). l.stamp) offered.next ∙ ap (option_map (stamp_at by)) is)
+
+-- what a register or an LWW set does has a stamp
+pub writes_are_stamped : (operation : Op) (u : Update) → ¬ (kind_of operation ≡ Counter) → ¬ (kind_of operation ≡ OrSet) → ¬ (kind_of operation ≡ Rga)
+    → update_in operation ≡ Some u → carries_stamp operation ≡ true
+writes_are_stamped op.Inc u counter or_set rga is = absurd (counter refl)
+writes_are_stamped op.Dec u counter or_set rga is = absurd (counter refl)
+writes_are_stamped (op.Count v) u counter or_set rga is = absurd (counter refl)
+writes_are_stamped (op.Write value) u counter or_set rga is = refl
+writes_are_stamped (op.Last value) u counter or_set rga is = absurd (none-some u is)
+writes_are_stamped (op.LwwAdd x) u counter or_set rga is = refl
+writes_are_stamped (op.LwwRemove x) u counter or_set rga is = refl
+writes_are_stamped (op.LwwRead list) u counter or_set rga is = absurd (none-some u is)
+writes_are_stamped (op.OrAdd x id) u counter or_set rga is = absurd (or_set refl)
+writes_are_stamped (op.OrRemove x ids) u counter or_set rga is = absurd (or_set refl)
+writes_are_stamped (op.OrRead list) u counter or_set rga is = absurd (or_set refl)
+writes_are_stamped (op.After anchor x) u counter or_set rga is = absurd (rga refl)
+writes_are_stamped (op.RgaRemove x) u counter or_set rga is = absurd (rga refl)
+writes_are_stamped (op.RgaRead list) u counter or_set rga is = absurd (rga refl)

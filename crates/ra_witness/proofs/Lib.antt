@@ -15,3 +15,5 @@ pub mod Range
 pub mod Forms
 pub mod Halves
 pub mod Carrying
+pub mod Writing
+pub mod WriteTaken

@@ -3,7 +3,6 @@ use Rattle.std.specs.Prelude.{◌≡◌, ℕ, ◌+◌, ◌≤◌, ◌∷◌, tru
 use Rattle.std.specs.List.{slice_get}
 use Rattle.ra_labels.specs.declared.kind.Kind.TheVariants as variant
 use Rattle.ra_labels.specs.declared.operation.Op.{Op}
-use Rattle.ra_labels.specs.declared.operation.Update.{Update}
 use Rattle.ra_labels.specs.declared.label.Label.{Label}
 use Rattle.ra_labels.specs.declared.command.Command.TheVariants.{Operate}
 use Rattle.ra_labels.specs.Records.{Records, label_count, replica_count}
@@ -12,7 +11,6 @@ use Rattle.ra_labels.specs.NamedOrder.{named_sequence}
 use Rattle.ra_replica_list.specs.Deeds.{AreElementsOf}
 use Rattle.ra_replica_list.specs.ReplicaList.{ReplicaList, IsListOf}
 use Rattle.ra_witness.specs.declared.rga.Rga.{Rga}
-use Rattle.ra_witness.specs.Labels.{update_in}
 use Rattle.ra_witness.specs.Offered.{IsOffered, IsTold}
 
 -- the labels' deeds and the elements of all of them, and of each replica its list
@@ -24,8 +22,8 @@ pub record IsRgaOf (rga : Rga) (first : ℕ) (records : Records) : Type 0 where
   -- an element for each label at most, and the root
   pub few : length rga.all.arrivals ≤ label_count records + 1
 
--- after some records of which this is kept the label is offered, which does this, and with it all updates are admitted
-pub record MayGrow (rga : Rga) (label : Label) (update : Option Update) : Type 0 where
+-- after some records of which this is kept the label is offered, and with it the updates of all labels are admitted
+pub record MayGrow (rga : Rga) (label : Label) : Type 0 where
   pub first : ℕ
   pub records : Records
   pub by : ℕ
@@ -34,7 +32,6 @@ pub record MayGrow (rga : Rga) (label : Label) (update : Option Update) : Type 0
   pub stands : IsRgaOf rga first records
   pub offered : IsOffered variant.Rga first records by op clock label
   pub admitted : updates_admitted variant.Rga (named_sequence variant.Rga (Operate by op clock ∷ records)) ≡ true
-  pub update_is : update ≡ update_in op
 
 -- after some records of which this is kept the delivery is told
 pub record MayHear (rga : Rga) (to n : ℕ) : Type 0 where

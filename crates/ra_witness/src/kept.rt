@@ -83,7 +83,7 @@ impl Kept {
         match self {
             Kept::Commuting(kept) => kept.take(label.replica, update),
             Kept::Overriding(kept) => take_write(kept, label, update),
-            Kept::Rga(kept) => kept.take(label, update),
+            Kept::Rga(kept) => kept.take(label),
         }
     }
 
@@ -141,14 +141,13 @@ fn take_write(kept: &mut Overriding, label: &Label, update: Option<Update>) -> R
     ensures same { (kind : Kind) (first : ℕ) (records : Records) → IsOverridingOf kept.old kind first records
         → OnErr result (IsOverridingOf kept.new kind first records) }
 {
-    match (update, label.stamp) {
-        (Some(update), Some(stamp)) => {
-            kept.take(label.replica, update, stamp)?;
-            Ok(1)
-        }
-        _ => {
-            kept.take_query()?;
-            Ok(0)
-        }
-    }
+    let Some(update) = update else {
+        kept.take_query()?;
+        return Ok(0);
+    };
+    let Some(stamp) = label.stamp else {
+        unreachable!()
+    };
+    kept.take(label.replica, update, stamp)?;
+    Ok(1)
 }

@@ -1,9 +1,8 @@
 //! Of an RGA: an element that comes late comes in behind the nearest one before it that is there.
-ghost use Rattle.std.specs.Prelude.{◌≡◌, ◌↔◌, ℕ, ◌+◌, ◌<◌, ◌≤◌, ◌^◌, ◌++◌, ◌∷◌, [], true, List, length, Option, Some, None, vec_len, vec_capacity, IsTrue, IfOk, OnOk, OnErr};
+ghost use Rattle.std.specs.Prelude.{◌≡◌, ◌↔◌, ℕ, ◌+◌, ◌<◌, ◌≤◌, ◌^◌, ◌++◌, ◌∷◌, [], true, List, length, Option, Some, None, vec_len, vec_capacity, IsTrue, IsSome, IfOk, OnOk, OnErr, if◌then◌else◌};
 ghost use Rattle.ra_labels.specs.declared.kind.Kind.TheVariants as kinds;
 ghost use Rattle.ra_labels.specs.declared.operation.Op.{Op};
 ghost use Rattle.ra_labels.specs.declared.operation.Op.TheVariants as ops;
-ghost use Rattle.ra_labels.specs.declared.operation.Update.TheVariants.{After, RgaRemove};
 ghost use Rattle.ra_labels.specs.declared.label.Label.{Label};
 ghost use Rattle.ra_labels.specs.declared.command.Command.TheVariants.{Operate, Deliver};
 ghost use Rattle.ra_labels.specs.Records.{Records};
@@ -18,13 +17,13 @@ ghost use Rattle.ra_rewrite.specs.Parts.{acts_in};
 ghost use Rattle.ra_seqspec.specs.Asked.{asks_rising};
 ghost use Rattle.std.specs.List.{list_all};
 ghost use Rattle.ra_replica_list.specs.Deeds.{element_at};
-ghost use Rattle.ra_witness.specs.Labels.{queries_in, update_in, cause_in};
+ghost use Rattle.ra_witness.specs.Labels.{queries_in, cause_in};
 ghost use Rattle.ra_witness.specs.Rga.{IsRgaOf, MayGrow, MayHear};
 ghost use Rattle.ra_witness.specs.Offered.{IsOffered, IsTold};
 
 use crate::asked;
 use ra_element_list::{ElementList, ROOT};
-use ra_labels::{Cause, Label, NoMemory, Op, Stamp, Update};
+use ra_labels::{Cause, Label, NoMemory, Op, Stamp};
 use ra_replica_list::{Deed, ReplicaList};
 use ra_rewrite::Parts;
 use std::alloc::Global;
@@ -64,15 +63,12 @@ impl Rga {
             → IsRgaOf self.now first records → IsOffered kinds.Rga first records by op clock label.now
             → acts_in parts.now ≡ acts_of op → result ≡ cause_of kinds.Rga (Operate by op clock ∷ records) }
     {
-        let is_admitted = match &label.op {
-            Op::After { anchor, element } => self.admits_insertion(*anchor, *element, label.stamp),
-            Op::RgaRemove(element) => self.admits_removal(label.replica, *element),
-            _ => return self.cause_of_query(label.replica, parts),
-        };
-        if is_admitted {
-            None
-        } else {
-            Some(Cause::Update)
+        match &label.op {
+            Op::After { anchor, element } => {
+                update_unless(self.admits_insertion(*anchor, *element, label.stamp))
+            }
+            Op::RgaRemove(element) => update_unless(self.admits_removal(label.replica, *element)),
+            _ => self.cause_of_query(label.replica, parts),
         }
     }
 
@@ -84,7 +80,10 @@ impl Rga {
             → IsTrue result
             ↔ (updates_admitted kinds.Rga (named_sequence kinds.Rga (Operate by op clock ∷ records)) ≡ true) }
     {
-        let (Some(number), Some(stamp)) = (self.all.number_of(anchor), stamp) else {
+        let Some(number) = self.all.number_of(anchor) else {
+            return false;
+        };
+        let Some(stamp) = stamp else {
             return false;
         };
         self.all.stamp(number) < stamp && self.all.number_of(element).is_none()
@@ -114,20 +113,20 @@ impl Rga {
         asked::cause_if_any(self.lists[replica as usize].state(), parts)
     }
 
-    /// Takes the next label in, which does this, if anything: answers how many steps that took.
-    pub fn take(&mut self, label: &Label, update: Option<Update>) -> Result<u64, NoMemory>
-        requires { MayGrow self.old label.now update }
+    /// Takes the next label in: answers how many steps that took.
+    pub fn take(&mut self, label: &Label) -> Result<u64, NoMemory>
+        requires { MayGrow self.old label.now }
         ensures taken { (first : ℕ) (records : Records) (by : ℕ) (op : Op) (clock : Option ℕ)
             → IsRgaOf self.old first records → IsOffered kinds.Rga first records by op clock label.now
-            → updates_admitted kinds.Rga (named_sequence kinds.Rga (Operate by op clock ∷ records)) ≡ true → update ≡ update_in op
+            → updates_admitted kinds.Rga (named_sequence kinds.Rga (Operate by op clock ∷ records)) ≡ true
             → OnOk result (IsRgaOf self.new first (Operate by op clock ∷ records)) }
         ensures same { (first : ℕ) (records : Records) → IsRgaOf self.old first records
             → OnErr result (IsRgaOf self.new first records) }
     {
         self.deeds.reserve(1)?;
-        match update {
-            Some(Update::After { anchor, element }) => self.put_in(label, anchor, element),
-            Some(Update::RgaRemove(element)) => self.remove(label, element),
+        match &label.op {
+            Op::After { anchor, element } => self.put_in(label, *anchor, *element),
+            Op::RgaRemove(element) => self.remove(label, *element),
             _ => {
                 self.deeds.push_reserved(None);
                 Ok(0)
@@ -140,17 +139,22 @@ impl Rga {
         requires room { vec_len self.old.deeds < vec_capacity self.old.deeds }
         requires replica { label.now.replica < vec_len self.old.lists }
         requires few { length self.old.all.arrivals < 2 ^ 32 }
+        requires stamp { IsSome label.now.stamp }
+        requires known { (n : ℕ) × (n < length self.old.all.arrivals) × (element_at self.old.all.arrivals n ≡ anchor) }
         requires new { (n : ℕ) → n < length self.old.all.arrivals → ¬ (element_at self.old.all.arrivals n ≡ element) }
         ensures taken { (first : ℕ) (records : Records) (by : ℕ) (op : Op) (clock : Option ℕ)
             → IsRgaOf self.old first records → IsOffered kinds.Rga first records by op clock label.now
             → updates_admitted kinds.Rga (named_sequence kinds.Rga (Operate by op clock ∷ records)) ≡ true
-            → update_in op ≡ Some (After anchor element)
+            → op ≡ ops.After anchor element
             → OnOk result (IsRgaOf self.new first (Operate by op clock ∷ records)) }
         ensures same { (first : ℕ) (records : Records) → IsRgaOf self.old first records
             → OnErr result (IsRgaOf self.new first records) }
     {
-        let (Some(behind), Some(stamp)) = (self.all.number_of(anchor), label.stamp) else {
-            return Ok(0);
+        let Some(behind) = self.all.number_of(anchor) else {
+            unreachable!()
+        };
+        let Some(stamp) = label.stamp else {
+            unreachable!()
         };
         self.all.spare()?;
         let number = self.all.len() as u32;
@@ -165,16 +169,17 @@ impl Rga {
     fn remove(&mut self, label: &Label, element: u32) -> Result<u64, NoMemory>
         requires room { vec_len self.old.deeds < vec_capacity self.old.deeds }
         requires replica { label.now.replica < vec_len self.old.lists }
+        requires known { (n : ℕ) × (n < length self.old.all.arrivals) × (element_at self.old.all.arrivals n ≡ element) }
         ensures taken { (first : ℕ) (records : Records) (by : ℕ) (op : Op) (clock : Option ℕ)
             → IsRgaOf self.old first records → IsOffered kinds.Rga first records by op clock label.now
             → updates_admitted kinds.Rga (named_sequence kinds.Rga (Operate by op clock ∷ records)) ≡ true
-            → update_in op ≡ Some (RgaRemove element)
+            → op ≡ ops.RgaRemove element
             → OnOk result (IsRgaOf self.new first (Operate by op clock ∷ records)) }
         ensures same { (first : ℕ) (records : Records) → IsRgaOf self.old first records
             → OnErr result (IsRgaOf self.new first records) }
     {
         let Some(number) = self.all.number_of(element) else {
-            return Ok(0);
+            unreachable!()
         };
         let list = &mut self.lists[label.replica as usize];
         let steps = list.remove_own(&self.all, label.number, number)?;
@@ -197,7 +202,7 @@ impl Rga {
     {
         let deeds = self.deeds.as_slice();
         let Some(deed) = deeds[label as usize] else {
-            return Ok(0);
+            unreachable!()
         };
         self.lists[replica as usize].deliver(&self.all, deeds, label, deed)
     }
@@ -205,5 +210,16 @@ impl Rga {
     /// Where the collections live.
     pub fn allocator(&self) -> Global {
         *self.deeds.allocator()
+    }
+}
+
+// Why an update fails, unless it is admitted.
+fn update_unless(is_admitted: bool) -> Option<Cause>
+    ensures { result ≡ (if is_admitted then None else Some Cause.Update) }
+{
+    if is_admitted {
+        None
+    } else {
+        Some(Cause::Update)
     }
 }

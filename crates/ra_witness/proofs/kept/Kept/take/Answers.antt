@@ -40,7 +40,7 @@ returns-in-Rga-clause-taken c = λ kind first records by op clock stands offered
     let known = is_rga c.args.self.now kind first records stands c.in-Rga.kept c.in-Rga.is in
     on_ok c.take-in-Rga.result
     (c.take-in-Rga.ensures.taken first records by op clock known.1 (subst (λ k. IsOffered k first records by op clock c.args.label.now) known.0 offered)
-    (subst (λ k. updates_admitted k (named_sequence k (Operate by op clock ∷ records)) ≡ true) known.0 admitted) same)
+    (subst (λ k. updates_admitted k (named_sequence k (Operate by op clock ∷ records)) ≡ true) known.0 admitted))
     (λ form. record { few = omega (arith, offered.few); form = (known.0, form) })
 
 pub returns-in-Rga-clause-same : goal.returns-in-Rga-clause-same
