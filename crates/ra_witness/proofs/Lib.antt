@@ -17,3 +17,4 @@ pub mod Halves
 pub mod Carrying
 pub mod Writing
 pub mod WriteTaken
+pub mod ReplicaLists
