@@ -41,7 +41,7 @@ split_at (x ∷ xs) y there = elim (head_or_behind x xs y there) [
 ]
 
 -- an operation does at most one thing
-at_most_one : (operation : Op) → length (updates_in (acts_of operation)) ≤ 1
+pub at_most_one : (operation : Op) → length (updates_in (acts_of operation)) ≤ 1
 at_most_one op.Inc = omega arith
 at_most_one op.Dec = omega arith
 at_most_one (op.Count v) = omega arith

@@ -67,16 +67,16 @@ stepped kind o s u led state_of_kind of_kind not_rga =
     ∙ steps_on s u (subst (λ k. is_kind k (kind_of_update u) ≡ true) (sym state_of_kind) of_kind) (λ rga. not_rga (sym state_of_kind ∙ rga))
 
 -- the states of replicas, where one of them steps
-same_replica : (states : List State) (by : ℕ) (o : Option Update) → by < length states → state_at (states_after states by o) by ≡ after_step (state_at states by) o
+pub same_replica : (states : List State) (by : ℕ) (o : Option Update) → by < length states → state_at (states_after states by o) by ≡ after_step (state_at states by) o
 same_replica states by o there = get_or-set_same states by (after_step (state_at states by) o) (Number (pos 0)) there
 
-other_replica : (states : List State) (by q : ℕ) (o : Option Update) → ¬ (q ≡ by) → state_at (states_after states by o) q ≡ state_at states q
+pub other_replica : (states : List State) (by q : ℕ) (o : Option Update) → ¬ (q ≡ by) → state_at (states_after states by o) q ≡ state_at states q
 other_replica states by q o other = get_or-set_other states by q (after_step (state_at states by) o) (Number (pos 0)) other
 
 module _ (updates : List (Option Update)) (states : List State) (kind : Kind) (first : ℕ) (records : Records)
     (kept : IsKeptOf updates states kind first records) where
   -- where what the replica had leads, once its label came
-  own_state : (by : ℕ) (op : Op) (clock : Option ℕ) → ¬ (kind ≡ Rga) → by < length states → is_kind kind (kind_of op) ≡ true
+  pub own_state : (by : ℕ) (op : Op) (clock : Option ℕ) → ¬ (kind ≡ Rga) → by < length states → is_kind kind (kind_of op) ≡ true
       → let now = Operate by op clock ∷ records in extends_visibility now (named_sequence kind now) ≡ true → (o : Option Update) → update_in op ≡ o
       → state_after kind (updates_had kind now by) ≡ Some (after_step (state_at states by) o)
   own_state by op clock not_rga there of_kind extended None is =

@@ -10,3 +10,11 @@ pub mod Overridden
 pub mod Doing
 pub mod LastMade
 pub mod Taken
+pub mod Offering
+pub mod Range
+pub mod Forms
+pub mod Halves
+pub mod Carrying
+pub mod Writing
+pub mod WriteTaken
+pub mod ReplicaLists

@@ -6,6 +6,7 @@ pub mod Numbers
 pub mod Last
 pub mod Overriding
 pub mod Overridden
-pub mod Marks
-pub mod Waiting
-pub mod Chunk
+pub mod Rga
+pub mod Offered
+pub mod Kept
+pub mod Witness

@@ -1,5 +1,5 @@
 -- The elements of an LWW set, by their numbers.
-use Rattle.std.specs.Prelude.{ℕ, ◌==◌, Option, Some, None, unwrap_or, if◌then◌else◌}
+use Rattle.std.specs.Prelude.{ℕ, ◌+◌, ◌==◌, is_some, Option, Some, None, unwrap_or, if◌then◌else◌}
 use Rattle.ra_labels.specs.declared.operation.Update.{Update}
 use Rattle.ra_labels.specs.declared.operation.Update.TheVariants.{LwwAdd, LwwRemove}
 
@@ -18,3 +18,8 @@ number_in number_of next (Some x) = unwrap_or (number_of x) next
 abbrev pub number_with : (ℕ → Option ℕ) → Option ℕ → ℕ → ℕ → Option ℕ
 number_with number_of None number y = number_of y
 number_with number_of (Some x) number y = if x == y then Some number else number_of y
+
+-- how many elements there are, once this one is known
+abbrev pub count_with : (ℕ → Option ℕ) → ℕ → Option ℕ → ℕ
+count_with number_of count None = count
+count_with number_of count (Some x) = if is_some (number_of x) then count else count + 1

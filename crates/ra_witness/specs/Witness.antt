@@ -12,8 +12,8 @@ use Rattle.ra_labels.specs.Laws.{EachLabelFits, StampsAreOneLabels, IdentifiersA
 use Rattle.ra_visibility.specs.Order.{ComesNext}
 use Rattle.ra_visibility.specs.Seen.{Seen}
 use Rattle.ra_visibility.specs.declared.limits.TheConstants.{MOST_LABELS}
-
--- (Kept and Witness: what contracts see of them; IsKept: what is kept of labels and replicas is that of the records)
+use Rattle.ra_witness.specs.declared.witness.Witness.{Witness}
+use Rattle.ra_witness.specs.Kept.{IsKept}
 
 -- the witness is that of the records, which hold
 pub record IsWitnessOf {O : Type 0} (stands_for : O → Kind → ℕ → Records → Type 0) (witness : Witness O) (kind : Kind)

@@ -1,4 +1,4 @@
-ghost use Rattle.std.specs.Prelude.{◌≡◌, true, None, Some, if◌then◌else◌};
+ghost use Rattle.std.specs.Prelude.{◌≡◌, true, None, Some, option_map, if◌then◌else◌};
 ghost use Rattle.ra_labels.specs.Specification.{answers};
 ghost use Rattle.std.specs.List.{list_all};
 ghost use Rattle.ra_seqspec.specs.Asked.{asks_rising};
@@ -17,6 +17,18 @@ pub fn cause(state: &State, parts: &Parts) -> Option<Cause>
     match parts {
         Parts::One(Part::Update(_)) => None,
         Parts::One(Part::Query(query)) | Parts::Two(query, _) => unless_answered(state, query),
+    }
+}
+
+/// Why such a label fails where there is a state, or none: where there is none no query is answered yes.
+pub fn cause_if_any(state: Option<&State>, parts: &Parts) -> Option<Cause>
+    requires { list_all asks_rising (queries_in (acts_in parts.now)) ≡ true }
+    ensures { result ≡ cause_in (option_map (λ s. s.now) state.entry) (acts_in parts.now) }
+{
+    match (state, parts) {
+        (_, Parts::One(Part::Update(_))) => None,
+        (Some(state), _) => cause(state, parts),
+        (None, _) => Some(Cause::Query),
     }
 }
 

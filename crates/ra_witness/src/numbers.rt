@@ -1,6 +1,6 @@
-ghost use Rattle.std.specs.Prelude.{◌≡◌, ◌+◌, ◌<◌, ◌≤◌, ◌^◌, ℕ, None, nat_eq, OnOk};
+ghost use Rattle.std.specs.Prelude.{◌≡◌, ◌<◌, ◌^◌, ℕ, None, nat_eq, OnOk};
 ghost use Rattle.std.specs.HashMap.{get, hash_map_len, spare};
-ghost use Rattle.ra_witness.specs.Numbers.{element_of, number_in, number_with};
+ghost use Rattle.ra_witness.specs.Numbers.{element_of, number_in, number_with, count_with};
 
 use ra_labels::{NoMemory, Update};
 use std::alloc::Global;
@@ -57,7 +57,8 @@ impl Numbers {
         requires { 0 < spare self.old.numbers }
         ensures kept { (x : ℕ) → get nat_eq self.new.numbers x
             ≡ number_with (get nat_eq self.old.numbers) (element_of update.now) number x }
-        ensures len { hash_map_len self.new.numbers ≤ hash_map_len self.old.numbers + 1 }
+        ensures count { hash_map_len self.new.numbers ≡ count_with (get nat_eq self.old.numbers)
+            (hash_map_len self.old.numbers) (element_of update.now) }
     {
         if let Some(element) = element_of(update) {
             let _ = self.numbers.insert(element, number);

@@ -8,7 +8,7 @@ ghost use Rattle.ra_seqspec.specs.Asked.{asks_rising};
 ghost use Rattle.ra_rewrite.specs.Parts.{acts_in};
 ghost use Rattle.ra_witness.specs.Labels.{queries_in, cause_in};
 ghost use Rattle.ra_witness.specs.States.{state_at, update_at, after_step, CanStep, states_after};
-ghost use Rattle.ra_witness.specs.Numbers.{element_of, number_in, number_with};
+ghost use Rattle.ra_witness.specs.Numbers.{element_of, number_in, number_with, count_with};
 ghost use Rattle.ra_witness.specs.Last.{label_on};
 ghost use Rattle.ra_witness.specs.Overriding.{updates_of, write_of, write_at, later_of, is_above, labels_in, last_label, counting, last_with};
 ghost use Rattle.ra_witness.specs.declared.written.Written.{Written};
@@ -93,13 +93,18 @@ impl Overriding {
         ensures numbers { OnOk result ((x : ℕ) → get nat_eq self.new.numbers.numbers x
             ≡ number_with (get nat_eq self.old.numbers.numbers) (element_of update)
             (write_of self.old.numbers update stamp).on x) }
-        ensures known { hash_map_len self.new.numbers.numbers ≤ hash_map_len self.old.numbers.numbers + 1 }
+        ensures count { OnOk result (hash_map_len self.new.numbers.numbers
+            ≡ count_with (get nat_eq self.old.numbers.numbers) (hash_map_len self.old.numbers.numbers)
+            (element_of update)) }
+        ensures replicas { vec_len self.new.lasts ≡ vec_len self.old.lasts }
         ensures same_writes { OnErr result (self.new.writes.items ≡ self.old.writes.items) }
         ensures same_states { OnErr result (self.new.states.items ≡ self.old.states.items) }
         ensures same_lasts { OnErr result ((q c : ℕ) → last_label (labels_in self.new.lasts.items) q c
             ≡ last_label (labels_in self.old.lasts.items) q c) }
         ensures same_numbers { OnErr result ((x : ℕ) → get nat_eq self.new.numbers.numbers x
             ≡ get nat_eq self.old.numbers.numbers x) }
+        ensures same_count { OnErr result (hash_map_len self.new.numbers.numbers
+            ≡ hash_map_len self.old.numbers.numbers) }
     {
         let label = self.writes.len() as u32;
         let on = self.numbers.of(&update);
@@ -124,6 +129,7 @@ impl Overriding {
             (counting self.old.writes.items (labels_in self.old.lasts.items) replica label written))) }
         ensures writes { self.new.writes ≡ self.old.writes }
         ensures numbers { self.new.numbers ≡ self.old.numbers }
+        ensures replicas { vec_len self.new.lasts ≡ vec_len self.old.lasts }
         ensures states { IfSome (write_at self.old.writes.items label) (λ written. OnOk result (self.new.states.items
             ≡ states_after self.old.states.items replica (update_at (updates_of self.old.writes.items)
             (counting self.old.writes.items (labels_in self.old.lasts.items) replica label written)))) }

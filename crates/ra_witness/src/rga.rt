@@ -1,141 +1,225 @@
 //! Of an RGA: an element that comes late comes in behind the nearest one before it that is there.
-mod all;
-mod chunk;
-mod marks;
-mod member;
-mod waiting;
+ghost use Rattle.std.specs.Prelude.{◌≡◌, ◌↔◌, ℕ, ◌+◌, ◌<◌, ◌≤◌, ◌^◌, ◌++◌, ◌∷◌, [], true, List, length, Option, Some, None, vec_len, vec_capacity, IsTrue, IsSome, IfOk, OnOk, OnErr, if◌then◌else◌};
+ghost use Rattle.ra_labels.specs.declared.kind.Kind.TheVariants as kinds;
+ghost use Rattle.ra_labels.specs.declared.operation.Op.{Op};
+ghost use Rattle.ra_labels.specs.declared.operation.Op.TheVariants as ops;
+ghost use Rattle.ra_labels.specs.declared.label.Label.{Label};
+ghost use Rattle.ra_labels.specs.declared.command.Command.TheVariants.{Operate, Deliver};
+ghost use Rattle.ra_labels.specs.Records.{Records};
+ghost use Rattle.ra_labels.specs.Visibility.{had};
+ghost use Rattle.ra_labels.specs.Rewriting.{acts_of};
+ghost use Rattle.ra_labels.specs.NamedOrder.{named_labels, named_sequence};
+ghost use Rattle.ra_labels.specs.Linearization.{updates_admitted};
+ghost use Rattle.ra_labels.specs.Fault.{cause_of};
+ghost use Rattle.ra_labels.specs.Specification.{state_after};
+ghost use Rattle.ra_labels.specs.Insertion.{updates_among, updates_had};
+ghost use Rattle.ra_rewrite.specs.Parts.{acts_in};
+ghost use Rattle.ra_seqspec.specs.Asked.{asks_rising};
+ghost use Rattle.std.specs.List.{list_all};
+ghost use Rattle.ra_replica_list.specs.Deeds.{element_at};
+ghost use Rattle.ra_witness.specs.Labels.{queries_in, cause_in};
+ghost use Rattle.ra_witness.specs.Rga.{IsRgaOf, MayGrow, MayHear};
+ghost use Rattle.ra_witness.specs.Offered.{IsOffered, IsTold};
 
-use crate::rga::all::{All, ROOT};
-use crate::rga::member::Member;
-use ra_labels::{Cause, Label, NoMemory, Update};
-use ra_rewrite::{Part, Parts};
+use crate::asked;
+use ra_element_list::{ElementList, ROOT};
+use ra_labels::{Cause, Label, NoMemory, Op, Stamp};
+use ra_replica_list::{Deed, ReplicaList};
+use ra_rewrite::Parts;
 use std::alloc::Global;
 
 /// What the labels do, the list of all elements, and of each replica the list after the updates that it had.
 #[derive(Debug, Drop)]
 pub struct Rga {
     /// Of each label what it does, if anything.
-    deeds: Vec<Option<Deed>>,
-    all: All,
-    members: Vec<Member>,
-}
-
-/// What a label does to an element, by the element's number.
-#[derive(Clone, Copy, Debug)]
-pub enum Deed {
-    /// It puts the element in.
-    PutsIn(u32),
-    /// It removes the element.
-    Removes(u32),
+    pub deeds: Vec<Option<Deed>>,
+    /// The elements of all labels.
+    pub all: ElementList,
+    /// Of each replica.
+    pub lists: Vec<ReplicaList>,
 }
 
 impl Rga {
     /// No labels, of so many replicas.
-    pub fn new(alloc: Global, replicas: u8) -> Result<Rga, NoMemory> {
-        let mut members = Vec::with_capacity(alloc, replicas as usize)?;
+    pub fn new(alloc: Global, replicas: u8) -> Result<Rga, NoMemory>
+        ensures { IfOk result (λ kept. IsRgaOf kept replicas []) }
+    {
+        let mut lists = Vec::with_capacity(alloc, replicas as usize)?;
         for _ in 0..replicas {
-            members.push(Member::new(alloc)?)?;
+            lists.push(ReplicaList::new(alloc)?)?;
         }
         Ok(Rga {
             deeds: Vec::new(alloc),
-            all: All::new(alloc)?,
-            members,
+            all: ElementList::new(alloc)?,
+            lists,
         })
     }
 
     /// The first condition but the order's that fails with the next label, which has these parts.
-    pub fn cause(&self, label: &Label, parts: &Parts) -> Option<Cause> {
-        match parts {
-            Parts::One(Part::Query(_)) | Parts::Two(..) => {
-                self.members[label.replica as usize].cause(parts)
+    pub fn cause(&self, label: &Label, parts: &Parts) -> Option<Cause>
+        requires replica { label.now.replica < vec_len self.now.lists }
+        requires rising { list_all asks_rising (queries_in (acts_in parts.now)) ≡ true }
+        ensures { (first : ℕ) (records : Records) (by : ℕ) (op : Op) (clock : Option ℕ)
+            → IsRgaOf self.now first records → IsOffered kinds.Rga first records by op clock label.now
+            → acts_in parts.now ≡ acts_of op → result ≡ cause_of kinds.Rga (Operate by op clock ∷ records) }
+    {
+        match &label.op {
+            Op::After { anchor, element } => {
+                update_unless(self.admits_insertion(*anchor, *element, label.stamp))
             }
-            Parts::One(Part::Update(update)) => {
-                if self.admits(label, update) {
-                    None
-                } else {
-                    Some(Cause::Update)
-                }
-            }
+            Op::RgaRemove(element) => update_unless(self.admits_removal(label.replica, *element)),
+            _ => self.cause_of_query(label.replica, parts),
         }
     }
 
-    // Are the updates of all labels admitted in the named order, with this one of the next label?
-    fn admits(&self, label: &Label, update: &Update) -> bool {
-        match (update, label.stamp) {
-            (Update::After { anchor, element }, Some(stamp)) => match self.all.number_of(*anchor) {
-                Some(anchor) => {
-                    self.all.stamp(anchor) < stamp && self.all.number_of(*element).is_none()
-                }
-                None => false,
-            },
-            (Update::RgaRemove(element), _) => match self.all.number_of(*element) {
-                Some(ROOT) | None => false,
-                Some(number) => {
-                    let member = &self.members[label.replica as usize];
-                    self.all.stamp(number) <= member.greatest()
-                }
-            },
-            _ => false,
-        }
-    }
-
-    /// Takes the next label in, which does this, if anything.
-    pub fn take(&mut self, label: &Label, update: Option<Update>) -> Result<u64, NoMemory> {
-        self.deeds.reserve(1)?;
-        let (deed, steps) = match update {
-            Some(Update::After { anchor, element }) => self.put_in(label, anchor, element)?,
-            Some(Update::RgaRemove(element)) => self.remove(label, element)?,
-            _ => (None, 0),
+    // Is it known, of all labels, that the anchor comes before the new element, and the element not?
+    fn admits_insertion(&self, anchor: u32, element: u32, stamp: Option<Stamp>) -> bool
+        ensures { (first : ℕ) (records : Records) (by : ℕ) (op : Op) (clock : Option ℕ) (label : Label)
+            → IsRgaOf self.now first records → IsOffered kinds.Rga first records by op clock label
+            → op ≡ ops.After anchor element → label.stamp ≡ stamp
+            → IsTrue result
+            ↔ (updates_admitted kinds.Rga (named_sequence kinds.Rga (Operate by op clock ∷ records)) ≡ true) }
+    {
+        let Some(number) = self.all.number_of(anchor) else {
+            return false;
         };
-        self.deeds.push_reserved(deed);
-        Ok(steps)
+        let Some(stamp) = stamp else {
+            return false;
+        };
+        self.all.stamp(number) < stamp && self.all.number_of(element).is_none()
+    }
+
+    // Is it known, of all labels, that the element comes before its removal by this replica?
+    fn admits_removal(&self, replica: u8, element: u32) -> bool
+        requires { replica < vec_len self.now.lists }
+        ensures { (first : ℕ) (records : Records) (op : Op) (clock : Option ℕ) (label : Label)
+            → IsRgaOf self.now first records → IsOffered kinds.Rga first records replica op clock label
+            → op ≡ ops.RgaRemove element → IsTrue result
+            ↔ (updates_admitted kinds.Rga (named_sequence kinds.Rga (Operate replica op clock ∷ records)) ≡ true) }
+    {
+        match self.all.number_of(element) {
+            Some(ROOT) | None => false,
+            Some(number) => self.all.stamp(number) <= self.lists[replica as usize].greatest(),
+        }
+    }
+
+    // Why a query of the replica fails, if so: its list does not answer it yes, or one of its updates waits.
+    fn cause_of_query(&self, replica: u8, parts: &Parts) -> Option<Cause>
+        requires replica { replica < vec_len self.now.lists }
+        requires rising { list_all asks_rising (queries_in (acts_in parts.now)) ≡ true }
+        ensures { (first : ℕ) (records : Records) → IsRgaOf self.now first records
+            → result ≡ cause_in (state_after kinds.Rga (updates_had kinds.Rga records replica)) (acts_in parts.now) }
+    {
+        asked::cause_if_any(self.lists[replica as usize].state(), parts)
+    }
+
+    /// Takes the next label in: answers how many steps that took.
+    pub fn take(&mut self, label: &Label) -> Result<u64, NoMemory>
+        requires { MayGrow self.old label.now }
+        ensures taken { (first : ℕ) (records : Records) (by : ℕ) (op : Op) (clock : Option ℕ)
+            → IsRgaOf self.old first records → IsOffered kinds.Rga first records by op clock label.now
+            → updates_admitted kinds.Rga (named_sequence kinds.Rga (Operate by op clock ∷ records)) ≡ true
+            → OnOk result (IsRgaOf self.new first (Operate by op clock ∷ records)) }
+        ensures same { (first : ℕ) (records : Records) → IsRgaOf self.old first records
+            → OnErr result (IsRgaOf self.new first records) }
+    {
+        self.deeds.reserve(1)?;
+        match &label.op {
+            Op::After { anchor, element } => self.put_in(label, *anchor, *element),
+            Op::RgaRemove(element) => self.remove(label, *element),
+            _ => {
+                self.deeds.push_reserved(None);
+                Ok(0)
+            }
+        }
     }
 
     // The next label puts the element in behind the anchor.
-    fn put_in(
-        &mut self,
-        label: &Label,
-        anchor: u32,
-        element: u32,
-    ) -> Result<(Option<Deed>, u64), NoMemory> {
-        let (Some(behind), Some(stamp)) = (self.all.number_of(anchor), label.stamp) else {
-            return Ok((None, 0));
+    fn put_in(&mut self, label: &Label, anchor: u32, element: u32) -> Result<u64, NoMemory>
+        requires room { vec_len self.old.deeds < vec_capacity self.old.deeds }
+        requires replica { label.now.replica < vec_len self.old.lists }
+        requires few { length self.old.all.arrivals < 2 ^ 32 }
+        requires stamp { IsSome label.now.stamp }
+        requires known { (n : ℕ) × (n < length self.old.all.arrivals) × (element_at self.old.all.arrivals n ≡ anchor) }
+        requires new { (n : ℕ) → n < length self.old.all.arrivals → ¬ (element_at self.old.all.arrivals n ≡ element) }
+        ensures taken { (first : ℕ) (records : Records) (by : ℕ) (op : Op) (clock : Option ℕ)
+            → IsRgaOf self.old first records → IsOffered kinds.Rga first records by op clock label.now
+            → updates_admitted kinds.Rga (named_sequence kinds.Rga (Operate by op clock ∷ records)) ≡ true
+            → op ≡ ops.After anchor element
+            → OnOk result (IsRgaOf self.new first (Operate by op clock ∷ records)) }
+        ensures same { (first : ℕ) (records : Records) → IsRgaOf self.old first records
+            → OnErr result (IsRgaOf self.new first records) }
+    {
+        let Some(behind) = self.all.number_of(anchor) else {
+            unreachable!()
+        };
+        let Some(stamp) = label.stamp else {
+            unreachable!()
         };
         self.all.spare()?;
-        let number = self.all.len();
-        let member = &mut self.members[label.replica as usize];
-        let steps = member.put_own(label.number, number, stamp, behind, Update::After {
-            anchor,
-            element,
-        })?;
+        let number = self.all.len() as u32;
+        let list = &mut self.lists[label.replica as usize];
+        let steps = list.put_own(&self.all, label.number, element, stamp, behind)?;
         self.all.insert(element, stamp, behind);
-        Ok((Some(Deed::PutsIn(number)), steps))
+        self.deeds.push_reserved(Some(Deed::PutsIn(number)));
+        Ok(steps)
     }
 
     // The next label removes the element.
-    fn remove(&mut self, label: &Label, element: u32) -> Result<(Option<Deed>, u64), NoMemory> {
+    fn remove(&mut self, label: &Label, element: u32) -> Result<u64, NoMemory>
+        requires room { vec_len self.old.deeds < vec_capacity self.old.deeds }
+        requires replica { label.now.replica < vec_len self.old.lists }
+        requires known { (n : ℕ) × (n < length self.old.all.arrivals) × (element_at self.old.all.arrivals n ≡ element) }
+        ensures taken { (first : ℕ) (records : Records) (by : ℕ) (op : Op) (clock : Option ℕ)
+            → IsRgaOf self.old first records → IsOffered kinds.Rga first records by op clock label.now
+            → updates_admitted kinds.Rga (named_sequence kinds.Rga (Operate by op clock ∷ records)) ≡ true
+            → op ≡ ops.RgaRemove element
+            → OnOk result (IsRgaOf self.new first (Operate by op clock ∷ records)) }
+        ensures same { (first : ℕ) (records : Records) → IsRgaOf self.old first records
+            → OnErr result (IsRgaOf self.new first records) }
+    {
         let Some(number) = self.all.number_of(element) else {
-            return Ok((None, 0));
+            unreachable!()
         };
-        let member = &mut self.members[label.replica as usize];
-        let steps = member.remove(&self.all, label.number, number)?;
-        Ok((Some(Deed::Removes(number)), steps))
+        let list = &mut self.lists[label.replica as usize];
+        let steps = list.remove_own(&self.all, label.number, number)?;
+        self.deeds.push_reserved(Some(Deed::Removes(number)));
+        Ok(steps)
     }
 
-    /// The label is delivered to the replica.
-    pub fn deliver(&mut self, replica: u8, label: u32) -> Result<u64, NoMemory> {
-        let member = &mut self.members[replica as usize];
-        match self.deeds.get(label as usize) {
-            Some(Some(Deed::PutsIn(number))) => {
-                member.put_in(&self.all, self.deeds.as_slice(), label, *number)
-            }
-            Some(Some(Deed::Removes(number))) => member.remove(&self.all, label, *number),
-            _ => Ok(0),
-        }
+    /// The label is delivered to the replica: answers how many steps that took.
+    pub fn deliver(&mut self, replica: u8, label: u32) -> Result<u64, NoMemory>
+        requires { MayHear self.old replica label }
+        ensures delivered { (first : ℕ) (records : Records) → IsRgaOf self.old first records
+            → IsTold kinds.Rga first records replica label
+            → OnOk result (IsRgaOf self.new first (Deliver replica label ∷ records)) }
+        ensures few_steps { (first : ℕ) (records : Records) (before behind : List Label) (it : Label)
+            → IsRgaOf self.old first records → IsTold kinds.Rga first records replica label
+            → named_labels kinds.Rga records ≡ before ++ it ∷ behind → it.number ≡ label
+            → IfOk result (λ steps. steps ≤ 1 + length (updates_among (had records replica) behind)) }
+        ensures same { (first : ℕ) (records : Records) → IsRgaOf self.old first records
+            → OnErr result (IsRgaOf self.new first records) }
+    {
+        let deeds = self.deeds.as_slice();
+        let Some(deed) = deeds[label as usize] else {
+            unreachable!()
+        };
+        self.lists[replica as usize].deliver(&self.all, deeds, label, deed)
     }
 
     /// Where the collections live.
     pub fn allocator(&self) -> Global {
         *self.deeds.allocator()
+    }
+}
+
+// Why an update fails, unless it is admitted.
+fn update_unless(is_admitted: bool) -> Option<Cause>
+    ensures { result ≡ (if is_admitted then None else Some Cause.Update) }
+{
+    if is_admitted {
+        None
+    } else {
+        Some(Cause::Update)
     }
 }
