@@ -8,6 +8,9 @@ ghost use Rattle.ra_ticket.specs.Log.{last_ticket_of, unstepped};
 ghost use Rattle.ra_witness.specs.Sequence.{ref_of};
 ghost use Rattle.ra_monitor.specs.Replies.{is_yes, is_refused};
 
+#[cfg(test)]
+mod tests;
+
 use crate::faults::NewFault;
 use crate::history::History;
 use crate::limits::MOST_REPLICAS;
