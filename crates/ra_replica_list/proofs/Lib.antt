@@ -12,3 +12,4 @@ pub mod Freeing
 pub mod Following
 pub mod Finishing
 pub mod Nearness
+pub mod Delivering
