@@ -12,3 +12,8 @@ pub mod Freeing
 pub mod Following
 pub mod Finishing
 pub mod Nearness
+pub mod Delivering
+pub mod Knowing
+pub mod Growing
+pub mod Staying
+pub mod Ranks
