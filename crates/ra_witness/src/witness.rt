@@ -21,7 +21,7 @@ use ra_visibility::{NamedOrder, Seen};
 use std::alloc::Global;
 
 /// Labels in the named order of their kind, and of each replica the state after the updates that it had.
-#[derive(Drop)]
+#[derive(Debug, Drop)]
 pub struct Witness<O: NamedOrder> {
     order: O,
     kept: Kept,
