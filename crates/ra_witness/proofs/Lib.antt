@@ -18,3 +18,5 @@ pub mod Carrying
 pub mod Writing
 pub mod WriteTaken
 pub mod ReplicaLists
+pub mod AllElements
+pub mod Admitted

@@ -1,5 +1,5 @@
 -- The lists of replicas of an RGA, where one of them changes.
-use Rattle.std.proofs.Common.{◌≡◌, ℕ, zero, suc, ◌<◌, true, false, List, [], ◌∷◌, length, set, get_or, replicate, Option, Some, None, refl, sym, ap, ◌∙◌, subst, inl, inr, arith}
+use Rattle.std.proofs.Common.{◌≡◌, ℕ, zero, suc, ◌<◌, true, false, List, [], ◌∷◌, ◌++◌, length, set, get_or, replicate, Option, Some, None, refl, sym, ap, ◌∙◌, subst, inl, inr, arith}
 use Rattle.std.specs.Prelude.{◌⊎◌, flat_map, vec_len}
 use Rattle.std.specs.List.{slice_get}
 use Rattle.std.specs.Vec.{with_item}
@@ -49,6 +49,19 @@ lists_with lists r new arrivals deeds records there own others q list at = elim 
   | inr (other, was) ↦ others q list (λ e. other (sym e)) was
 ]
 
+pushed_at : {A : Type 0} (xs : List A) (q : ℕ) (y x : A) → slice_get (xs ++ y ∷ []) q ≡ Some x → (slice_get xs q ≡ Some x) ⊎ (y ≡ x)
+pushed_at [] zero y x is = inr (same_Some y x is)
+pushed_at [] (suc q) y x is = absurd (none-some x is)
+pushed_at (z ∷ xs) zero y x is = inl is
+pushed_at (z ∷ xs) (suc q) y x is = pushed_at xs q y x is
+
+pub lists_pushed : (lists : List ReplicaList) (new : ReplicaList) (arrivals : List Arrival) (deeds : List (Option Deed)) (records : Records)
+    → AreListsOf lists arrivals deeds records → ((replica : ℕ) → IsListOf new arrivals deeds records replica) → AreListsOf (lists ++ new ∷ []) arrivals deeds records
+lists_pushed lists new arrivals deeds records each own q list at = elim (pushed_at lists q new list at) [
+  | inl was ↦ each q list was
+  | inr same ↦ subst (λ x. IsListOf x arrivals deeds records q) same (own q)
+]
+
 -- the elements stay with a delivery
 pub elements_told : (all : ElementList) (deeds : List (Option Deed)) (records : Records) (to n : ℕ) → AreElementsOf all deeds records → AreElementsOf all deeds (Deliver to n ∷ records)
 elements_told all deeds records to n elements = record {
@@ -57,6 +70,7 @@ elements_told all deeds records to n elements = record {
   makes = elements.makes;
   known = elements.known;
   stamp = elements.stamp;
+  unstamped = elements.unstamped;
   some = elements.some;
   first = elements.first;
   came = elements.came;

@@ -26,7 +26,7 @@ use Rattle.ra_witness.proofs.Places.{head_or_behind, at_head, behind_head}
 use Rattle.ra_witness.proofs.Found.{updates_counted, makes_some}
 
 -- labels are numbered below their count
-label_below : (records : Records) (label : Label) → Contains (labels_of records) label → label.number < label_count records
+pub label_below : (records : Records) (label : Label) → Contains (labels_of records) label → label.number < label_count records
 label_below records label there = elim (cases_lt label.number (label_count records)) [
   | inl below ↦ below
   | inr past ↦ absurd (none-some label (sym (each_number_has_its_label-none records label.number past) ∙ each_number_has_its_label-found records label there))

@@ -1,6 +1,7 @@
-ghost use Rattle.std.specs.Prelude.{◌≡◌, true, None, Some, option_map, if◌then◌else◌};
+ghost use Rattle.std.specs.Prelude.{◌≡◌, true, None, Some, if◌then◌else◌};
 ghost use Rattle.ra_labels.specs.Specification.{answers};
 ghost use Rattle.std.specs.List.{list_all};
+ghost use Rattle.std.specs.Option.{option_copied};
 ghost use Rattle.ra_seqspec.specs.Asked.{asks_rising};
 ghost use Rattle.ra_rewrite.specs.Parts.{acts_in};
 ghost use Rattle.ra_witness.specs.Labels.{queries_in, cause_in};
@@ -23,7 +24,7 @@ pub fn cause(state: &State, parts: &Parts) -> Option<Cause>
 /// Why such a label fails where there is a state, or none: where there is none no query is answered yes.
 pub fn cause_if_any(state: Option<&State>, parts: &Parts) -> Option<Cause>
     requires { list_all asks_rising (queries_in (acts_in parts.now)) ≡ true }
-    ensures { result ≡ cause_in (option_map (λ s. s.now) state.entry) (acts_in parts.now) }
+    ensures { result ≡ cause_in (option_copied state.entry) (acts_in parts.now) }
 {
     match (state, parts) {
         (_, Parts::One(Part::Update(_))) => None,

@@ -8,7 +8,8 @@ ghost use Rattle.ra_labels.specs.declared.command.Command.TheVariants.{Operate, 
 ghost use Rattle.ra_labels.specs.Records.{Records};
 ghost use Rattle.ra_labels.specs.Visibility.{had};
 ghost use Rattle.ra_labels.specs.Rewriting.{acts_of};
-ghost use Rattle.ra_labels.specs.NamedOrder.{named_labels, named_sequence};
+ghost use Rattle.std.specs.Ordering.{is_lt, is_le};
+ghost use Rattle.ra_labels.specs.NamedOrder.{stamp_cmp, named_labels, named_sequence};
 ghost use Rattle.ra_labels.specs.Linearization.{updates_admitted};
 ghost use Rattle.ra_labels.specs.Fault.{cause_of};
 ghost use Rattle.ra_labels.specs.Specification.{state_after};
@@ -86,7 +87,7 @@ impl Rga {
         let Some(stamp) = stamp else {
             return false;
         };
-        self.all.stamp(number) < stamp && self.all.number_of(element).is_none()
+        is_below(self.all.stamp(number), stamp) && self.all.number_of(element).is_none()
     }
 
     // Is it known, of all labels, that the element comes before its removal by this replica?
@@ -97,10 +98,11 @@ impl Rga {
             → op ≡ ops.RgaRemove element → IsTrue result
             ↔ (updates_admitted kinds.Rga (named_sequence kinds.Rga (Operate replica op clock ∷ records)) ≡ true) }
     {
-        match self.all.number_of(element) {
-            Some(ROOT) | None => false,
-            Some(number) => self.all.stamp(number) <= self.lists[replica as usize].greatest(),
-        }
+        let Some(number) = self.all.number_of(element) else {
+            return false;
+        };
+        let greatest = self.lists[replica as usize].greatest();
+        number != ROOT && is_up_to(self.all.stamp(number), greatest)
     }
 
     // Why a query of the replica fails, if so: its list does not answer it yes, or one of its updates waits.
@@ -222,4 +224,16 @@ fn update_unless(is_admitted: bool) -> Option<Cause>
     } else {
         Some(Cause::Update)
     }
+}
+
+fn is_below(stamp: Stamp, other: Stamp) -> bool
+    ensures { result ≡ is_lt (stamp_cmp stamp other) }
+{
+    stamp < other
+}
+
+fn is_up_to(stamp: Stamp, other: Stamp) -> bool
+    ensures { result ≡ is_le (stamp_cmp stamp other) }
+{
+    stamp <= other
 }
