@@ -1,6 +1,7 @@
 -- Lists that say the same, and tests that do.
-use Rattle.std.proofs.Common.{◌≡◌, ℕ, Bool, true, false, List, ◌∷◌, Option, Some, refl, sym, ap, ◌∙◌, subst, inl, inr}
+use Rattle.std.proofs.Common.{◌≡◌, ◌≢◌, ℕ, Bool, true, false, List, ◌∷◌, Option, Some, refl, sym, ap, ◌∙◌, subst, inl, inr}
 use Rattle.std.specs.Prelude.{Contains}
+use Rattle.std.proofs.lemmas.Bool.{cases_eq}
 use Rattle.ra_labels.specs.declared.kind.Kind.TheVariants.{Rga}
 use Rattle.ra_labels.specs.declared.label.Stamp.{Stamp}
 use Rattle.ra_labels.specs.declared.command.Command.TheVariants.{Deliver}
@@ -90,3 +91,11 @@ greatest_alike more same top = record {
     | inr (l, l_in, was_had, l_is) ↦ inr (l, l_in, sym (same l.number) ∙ was_had, l_is)
   ];
 }
+
+-- a label that was not added
+pub unadded : (waiting next : List (ℕ × List ℕ)) (number : ℕ) → labels_under next number ≡ labels_under waiting number → ((other : ℕ) → other ≢ number → labels_under next other ≡ labels_under waiting other)
+    → (k : ℕ) → labels_under next k ≡ labels_under waiting k
+unadded waiting next number here others k = elim (cases_eq k number) [
+  | inl is ↦ ap (labels_under next) is ∙ here ∙ sym (ap (labels_under waiting) is)
+  | inr other ↦ others k other
+]

@@ -17,3 +17,5 @@ pub mod Knowing
 pub mod Growing
 pub mod Staying
 pub mod Ranks
+pub mod Newest
+pub mod Owning

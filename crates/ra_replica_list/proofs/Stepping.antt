@@ -46,7 +46,7 @@ one_on : (next step : Option State) (old : State) → next ≡ step → is_some 
 one_on next (Some s) old is some = is
 one_on next None old is some = absurd (false≢true (sym (ap is_some is) ∙ some))
 
-leads_with : {arrivals : List Arrival} {deeds : List (Option Deed)} {records : Records} (passes : ℕ → Bool) → AreDeedsOf arrivals deeds records → (label : ℕ) → NoneWaits records (or_label passes label) → (state : State) (u : Update) → state_after Rga (updates_passing Rga records passes) ≡ Some state
+pub leads_with : {arrivals : List Arrival} {deeds : List (Option Deed)} {records : Records} (passes : ℕ → Bool) → AreDeedsOf arrivals deeds records → (label : ℕ) → NoneWaits records (or_label passes label) → (state : State) (u : Update) → state_after Rga (updates_passing Rga records passes) ≡ Some state
     → state_after Rga (updates_passing Rga records (or_label passes label)) ≡ then_step (state_after Rga (updates_passing Rga records passes)) u
     → state_after Rga (updates_passing Rga records (or_label passes label)) ≡ Some (unwrap_or (step_of state u) state)
 leads_with {records = records} passes stand label none state u after is =
