@@ -20,3 +20,5 @@ pub mod WriteTaken
 pub mod ReplicaLists
 pub mod AllElements
 pub mod Admitted
+pub mod RgaCauses
+pub mod NewLabel
