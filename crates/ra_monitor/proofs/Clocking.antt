@@ -113,11 +113,11 @@ stamp_more all own stamp clocks true there more same =
     ∙ more stamp.clock
     ∙ ap (λ r. nat_eq stamp.clock own.clock || is_clock_in (clocks_at all r) stamp.clock) at
     ∙ ap (λ b. b || is_clock_in (clocks_at all stamp.replica) stamp.clock) (
-        eqb-comm stamp.clock own.clock
-            ∙ sym (and_true (own.clock == stamp.clock))
-            ∙ ap (λ b. own.clock == stamp.clock && b) (sym same)
-            ∙ sym (stamps_eq own stamp)
-        )
+    eqb-comm stamp.clock own.clock
+    ∙ sym (and_true (own.clock == stamp.clock))
+    ∙ ap (λ b. own.clock == stamp.clock && b) (sym same)
+    ∙ sym (stamps_eq own stamp)
+    )
 stamp_more all own stamp clocks false there more other =
     ap (λ (c : Clocks). is_clock_in c stamp.clock)
     (get_or-set_other all own.replica stamp.replica clocks _ (λ e. both (sym (eq-eqb own.replica stamp.replica (sym e)) ∙ other)))

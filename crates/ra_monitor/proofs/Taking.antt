@@ -66,7 +66,7 @@ taken_more kind old new records by op clock fits stamps identifiers known = reco
       stamps stamp
       ∙ ap (λ b. has_brought (brought_by by op clock) stamp || b) (known.stamps stamp)
       ∙ ap (λ b. b || is_taken records stamp)
-          (stamps_brought records by op clock (identifier_of op) stamp refl (λ given gives. no_clock kind by op clock given fits gives));
+      (stamps_brought records by op clock (identifier_of op) stamp refl (λ given gives. no_clock kind by op clock given fits gives));
   identifiers = λ identifier.
       identifiers identifier
       ∙ ap (λ b. gives_brought (brought_by by op clock) identifier || b) (known.identifiers identifier)

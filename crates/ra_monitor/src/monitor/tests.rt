@@ -13,7 +13,10 @@ fn a_late_write_costs_few_steps(rt: HostRuntime) -> Result<(), Fail> {
         panic!(rt; "no monitor");
     };
     for value in 0..300 {
-        assert_eq!(rt; reply_to(&rt, &mut monitor, write(0, value, value + 2)), Reply::Ok(value));
+        assert_eq!(rt;
+            reply_to(&rt, &mut monitor, write(0, value, value + 2)),
+            Reply::Ok(value)
+        );
     }
     assert_eq!(rt; reply_to(&rt, &mut monitor, write(1, 7, 1)), Reply::Ok(300));
     for label in 0..=300 {
@@ -35,15 +38,13 @@ fn those_that_wait_cost_a_step_each(rt: HostRuntime) -> Result<(), Fail> {
     let Ok(mut monitor) = Monitor::new(rt.alloc(), Kind::Rga, 3, 1_000) else {
         panic!(rt; "no monitor");
     };
-    let mut label = 0;
-    for (replica, op, clock) in [
-        (0, Op::After { anchor: 0, element: 5 }, Some(1)),
-        (1, Op::After { anchor: 5, element: 6 }, Some(2)),
-        (1, Op::RgaRemove(6), None),
-        (1, Op::After { anchor: 6, element: 7 }, Some(3)),
+    for (label, command) in [
+        (0, after(0, 0, 5, 1)),
+        (1, after(1, 5, 6, 2)),
+        (2, operation(1, Op::RgaRemove(6), None)),
+        (3, after(1, 6, 7, 3)),
     ] {
-        assert_eq!(rt; reply_to(&rt, &mut monitor, operation(replica, op, clock)), Reply::Ok(label));
-        label += 1;
+        assert_eq!(rt; reply_to(&rt, &mut monitor, command), Reply::Ok(label));
     }
     // a's own element is there at once; b's three wait for it.
     assert_eq!(rt; steps_of(&monitor), 1);
@@ -59,6 +60,10 @@ fn write(replica: u8, value: u32, clock: u32) -> Command {
     operation(replica, Op::Write(value), Some(clock))
 }
 
+fn after(replica: u8, anchor: u32, element: u32, clock: u32) -> Command {
+    operation(replica, Op::After { anchor, element }, Some(clock))
+}
+
 fn operation(replica: u8, op: Op, stamp: Option<u32>) -> Command {
     Command::Operate { replica, op, stamp }
 }
@@ -68,8 +73,8 @@ fn steps_of(monitor: &Monitor) -> u64 {
     monitor.history.witness.steps()
 }
 
-// The reply to one command of pass 0, with the number of commands before it as its ticket. A command that is handed back
-// for want of memory is made once more.
+// The reply to one command of pass 0, with the number of commands before it as its ticket. A command that is handed
+// back for want of memory is made once more.
 fn reply_to(rt: &impl Abort, monitor: &mut Monitor, command: Command) -> Reply {
     let ticket = monitor.log().len() as u64;
     match step_by(rt, monitor, ticket, command) {
