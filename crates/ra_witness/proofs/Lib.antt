@@ -22,3 +22,5 @@ pub mod AllElements
 pub mod Admitted
 pub mod RgaCauses
 pub mod NewLabel
+pub mod NewElement
+pub mod RgaTaken
