@@ -1,6 +1,6 @@
 -- A label that is delivered.
 use Rattle.std.proofs.Common.{◌≡◌, ℕ, ◌+◌, ◌≤◌, Bool, true, false, List, ◌∷◌, ◌++◌, length, Option, Some, None, refl, sym, ap, ◌∙◌, subst, arith}
-use Rattle.std.specs.Prelude.{Contains, Result, Ok, Err, IfOk, OnOk}
+use Rattle.std.specs.Prelude.{Contains, flat_map, Result, Ok, Err, IfOk, OnOk}
 use Rattle.std.specs.Option.{option_map_or}
 use Rattle.std.proofs.lemmas.List.Elements.{All-contains, All-contains_itself, Contains-append_right}
 use Rattle.std.proofs.lemmas.List.Sorted.{All-permutation}
@@ -11,10 +11,12 @@ use Rattle.ra_labels.specs.declared.label.Label.{Label}
 use Rattle.ra_labels.specs.declared.command.Command.TheVariants.{Deliver}
 use Rattle.ra_labels.specs.Records.{Records, label_at, labels_of}
 use Rattle.ra_labels.specs.Visibility.{is_update, is_update_at, had}
-use Rattle.ra_labels.specs.NamedOrder.{greater_of, named_labels}
-use Rattle.ra_labels.specs.Insertion.{updates_among, or_label, Makes}
+use Rattle.ra_labels.specs.Rewriting.{parts_of}
+use Rattle.ra_labels.specs.Linearization.{updates_admitted}
+use Rattle.ra_labels.specs.NamedOrder.{greater_of, named_labels, named_sequence}
+use Rattle.ra_labels.specs.Insertion.{updates_among, updates_passing, or_label, Makes}
 use Rattle.ra_labels.specs.Waiting.{IsSettled}
-use Rattle.ra_labels.proofs.TheLaws.{named_labels_are_sorted-same, each_number_has_its_label-found, an_operation_makes_one_update-exactly, a_replica_had_one_more-delivery, one_more_label_settles_none_before_it-count}
+use Rattle.ra_labels.proofs.TheLaws.{named_labels_are_sorted-same, each_number_has_its_label-found, an_operation_makes_one_update-exactly, a_replica_had_one_more-delivery, a_delivery_puts_its_update_in-order, settled_labels_stay_settled-alike, settled_labels_stay_settled-delivery, tests_that_agree_let_the_same_updates_pass, what_is_settled_follows_from_what_was_had, one_more_label_settles_none_before_it-count}
 use Rattle.ra_element_list.specs.ElementList.{ElementList, arrival_at}
 use Rattle.ra_replica_list.specs.declared.deed.Deed.{Deed}
 use Rattle.ra_replica_list.specs.declared.deed.Deed.TheVariants.{PutsIn, Removes}
@@ -71,6 +73,21 @@ module _ {all : ElementList} {deeds : List (Option Deed)} {records : Records} wh
       let counted = one_more_label_settles_none_before_it-count records (had records to) held.settled after.settled before behind it (update_of all.arrivals deed) (all_admitted stand) named
       (subst (λ (k : Label). Makes k.op (update_of all.arrivals deed)) same l_makes) held.kept.settles now in
       omega (arith, counted, after.count)
+
+  -- each step settles one label
+  pub counted : {list next : ReplicaList} (kept_next : ReplicaList) (to label steps : ℕ) (deed : Deed) → AreElementsOf all deeds records → (was : IsListOf list all.arrivals deeds records to)
+      → (now : IsListOf next all.arrivals deeds (Deliver to label ∷ records) to) → deed_at deeds label ≡ Some deed
+      → IsKeptAfter kept_next.state kept_next.marks kept_next.waiting all.arrivals deeds records (had records to) was.settled label steps
+      → length (updates_passing Rga records now.settled) ≡ length (updates_passing Rga records was.settled) + steps
+  counted kept_next to label steps deed stand was now is after =
+      let later = Deliver to label ∷ records in
+      let same : (m : ℕ) → or_label (had records to) label m ≡ had later to m = λ m. sym (a_replica_had_one_more-delivery records to label m (does_update stand label deed is)) in
+      let admitted : updates_admitted Rga (named_sequence Rga later) ≡ true =
+      ap (λ (ls : List Label). updates_admitted Rga (flat_map parts_of ls)) (a_delivery_puts_its_update_in-order Rga records to label) ∙ all_admitted stand in
+      let settles = settled_labels_stay_settled-alike later (or_label (had records to) label) (had later to) after.settled after.settled same (λ n. refl) (settled_labels_stay_settled-delivery records to label (or_label (had records to) label) after.settled after.kept.settles) in
+      let passing = tests_that_agree_let_the_same_updates_pass Rga records now.settled after.settled
+      (λ l u l_in makes. what_is_settled_follows_from_what_was_had later (had later to) now.settled after.settled admitted now.kept.settles settles l u l_in makes) in
+      ap length passing ∙ after.count
 
   -- the greatest stamp with the label
   pub with_stamp : {test : ℕ → Bool} {greatest : Stamp} (label number : ℕ) (stamp : Stamp) → AreElementsOf all deeds records → IsGreatestOf records test greatest → deed_at deeds label ≡ Some (PutsIn number)

@@ -1,4 +1,4 @@
-ghost use Rattle.std.specs.Prelude.{◌≡◌, ℕ, ◌+◌, ◌<◌, ◌≤◌, ◌^◌, Bool, true, false, List, ◌++◌, ◌∷◌, [], length, Option, Some, None, option_map, IfOk, OnOk, OnErr};
+ghost use Rattle.std.specs.Prelude.{◌≡◌, ℕ, ◌+◌, ◌<◌, ◌≤◌, ◌^◌, Bool, true, false, List, ◌++◌, ◌∷◌, [], length, Option, Some, None, option_map, IfOk, OnOk, OnErr, if◌then◌else◌};
 ghost use Rattle.std.specs.Option.{option_copied};
 ghost use Rattle.ra_labels.specs.declared.kind.Kind.TheVariants.{Rga};
 ghost use Rattle.ra_labels.specs.declared.operation.Op.{Op};
@@ -114,6 +114,7 @@ impl ReplicaList {
             (all.now.arrivals ++ record { element = element; stamp = stamp; anchor = anchor } ∷ [])
             (deeds ++ Some (PutsIn (length all.now.arrivals)) ∷ []) now by) }
         ensures steps { IfOk result (λ steps. steps ≤ 1) }
+        ensures counted { IfOk result (λ steps. steps ≡ (if is_marked self.old.marks anchor then 1 else 0)) }
         ensures err { OnErr result ((arrivals : List Arrival) (deeds : List (Option Deed)) (records : Records)
             (replica : ℕ) → IsListOf self.old arrivals deeds records replica
             → IsListOf self.new arrivals deeds records replica) }
@@ -147,6 +148,7 @@ impl ReplicaList {
             → updates_admitted Rga (named_sequence Rga now) ≡ true
             → IsListOf self.new all.now.arrivals (deeds ++ Some (Removes number) ∷ []) now by) }
         ensures steps { IfOk result (λ steps. steps ≤ 1) }
+        ensures counted { IfOk result (λ steps. steps ≡ (if is_marked self.old.marks number then 1 else 0)) }
         ensures err { OnErr result ((arrivals : List Arrival) (deeds : List (Option Deed)) (records : Records)
             (replica : ℕ) → IsListOf self.old arrivals deeds records replica
             → IsListOf self.new arrivals deeds records replica) }
@@ -173,6 +175,12 @@ impl ReplicaList {
             → deed_at deeds.now label ≡ Some deed → had records to label ≡ false
             → named_labels Rga records ≡ before ++ it ∷ behind → it.number ≡ label
             → steps ≤ 1 + length (updates_among (had records to) behind)) }
+        ensures counted { IfOk result (λ steps. (records : Records) (to : ℕ) → AreElementsOf all.now deeds.now records
+            → (was : IsListOf self.old all.now.arrivals deeds.now records to)
+            → (now : IsListOf self.new all.now.arrivals deeds.now (Deliver to label ∷ records) to)
+            → deed_at deeds.now label ≡ Some deed → had records to label ≡ false
+            → length (updates_passing Rga records now.settled)
+            ≡ length (updates_passing Rga records was.settled) + steps) }
         ensures err { OnErr result ((arrivals : List Arrival) (deeds : List (Option Deed)) (records : Records)
             (replica : ℕ) → IsListOf self.old arrivals deeds records replica
             → IsListOf self.new arrivals deeds records replica) }
@@ -230,6 +238,7 @@ impl ReplicaList {
             → IsKeptAfter self.new.state self.new.marks self.new.waiting all.now.arrivals deeds records had
             held.settled label steps) }
         ensures steps { IfOk result (λ steps. steps ≤ 1) }
+        ensures counted { IfOk result (λ steps. steps ≡ (if is_marked self.old.marks number then 1 else 0)) }
         ensures greatest { self.new.greatest ≡ self.old.greatest }
         ensures err { OnErr result (AreAlike self.old self.new) }
     {

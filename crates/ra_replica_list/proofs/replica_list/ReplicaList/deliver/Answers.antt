@@ -12,7 +12,7 @@ use Rattle.ra_replica_list.proofs.Places.{on_err}
 use Rattle.ra_replica_list.proofs.Entries.{on_err_any}
 use Rattle.ra_replica_list.proofs.Deeds.{deeds_stand}
 use Rattle.ra_replica_list.proofs.Alike.{list_alike}
-use Rattle.ra_replica_list.proofs.Delivering.{if_ok_on, if_ok_map, delivered, few_steps, with_stamp, with_none}
+use Rattle.ra_replica_list.proofs.Delivering.{if_ok_on, if_ok_map, delivered, few_steps, counted, with_stamp, with_none}
 use Rattle.ra_replica_list.proofs.replica_list.ReplicaList.deliver.Goals as goal
 
 pub returns-in_err-steps-in-PutsIn-clause-err : goal.returns-in_err-steps-in-PutsIn-clause-err
@@ -43,6 +43,12 @@ returns-in_ok-steps-in-PutsIn-clause-steps c = λ records to before behind it st
     let after = c.in_ok-steps-in-PutsIn.ensures.got records (had records to) stand held puts new in
     few_steps c.put_in.new.self to c.args.label c.in_ok-steps-in-PutsIn.steps (PutsIn c.in-PutsIn.number) before behind it stand held puts after named it_num
 
+pub returns-in_ok-steps-in-PutsIn-clause-counted : goal.returns-in_ok-steps-in-PutsIn-clause-counted
+returns-in_ok-steps-in-PutsIn-clause-counted c = λ records to stand was now is new.
+    let puts : deed_at c.args.deeds.now c.args.label ≡ Some (PutsIn c.in-PutsIn.number) = is ∙ ap (λ (d : Deed). Some d) c.in-PutsIn.is in
+    let after = c.in_ok-steps-in-PutsIn.ensures.got records (had records to) stand was puts new in
+    counted c.put_in.new.self to c.args.label c.in_ok-steps-in-PutsIn.steps (PutsIn c.in-PutsIn.number) stand was now puts after
+
 pub returns-in-Removes-clause-got : goal.returns-in-Removes-clause-got
 returns-in-Removes-clause-got c = if_ok_on c.remove.result c.remove.ensures.got (λ steps got records to stand held is new once.
     let removes : deed_at c.args.deeds.now c.args.label ≡ Some (Removes c.in-Removes.number) = is ∙ ap (λ (d : Deed). Some d) c.in-Removes.is in
@@ -55,6 +61,12 @@ returns-in-Removes-clause-steps c = if_ok_map c.remove.result c.remove.ensures.g
     let removes : deed_at c.args.deeds.now c.args.label ≡ Some (Removes c.in-Removes.number) = is ∙ ap (λ (d : Deed). Some d) c.in-Removes.is in
     let after = got c.args.deeds.now records (had records to) (deeds_stand stand) held removes new in
     few_steps c.remove.new.self to c.args.label steps (Removes c.in-Removes.number) before behind it stand held removes after named it_num)
+
+pub returns-in-Removes-clause-counted : goal.returns-in-Removes-clause-counted
+returns-in-Removes-clause-counted c = if_ok_map c.remove.result c.remove.ensures.got (λ steps got records to stand was now is new.
+    let removes : deed_at c.args.deeds.now c.args.label ≡ Some (Removes c.in-Removes.number) = is ∙ ap (λ (d : Deed). Some d) c.in-Removes.is in
+    let after = got c.args.deeds.now records (had records to) (deeds_stand stand) was removes new in
+    counted c.remove.new.self to c.args.label steps (Removes c.in-Removes.number) stand was now removes after)
 
 pub returns-in-Removes-clause-err : goal.returns-in-Removes-clause-err
 returns-in-Removes-clause-err c = on_err c.remove.result c.remove.ensures.err
