@@ -19,3 +19,4 @@ pub mod Staying
 pub mod Ranks
 pub mod Newest
 pub mod Owning
+pub mod TheLaws

@@ -26,7 +26,8 @@ pub record ReplicaList : Type 0 where
   pub waiting : List (ℕ × List ℕ)
 
 -- the elements that are marked are those that the settled updates put in
-pub record AreThere (marks : List Bool) (arrivals : List Arrival) (records : Records) (settled : ℕ → Bool) : Type 0 where
+pub record AreThere (marks : List Bool) (arrivals : List Arrival) (records : Records)
+    (settled : ℕ → Bool) : Type 0 where
   pub there : (number : ℕ) → number < length arrivals
       → is_marked marks number ≡ is_there (element_at arrivals number) (updates_passing Rga records settled)
   pub others : (number : ℕ) → length arrivals ≤ number → is_marked marks number ≡ false

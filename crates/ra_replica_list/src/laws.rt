@@ -1,4 +1,5 @@
-//! What later labels and deliveries leave of the list of a replica, each law the clause of a function that does nothing.
+//! What later labels and deliveries leave of the list of a replica, each law the clause of a function that does
+//! nothing.
 ghost use Rattle.std.specs.Prelude.{◌≡◌, ◌⊎◌, ℕ, true, false, List, ◌++◌, ◌∷◌, [], length, Option, Some, None};
 ghost use Rattle.ra_labels.specs.declared.kind.Kind.TheVariants.{Rga};
 ghost use Rattle.ra_labels.specs.declared.operation.Op.{Op};

@@ -130,18 +130,21 @@ module _ (all : ElementList) (deeds : List (Option Deed)) (records : Records) (a
         → is_lt (stamp_cmp (arrival_at all.arrivals m).stamp stamp) ≡ true → IsNew x → updates_admitted variant.Rga (named_sequence variant.Rga now) ≡ true
     insertion_admitted m within is less new =
         let decides = a_new_update_is_admitted_where_a_label_below_it_put_in_what_it_needs-insertion records by (ops.After anchor x) clock anchor x (makes_after anchor x) offered.holds.updates in
-        decides.1 (new_there x new, elim (cases_eq m 0) [
-          | inl root_is ↦ inl (sym is ∙ ap (element_at all.arrivals) root_is ∙ ap (λ (a : Arrival). a.element) are.first)
-          | inr other ↦
-              let (it, there, makes, at) = its_label all deeds records are m (omega (arith, other)) within in
-              inr (
-                it,
-                element_at all.arrivals (arrival_at all.arrivals m).anchor,
-                behind_head own (labels_of records) it there,
-                subst (λ y. Makes it.op (After (element_at all.arrivals (arrival_at all.arrivals m).anchor) y)) is makes,
-                other_stands it (arrival_at all.arrivals m).stamp there at ∙ less_is (stamp_cmp (arrival_at all.arrivals m).stamp stamp) less,
-              )
-        ])
+        decides.1 (
+          new_there x new,
+          elim (cases_eq m 0) [
+            | inl root_is ↦ inl (sym is ∙ ap (element_at all.arrivals) root_is ∙ ap (λ (a : Arrival). a.element) are.first)
+            | inr other ↦
+                let (it, there, makes, at) = its_label all deeds records are m (omega (arith, other)) within in
+                inr (
+                  it,
+                  element_at all.arrivals (arrival_at all.arrivals m).anchor,
+                  behind_head own (labels_of records) it there,
+                  subst (λ y. Makes it.op (After (element_at all.arrivals (arrival_at all.arrivals m).anchor) y)) is makes,
+                  other_stands it (arrival_at all.arrivals m).stamp there at ∙ less_is (stamp_cmp (arrival_at all.arrivals m).stamp stamp) less,
+                )
+          ],
+        )
 
     abbrev NeedsOf : Type 0
     NeedsOf = (m : ℕ) × (m < length all.arrivals) × (element_at all.arrivals m ≡ anchor) × (is_lt (stamp_cmp (arrival_at all.arrivals m).stamp stamp) ≡ true)
@@ -169,8 +172,7 @@ module _ (all : ElementList) (deeds : List (Option Deed)) (records : Records) (a
             | inl newest ↦
                 absurd (not_below_own now own (ap (λ l. label_cmp variant.Rga now l own) newest ∙ less))
             | inr old ↦
-                let (m, as_number) = its_number all deeds records are other a anchor old makes in
-                (
+                let (m, as_number) = its_number all deeds records are other a anchor old makes in (
                   m,
                   as_number.within,
                   as_number.is,

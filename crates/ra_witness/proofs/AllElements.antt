@@ -114,7 +114,7 @@ module _ (all : ElementList) (deeds : List (Option Deed)) (records : Records) (a
         | inl root_is ↦ (0, are.some, ap (λ (a : Arrival). a.element) are.first ∙ sym root_is)
         | inr (label, anchor, there, makes) ↦
             let (n, as_number) = its_number label anchor x
-                (Contains-permutation named (labels_of records) label (IsPermutation-sym (labels_of records) named (named_labels_are_sorted-same variant.Rga records)) there) makes in
+            (Contains-permutation named (labels_of records) label (IsPermutation-sym (labels_of records) named (named_labels_are_sorted-same variant.Rga records)) there) makes in
             (n, as_number.within, as_number.is)
       ]
 

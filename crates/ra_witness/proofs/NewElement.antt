@@ -57,7 +57,7 @@ module _ (all next : ElementList) (deeds : List (Option Deed)) (records : Record
     (admitted : updates_admitted variant.Rga (named_sequence variant.Rga (Operate by op clock ∷ records)) ≡ true)
     (arrivals : next.arrivals ≡ all.arrivals ++ record { element = x; stamp = stamp; anchor = m } ∷ [])
     (elements : (below : ℕ → ℕ → Bool) (list : List (ℕ × Bool)) → IsBelowByStamp below x stamp all.arrivals → elements_in list ≡ all.elements
-        → next.elements ≡ elements_in (put_after below (arrival_at all.arrivals m).element x list)) where
+    → next.elements ≡ elements_in (put_after below (arrival_at all.arrivals m).element x list)) where
   abbrev now : Records
   now = Operate by op clock ∷ records
 
