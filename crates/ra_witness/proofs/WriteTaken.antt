@@ -1,21 +1,24 @@
 -- What is kept of a register and an LWW set with one more label.
-use Rattle.std.proofs.Common.{◌≡◌, ℕ, ◌<◌, ◌≤◌, ◌+◌, true, false, List, [], ◌∷◌, ◌++◌, map, length, set, Option, Some, None, refl, sym, ap, ◌∙◌, subst, arith}
-use Rattle.std.specs.Prelude.{nat_eq, vec_len, option_map, pos}
+use Rattle.std.proofs.Common.{◌≡◌, ℕ, zero, suc, inl, inr, get_or, ◌<◌, ◌≤◌, ◌+◌, true, false, List, [], ◌∷◌, ◌++◌, map, length, set, Option, Some, None, refl, sym, ap, ◌∙◌, subst, arith}
+use Rattle.std.specs.Prelude.{◌⊎◌, nat_eq, vec_len, option_map, pos, replicate}
 use Rattle.std.specs.HashMap.{get, hash_map_len}
-use Rattle.std.proofs.lemmas.List.{map-append, length-map, set-get_or}
+use Rattle.std.proofs.lemmas.Option.{none-some}
+use Rattle.std.proofs.lemmas.List.{map-append, length-map, set-get_or, length-replicate, get_or-replicate}
 use Rattle.ra_labels.specs.declared.kind.Kind.{Kind}
+use Rattle.ra_labels.specs.declared.kind.Kind.TheVariants as variant
 use Rattle.ra_labels.specs.declared.operation.Op.{Op}
 use Rattle.ra_labels.specs.declared.operation.Update.{Update}
 use Rattle.ra_labels.specs.declared.label.Stamp.{Stamp}
 use Rattle.ra_labels.specs.declared.label.Label.{Label}
 use Rattle.ra_labels.specs.declared.command.Command.TheVariants.{Operate}
 use Rattle.ra_labels.specs.Records.{Records, label_count, replica_count, stamp_at}
-use Rattle.ra_labels.specs.Specification.{State, Number}
+use Rattle.ra_labels.specs.Specification.{State, Number, start_of}
 use Rattle.ra_witness.specs.declared.written.Written.{Written}
 use Rattle.ra_witness.specs.declared.overriding.Overriding.{Overriding}
 use Rattle.ra_witness.specs.Labels.{update_in}
 use Rattle.ra_witness.specs.States.{state_at, after_step, states_after}
 use Rattle.ra_witness.specs.Standing.{IsKeptOf}
+use Rattle.ra_witness.specs.Last.{label_on}
 use Rattle.ra_witness.specs.Numbers.{element_of, number_in, number_with, count_with}
 use Rattle.ra_witness.specs.Overriding.{updates_of, write_of, labels_in, last_label, last_with}
 use Rattle.ra_witness.specs.Overridden.{AreWritesOf, AreLastOf, AreBelow, IsNextWrite}
@@ -113,3 +116,40 @@ module _ (old new : Overriding) (kind : Kind) (first : ℕ) (records : Records) 
         numbers = subst (λ ns. AreBelow (get nat_eq ns.numbers) (hash_map_len ns.numbers)) (sym its_numbers) stands.numbers;
         few = subst (λ ns. hash_map_len ns.numbers ≤ label_count records + 1) (sym its_numbers) (omega (arith, stands.few));
       }
+
+-- of no records nothing is kept
+none_kept : (kind : Kind) (replicas : ℕ) → IsKeptOf [] (replicate replicas (start_of kind)) kind replicas []
+none_kept kind replicas = record {
+  labels = refl;
+  replicas = length-replicate replicas (start_of kind);
+  folded = λ q within. ap Some (sym (get_or-replicate replicas q (start_of kind) (Number (pos 0)) (omega (arith, within, length-replicate replicas (start_of kind)))));
+}
+
+empty_in : (replicas q : ℕ) → get_or (replicate {A = List (Option ℕ)} replicas []) q [] ≡ []
+empty_in zero q = refl
+empty_in (suc n) zero = refl
+empty_in (suc n) (suc q) = empty_in n q
+
+none_last : (replicas : ℕ) → AreLastOf [] (replicate replicas []) []
+none_last replicas = record {
+  some = λ q c k within is. absurd (none-some k (sym (ap (λ ls. label_on ls c) (empty_in replicas q)) ∙ is));
+  none = λ q c within is label write there. absurd (omega (arith, there.1));
+}
+
+pub overriding_none : (kept : Overriding) (kind : Kind) (replicas : ℕ) → (kind ≡ variant.Register) ⊎ (kind ≡ variant.LwwSet) → kept.writes.items ≡ []
+    → kept.states.items ≡ replicate replicas (start_of kind) → labels_in kept.lasts.items ≡ replicate replicas [] → ((x : ℕ) → get nat_eq kept.numbers.numbers x ≡ None)
+    → hash_map_len kept.numbers.numbers ≡ 0 → IsOverridingOf kept kind replicas []
+overriding_none kept kind replicas one writes states lasts none size = record {
+  one = one;
+  states = subst (λ ws. IsKeptOf (updates_of ws) kept.states.items kind replicas []) (sym writes)
+      (subst (λ ss. IsKeptOf [] ss kind replicas []) (sym states) (none_kept kind replicas));
+  writes = subst (λ ws. AreWritesOf ws (numbers_of kept) []) (sym writes) (record {
+    stamps = λ label write there at. absurd (omega (arith, there.1));
+    numbers = λ n write at. absurd (none-some write at);
+    one = λ x y number at_x at_y. absurd (none-some number (sym (none x) ∙ at_x));
+  });
+  lasts = subst (λ ws. AreLastOf ws (labels_in kept.lasts.items) []) (sym writes) (subst (λ ls. AreLastOf [] ls []) (sym lasts) (none_last replicas));
+  replicas = sym (length-map kept.lasts.items (λ last. last.labels.items)) ∙ ap length lasts ∙ length-replicate replicas [];
+  numbers = λ x number at. absurd (none-some number (sym (none x) ∙ at));
+  few = omega (arith, size);
+}
