@@ -55,8 +55,8 @@ module _ {arrivals : List Arrival} {deeds : List (Option Deed)} {records : Recor
     waiting_labels = record {
       waits = λ n d d_is was_had fails. kept.waiting_labels.waits n d d_is (same n ∙ was_had) fails;
       only = λ number n found.
-      let (d, d_is, d_needs, was_had, waits) = kept.waiting_labels.only number n found in
-      (d, d_is, d_needs, sym (same n) ∙ was_had, waits);
+          let (d, d_is, d_needs, was_had, waits) = kept.waiting_labels.only number n found in
+          (d, d_is, d_needs, sym (same n) ∙ was_had, waits);
       once = kept.waiting_labels.once;
     };
   }

@@ -91,17 +91,17 @@ module _ {all : ElementList} {deeds : List (Option Deed)} {records : Records} {o
             free.had_them,
             free.none_waits,
             (λ l u l_in makes had_it fails.
-            let (d, d_is, d_does) = stand.made l u l_in makes in
-            ap (λ (v : Update). is_there (needed_by v) (updates_passing Rga records passes)) (sym d_does) ∙ needed_marked stand free.there l.number d d_is ∙ missing l.number d d_is had_it fails),
+                let (d, d_is, d_does) = stand.made l u l_in makes in
+                ap (λ (v : Update). is_there (needed_by v) (updates_passing Rga records passes)) (sym d_does) ∙ needed_marked stand free.there l.number d d_is ∙ missing l.number d d_is had_it fails),
           );
           after = free.after;
           there = free.there;
           waiting_labels = record {
             waits = λ n d d_is had_it fails.
-            let number = needed_number all.arrivals d in
-            let not_freed : is_put_by deeds labels number ≡ false = false_from_ne_true (is_put_by deeds labels number) (λ is. not_both (is_marked marks number) (missing n d d_is had_it fails) (freed number is)) in
-            subst (λ ls. Contains ls n) (sym (says number ∙ cond-false (is_put_by deeds labels number) [] (labels_under waiting number) not_freed))
-            (kept.waiting_labels.waits n d d_is (was_had n had_it fails) (waited n fails));
+                let number = needed_number all.arrivals d in
+                let not_freed : is_put_by deeds labels number ≡ false = false_from_ne_true (is_put_by deeds labels number) (λ is. not_both (is_marked marks number) (missing n d d_is had_it fails) (freed number is)) in
+                subst (λ ls. Contains ls n) (sym (says number ∙ cond-false (is_put_by deeds labels number) [] (labels_under waiting number) not_freed))
+                (kept.waiting_labels.waits n d d_is (was_had n had_it fails) (waited n fails));
             only = λ number n found. elim (cases_Bool (is_put_by deeds labels number)) [
               | inl is ↦ absurd (none_there n (subst (λ ls. Contains ls n) (says number ∙ cond-true (is_put_by deeds labels number) [] (labels_under waiting number) is) found))
               | inr not ↦

@@ -56,7 +56,7 @@ module _ {state : State} {marks : List Bool} {labels : List ℕ} {waiting : List
         waiting_labels = amidst.waiting_labels;
         new = amidst.new;
         freeing = subst (λ (ls : List ℕ). IsFreeing next next_marks ls (done + 1) all.arrivals deeds records had settled first) (sym grown)
-        (follows next next_marks (labels_under waiting number) label (PutsIn number) stand free within here is (leads ∙ ap (λ (s : State). Some s) (sym now)) with_it (freed_by waiting amidst.waiting_labels number));
+            (follows next next_marks (labels_under waiting number) label (PutsIn number) stand free within here is (leads ∙ ap (λ (s : State). Some s) (sym now)) with_it (freed_by waiting amidst.waiting_labels number));
       }
 
   pub removal_follows : (next : State) (label number x : ℕ) → IsAmidst state marks labels waiting done all deeds records had settled first
@@ -75,7 +75,7 @@ module _ {state : State} {marks : List Bool} {labels : List ℕ} {waiting : List
         waiting_labels = amidst.waiting_labels;
         new = amidst.new;
         freeing = subst (λ (ls : List ℕ). IsFreeing next marks ls (done + 1) all.arrivals deeds records had settled first) (append-nil labels)
-        (follows next marks [] label (Removes number) stand free within here is (leads ∙ ap (λ (s : State). Some s) (sym now)) (λ n. or_nothing (is_marked marks n)) (none_freed number));
+            (follows next marks [] label (Removes number) stand free within here is (leads ∙ ap (λ (s : State). Some s) (sym now)) (λ n. or_nothing (is_marked marks n)) (none_freed number));
       }
 
   pub some_follows : (label : ℕ) → IsAmidst state marks labels waiting done all deeds records had settled first → done < length labels → get_or labels done 0 ≡ label → ¬ (None ≡ deed_at deeds label)
@@ -100,9 +100,9 @@ none_followed {state = state} {marks = marks} {all = all} {deeds = deeds} {recor
   waiting_labels = kept.waiting_labels;
   new = new;
   freeing = subst (λ (s : State). IsFreeing s copied labels 0 all.arrivals deeds records had settled first) (sym same_state)
-  (subst (λ (ms : List Bool). IsFreeing state ms labels 0 all.arrivals deeds records had settled first) (sym same_marks)
-  (subst (λ (ls : List ℕ). IsFreeing state marks ls 0 all.arrivals deeds records had settled first) (sym same_labels)
-  (first_freed first deed (deeds_stand stand) kept is new needs)));
+      (subst (λ (ms : List Bool). IsFreeing state ms labels 0 all.arrivals deeds records had settled first) (sym same_marks)
+      (subst (λ (ls : List ℕ). IsFreeing state marks ls 0 all.arrivals deeds records had settled first) (sym same_labels)
+      (first_freed first deed (deeds_stand stand) kept is new needs)));
 }
 
 -- at another count of labels

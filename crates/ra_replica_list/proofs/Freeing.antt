@@ -82,8 +82,8 @@ pub freed_by : {arrivals : List Arrival} {deeds : List (Option Deed)} {records :
     → AreFreedBy arrivals deeds had settled (PutsIn number) (labels_under waiting number)
 freed_by {arrivals = arrivals} waiting wait number = record {
   only = λ n found.
-  let (d, d_is, d_needs, was_had, waits) = wait.only number n found in
-  (d, d_is, was_had, waits, eq-eqb (needed_number arrivals d) number d_needs);
+      let (d, d_is, d_needs, was_had, waits) = wait.only number n found in
+      (d, d_is, was_had, waits, eq-eqb (needed_number arrivals d) number d_needs);
   all = λ n d d_is was_had waits puts_it. subst (λ (k : ℕ). Contains (labels_under waiting k) n) (eqb-true (needed_number arrivals d) number puts_it) (wait.waits n d d_is was_had waits);
   once = wait.once number;
 }
@@ -183,10 +183,10 @@ module _ {arrivals : List Arrival} {deeds : List (Option Deed)} {records : Recor
           ]
         ];
         once = subst NoneTwice (sym left) (none_twice-append rest more alone.1 freed.once (λ n old it.
-        let (d, d_is, d_had, d_new, d_needs) = free.next n (behind n old) in
-        let (e, e_is, e_had, e_waits, e_puts) = freed.only n it in
-        let e_same : d ≡ e = same_Some d e (sym d_is ∙ e_is) in
-        not_both (is_marked marks (needed_number arrivals e)) (fresh n e e_is e_puts) (ap (λ (x : Deed). is_marked marks (needed_number arrivals x)) (sym e_same) ∙ d_needs)));
+            let (d, d_is, d_had, d_new, d_needs) = free.next n (behind n old) in
+            let (e, e_is, e_had, e_waits, e_puts) = freed.only n it in
+            let e_same : d ≡ e = same_Some d e (sym d_is ∙ e_is) in
+            not_both (is_marked marks (needed_number arrivals e)) (fresh n e e_is e_puts) (ap (λ (x : Deed). is_marked marks (needed_number arrivals x)) (sym e_same) ∙ d_needs)));
         count = omega (arith, counted, free.count);
         among = omega (arith, within, length-append labels more);
       }

@@ -115,20 +115,20 @@ module _ {arrivals : List Arrival} {deeds : List (Option Deed)} {records : Recor
             ]),
             subst (λ (k : ℕ). NoneWaits records (or_label settled k)) l_num none_waits,
             (λ m v m_in m_makes m_had m_fails.
-            let (d, d_is, d_does) = stand.made m v m_in m_makes in
-            let m_was : had m.number ≡ true = elim (passes_or_is had label m.number m_had) [
-              | inl old ↦ old
-              | inr it ↦ absurd (not_it settled label m.number m_fails it)
-            ] in
-            let m_waits = not_before settled label m.number m_fails in
-            let old_missing : is_marked marks (needed_number arrivals d) ≡ false =
-            sym (needed_marked stand kept.there m.number d d_is) ∙ ap (λ (u : Update). is_there (needed_by u) (updates_passing Rga records settled)) d_does ∙ others m v m_in m_makes m_was m_waits in
-            let not_put : puts (needed_number arrivals d) deed ≡ false = false_from_ne_true (puts (needed_number arrivals d) deed) (λ it.
-            none_there m.number (subst (λ ls. Contains ls m.number) (none_for (needed_number arrivals d) it) (kept.waiting_labels.waits m.number d d_is m_was m_waits))) in
-            ap (λ (u : Update). is_there (needed_by u) (updates_passing Rga records (or_label settled label))) (sym d_does)
-            ∙ needed_marked stand there m.number d d_is
-            ∙ with_it (needed_number arrivals d)
-            ∙ or_from (is_marked marks (needed_number arrivals d)) (puts (needed_number arrivals d) deed) old_missing not_put),
+                let (d, d_is, d_does) = stand.made m v m_in m_makes in
+                let m_was : had m.number ≡ true = elim (passes_or_is had label m.number m_had) [
+                  | inl old ↦ old
+                  | inr it ↦ absurd (not_it settled label m.number m_fails it)
+                ] in
+                let m_waits = not_before settled label m.number m_fails in
+                let old_missing : is_marked marks (needed_number arrivals d) ≡ false =
+                sym (needed_marked stand kept.there m.number d d_is) ∙ ap (λ (u : Update). is_there (needed_by u) (updates_passing Rga records settled)) d_does ∙ others m v m_in m_makes m_was m_waits in
+                let not_put : puts (needed_number arrivals d) deed ≡ false = false_from_ne_true (puts (needed_number arrivals d) deed) (λ it.
+                none_there m.number (subst (λ ls. Contains ls m.number) (none_for (needed_number arrivals d) it) (kept.waiting_labels.waits m.number d d_is m_was m_waits))) in
+                ap (λ (u : Update). is_there (needed_by u) (updates_passing Rga records (or_label settled label))) (sym d_does)
+                ∙ needed_marked stand there m.number d d_is
+                ∙ with_it (needed_number arrivals d)
+                ∙ or_from (is_marked marks (needed_number arrivals d)) (puts (needed_number arrivals d) deed) old_missing not_put),
           );
           after = after;
           there = there;
@@ -138,8 +138,8 @@ module _ {arrivals : List Arrival} {deeds : List (Option Deed)} {records : Recor
               | inr it ↦ absurd (not_it settled label n fails it)
             ];
             only = λ number n found.
-            let (d, d_is, d_needs, was_had, waits) = kept.waiting_labels.only number n found in
-            (d, d_is, d_needs, still_passes had label n was_had, others_pass settled label n (λ it. not_both (had n) (ap had it ∙ new) was_had) ∙ waits);
+                let (d, d_is, d_needs, was_had, waits) = kept.waiting_labels.only number n found in
+                (d, d_is, d_needs, still_passes had label n was_had, others_pass settled label n (λ it. not_both (had n) (ap had it ∙ new) was_had) ∙ waits);
             once = kept.waiting_labels.once;
           };
         };

@@ -94,11 +94,11 @@ longer_by_one {records = records} {settled = settled} arrivals new by op clock a
       same = λ number known. ap (λ (a : Arrival). a.element) (first_same arrivals new number known);
       more = omega (arith, counted_more arrivals new);
       fresh = λ number beyond known.
-      let last : number ≡ length arrivals = omega (arith, counted_more arrivals new, beyond, known) in
-      ap (λ (n : ℕ). is_there (element_at (arrivals ++ new ∷ []) n) (updates_passing Rga now settled)) last
-      ∙ ap (λ (a : Arrival). is_there a.element (updates_passing Rga now settled)) (new_last arrivals new)
-      ∙ an_element_is_there_where_its_label_passes-label now settled label anchor new.element admitted (at_head label (labels_of records) label refl) makes
-      ∙ not_settled;
+          let last : number ≡ length arrivals = omega (arith, counted_more arrivals new, beyond, known) in
+          ap (λ (n : ℕ). is_there (element_at (arrivals ++ new ∷ []) n) (updates_passing Rga now settled)) last
+          ∙ ap (λ (a : Arrival). is_there a.element (updates_passing Rga now settled)) (new_last arrivals new)
+          ∙ an_element_is_there_where_its_label_passes-label now settled label anchor new.element admitted (at_head label (labels_of records) label refl) makes
+          ∙ not_settled;
     }
 
 -- an element that a new label puts in is none of the others

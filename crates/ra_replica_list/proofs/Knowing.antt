@@ -90,11 +90,11 @@ module _ {state : State} {marks : List Bool} {waiting : List (ℕ × List ℕ)} 
         };
         waiting_labels = record {
           waits = λ n deed is was_had fails.
-          let old = older_deed deeds d (label_count records) n deed counted (λ it. not_both (test n) (ap test it ∙ new) was_had) is in
-          subst (λ (k : ℕ). Contains (labels_under waiting k) n) (sym (needs n deed old)) (kept.waiting_labels.waits n deed old was_had fails);
+              let old = older_deed deeds d (label_count records) n deed counted (λ it. not_both (test n) (ap test it ∙ new) was_had) is in
+              subst (λ (k : ℕ). Contains (labels_under waiting k) n) (sym (needs n deed old)) (kept.waiting_labels.waits n deed old was_had fails);
           only = λ number n found.
-          let (deed, is, is_needed, was_had, waits) = kept.waiting_labels.only number n found in
-          (deed, still_deed deeds d n deed is, needs n deed is ∙ is_needed, was_had, waits);
+              let (deed, is, is_needed, was_had, waits) = kept.waiting_labels.only number n found in
+              (deed, still_deed deeds d n deed is, needs n deed is ∙ is_needed, was_had, waits);
           once = kept.waiting_labels.once;
         };
       }

@@ -99,9 +99,16 @@ module _ {all : ElementList} {deeds : List (Option Deed)} {records : Records} {m
             let less = between_an_anchor_and_its_element_stand_later_ones records l m anchor x b entry.0 before between behind is_shown was_shown all_led l_in l_makes m_in m_makes y_found in
             let cmp = labels_with_stamps_stand_in_their_order Rga records l m stamp t (λ e. absurd (cc (e))) (λ e. absurd (cc (e))) l_stamp m_stamp other_stamp in
             not_above (below_below greatest stamp t above ((stamps_by_clock_and_then_by_replica-less stamp t).0 (sym cmp ∙ less)))
-      ]) in
-      (before, between, behind, is_shown, was_shown, pieces, needed_marked stand there label (PutsIn number) is ∙ needs,
-      all_pass (λ (entry : ℕ × Bool). not (is_there entry.0 updates)) between (λ entry found. not_from_false (is_there entry.0 updates) (none_between entry found)))
+      ]) in (
+        before,
+        between,
+        behind,
+        is_shown,
+        was_shown,
+        pieces,
+        needed_marked stand there label (PutsIn number) is ∙ needs,
+        all_pass (λ (entry : ℕ × Bool). not (is_there entry.0 updates)) between (λ entry found. not_from_false (is_there entry.0 updates) (none_between entry found)),
+      )
     where
       put_in_by_had : (y : ℕ) → is_there y (updates_passing Rga records settled) ≡ true → (y ≡ 0) ⊎ ((m : Label) × (b : ℕ) × Contains (labels_of records) m × Makes m.op (After b y) × (had m.number ≡ true))
       put_in_by_had y it = elim (what_is_there_a_label_put_in-passing settled (named_labels Rga records) y it) [
@@ -109,6 +116,12 @@ module _ {all : ElementList} {deeds : List (Option Deed)} {records : Records} {m
         | inr (m, b, m_there, m_makes) ↦
             let m_in = All-contains (Contains (labels_of records)) (named_labels Rga records) m
             (All-permutation (Contains (labels_of records)) (labels_of records) (named_labels Rga records) (named_labels_are_sorted-same Rga records) (All-contains_itself (labels_of records))) m_there in
-            inr (m, b, m_in, m_makes, had_them m.number
-            (sym (an_element_is_there_where_its_label_passes-label records settled m b y (all_admitted stands) m_in m_makes) ∙ it))
+            inr (
+              m,
+              b,
+              m_in,
+              m_makes,
+              had_them m.number
+                  (sym (an_element_is_there_where_its_label_passes-label records settled m b y (all_admitted stands) m_in m_makes) ∙ it),
+            )
       ]

@@ -82,14 +82,14 @@ newest_is_last records by op clock u makes extended =
       behind = behind;
       named = is;
       none_had = λ other found. false_from_ne_true (had records by other.number) (λ it.
-      let old : Contains (labels_of records) other = in_named records other (subst (λ (ls : List Label). Contains ls other) (sym was) (Contains-append_right before behind other found)) in
-      let updates : is_update other.op ≡ true =
-      sym (ap (λ (o : Option Label). option_map_or (λ (l : Label). is_update l.op) o false) (each_number_has_its_label-found records other old)) ∙ had_updates-updates records by other.number it in
-      let (v, made) = (an_operation_makes_one_update-exactly other.op).0 updates in
-      let part = part_of other (made.0, Does v) in
-      let part_in = among_parts behind other part found (mapped other (acts_of other.op) (made.0, Does v) made.1) in
-      let passes : not (must_precede now part q) ≡ true = All-contains (λ (p : Part). not (must_precede now p q) ≡ true) (flat_map parts_of behind) part
-      (AllPass-from_list_all (λ (p : Part). not (must_precede now p q)) (flat_map parts_of behind) free) part_in in
-      let sees_it : is_visible_to now part q ≡ true = ap (λ (l : Label). sees now l.number other.number) is_own ∙ sees_had records by op clock other.number ∙ it in
-      not_both (must_precede now part q) (not-true (must_precede now part q) passes) (or_left (is_visible_to now part q || is_earlier_there part q) (is_query_half_of part q) (or_left (is_visible_to now part q) (is_earlier_there part q) sees_it)));
+          let old : Contains (labels_of records) other = in_named records other (subst (λ (ls : List Label). Contains ls other) (sym was) (Contains-append_right before behind other found)) in
+          let updates : is_update other.op ≡ true =
+          sym (ap (λ (o : Option Label). option_map_or (λ (l : Label). is_update l.op) o false) (each_number_has_its_label-found records other old)) ∙ had_updates-updates records by other.number it in
+          let (v, made) = (an_operation_makes_one_update-exactly other.op).0 updates in
+          let part = part_of other (made.0, Does v) in
+          let part_in = among_parts behind other part found (mapped other (acts_of other.op) (made.0, Does v) made.1) in
+          let passes : not (must_precede now part q) ≡ true = All-contains (λ (p : Part). not (must_precede now p q) ≡ true) (flat_map parts_of behind) part
+          (AllPass-from_list_all (λ (p : Part). not (must_precede now p q)) (flat_map parts_of behind) free) part_in in
+          let sees_it : is_visible_to now part q ≡ true = ap (λ (l : Label). sees now l.number other.number) is_own ∙ sees_had records by op clock other.number ∙ it in
+          not_both (must_precede now part q) (not-true (must_precede now part q) passes) (or_left (is_visible_to now part q || is_earlier_there part q) (is_query_half_of part q) (or_left (is_visible_to now part q) (is_earlier_there part q) sees_it)));
     }

@@ -30,8 +30,8 @@ starts_with state marks waiting replica is some none empty = record {
     after = ap (λ (s : State). Some s) (sym is);
     there = record {
       there = λ number known.
-      let zero_it : number ≡ 0 = omega (arith, known) in
-      subst (λ (k : ℕ). is_marked (set marks 0 true) k ≡ is_there (get_or (root ∷ []) k root).element []) (sym zero_it) (get_or-set_same marks 0 true false some);
+          let zero_it : number ≡ 0 = omega (arith, known) in
+          subst (λ (k : ℕ). is_marked (set marks 0 true) k ≡ is_there (get_or (root ∷ []) k root).element []) (sym zero_it) (get_or-set_same marks 0 true false some);
       others = λ number beyond. root_alone marks number some none (omega (arith, beyond));
     };
     waiting_labels = record {

@@ -28,8 +28,8 @@ module _ {list : ReplicaList} {all : ElementList} {deeds : List (Option Deed)} {
   known_insertion new d more stand held fresh makes admitted same = record {
     settled = held.settled;
     kept = kept_alike more same (kept_known (all.arrivals ++ new ∷ []) d by op clock held.kept fresh stand.count
-    (longer_by_one all.arrivals new by op clock (element_at all.arrivals new.anchor) admitted makes (not_settled held.kept (label_count records) fresh))
-    (needed_same (all.arrivals ++ new ∷ []) (deeds_stand stand) (first_same all.arrivals new)));
+        (longer_by_one all.arrivals new by op clock (element_at all.arrivals new.anchor) admitted makes (not_settled held.kept (label_count records) fresh))
+        (needed_same (all.arrivals ++ new ∷ []) (deeds_stand stand) (first_same all.arrivals new)));
     greatest = greatest_alike more same (greatest_known by op clock held.greatest fresh);
   }
 
@@ -38,7 +38,7 @@ module _ {list : ReplicaList} {all : ElementList} {deeds : List (Option Deed)} {
   known_other d more stand held fresh same = record {
     settled = held.settled;
     kept = kept_alike more same (kept_known all.arrivals d by op clock held.kept fresh stand.count
-    (none_longer all.arrivals (Operate by op clock ∷ records) held.settled) (λ n deed is. refl));
+        (none_longer all.arrivals (Operate by op clock ∷ records) held.settled) (λ n deed is. refl));
     greatest = greatest_alike more same (greatest_known by op clock held.greatest fresh);
   }
 

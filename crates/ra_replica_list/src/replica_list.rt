@@ -49,8 +49,12 @@ impl Model for ReplicaList {
 
     ghost Value = { specs.ReplicaList };
 
-    ghost view = { λ a. record { state = a.state; marks = a.there.marks.items; greatest = a.greatest;
-        waiting = a.waiting } };
+    ghost view = { λ a. record {
+      state = a.state;
+      marks = a.there.marks.items;
+      greatest = a.greatest;
+      waiting = a.waiting;
+    } };
 }
 
 impl ReplicaList {
@@ -125,7 +129,13 @@ impl ReplicaList {
             return Ok(0);
         }
         let number = all.len() as u32;
-        put_in(&mut self.state, &mut self.there, number, all.element(anchor), element)?;
+        put_in(
+            &mut self.state,
+            &mut self.there,
+            number,
+            all.element(anchor),
+            element,
+        )?;
         self.saw(stamp);
         Ok(1)
     }

@@ -15,10 +15,7 @@ fn put(
     stamp: Stamp,
     anchor: u32,
 ) -> Result<Option<u64>, NoMemory> {
-    if all.number_of(element).is_some()
-        || all.len() <= anchor as usize
-        || 1_000_000 < all.len()
-    {
+    if all.number_of(element).is_some() || all.len() <= anchor as usize || 1_000_000 < all.len() {
         return Ok(None);
     }
     let steps = list.put_own(all, label, element, stamp, anchor)?;
