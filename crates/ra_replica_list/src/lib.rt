@@ -14,6 +14,8 @@ pub mod laws;
 mod marks;
 mod put;
 mod replica_list;
+#[cfg(test)]
+mod tests;
 mod waiting;
 
 pub use deed::Deed;
