@@ -1,15 +1,14 @@
 -- A label that is delivered.
-use Rattle.std.proofs.Common.{◌≡◌, ℕ, ◌+◌, ◌≤◌, Bool, true, false, List, ◌∷◌, ◌++◌, length, Option, Some, None, refl, sym, ap, ◌∙◌, subst, arith}
+use Rattle.std.proofs.Common.{◌≡◌, ℕ, ◌+◌, ◌≤◌, Bool, true, false, List, ◌∷◌, ◌++◌, length, Option, Some, refl, sym, ap, ◌∙◌, subst, arith}
 use Rattle.std.specs.Prelude.{Contains, flat_map, Result, Ok, Err, IfOk, OnOk}
 use Rattle.std.specs.Option.{option_map_or}
 use Rattle.std.proofs.lemmas.List.Elements.{All-contains, All-contains_itself, Contains-append_right}
 use Rattle.std.proofs.lemmas.List.Sorted.{All-permutation}
 use Rattle.ra_labels.specs.declared.kind.Kind.TheVariants.{Rga}
-use Rattle.ra_labels.specs.declared.operation.Update.{Update}
 use Rattle.ra_labels.specs.declared.label.Stamp.{Stamp}
 use Rattle.ra_labels.specs.declared.label.Label.{Label}
 use Rattle.ra_labels.specs.declared.command.Command.TheVariants.{Deliver}
-use Rattle.ra_labels.specs.Records.{Records, label_at, labels_of}
+use Rattle.ra_labels.specs.Records.{Records, labels_of}
 use Rattle.ra_labels.specs.Visibility.{is_update, is_update_at, had}
 use Rattle.ra_labels.specs.Rewriting.{parts_of}
 use Rattle.ra_labels.specs.Linearization.{updates_admitted}
@@ -21,7 +20,7 @@ use Rattle.ra_element_list.specs.ElementList.{ElementList, arrival_at}
 use Rattle.ra_replica_list.specs.declared.deed.Deed.{Deed}
 use Rattle.ra_replica_list.specs.declared.deed.Deed.TheVariants.{PutsIn, Removes}
 use Rattle.ra_replica_list.specs.Deeds.{deed_at, update_of, AreElementsOf}
-use Rattle.ra_replica_list.specs.ReplicaList.{ReplicaList, IsGreatestOf, IsListBy, IsListOf}
+use Rattle.ra_replica_list.specs.ReplicaList.{ReplicaList, IsGreatestOf, IsListOf}
 use Rattle.ra_replica_list.specs.Freed.{IsKeptAfter}
 use Rattle.ra_replica_list.proofs.Places.{at_head}
 use Rattle.ra_replica_list.proofs.Deeds.{same_label, all_admitted}
