@@ -43,14 +43,10 @@ impl Kept {
     {
         match kind {
             Kind::Counter | Kind::OrSet => Ok(Kept::Commuting(Commuting::new(
-                alloc,
-                kind,
-                replicas,
+                alloc, kind, replicas,
             )?)),
             Kind::Register | Kind::LwwSet => Ok(Kept::Overriding(Overriding::new(
-                alloc,
-                kind,
-                replicas,
+                alloc, kind, replicas,
             )?)),
             Kind::Rga => Ok(Kept::Rga(Rga::new(alloc, replicas)?)),
         }

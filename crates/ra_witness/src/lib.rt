@@ -21,8 +21,6 @@ mod overriding;
 mod part_ref;
 mod rga;
 mod sequence;
-#[cfg(test)]
-mod tests;
 mod witness;
 mod written;
 

@@ -1,4 +1,4 @@
-use Rattle.std.proofs.Common.{◌≡◌, ◌∷◌, ◌∙◌, true, Some, refl, sym, ap, subst}
+use Rattle.std.proofs.Common.{◌≡◌, ◌∷◌, ◌∙◌, true, refl, sym, ap, subst}
 use Rattle.std.specs.Ordering.{is_lt}
 use Rattle.std.proofs.lemmas.Bool.{true≢false, false≢true}
 use Rattle.ra_labels.specs.declared.kind.Kind.TheVariants as variant
@@ -19,8 +19,7 @@ pub returns-in_default : goal.returns-in_default
 returns-in_default c = λ first records by op clock label stands offered is stamped.
     let self = c.args.self.now in
     let after = subst (λ o. IsOffered variant.Rga first records by o clock label) is offered in
-    let (at, same, least, known) = has_stamp variant.Rga first records by (ops.After c.args.anchor c.args.element) clock label after refl in
-    (
+    let (at, same, least, known) = has_stamp variant.Rga first records by (ops.After c.args.anchor c.args.element) clock label after refl in (
       (λ passes. absurd (false≢true passes)),
       λ admitted.
           let now_admitted = subst (λ o. updates_admitted variant.Rga (named_sequence variant.Rga (Operate by o clock ∷ records)) ≡ true) is admitted in
@@ -38,12 +37,11 @@ returns-then-is_below c = λ first records by op clock label stands offered is s
     let after = subst (λ o. IsOffered variant.Rga first records by o clock label) is offered in
     let its_stamp = stamped ∙ c.in-Some-stamp.is in
     let known = (c.in-Some.ensures m).0 refl in
-    let less : is_lt (stamp_cmp (arrival_at self.all.arrivals m).stamp stamp) ≡ true = ap (λ s. is_lt (stamp_cmp s stamp)) (sym c.stamp.ensures) ∙ sym c.is_below.ensures ∙ c.if-is_below.true in
-    (
+    let less : is_lt (stamp_cmp (arrival_at self.all.arrivals m).stamp stamp) ≡ true = ap (λ s. is_lt (stamp_cmp s stamp)) (sym c.stamp.ensures) ∙ sym c.is_below.ensures ∙ c.if-is_below.true in (
       (λ none.
-      subst (λ o. updates_admitted variant.Rga (named_sequence variant.Rga (Operate by o clock ∷ records)) ≡ true) (sym is)
-      (insertion_admitted self.all self.deeds.items records stands.elements first by clock label c.args.anchor c.args.element after stamp its_stamp m known.0 known.1 less
-      (λ n within same. none_found found c.is_none.result c.is_none.ensures none n ((finds n).1 (within, same))))),
+          subst (λ o. updates_admitted variant.Rga (named_sequence variant.Rga (Operate by o clock ∷ records)) ≡ true) (sym is)
+          (insertion_admitted self.all self.deeds.items records stands.elements first by clock label c.args.anchor c.args.element after stamp its_stamp m known.0 known.1 less
+          (λ n within same. none_found found c.is_none.result c.is_none.ensures none n ((finds n).1 (within, same))))),
       λ admitted.
           let now_admitted = subst (λ o. updates_admitted variant.Rga (named_sequence variant.Rga (Operate by o clock ∷ records)) ≡ true) is admitted in
           none_from found c.is_none.result c.is_none.ensures (λ n at.
@@ -58,8 +56,7 @@ returns-else-is_below c = λ first records by op clock label stands offered is s
     let stamp = c.in-Some-stamp.stamp in
     let after = subst (λ o. IsOffered variant.Rga first records by o clock label) is offered in
     let its_stamp = stamped ∙ c.in-Some-stamp.is in
-    let known = (c.in-Some.ensures m).0 refl in
-    (
+    let known = (c.in-Some.ensures m).0 refl in (
       (λ passes. absurd (true≢false (sym passes ∙ c.if-is_below.false))),
       λ admitted.
           let now_admitted = subst (λ o. updates_admitted variant.Rga (named_sequence variant.Rga (Operate by o clock ∷ records)) ≡ true) is admitted in

@@ -1,4 +1,4 @@
-use Rattle.std.proofs.Common.{◌≡◌, ◌<◌, ◌∷◌, ◌∙◌, length, true, refl, sym, ap, subst, arith}
+use Rattle.std.proofs.Common.{◌≡◌, ◌∷◌, ◌∙◌, length, true, refl, sym, ap, subst, arith}
 use Rattle.std.specs.Prelude.{not}
 use Rattle.std.specs.Ordering.{is_le}
 use Rattle.std.proofs.lemmas.Bool.{true≢false, false≢true, eq-eqb}
@@ -18,8 +18,7 @@ use Rattle.ra_witness.proofs.rga.Rga.admits_removal.Goals as goal
 pub returns-in_default : goal.returns-in_default
 returns-in_default c = λ first records op clock label stands offered is.
     let self = c.args.self.now in
-    let after = subst (λ o. IsOffered variant.Rga first records c.args.replica o clock label) is offered in
-    (
+    let after = subst (λ o. IsOffered variant.Rga first records c.args.replica o clock label) is offered in (
       (λ passes. absurd (false≢true passes)),
       λ admitted.
           let now_admitted = subst (λ o. updates_admitted variant.Rga (named_sequence variant.Rga (Operate c.args.replica o clock ∷ records)) ≡ true) is admitted in
@@ -42,11 +41,10 @@ returns-then-number-ne-ROOT c = λ first records op clock label stands offered i
     let ranks = the_greatest_stamp_ranks_the_next_label list self.all.arrivals self.deeds.items records by (ops.RgaRemove c.args.element) own in
     let known = (c.in-Some.ensures n).0 refl in
     let said : c.is_up_to.result ≡ is_le (stamp_cmp (arrival_at self.all.arrivals n).stamp list.greatest) =
-    c.is_up_to.ensures ∙ ap (λ s. is_le (stamp_cmp s c.greatest-greatest.result)) c.stamp.ensures ∙ ap (λ s. is_le (stamp_cmp (arrival_at self.all.arrivals n).stamp s)) c.greatest-greatest.ensures in
-    (
+    c.is_up_to.ensures ∙ ap (λ s. is_le (stamp_cmp s c.greatest-greatest.result)) c.stamp.ensures ∙ ap (λ s. is_le (stamp_cmp (arrival_at self.all.arrivals n).stamp s)) c.greatest-greatest.ensures in (
       (λ passes.
-      subst (λ o. updates_admitted variant.Rga (named_sequence variant.Rga (Operate by o clock ∷ records)) ≡ true) (sym is)
-      (removal_admitted self.all self.deeds.items records stands.elements first by clock label c.args.element after list.greatest ranks n (omega (arith, c.if-number-ne-ROOT.true)) known.0 known.1 (sym said ∙ passes))),
+          subst (λ o. updates_admitted variant.Rga (named_sequence variant.Rga (Operate by o clock ∷ records)) ≡ true) (sym is)
+          (removal_admitted self.all self.deeds.items records stands.elements first by clock label c.args.element after list.greatest ranks n (omega (arith, c.if-number-ne-ROOT.true)) known.0 known.1 (sym said ∙ passes))),
       λ admitted.
           let now_admitted = subst (λ o. updates_admitted variant.Rga (named_sequence variant.Rga (Operate by o clock ∷ records)) ≡ true) is admitted in
           let needs = removal_needs self.all self.deeds.items records stands.elements first by clock label c.args.element after list.greatest ranks now_admitted in
@@ -60,8 +58,7 @@ returns-else-number-ne-ROOT c = λ first records op clock label stands offered i
     let n = c.in-Some.number in
     let after = subst (λ o. IsOffered variant.Rga first records c.args.replica o clock label) is offered in
     let known = (c.in-Some.ensures n).0 refl in
-    let zero_is : n ≡ 0 = c.if-number-ne-ROOT.false in
-    (
+    let zero_is : n ≡ 0 = c.if-number-ne-ROOT.false in (
       (λ passes. absurd (true≢false (sym passes ∙ ap not (eq-eqb n 0 zero_is)))),
       λ admitted.
           let now_admitted = subst (λ o. updates_admitted variant.Rga (named_sequence variant.Rga (Operate c.args.replica o clock ∷ records)) ≡ true) is admitted in
