@@ -1,6 +1,5 @@
 -- What is kept true of a monitor when an entry joins its log.
 use Rattle.std.proofs.Common.{◌≡◌, ℕ, ◌+◌, ◌<◌, ◌≤◌, cond, [], ◌∷◌, ◌++◌, length, sym, ap, ◌∙◌, arith, length-append}
-use Rattle.std.specs.Prelude.{vec_len}
 use Rattle.ra_labels.specs.Answer.{answer_of, records_after}
 use Rattle.ra_monitor.specs.declared.monitor.Monitor.TheInside.{Inside}
 use Rattle.ra_monitor.specs.Replies.{is_refused}
@@ -19,7 +18,7 @@ pub kept_after : (m n : Inside) (entry : MonitorEntry) → MonitorKept m → IsN
     → entry.reply ≡ answer_of m.setup.kind m.setup.replicas (records_of m.setup m.log.items) entry.command
     → n.setup ≡ m.setup → n.log.items ≡ m.log.items ++ entry ∷ []
     → StandsFor n.history m.setup (records_after m.setup.kind m.setup.replicas (records_of m.setup m.log.items) entry.command)
-    → vec_len n.history.labels ≤ vec_len m.history.labels + 1
+    → n.history.labels ≤ m.history.labels + 1
     → n.refused ≡ m.refused + cond (is_refused entry.reply) 1 0
     → MonitorKept n
 kept_after m n entry kept next room answered setup log stands labels refused =

@@ -1,8 +1,4 @@
-pub mod Finding
-pub mod Folding
-pub mod Named
-pub mod Queries
-pub mod Rising
+pub mod Clocking
 pub mod Taking
 pub mod Growth
 pub mod Legal

@@ -1,31 +1,20 @@
 -- What is taken, as it is looked up.
-use Rattle.std.proofs.Common.{◌≡◌, ℕ, ◌<◌, Bool, true, false, [], ◌∷◌, Option, Some, None, refl, sym, ap, ◌∙◌, subst, arith, Ordering}
-use Rattle.std.specs.Prelude.{◌||◌, ◌==◌, cond}
+use Rattle.std.proofs.Common.{◌≡◌, ℕ, ◌<◌, false, ◌∷◌, Option, Some, None, refl, ap, ◌∙◌}
+use Rattle.std.specs.Prelude.{◌||◌, ◌==◌, vec_len}
 use Rattle.std.specs.Option.{option_map_or}
-use Rattle.std.specs.Ordering.{MatchOrdering, is_eq, nat_cmp}
-use Rattle.std.specs.declared.cmp.Ordering.TheVariants.{Less, Equal, Greater}
-use Rattle.std.proofs.lemmas.Bool.{eq-eqb, ne_eqb}
-use Rattle.std.proofs.lemmas.Cmp.{ranked}
 use Rattle.ra_labels.specs.declared.kind.Kind.{Kind}
 use Rattle.ra_labels.specs.declared.operation.Op.{Op}
 use Rattle.ra_labels.specs.declared.operation.Op.TheVariants as op
 use Rattle.ra_labels.specs.declared.label.Stamp.{Stamp}
-use Rattle.ra_labels.specs.declared.label.Label.{Label}
 use Rattle.ra_labels.specs.declared.command.Command.TheVariants.{Operate}
 use Rattle.ra_labels.specs.Records.{Records, next_label}
-use Rattle.ra_labels.specs.NamedOrder.{stamp_cmp}
-use Rattle.ra_labels.specs.Answer.{misfit_of, carries_stamp, has_stamp, identifier_of, is_identifier_taken}
+use Rattle.ra_labels.specs.Answer.{misfit_of, carries_stamp, has_stamp, is_taken, identifier_of, is_identifier_taken}
 use Rattle.ra_labels.proofs.TheLaws.{forms_that_deserve_no_refusal}
-use Rattle.ra_monitor.specs.Taken.{Taken, is_stamp_in, is_identifier_in, Brings, IsTakenIn}
+use Rattle.ra_monitor.specs.declared.taken.Taken.{Taken}
+use Rattle.ra_monitor.specs.Taken.{HasRoom, CanKeep, is_stamp_in, is_identifier_in, brought_with, brought_by, has_brought, gives_brought, IsTakenIn}
 
-cmp_tests : (x y : ℕ) (o : Ordering) → MatchOrdering o (x < y) (x ≡ y) (y < x) → is_eq o ≡ (x == y)
-cmp_tests x y Less known = sym (ne_eqb x y (λ same. absurd (omega arith)))
-cmp_tests x y Equal known = sym (eq-eqb x y known)
-cmp_tests x y Greater known = sym (ne_eqb x y (λ same. absurd (omega arith)))
-
--- numbers are the same where they compare so
-is_eq-nat_cmp : (x y : ℕ) → is_eq (nat_cmp x y) ≡ (x == y)
-is_eq-nat_cmp x y = cmp_tests x y (nat_cmp x y) (ranked x y _ refl)
+some_none : (n : ℕ) → Some n ≡ None → ⊥
+some_none n e = absurd (cc e)
 
 -- an operation that gives an identifier carries no stamp
 carries_none : (op : Op) (given : ℕ) → identifier_of op ≡ Some given → carries_stamp op ≡ false
@@ -49,85 +38,48 @@ no_clock : (kind : Kind) (by : ℕ) (op : Op) (clock : Option ℕ) (given : ℕ)
     → identifier_of op ≡ Some given → clock ≡ None
 no_clock kind by op clock given fits gives = ((forms_that_deserve_no_refusal kind by op clock).0 fits).2.1 (carries_none op given gives)
 
--- with a label that gives an identifier
-identifier_more : (old new : Taken) (records : Records) (by : ℕ) (op : Op) (given : ℕ)
-    → identifier_of op ≡ Some given → Brings (next_label records by op None) old new → IsTakenIn records old
-    → IsTakenIn (Operate by op None ∷ records) new
-identifier_more old new records by op given gives brings known = record {
-  stamps = λ stamp. ap (λ stamps. is_stamp_in (record { stamps = stamps; identifiers = [] }) stamp) (brings.no_stamp given gives) ∙ known.stamps stamp;
-  identifiers = λ identifier.
-      brings.identifier given gives identifier
-      ∙ ap (λ b. is_eq (nat_cmp given identifier) || b) (known.identifiers identifier)
-      ∙ ap (λ b. b || is_identifier_taken records identifier) (is_eq-nat_cmp given identifier)
-      ∙ ap (λ (o : Option ℕ). option_map_or (λ own. own == identifier) o false || is_identifier_taken records identifier) (sym gives);
-}
+-- a stamp was brought exactly where the label has it
+stamps_brought : (records : Records) (by : ℕ) (op : Op) (clock gives : Option ℕ) (stamp : Stamp)
+    → identifier_of op ≡ gives → ((given : ℕ) → gives ≡ Some given → clock ≡ None)
+    → has_brought (brought_with by gives clock) stamp ≡ has_stamp stamp (next_label records by op clock)
+stamps_brought records by op (Some at) (Some given) stamp is bare = absurd (some_none at (bare given refl))
+stamps_brought records by op None (Some given) stamp is bare = refl
+stamps_brought records by op (Some at) None stamp is bare = refl
+stamps_brought records by op None None stamp is bare = refl
 
--- and with one that gives none
-stamp_more : (old new : Taken) (records : Records) (by : ℕ) (op : Op) (clock : Option ℕ)
-    → identifier_of op ≡ None → Brings (next_label records by op clock) old new → IsTakenIn records old
-    → IsTakenIn (Operate by op clock ∷ records) new
-stamp_more old new records by op clock none brings known = record {
-  stamps = λ stamp. brings.stamp none stamp ∙ ap (λ b. has_stamp stamp (next_label records by op clock) || b) (known.stamps stamp);
-  identifiers = λ identifier.
-      ap (λ identifiers. is_identifier_in (record { stamps = []; identifiers = identifiers }) identifier) (brings.no_identifier none)
-      ∙ known.identifiers identifier
-      ∙ ap (λ (o : Option ℕ). option_map_or (λ own. own == identifier) o false || is_identifier_taken records identifier) (sym none);
-}
+-- an identifier was brought exactly where the label gives it
+identifiers_brought : (by : ℕ) (op : Op) (clock gives : Option ℕ) (identifier : ℕ) → identifier_of op ≡ gives
+    → gives_brought (brought_with by gives clock) identifier ≡ option_map_or (λ own. own == identifier) gives false
+identifiers_brought by op clock (Some given) identifier is = refl
+identifiers_brought by op (Some at) None identifier is = refl
+identifiers_brought by op None None identifier is = refl
 
 -- what is taken with the newest label
-any_more : (kind : Kind) (old new : Taken) (records : Records) (by : ℕ) (op : Op) (clock gives : Option ℕ)
-    → misfit_of kind (Operate by op clock) ≡ None → identifier_of op ≡ gives
-    → Brings (next_label records by op clock) old new → IsTakenIn records old → IsTakenIn (Operate by op clock ∷ records) new
-any_more kind old new records by op clock None fits is brings known = stamp_more old new records by op clock is brings known
-any_more kind old new records by op clock (Some given) fits is brings known =
-    let bare = no_clock kind by op clock given fits is in
-    subst (λ (c : Option ℕ). IsTakenIn (Operate by op c ∷ records) new) (sym bare)
-    (identifier_more old new records by op given is (subst (λ (c : Option ℕ). Brings (next_label records by op c) old new) bare brings) known)
-
-pub taken_more : (kind : Kind) (old new : Taken) (records : Records) (by : ℕ) (op : Op) (clock : Option ℕ) (label : Label)
-    → misfit_of kind (Operate by op clock) ≡ None → label ≡ next_label records by op clock
-    → Brings label old new → IsTakenIn records old → IsTakenIn (Operate by op clock ∷ records) new
-taken_more kind old new records by op clock label fits is brings known =
-    any_more kind old new records by op clock (identifier_of op) fits refl (subst (λ (l : Label). Brings l old new) is brings) known
-
-one_some : {A : Type 0} (x : A) → Some x ≡ None → ⊥
-one_some x e = absurd (cc e)
-
-one_given : (x y : ℕ) → Some x ≡ Some y → x ≡ y
-one_given x y e = cc
-
--- what a label brings that gives an identifier
-pub brings_identifier : (label : Label) (old new : Taken) (given : ℕ) → identifier_of label.op ≡ Some given
-    → ((other : ℕ) → is_identifier_in new other ≡ (is_eq (nat_cmp given other) || is_identifier_in old other))
-    → new.stamps ≡ old.stamps → Brings label old new
-brings_identifier label old new given gives kept same = record {
-  identifier = λ own is other. subst (λ (g : ℕ). is_identifier_in new other ≡ (is_eq (nat_cmp g other) || is_identifier_in old other)) (one_given given own (sym gives ∙ is)) (kept other);
-  no_identifier = λ none. absurd (one_some given (sym gives ∙ none));
-  stamp = λ none. absurd (one_some given (sym gives ∙ none));
-  no_stamp = λ own is. same;
+pub taken_more : (kind : Kind) (old new : Taken) (records : Records) (by : ℕ) (op : Op) (clock : Option ℕ)
+    → misfit_of kind (Operate by op clock) ≡ None
+    → ((stamp : Stamp) → is_stamp_in new stamp ≡ (has_brought (brought_by by op clock) stamp || is_stamp_in old stamp))
+    → ((identifier : ℕ) → is_identifier_in new identifier
+    ≡ (gives_brought (brought_by by op clock) identifier || is_identifier_in old identifier))
+    → IsTakenIn records old → IsTakenIn (Operate by op clock ∷ records) new
+taken_more kind old new records by op clock fits stamps identifiers known = record {
+  stamps = λ stamp.
+      stamps stamp
+      ∙ ap (λ b. has_brought (brought_by by op clock) stamp || b) (known.stamps stamp)
+      ∙ ap (λ b. b || is_taken records stamp)
+      (stamps_brought records by op clock (identifier_of op) stamp refl (λ given gives. no_clock kind by op clock given fits gives));
+  identifiers = λ identifier.
+      identifiers identifier
+      ∙ ap (λ b. gives_brought (brought_by by op clock) identifier || b) (known.identifiers identifier)
+      ∙ ap (λ b. b || is_identifier_taken records identifier) (identifiers_brought by op clock (identifier_of op) identifier refl);
 }
 
--- one that has a stamp of its own
-pub brings_stamp : (label : Label) (old new : Taken) (stamp : Stamp) → identifier_of label.op ≡ None → label.stamp ≡ Some stamp
-    → ((other : Stamp) → is_stamp_in new other ≡ (is_eq (stamp_cmp stamp other) || is_stamp_in old other))
-    → new.identifiers ≡ old.identifiers → Brings label old new
-brings_stamp label old new stamp none has kept same = record {
-  identifier = λ own is. absurd (one_some own (sym is ∙ none));
-  no_identifier = λ _. same;
-  stamp = λ _ other. kept other ∙ ap (λ (o : Option Stamp). option_map_or (λ own. is_eq (stamp_cmp own other)) o false || is_stamp_in old other) (sym has);
-  no_stamp = λ own is. absurd (one_some own (sym is ∙ none));
-}
+-- there is room for what a label brings
+can_keep_with : (taken : Taken) (by : ℕ) (gives clock : Option ℕ) → HasRoom taken by → by < vec_len taken.clocks
+    → CanKeep taken (brought_with by gives clock)
+can_keep_with taken by (Some given) clock room there = room.identifier
+can_keep_with taken by None (Some at) room there = (there, room.clock)
+can_keep_with taken by None None room there = tt
 
--- and one that has neither
-pub brings_nothing : (label : Label) (taken : Taken) → identifier_of label.op ≡ None → label.stamp ≡ None → Brings label taken taken
-brings_nothing label taken none bare = record {
-  identifier = λ own is. absurd (one_some own (sym is ∙ none));
-  no_identifier = λ _. refl;
-  stamp = λ _ other. ap (λ (o : Option Stamp). option_map_or (λ own. is_eq (stamp_cmp own other)) o false || is_stamp_in taken other) (sym bare);
-  no_stamp = λ own is. refl;
-}
-
--- as std says what a set has with one more
-pub or_cond : (b c : Bool) → cond b true c ≡ (b || c)
-or_cond true c = refl
-or_cond false c = refl
+pub can_keep : (taken : Taken) (by : ℕ) (op : Op) (clock : Option ℕ) → HasRoom taken by → by < vec_len taken.clocks
+    → CanKeep taken (brought_by by op clock)
+can_keep taken by op clock room there = can_keep_with taken by (identifier_of op) clock room there

@@ -1,5 +1,5 @@
 -- What the fields of a monitor stand for, and what is kept true of them.
-use Rattle.std.specs.Prelude.{◌≡◌, ◌≤◌, length, vec_len}
+use Rattle.std.specs.Prelude.{◌≡◌, ◌≤◌, length}
 use Rattle.ra_monitor.specs.declared.monitor.Monitor.TheInside.{Inside}
 use Rattle.ra_monitor.specs.Monitor.{Monitor, records_of, refused_count, IsLegalLog}
 use Rattle.ra_monitor.specs.History.{StandsFor}
@@ -14,5 +14,5 @@ pub record MonitorKept (m : Inside) : Type 0 where
   pub fits : length m.log.items ≤ m.setup.limit
   pub legal : IsLegalLog m.setup m.log.items
   pub history : StandsFor m.history m.setup (records_of m.setup m.log.items)
-  pub labels : vec_len m.history.labels ≤ length m.log.items
+  pub labels : m.history.labels ≤ length m.log.items
   pub refused : m.refused ≡ refused_count m.log.items

@@ -2,8 +2,7 @@ pub mod Replies
 pub mod Monitor
 pub mod Limits
 pub mod Kept
-pub mod Sequence
 pub mod Order
+pub mod Clocks
 pub mod Taken
 pub mod History
-pub mod Fold

@@ -1,32 +1,54 @@
 -- What accepted labels have and no other may have: their own stamps, and the identifiers that they give.
-use Rattle.std.specs.Prelude.{◌≡◌, ℕ, ◌||◌, Bool, List, Some, None}
-use Rattle.std.specs.List.{list_any}
-use Rattle.std.specs.Ordering.{is_eq, nat_cmp}
+use Rattle.std.specs.Prelude.{◌≡◌, ℕ, ◌<◌, ◌==◌, nat_eq, Bool, false, List, [], Option, Some, None, get_or, vec_len}
+use Rattle.std.specs.HashSet.{contains, spare}
+use Rattle.std.specs.Ordering.{is_eq}
 use Rattle.ra_labels.specs.declared.label.Stamp.{Stamp}
-use Rattle.ra_labels.specs.declared.label.Label.{Label}
-use Rattle.ra_labels.specs.Records.{Records}
+use Rattle.ra_labels.specs.declared.operation.Op.{Op}
+use Rattle.ra_labels.specs.Records.{Records, stamp_at}
 use Rattle.ra_labels.specs.NamedOrder.{stamp_cmp}
-use Rattle.ra_labels.specs.Answer.{has_stamp, is_taken, identifier_of, is_identifier_taken}
+use Rattle.ra_labels.specs.Answer.{is_taken, identifier_of, is_identifier_taken}
+use Rattle.ra_monitor.specs.declared.brought.Brought as brought
+use Rattle.ra_monitor.specs.declared.taken.Taken.{Taken}
+use Rattle.ra_monitor.specs.Clocks.{Clocks, is_clock_in}
 
-pub record Taken : Type 0 where
-  pub stamps : List Stamp
-  pub identifiers : List ℕ
+-- the clocks of a replica's own stamps
+abbrev pub clocks_at : List Clocks → ℕ → Clocks
+clocks_at all replica = get_or all replica (record { clocks = []; room = 0 })
 
 -- is it one of these?
 abbrev pub is_stamp_in : Taken → Stamp → Bool
-is_stamp_in taken stamp = list_any (λ own. is_eq (stamp_cmp stamp own)) taken.stamps
+is_stamp_in taken stamp = is_clock_in (clocks_at taken.clocks.items stamp.replica) stamp.clock
 
 abbrev pub is_identifier_in : Taken → ℕ → Bool
-is_identifier_in taken identifier = list_any (λ given. is_eq (nat_cmp identifier given)) taken.identifiers
+is_identifier_in taken identifier = contains nat_eq taken.identifiers identifier
 
--- what the label brings to what is taken: the identifier that it gives, or else its own stamp, if it has one
-pub record Brings (label : Label) (old new : Taken) : Type 0 where
-  pub identifier : (given : ℕ) → identifier_of label.op ≡ Some given → (other : ℕ)
-      → is_identifier_in new other ≡ (is_eq (nat_cmp given other) || is_identifier_in old other)
-  pub no_identifier : identifier_of label.op ≡ None → new.identifiers ≡ old.identifiers
-  pub stamp : identifier_of label.op ≡ None → (other : Stamp)
-      → is_stamp_in new other ≡ (has_stamp other label || is_stamp_in old other)
-  pub no_stamp : (given : ℕ) → identifier_of label.op ≡ Some given → new.stamps ≡ old.stamps
+-- there is room for what a label of the replica brings
+pub record HasRoom (taken : Taken) (replica : ℕ) : Type 0 where
+  pub clock : 0 < (clocks_at taken.clocks.items replica).room
+  pub identifier : 0 < spare taken.identifiers
+
+abbrev pub CanKeep : Taken → brought.Brought → Type 0
+CanKeep taken (brought.TheVariants.Identifier identifier) = 0 < spare taken.identifiers
+CanKeep taken (brought.TheVariants.Stamp stamp) =
+    (stamp.replica < vec_len taken.clocks) × (0 < (clocks_at taken.clocks.items stamp.replica).room)
+CanKeep taken brought.TheVariants.Nothing = Unit {0}
+
+-- what the label brings that the operation becomes: the identifier that it gives, or else its own stamp, if it has one
+abbrev pub brought_with : ℕ → Option ℕ → Option ℕ → brought.Brought
+brought_with by (Some identifier) clock = brought.TheVariants.Identifier identifier
+brought_with by None (Some clock) = brought.TheVariants.Stamp (stamp_at by clock)
+brought_with by None None = brought.TheVariants.Nothing
+
+abbrev pub brought_by : ℕ → Op → Option ℕ → brought.Brought
+brought_by by op clock = brought_with by (identifier_of op) clock
+
+abbrev pub has_brought : brought.Brought → Stamp → Bool
+has_brought (brought.TheVariants.Stamp own) stamp = is_eq (stamp_cmp own stamp)
+has_brought _ stamp = false
+
+abbrev pub gives_brought : brought.Brought → ℕ → Bool
+gives_brought (brought.TheVariants.Identifier own) identifier = own == identifier
+gives_brought _ identifier = false
 
 -- this is what the labels of the records have
 pub record IsTakenIn (records : Records) (taken : Taken) : Type 0 where

@@ -1,40 +1,37 @@
-ghost use Rattle.std.specs.Prelude.{◌≡◌, ℕ, ◌+◌, ◌<◌, ◌≤◌, true, ◌∷◌, [], length, map, IfOk, OnErr, OnOk, Option, None, vec_len, if◌then◌else◌, is_some};
+ghost use Rattle.std.specs.Prelude.{◌≡◌, ℕ, ◌+◌, ◌≤◌, ◌∷◌, [], map, IfOk, OnErr, OnOk, Option, None, if◌then◌else◌, is_some};
 ghost use Rattle.std.specs.Option.{option_or, option_map_or};
+ghost use Rattle.ra_labels.specs.declared.kind.Kind.{Kind};
 ghost use Rattle.ra_labels.specs.declared.operation.Op.{Op};
 ghost use Rattle.ra_labels.specs.Records.{Records, label_count, next_label};
 ghost use Rattle.ra_labels.specs.NamedOrder.{named_sequence};
-ghost use Rattle.ra_labels.specs.Fault.{fault_of, cause_of, records_before_fault};
-ghost use Rattle.ra_labels.specs.Answer.{no_at, when, misfit_of, comes_with_taken, gives_taken, refusal_of, refusal_at, answer_of, answer_to_accepted, has_rising_list, records_after};
-ghost use Rattle.ra_visibility.specs.Order.{IsPlaceOf};
-ghost use Rattle.ra_visibility.specs.Tracked.{labels_in, replicas_in};
-ghost use Rattle.ra_monitor.specs.Order.{listed_in, room_in, IsOrderOf};
+ghost use Rattle.ra_labels.specs.Fault.{fault_of, records_before_fault};
+ghost use Rattle.ra_labels.specs.Answer.{no_at, misfit_of, comes_with_taken, gives_taken, refusal_of, refusal_at, answer_of, answer_to_accepted, records_after};
+ghost use Rattle.ra_witness.specs.Sequence.{ref_of};
+ghost use Rattle.ra_witness.specs.Witness.{IsWitnessOf};
+ghost use Rattle.ra_monitor.specs.Order.{IsOrderOf};
 ghost use Rattle.ra_monitor.specs.Taken.{IsTakenIn};
-ghost use Rattle.ra_monitor.specs.Fold.{AllRise};
-ghost use Rattle.ra_monitor.specs.Sequence.{ref_of};
-ghost use Rattle.ra_monitor.specs.History.{IsAtReplica, StandsFor, HasNewest, refusal_after_form, refusal_left};
+ghost use Rattle.ra_monitor.specs.History.{IsAtReplica, StandsFor, HasNewest, IsOfFew, MayAccept, MayDeliver, MayAnswer, refusal_after_form, refusal_left};
 ghost use Rattle.ra_monitor.specs.declared.setup.Setup.{Setup};
 
-use crate::fold::cause_of;
+use crate::brought::{Brought, identifier_of};
 use crate::order::Order;
-use crate::part_ref::PartRef;
-use crate::sequence::part_refs;
 use crate::setup::Setup;
-use crate::taken::{Taken, identifier_of};
-use ra_labels::{Cause, Command, Fault, Label, NoMemory, Op, Refusal, Reply, Stamp, fits};
-use ra_ticket::MOST_ENTRIES;
-use ra_visibility::{DeliverFault, NamedOrder, Place, Tracker};
+use crate::taken::Taken;
+use ra_labels::{Command, Fault, Label, NoMemory, Op, Refusal, Reply, Stamp, fits};
+use ra_visibility::{DeliverFault, Tracker};
+use ra_witness::{PartRef, Witness};
 use std::alloc::Global;
 
 /// The accepted commands, as what they amount to.
 #[derive(Debug, Drop)]
 pub struct History {
-    /// The labels, the oldest first.
-    pub labels: Vec<Label>,
+    /// How many labels there are.
+    pub labels: u32,
     /// What each replica had, and what each label sees.
     pub tracker: Tracker,
-    /// Where the labels before the fault stand.
-    pub order: Order,
-    /// What these have that no other label may have.
+    /// The labels before the fault in their order, and what each replica's updates before the fault lead to.
+    pub witness: Witness<Order>,
+    /// What these labels have that no other may have.
     pub taken: Taken,
     /// The first label at which the named order failed.
     pub fault: Option<Fault>,
@@ -46,11 +43,13 @@ impl History {
         ensures { IfOk result (λ history. StandsFor history setup.now []) }
     {
         let tracker = Tracker::new(alloc, setup.replicas)?;
+        let order = Order::of(alloc, setup.kind, setup.replicas)?;
+        let witness = Witness::new(alloc, setup.kind, setup.replicas, order)?;
         Ok(History {
-            labels: Vec::new(alloc),
+            labels: 0,
             tracker,
-            order: Order::of(alloc, setup.kind, setup.replicas)?,
-            taken: Taken::new(alloc),
+            witness,
+            taken: Taken::new(alloc, setup.replicas)?,
             fault: None,
         })
     }
@@ -61,26 +60,20 @@ impl History {
         ensures { (setup : Setup) (records : Records) → StandsFor self.now setup records → IfOk result (λ parts.
             parts.items ≡ map ref_of (named_sequence setup.kind (records_before_fault setup.kind records))) }
     {
-        let alloc = *self.labels.allocator();
-        let numbers = self.order.numbers(alloc)?;
-        part_refs(alloc, self.labels.as_slice(), numbers.as_slice())
+        self.witness.sequence()
     }
 
     /// Takes a command and answers it as the one-thread monitor. After `NoMemory` the records are as before.
-    /// Costs a step for each query and label where the command is an operation, and else what the tracker asks.
+    /// Costs what the tracker, the order and the witness ask, and of no label but the command's own.
     pub fn take(&mut self, setup: &Setup, command: &Command) -> Result<Reply, NoMemory>
-        requires replicas { replicas_in self.old.tracker.now ≡ setup.now.replicas }
-        requires labels { labels_in self.old.tracker.now ≡ vec_len self.old.labels }
-        requires listed { length (listed_in self.old.order) ≤ vec_len self.old.labels }
-        requires rising { AllRise self.old.labels.items }
-        requires room { vec_len self.old.labels < MOST_ENTRIES }
+        requires { IsOfFew self.old setup.now }
         ensures taken { (records : Records) → StandsFor self.old setup.now records → IfOk result (λ reply.
             (reply ≡ answer_of setup.now.kind setup.now.replicas records command.now)
             × StandsFor self.new setup.now (records_after setup.now.kind setup.now.replicas records command.now)) }
         ensures err { (records : Records) → StandsFor self.old setup.now records
             → OnErr result (StandsFor self.new setup.now records) }
-        ensures one { vec_len self.new.labels ≤ vec_len self.old.labels + 1 }
-        ensures kept { OnErr result (vec_len self.new.labels ≡ vec_len self.old.labels) }
+        ensures one { self.new.labels ≤ self.old.labels + 1 }
+        ensures kept { OnErr result (self.new.labels ≡ self.old.labels) }
     {
         if let Some(fault) = self.fault {
             return Ok(no_at(fault));
@@ -89,9 +82,9 @@ impl History {
             return Ok(Reply::Refused(refusal));
         }
         match command {
-            Command::Operate { replica, op, stamp } => self.accept(setup, *replica, op, *stamp),
+            Command::Operate { replica, op, stamp } => self.accept(*replica, op, *stamp),
             Command::Deliver { replica, label } => self.deliver(*replica, *label),
-            Command::Verdict => Ok(Reply::Yes(self.labels.len() as u32)),
+            Command::Verdict => Ok(Reply::Yes(self.labels)),
         }
     }
 
@@ -170,85 +163,85 @@ impl History {
 
     // Takes a delivery to a replica that is there, or refuses it.
     fn deliver(&mut self, replica: u8, label: u32) -> Result<Reply, NoMemory>
-        requires { replica < replicas_in self.old.tracker.now }
+        requires { MayDeliver self.old replica label }
         ensures taken { (setup : Setup) (records : Records) → StandsFor self.old setup records
-            → fault_of setup.kind records ≡ None → IfOk result (λ reply.
+            → fault_of setup.kind records ≡ None
+            → refusal_of setup.kind setup.replicas records (Command.Deliver replica label)
+            ≡ refusal_at records replica label
+            → IfOk result (λ reply.
             (reply ≡ option_map_or Reply.Refused (refusal_at records replica label) (Reply.Got label))
             × StandsFor self.new setup (if is_some (refusal_at records replica label) then records
             else Command.Deliver replica label ∷ records)) }
+        ensures err { (setup : Setup) (records : Records) → StandsFor self.old setup records
+            → OnErr result (StandsFor self.new setup records) }
         ensures labels { self.new.labels ≡ self.old.labels }
-        ensures same { OnErr result (self.new ≡ self.old) }
     {
         match self.tracker.deliver(replica, label) {
-            Ok(()) => Ok(Reply::Got(label)),
-            Err(DeliverFault::Refused(refusal)) => Ok(Reply::Refused(refusal)),
-            Err(DeliverFault::NoMemory) => Err(NoMemory),
+            Ok(()) => {}
+            Err(DeliverFault::Refused(refusal)) => return Ok(Reply::Refused(refusal)),
+            Err(DeliverFault::NoMemory) => return Err(NoMemory),
         }
-    }
-
-    // Takes an operation that is not refused. All that can be refused is asked for first; what the answer takes
-    // besides is refused when the tracker and the labels have the operation, and is taken back.
-    fn accept(
-        &mut self,
-        setup: &Setup,
-        replica: u8,
-        op: &Op,
-        clock: Option<u32>,
-    ) -> Result<Reply, NoMemory>
-        requires replica { replica < replicas_in self.old.tracker.now }
-        requires labels { labels_in self.old.tracker.now ≡ vec_len self.old.labels }
-        requires listed { length (listed_in self.old.order) ≤ vec_len self.old.labels }
-        requires rising { AllRise self.old.labels.items }
-        requires list { has_rising_list op.now ≡ true }
-        requires room { vec_len self.old.labels < MOST_ENTRIES }
-        ensures taken { (records : Records) → StandsFor self.old setup.now records
-            → fault_of setup.now.kind records ≡ None
-            → misfit_of setup.now.kind (Command.Operate replica op.now clock) ≡ None → IfOk result (λ reply.
-            (reply ≡ answer_to_accepted setup.now.kind records (Command.Operate replica op.now clock))
-            × StandsFor self.new setup.now (Command.Operate replica op.now clock ∷ records)) }
-        ensures err { (records : Records) → StandsFor self.old setup.now records
-            → OnErr result (StandsFor self.new setup.now records) }
-        ensures one { OnOk result (vec_len self.new.labels ≡ vec_len self.old.labels + 1) }
-        ensures kept { OnErr result (vec_len self.new.labels ≡ vec_len self.old.labels) }
-    {
-        let label = label_of(self.labels.len() as u32, replica, op, clock)?;
-        let is_update = label.op.is_update();
-        self.labels.reserve(1)?;
-        self.order.spare()?;
-        self.tracker.issue(replica, is_update)?;
-        self.labels.push_reserved(label);
-        match self.answer(setup) {
-            Ok(reply) => Ok(reply),
+        match self.witness.deliver(replica, label) {
+            Ok(()) => Ok(Reply::Got(label)),
             Err(NoMemory) => {
-                self.labels.pop();
                 self.tracker.withdraw();
                 Err(NoMemory)
             }
         }
     }
 
-    // Answers the newest label, and takes it into the order where all holds.
-    fn answer(&mut self, setup: &Setup) -> Result<Reply, NoMemory>
-        requires newest { 0 < vec_len self.old.labels }
-        requires few { vec_len self.old.labels ≤ MOST_ENTRIES }
-        requires labels { labels_in self.old.tracker.now ≡ vec_len self.old.labels }
-        requires listed { length (listed_in self.old.order) < vec_len self.old.labels }
-        requires rising { AllRise self.old.labels.items }
-        requires room { 0 < room_in self.old.order }
-        ensures answered { (records : Records) (by : ℕ) (op : Op) (clock : Option ℕ)
-            → HasNewest self.old setup.now records by op clock → IsTakenIn records self.old.taken
+    // Takes an operation that is not refused. All that is taken besides is asked for before the witness, and where that
+    // gives up, the tracker takes the label back.
+    fn accept(&mut self, replica: u8, op: &Op, clock: Option<u32>) -> Result<Reply, NoMemory>
+        requires { MayAccept self.old replica op.now clock }
+        ensures taken { (setup : Setup) (records : Records) → StandsFor self.old setup records
+            → fault_of setup.kind records ≡ None
+            → refusal_of setup.kind setup.replicas records (Command.Operate replica op.now clock) ≡ None
+            → misfit_of setup.kind (Command.Operate replica op.now clock) ≡ None
             → IfOk result (λ reply.
-            (reply ≡ answer_to_accepted setup.now.kind records (Command.Operate by op clock))
-            × StandsFor self.new setup.now (Command.Operate by op clock ∷ records)) }
-        ensures labels { self.new.labels ≡ self.old.labels }
-        ensures same { OnErr result (self.new ≡ self.old) }
+            (reply ≡ answer_to_accepted setup.kind records (Command.Operate replica op.now clock))
+            × StandsFor self.new setup (Command.Operate replica op.now clock ∷ records)) }
+        ensures err { (setup : Setup) (records : Records) → StandsFor self.old setup records
+            → OnErr result (StandsFor self.new setup records) }
+        ensures one { OnOk result (self.new.labels ≡ self.old.labels + 1) }
+        ensures kept { OnErr result (self.new.labels ≡ self.old.labels) }
     {
-        let number = self.labels.len() as u32 - 1;
-        let place = self.place_of(number);
-        match self.cause_at(setup, number, place)? {
+        let label = label_of(self.labels, replica, op, clock)?;
+        self.taken.make_room(replica)?;
+        self.tracker.issue(replica, op.is_update())?;
+        match self.answer(label, Brought::by(replica, op, clock)) {
+            Ok(reply) => Ok(reply),
+            Err(NoMemory) => {
+                self.tracker.withdraw();
+                Err(NoMemory)
+            }
+        }
+    }
+
+    // Answers the newest label, and keeps what it brings where all holds.
+    fn answer(&mut self, label: Label, brought: Brought) -> Result<Reply, NoMemory>
+        requires { MayAnswer self.old label brought }
+        ensures answered { (setup : Setup) (records : Records) (by : ℕ) (op : Op) (clock : Option ℕ)
+            → HasNewest self.old setup records by op clock label brought
+            → IfOk result (λ reply.
+            (reply ≡ answer_to_accepted setup.kind records (Command.Operate by op clock))
+            × StandsFor self.new setup (Command.Operate by op clock ∷ records)) }
+        ensures witness { (kind : Kind) (first : ℕ) (records : Records)
+            → IsWitnessOf IsOrderOf self.old.witness kind first records
+            → OnErr result (IsWitnessOf IsOrderOf self.new.witness kind first records) }
+        ensures one { OnOk result (self.new.labels ≡ self.old.labels + 1) }
+        ensures tracker { self.new.tracker ≡ self.old.tracker }
+        ensures kept { OnErr result (self.new.labels ≡ self.old.labels) }
+        ensures taken { OnErr result (self.new.taken ≡ self.old.taken) }
+        ensures fault { OnErr result (self.new.fault ≡ self.old.fault) }
+    {
+        let number = label.number;
+        let seen = self.tracker.vis(number);
+        let cause = self.witness.offer(label, &seen)?;
+        self.labels = number + 1;
+        match cause {
             None => {
-                self.keep_taken(number)?;
-                self.put(number, place);
+                self.taken.keep(brought);
                 Ok(Reply::Ok(number))
             }
             Some(cause) => {
@@ -260,73 +253,6 @@ impl History {
                 Ok(no_at(fault))
             }
         }
-    }
-
-    // Where the newest label stands.
-    fn place_of(&self, newest: u32) -> Place
-        requires there { newest < vec_len self.now.labels }
-        requires labels { labels_in self.now.tracker.now ≡ vec_len self.now.labels }
-        ensures { (setup : Setup) (records : Records) (by : ℕ) (op : Op) (clock : Option ℕ)
-            → HasNewest self.now setup records by op clock → newest ≡ label_count records
-            → IsPlaceOf setup.kind records by op clock result }
-    {
-        let seen = self.tracker.vis(newest);
-        self.order.place(&self.labels[newest as usize], &seen)
-    }
-
-    // Keeps what the newest label has that no other may have.
-    fn keep_taken(&mut self, newest: u32) -> Result<(), NoMemory>
-        requires { newest < vec_len self.old.labels }
-        ensures taken { OnOk result ((setup : Setup) (records : Records) (by : ℕ) (op : Op) (clock : Option ℕ)
-            → HasNewest self.old setup records by op clock → newest ≡ label_count records
-            → IsTakenIn records self.old.taken
-            → IsTakenIn (Command.Operate by op clock ∷ records) self.new.taken) }
-        ensures same { self.new ≡ record self.old { taken = self.new.taken } }
-        ensures err { OnErr result (self.new ≡ self.old) }
-    {
-        self.taken.keep(&self.labels[newest as usize])
-    }
-
-    // Takes the newest label into the order, at its place.
-    fn put(&mut self, newest: u32, place: Place)
-        requires there { newest < vec_len self.old.labels }
-        requires labels { labels_in self.old.tracker.now ≡ vec_len self.old.labels }
-        requires few { length (listed_in self.old.order) < MOST_ENTRIES }
-        requires room { 0 < room_in self.old.order }
-        ensures order { (setup : Setup) (records : Records) (by : ℕ) (op : Op) (clock : Option ℕ)
-            → HasNewest self.old setup records by op clock → newest ≡ label_count records
-            → IsPlaceOf setup.kind records by op clock place
-            → IsOrderOf self.new.order setup.kind setup.replicas (Command.Operate by op clock ∷ records) }
-        ensures same { self.new ≡ record self.old { order = self.new.order } }
-    {
-        let seen = self.tracker.vis(newest);
-        let label = &self.labels[newest as usize];
-        self.order.put(label, &seen, place);
-    }
-
-    // The first condition that fails with the newest label at this place, if any.
-    fn cause_at(&self, setup: &Setup, newest: u32, place: Place) -> Result<Option<Cause>, NoMemory>
-        requires few { length (listed_in self.now.order) < MOST_ENTRIES }
-        requires labels { labels_in self.now.tracker.now ≡ vec_len self.now.labels }
-        requires rising { AllRise self.now.labels.items }
-        ensures { (records : Records) (by : ℕ) (op : Op) (clock : Option ℕ)
-            → HasNewest self.now setup.now records by op clock
-            → newest ≡ label_count records
-            → IsPlaceOf setup.now.kind records by op clock place
-            → IfOk result (λ cause. cause ≡ cause_of setup.now.kind (Command.Operate by op clock ∷ records)) }
-    {
-        if !place.fits {
-            return Ok(Some(Cause::Order));
-        }
-        let alloc = *self.labels.allocator();
-        let numbers = self.order.numbers_with(alloc, newest, place.at)?;
-        cause_of(
-            alloc,
-            setup.kind,
-            self.labels.as_slice(),
-            numbers.as_slice(),
-            &self.tracker,
-        )
     }
 }
 

@@ -7,22 +7,20 @@
 //! lock; a `Desk` is one behind that lock, and `laws` says what its replies are.
 //!
 //! Its history is taken apart as the definitions are: what replicas had and labels see is a `Tracker`'s to say
-//! (`ra_visibility`), where labels stand the order's that the kind names (`order`), what a label is rewritten into is
-//! the rewriting's (`ra_rewrite`), and queries are folded afresh (`fold`).
+//! (`ra_visibility`), where labels stand the order's that the kind names (`order`), and whether the records still hold
+//! with a label the kept witness's (`ra_witness`).
 #![tactic(auto)]
 
+mod brought;
+mod clocks;
 mod desk;
 mod faults;
-mod fold;
 mod history;
 pub mod laws;
 mod limits;
 mod monitor;
 mod order;
-mod part_ref;
 mod report;
-mod scope;
-mod sequence;
 mod setup;
 mod taken;
 
@@ -30,6 +28,7 @@ pub use desk::Desk;
 pub use faults::NewFault;
 pub use limits::MOST_REPLICAS;
 pub use monitor::Monitor;
-pub use part_ref::{Half, PartRef};
 pub use report::Report;
 pub use setup::Setup;
+/// The parts of the named sequence are told by the labels' numbers.
+pub use ra_witness::{Half, PartRef};

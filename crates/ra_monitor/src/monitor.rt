@@ -5,17 +5,20 @@ ghost use Rattle.ra_labels.specs.NamedOrder.{named_sequence};
 ghost use Rattle.ra_labels.specs.Answer.{answer_of};
 ghost use Rattle.ra_monitor.specs.Limits.{AreReplicas, IsLimit};
 ghost use Rattle.ra_ticket.specs.Log.{last_ticket_of, unstepped};
-ghost use Rattle.ra_monitor.specs.Sequence.{ref_of};
+ghost use Rattle.ra_witness.specs.Sequence.{ref_of};
 ghost use Rattle.ra_monitor.specs.Replies.{is_yes, is_refused};
+
+#[cfg(test)]
+mod tests;
 
 use crate::faults::NewFault;
 use crate::history::History;
 use crate::limits::MOST_REPLICAS;
-use crate::part_ref::PartRef;
 use crate::report::Report;
 use crate::setup::Setup;
 use ra_labels::{Command, Kind, NoMemory, Reply};
 use ra_ticket::{Entry, Journal, MOST_ENTRIES, StepFault};
+use ra_witness::PartRef;
 use std::alloc::Global;
 use std::marker::Model;
 
@@ -113,7 +116,7 @@ impl Monitor {
         Report {
             kind: self.setup.kind,
             calls: self.log.len() as u32,
-            labels: self.history.labels.len() as u32,
+            labels: self.history.labels,
             refused: self.refused,
             fault: self.history.fault,
         }
@@ -173,7 +176,7 @@ impl Journal for Monitor {
     /// `Full` comes exactly where the log has as many entries as its limit allows, and is tested first;
     /// `NoMemory` where a growth was refused. After both nothing changed, and the command is handed back.
     ///
-    /// This first form folds the whole history afresh at each operation.
+    /// It costs what the tracker, the order and the witness ask, and looks at no label but the command's own.
     fn step(&mut self, pass: u8, ticket: u64, command: Command) -> Result<Reply, StepFault<Command>>
         requires { IsNextTicket self.old ticket }
 

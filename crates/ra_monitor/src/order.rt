@@ -1,7 +1,6 @@
 //! The named order of each kind.
-ghost use Rattle.std.specs.Prelude.{◌≡◌, ℕ, [], IfOk};
-ghost use Rattle.std.specs.List.{insert};
-ghost use Rattle.ra_monitor.specs.Order.{listed_in, IsOrderOf};
+ghost use Rattle.std.specs.Prelude.{[], IfOk};
+ghost use Rattle.ra_monitor.specs.Order.{IsOrderOf};
 
 use ra_exec_order::ExecOrder;
 use ra_labels::{Kind, Label, NoMemory};
@@ -29,26 +28,6 @@ impl Order {
                 Ok(Order::Time(TimeOrder::new(alloc, replicas)?))
             }
         }
-    }
-
-    /// The numbers of the labels, in this order.
-    pub fn numbers(&self, alloc: Global) -> Result<Vec<u32>, NoMemory>
-        ensures { IfOk result (λ numbers. numbers.items ≡ listed_in self.now) }
-    {
-        let mut numbers = Vec::new(alloc);
-        while let Some(number) = self.at(numbers.len()) {
-            numbers.push(number)?;
-        }
-        Ok(numbers)
-    }
-
-    /// The same, with one more at this position, or behind all where there are fewer.
-    pub fn numbers_with(&self, alloc: Global, number: u32, at: usize) -> Result<Vec<u32>, NoMemory>
-        ensures { IfOk result (λ numbers. numbers.items ≡ insert (listed_in self.now) at number) }
-    {
-        let mut numbers = self.numbers(alloc)?;
-        numbers.insert(at.min(numbers.len()), number)?;
-        Ok(numbers)
     }
 }
 

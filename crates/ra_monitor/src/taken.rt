@@ -1,95 +1,88 @@
-ghost use Rattle.std.specs.Prelude.{◌≡◌, ℕ, ◌||◌, [], OnOk, OnErr};
-ghost use Rattle.std.specs.Ordering.{is_eq, nat_cmp};
+ghost use Rattle.std.specs.Prelude.{◌≡◌, ℕ, ◌<◌, ◌||◌, false, IfOk, OnOk, vec_len};
 ghost use Rattle.ra_labels.specs.declared.label.Stamp.{Stamp};
-ghost use Rattle.ra_labels.specs.NamedOrder.{stamp_cmp};
-ghost use Rattle.ra_labels.specs.Answer.{identifier_of};
-ghost use Rattle.ra_monitor.specs.Taken.{is_stamp_in, is_identifier_in, Brings};
+ghost use Rattle.ra_monitor.specs.Taken.{is_stamp_in, is_identifier_in, HasRoom, CanKeep, has_brought, gives_brought};
 
-use ra_labels::{Label, NoMemory, Op, Stamp};
+use crate::brought::Brought;
+use crate::clocks::Clocks;
+use ra_labels::{NoMemory, Stamp};
 use std::alloc::Global;
-use std::collections::BTreeSet;
-use std::marker::Model;
+use std::collections::HashSet;
 
 /// What accepted labels have and no other may have: their own stamps, and the identifiers that they give.
 #[derive(Debug, Drop)]
 pub struct Taken {
-    stamps: BTreeSet<Stamp>,
-    identifiers: BTreeSet<u32>,
-}
-
-impl Model for Taken {
-    ghost use Rattle.ra_monitor.specs.Taken.{Taken};
-
-    ghost Value = { Taken };
-
-    ghost view = { λ taken. record { stamps = taken.stamps.keys; identifiers = taken.identifiers.keys } };
+    /// Of each replica.
+    pub clocks: Vec<Clocks>,
+    pub identifiers: HashSet<u32>,
 }
 
 impl Taken {
-    /// Nothing is taken.
-    pub fn new(alloc: Global) -> Taken
-        ensures stamps { result.stamps ≡ [] }
-        ensures identifiers { result.identifiers ≡ [] }
+    /// Nothing is taken, at so many replicas.
+    pub fn new(alloc: Global, replicas: u8) -> Result<Taken, NoMemory>
+        ensures replicas { IfOk result (λ taken. vec_len taken.clocks ≡ replicas) }
+        ensures stamps { IfOk result (λ taken. (stamp : Stamp) → is_stamp_in taken stamp ≡ false) }
+        ensures identifiers { IfOk result (λ taken. (identifier : ℕ) → is_identifier_in taken identifier ≡ false) }
     {
-        Taken {
-            stamps: BTreeSet::new(alloc),
-            identifiers: BTreeSet::new(alloc),
+        let mut clocks = Vec::with_capacity(alloc, replicas as usize)?;
+        for _ in 0..replicas {
+            clocks.push(Clocks::new(alloc))?;
         }
+        Ok(Taken {
+            clocks,
+            identifiers: HashSet::new(alloc),
+        })
     }
 
-    /// Is the stamp a label's own? Costs a search.
+    /// Is the stamp a label's own? Costs a constant where its clock is above all of its replica, and else a search.
     pub fn has_stamp(&self, stamp: Stamp) -> bool
         ensures { result ≡ is_stamp_in self.now stamp }
     {
-        self.stamps.contains(&stamp)
+        match self.clocks.get(stamp.replica as usize) {
+            Some(clocks) => clocks.has(stamp.clock),
+            None => false,
+        }
     }
 
-    /// Did a label give the identifier? Costs a search.
+    /// Did a label give the identifier? Costs a look-up.
     pub fn has_identifier(&self, identifier: u32) -> bool
         ensures { result ≡ is_identifier_in self.now identifier }
     {
         self.identifiers.contains(&identifier)
     }
 
-    /// Takes what the label has: the identifier that it gives, or else its own stamp, if it has one. Costs a search.
-    pub fn keep(&mut self, label: &Label) -> Result<(), NoMemory>
-        ensures kept { OnOk result (Brings label.now self.old self.new) }
-        ensures same { OnErr result (self.new ≡ self.old) }
+    /// Room for what a label of the replica brings, and nothing else changes.
+    pub fn make_room(&mut self, replica: u8) -> Result<(), NoMemory>
+        requires { replica < vec_len self.old.clocks }
+        ensures room { OnOk result (HasRoom self.new replica) }
+        ensures replicas { vec_len self.new.clocks ≡ vec_len self.old.clocks }
+        ensures stamps { (stamp : Stamp) → is_stamp_in self.new stamp ≡ is_stamp_in self.old stamp }
+        ensures identifiers { (identifier : ℕ)
+            → is_identifier_in self.new identifier ≡ is_identifier_in self.old identifier }
     {
-        match (identifier_of(&label.op), label.stamp) {
-            (Some(identifier), _) => self.keep_identifier(identifier),
-            (None, Some(stamp)) => self.keep_stamp(stamp),
-            (None, None) => Ok(()),
+        let clocks = &mut self.clocks[replica as usize];
+        clocks.make_room()?;
+        self.identifiers.reserve(1)?;
+        Ok(())
+    }
+
+    /// Takes what a label brings, for which there is room. It takes no memory.
+    pub fn keep(&mut self, brought: Brought)
+        requires { CanKeep self.old brought }
+        ensures replicas { vec_len self.new.clocks ≡ vec_len self.old.clocks }
+        ensures stamps { (stamp : Stamp) → is_stamp_in self.new stamp
+            ≡ (has_brought brought stamp || is_stamp_in self.old stamp) }
+        ensures identifiers { (identifier : ℕ) → is_identifier_in self.new identifier
+            ≡ (gives_brought brought identifier || is_identifier_in self.old identifier) }
+    {
+        match brought {
+            Brought::Identifier(identifier) => {
+                let _ = self.identifiers.insert(identifier);
+            }
+            Brought::Stamp(stamp) => {
+                let clocks = &mut self.clocks[stamp.replica as usize];
+                clocks.keep(stamp.clock);
+            }
+            Brought::Nothing => {}
         }
-    }
-
-    fn keep_identifier(&mut self, identifier: u32) -> Result<(), NoMemory>
-        ensures kept { OnOk result ((other : ℕ)
-            → is_identifier_in self.new other ≡ (is_eq (nat_cmp identifier other) || is_identifier_in self.old other)) }
-        ensures stamps { self.new.stamps ≡ self.old.stamps }
-        ensures same { OnErr result (self.new ≡ self.old) }
-    {
-        self.identifiers.insert(identifier)?;
-        Ok(())
-    }
-
-    fn keep_stamp(&mut self, stamp: Stamp) -> Result<(), NoMemory>
-        ensures kept { OnOk result ((other : Stamp)
-            → is_stamp_in self.new other ≡ (is_eq (stamp_cmp stamp other) || is_stamp_in self.old other)) }
-        ensures identifiers { self.new.identifiers ≡ self.old.identifiers }
-        ensures same { OnErr result (self.new ≡ self.old) }
-    {
-        self.stamps.insert(stamp)?;
-        Ok(())
-    }
-}
-
-/// The identifier that the operation gives to an element.
-pub fn identifier_of(op: &Op) -> Option<u32>
-    ensures { result ≡ identifier_of op.now }
-{
-    match op {
-        Op::OrAdd { id, .. } => Some(*id),
-        _ => None,
     }
 }

@@ -1,10 +1,12 @@
 //! A monitor behind the ticket lock.
 
+ghost use Rattle.ra_ticket.specs.Passes.{IsPassOf};
+
 use crate::commands::{counter_of, got, increment, read};
 use crate::lock::threads::last_pass;
 use ra_labels::{Cause, Command, Reply};
-use ra_monitor::Desk;
-use ra_ticket::{CallFault, GREATEST_TICKET, Glance, TicketLock};
+use ra_monitor::{Desk, Monitor};
+use ra_ticket::{CallFault, GREATEST_TICKET, Glance, Pass, TicketLock};
 use std::process::Abort;
 use std::test::Fail;
 
@@ -115,18 +117,25 @@ fn a_glance_tells_the_label_of_a_fault(rt: HostRuntime) -> Result<(), Fail> {
     };
     let mut other = passes.pop().ok_or("a pass")?;
     let mut pass = passes.pop().ok_or("a pass")?;
-    let increment = increment(0);
-    assert_eq!(rt; desk.submit(&rt, &mut pass, increment), Ok(Reply::Ok(0)));
-    let no = Reply::No {
-        label: 1,
-        cause: Cause::Query,
-    };
-    let read = read(1, 1);
-    assert_eq!(rt; desk.submit(&rt, &mut pass, read), Ok(no));
+    fail(&rt, &desk, &mut pass);
     let fault = Glance {
         calls: 2,
         fault: Some(1),
     };
     assert_eq!(rt; desk.glance(&mut other), fault);
     Ok(())
+}
+
+// A read of what its replica has not got.
+fn fail(rt: &HostRuntime, desk: &Desk, pass: &mut Pass<Monitor>)
+    requires { IsPassOf desk.now pass.old }
+{
+    let increment = increment(0);
+    assert_eq!(rt; desk.submit(rt, pass, increment), Ok(Reply::Ok(0)));
+    let no = Reply::No {
+        label: 1,
+        cause: Cause::Query,
+    };
+    let read = read(1, 1);
+    assert_eq!(rt; desk.submit(rt, pass, read), Ok(no));
 }

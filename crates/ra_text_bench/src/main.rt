@@ -1,7 +1,9 @@
 //! Times the check of a million lines beside a plain loop that reads the same bytes, cuts lines and fields and pushes
 //! one log entry a line.
 //!
-//! It prints nothing without a word on its command line, since the gate runs it so.
+//! With the word `loop` it runs that loop once, on standard input, and prints how many entries that pushed, so that a
+//! run of it can be timed beside a run of the check. It prints nothing without a word on its command line, since the
+//! gate runs it so.
 #![tactic(auto)]
 
 mod plain;
@@ -22,7 +24,12 @@ const LINES: u32 = 1_000_000;
 const TURNS: u32 = 5;
 
 fn main(rt: HostRuntime) -> Result<()> {
-    if env::args(&rt)?.nth(1).is_none() {
+    let Some(word) = env::args(&rt)?.nth(1) else {
+        return Ok(());
+    };
+    if word.as_str() == "loop" {
+        let entries = cut_and_log(rt.alloc(), &mut rt.reader())?;
+        println!(rt; "{entries}")?;
         return Ok(());
     }
     println!(rt; "line          check (ms)  lines/s     loop (ms)   lines/s")?;

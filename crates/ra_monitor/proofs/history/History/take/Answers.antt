@@ -11,8 +11,7 @@ use Rattle.ra_labels.specs.declared.reply.Reply.TheVariants.{Refused, Got}
 use Rattle.ra_labels.specs.Records.{Records}
 use Rattle.ra_labels.specs.Fault.{fault_of}
 use Rattle.ra_labels.specs.Answer.{no_at, misfit_of, refusal_of, refusal_at, answer_of, answer_to_accepted, records_after}
-use Rattle.ra_labels.proofs.TheLaws.{forms_that_deserve_no_refusal}
-use Rattle.ra_monitor.specs.History.{StandsFor, refusal_left}
+use Rattle.ra_monitor.specs.History.{StandsFor, IsAtReplica, refusal_left}
 use Rattle.ra_monitor.proofs.Growth.{taken_known}
 use Rattle.ra_monitor.proofs.history.History.take.Goals as goal
 
@@ -45,7 +44,8 @@ returns-in-Operate-clause-taken c = λ records stands.
     let accepted : refusal_of setup.kind setup.replicas records command ≡ None =
     c.in_default-refusal_of.ensures.first records (taken_known c.args.self.now setup records stands none) ∙ nothing_left records command by op clock c.in-Operate.is in
     let fits = ap (misfit_of setup.kind) (sym c.in-Operate.is) ∙ c.in_default-refusal_of.ensures.fits refl in
-    let taken = c.accept.ensures.taken records stands none fits in
+    let taken = c.accept.ensures.taken setup records stands none
+    (ap (refusal_of setup.kind setup.replicas records) (sym c.in-Operate.is) ∙ accepted) fits in
     let replied = subst (λ (r : Reply). IfOk c.accept.result (λ reply. (reply ≡ r) × StandsFor c.accept.new.self setup (Operate by op clock ∷ records)))
     (answered setup.kind setup.replicas records command by op clock c.in-Operate.is none accepted) taken in
     subst (λ (r : Records). IfOk c.accept.result (λ reply. (reply ≡ answer_of setup.kind setup.replicas records command) × StandsFor c.accept.new.self setup r))
@@ -98,14 +98,30 @@ returns-in-Deliver-clause-taken c = λ records stands.
     let same : refusal_of setup.kind setup.replicas records command ≡ refusal_at records to label =
     c.in_default-refusal_of.ensures.first records (taken_known c.args.self.now setup records stands none)
     ∙ ap (refusal_left records) c.in-Deliver.is in
-    let taken = c.deliver.ensures.taken setup records stands none in
+    let taken = c.deliver.ensures.taken setup records stands none
+    (ap (refusal_of setup.kind setup.replicas records) (sym c.in-Deliver.is) ∙ same) in
     let replied = subst (λ (r : Reply). IfOk c.deliver.result (λ reply. (reply ≡ r)
     × StandsFor c.deliver.new.self setup (if is_some (refusal_at records to label) then records else Deliver to label ∷ records)))
     (delivered setup.kind setup.replicas records command to label c.in-Deliver.is none same) taken in
     subst (λ (r : Records). IfOk c.deliver.result (λ reply. (reply ≡ answer_of setup.kind setup.replicas records command) × StandsFor c.deliver.new.self setup r))
     (delivered_records setup.kind setup.replicas records command to label c.in-Deliver.is none same) replied
 
-pub accept-requires-clause-list : goal.accept-requires-clause-list
-accept-requires-clause-list c =
-    let fits = ap (misfit_of c.args.setup.now.kind) (sym c.in-Operate.is) ∙ c.in_default-refusal_of.ensures.fits refl in
-    ((forms_that_deserve_no_refusal c.args.setup.now.kind c.in-Operate.replica c.in-Operate.op c.in-Operate.stamp).0 fits).1
+pub accept-requires : goal.accept-requires
+accept-requires c =
+    let r = c.requires in
+    let setup = c.args.setup.now in
+    let command = c.args.command.now in
+    let none : fault_of setup.kind r.records ≡ None = sym r.stands.fault ∙ c.in_default.is in
+    let accepted : refusal_of setup.kind setup.replicas r.records command ≡ None =
+    c.in_default-refusal_of.ensures.first r.records (taken_known c.args.self.now setup r.records r.stands none)
+    ∙ nothing_left r.records command c.in-Operate.replica c.in-Operate.op c.in-Operate.stamp c.in-Operate.is in
+    record {
+      setup = setup;
+      records = r.records;
+      stands = r.stands;
+      few = r.few;
+      none = none;
+      accepted = ap (refusal_of setup.kind setup.replicas r.records) (sym c.in-Operate.is) ∙ accepted;
+      replica = subst (IsAtReplica setup.replicas) c.in-Operate.is (c.in_default-refusal_of.ensures.known refl);
+      fits = ap (misfit_of setup.kind) (sym c.in-Operate.is) ∙ c.in_default-refusal_of.ensures.fits refl;
+    }

@@ -4,8 +4,8 @@ use Rattle.ra_labels.specs.Records.{Records}
 use Rattle.ra_labels.specs.NamedOrder.{named_sequence}
 use Rattle.ra_labels.specs.Fault.{records_before_fault}
 use Rattle.ra_labels.proofs.TheLaws.{no_fault_holds, records_before_fault_have_none-none}
-use Rattle.ra_monitor.specs.declared.part_ref.PartRef.{PartRef}
-use Rattle.ra_monitor.specs.Sequence.{ref_of}
+use Rattle.ra_witness.specs.declared.part_ref.PartRef.{PartRef}
+use Rattle.ra_witness.specs.Sequence.{ref_of}
 use Rattle.ra_monitor.specs.Monitor.{Monitor, records_of}
 use Rattle.ra_monitor.proofs.monitor.Monitor.sequence.Goals as goal
 

@@ -1,8 +1,6 @@
 use Rattle.std.proofs.Common.{◌≡◌, ℕ, ◌+◌, ◌<◌, ◌∷◌, ◌++◌, [], List, length, refl, sym, ap, ◌∙◌, subst, arith}
 use Rattle.ra_labels.specs.Answer.{answer_of}
 use Rattle.ra_monitor.specs.Monitor.{MonitorEntry, Monitor, records_of, IsRaLinearizable, IsNoAtFault, IsNextTicket}
-use Rattle.ra_monitor.proofs.Growth.{labels_known, listed_known}
-use Rattle.ra_monitor.proofs.Rising.{logged_rise}
 use Rattle.ra_monitor.proofs.Legal.{linearizable_after, no_after}
 use Rattle.ra_monitor.proofs.Keeping.{legal_after, kept_after}
 use Rattle.ra_monitor.proofs.monitor.MonitorJournal.step.Goals as goal
@@ -20,22 +18,6 @@ next_is c = subst (λ (l : Monitor). IsNextTicket l c.args.ticket) (sym c.self.v
 answered : (c : goal.After-append)
     → c.in-Ok.reply ≡ answer_of c.self.inside.setup.kind c.self.inside.setup.replicas (records_of c.self.inside.setup c.self.inside.log.items) c.args.command
 answered c = (c.in-Ok.ensures.taken (records_of c.self.inside.setup c.self.inside.log.items) c.self.invariant.history).0
-
-pub take-requires-clause-labels : goal.take-requires-clause-labels
-take-requires-clause-labels c =
-    let m = c.self.inside in
-    let stands = c.self.invariant.history in
-    stands.tracker.labels ∙ sym (labels_known m.history m.setup (records_of m.setup m.log.items) stands)
-
-pub take-requires-clause-listed : goal.take-requires-clause-listed
-take-requires-clause-listed c =
-    let m = c.self.inside in
-    listed_known m.history m.setup (records_of m.setup m.log.items) c.self.invariant.history
-
-pub take-requires-clause-rising : goal.take-requires-clause-rising
-take-requires-clause-rising c =
-    let m = c.self.inside in
-    rw c.self.invariant.history.labels (logged_rise m.setup m.log.items)
 
 pub invariant_of-self-in-Ok : goal.invariant_of-self-in-Ok
 invariant_of-self-in-Ok c =

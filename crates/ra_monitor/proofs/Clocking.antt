@@ -1,0 +1,125 @@
+-- Clocks as they are looked up.
+use Rattle.std.proofs.Common.{◌≡◌, ℕ, ◌<◌, ◌≤◌, Bool, true, false, List, ◌∷◌, length, get_or, refl, sym, ap, ◌∙◌, arith, Ordering}
+use Rattle.std.specs.Prelude.{◌||◌, ◌&&◌, ◌==◌, nat_eq, nat_lt, set}
+use Rattle.std.specs.List.{list_any, insert}
+use Rattle.std.specs.List.Sorted.{IsNonDecreasing, IsPartitionPoint}
+use Rattle.std.specs.Ordering.{MatchOrdering, is_eq, nat_cmp, ordering_then}
+use Rattle.std.specs.declared.cmp.Ordering.TheVariants.{Less, Equal, Greater}
+use Rattle.std.proofs.lemmas.Bool.{eq-eqb, ne_eqb, eqb-true, ltb-true, ltb-false}
+use Rattle.std.proofs.lemmas.Cmp.{ranked}
+use Rattle.std.proofs.lemmas.List.Elements.{All-from_get_or}
+use Rattle.std.proofs.lemmas.List.Folds.{list_any_at, list_any_none}
+use Rattle.std.proofs.lemmas.List.Sorted.{list_any-IsPermutation, IsPermutation-insert, IsNonDecreasingBy-insert}
+use Rattle.std.proofs.lemmas.List.{get_or-set_same, get_or-set_other}
+use Rattle.std.proofs.lemmas.Grind.{get_or_default_zero}
+use Rattle.ra_labels.specs.declared.label.Stamp.{Stamp}
+use Rattle.ra_labels.specs.NamedOrder.{stamp_cmp}
+use Rattle.ra_monitor.specs.Clocks.{Clocks, is_clock_in, IsPlaceFor}
+use Rattle.ra_monitor.specs.Taken.{clocks_at}
+
+both : true ≡ false → ⊥
+both e = absurd (cc e)
+
+by_tests : (x y : ℕ) (b : Bool) → (x == y) ≡ b → (x == y) ≡ (y == x)
+by_tests x y true same = same ∙ sym (eq-eqb y x (sym (eqb-true x y same)))
+by_tests x y false other = other ∙ sym (ne_eqb y x (λ e. both (sym (eq-eqb x y (sym e)) ∙ other)))
+
+eqb-comm : (x y : ℕ) → (x == y) ≡ (y == x)
+eqb-comm x y = by_tests x y (x == y) refl
+
+-- the place that a search finds
+pub place_found : (xs : List ℕ) (clock place : ℕ) → place ≤ length xs
+    → IsPartitionPoint (λ own. nat_lt own clock ≡ true) (λ own. nat_lt own clock ≡ false) xs place → IsPlaceFor xs clock place
+place_found xs clock place among point = record {
+  among = among;
+  before = λ k below. ltb-true (get_or xs k 0) clock (point.0 k 0 (omega arith) below);
+  behind = λ k behind below. ltb-false (get_or xs k 0) clock (point.1 k 0 behind below);
+}
+
+-- where another one stands at its place, a clock is none of them
+differs : (xs : List ℕ) (clock place own i : ℕ) (b : Bool) → IsNonDecreasing xs → IsPlaceFor xs clock place → place < length xs
+    → get_or xs place 0 ≡ own → ¬ (own ≡ clock) → i < length xs → nat_lt i place ≡ b → ¬ (clock ≡ get_or xs i 0)
+differs xs clock place own i true sorted at there is other below e same = absurd (omega (arith, same, at.before i (ltb-true i place e)))
+differs xs clock place own i false sorted at there is other below e same =
+    let behind : place ≤ i = ltb-false i place e in
+    other (omega (arith, is, same, sorted place i 0 behind below, at.behind place (omega arith) there))
+
+-- a clock stands at its place where it is one of them
+pub found_at : (xs : List ℕ) (clock place own : ℕ) (b : Bool) → IsNonDecreasing xs → IsPlaceFor xs clock place
+    → place < length xs → get_or xs place 0 ≡ own → nat_eq own clock ≡ b → b ≡ list_any (nat_eq clock) xs
+found_at xs clock place own true sorted at there is same =
+    sym (list_any_at (nat_eq clock) xs place 0 there (eq-eqb clock (get_or xs place 0) (sym (is ∙ eqb-true own clock same))))
+found_at xs clock place own false sorted at there is same =
+    sym (list_any_none (nat_eq clock) xs (All-from_get_or (λ x. nat_eq clock x ≡ false) xs 0
+    (λ i below. ne_eqb clock (get_or xs i 0) (differs xs clock place own i (nat_lt i place) sorted at there is (λ e. both (sym (eq-eqb own clock e) ∙ same)) below refl))))
+
+-- where its place is behind all, it is none of them
+pub not_found : (xs : List ℕ) (clock place : ℕ) → IsPlaceFor xs clock place → length xs ≤ place → false ≡ list_any (nat_eq clock) xs
+not_found xs clock place at past =
+    sym (list_any_none (nat_eq clock) xs (All-from_get_or (λ x. nat_eq clock x ≡ false) xs 0
+    (λ i below. ne_eqb clock (get_or xs i 0) (λ same. absurd (omega (arith, same, at.before i (omega (arith, below, past))))))))
+
+-- with one more at its place
+pub one_more : (xs : List ℕ) (place clock other : ℕ) → list_any (nat_eq other) (insert xs place clock) ≡ (nat_eq other clock || list_any (nat_eq other) xs)
+one_more xs place clock other =
+    sym (list_any-IsPermutation (nat_eq other) (clock ∷ xs) (insert xs place clock) (IsPermutation-insert xs place clock))
+
+pub sorted_with : (xs : List ℕ) (place clock : ℕ) → IsNonDecreasing xs → IsPlaceFor xs clock place → IsNonDecreasing (insert xs place clock)
+sorted_with xs place clock sorted at =
+    IsNonDecreasingBy-insert (λ x. x) xs place clock sorted at.among
+    (λ k d below. omega (arith, get_or_default_zero xs k d (omega (arith, below, at.among)), at.before k below))
+    (λ k d behind below. omega (arith, get_or_default_zero xs k d below, at.behind k behind below))
+
+cmp_tests : (x y : ℕ) (o : Ordering) → MatchOrdering o (x < y) (x ≡ y) (y < x) → is_eq o ≡ (x == y)
+cmp_tests x y Less known = sym (ne_eqb x y (λ same. absurd (omega arith)))
+cmp_tests x y Equal known = sym (eq-eqb x y known)
+cmp_tests x y Greater known = sym (ne_eqb x y (λ same. absurd (omega arith)))
+
+-- numbers are the same where they compare so
+is_eq-nat_cmp : (x y : ℕ) → is_eq (nat_cmp x y) ≡ (x == y)
+is_eq-nat_cmp x y = cmp_tests x y (nat_cmp x y) (ranked x y _ refl)
+
+then_eq : (a b : Ordering) → is_eq (ordering_then a b) ≡ (is_eq a && is_eq b)
+then_eq Less b = refl
+then_eq Equal b = refl
+then_eq Greater b = refl
+
+-- and stamps where clock and replica are
+pub stamps_eq : (s t : Stamp) → is_eq (stamp_cmp s t) ≡ (s.clock == t.clock && s.replica == t.replica)
+stamps_eq s t =
+    then_eq (nat_cmp s.clock t.clock) (nat_cmp s.replica t.replica)
+    ∙ ap (λ b. b && is_eq (nat_cmp s.replica t.replica)) (is_eq-nat_cmp s.clock t.clock)
+    ∙ ap (λ b. s.clock == t.clock && b) (is_eq-nat_cmp s.replica t.replica)
+
+and_true : (b : Bool) → (b && true) ≡ b
+and_true true = refl
+and_true false = refl
+
+and_false : (b : Bool) → (b && false) ≡ false
+and_false true = refl
+and_false false = refl
+
+-- what a replica's clocks say once one of them has one more
+pub stamp_more : (all : List Clocks) (own stamp : Stamp) (clocks : Clocks) (b : Bool) → own.replica < length all
+    → ((other : ℕ) → is_clock_in clocks other ≡ (nat_eq other own.clock || is_clock_in (clocks_at all own.replica) other))
+    → (own.replica == stamp.replica) ≡ b
+    → is_clock_in (clocks_at (set all own.replica clocks) stamp.replica) stamp.clock
+    ≡ (is_eq (stamp_cmp own stamp) || is_clock_in (clocks_at all stamp.replica) stamp.clock)
+stamp_more all own stamp clocks true there more same =
+    let at : own.replica ≡ stamp.replica = eqb-true own.replica stamp.replica same in
+    let here : clocks_at (set all own.replica clocks) stamp.replica ≡ clocks =
+    ap (λ r. clocks_at (set all own.replica clocks) r) (sym at) ∙ get_or-set_same all own.replica clocks _ there in
+    ap (λ (c : Clocks). is_clock_in c stamp.clock) here
+    ∙ more stamp.clock
+    ∙ ap (λ r. nat_eq stamp.clock own.clock || is_clock_in (clocks_at all r) stamp.clock) at
+    ∙ ap (λ b. b || is_clock_in (clocks_at all stamp.replica) stamp.clock) (
+    eqb-comm stamp.clock own.clock
+    ∙ sym (and_true (own.clock == stamp.clock))
+    ∙ ap (λ b. own.clock == stamp.clock && b) (sym same)
+    ∙ sym (stamps_eq own stamp)
+    )
+stamp_more all own stamp clocks false there more other =
+    ap (λ (c : Clocks). is_clock_in c stamp.clock)
+    (get_or-set_other all own.replica stamp.replica clocks _ (λ e. both (sym (eq-eqb own.replica stamp.replica (sym e)) ∙ other)))
+    ∙ ap (λ b. b || is_clock_in (clocks_at all stamp.replica) stamp.clock)
+    (sym (stamps_eq own stamp ∙ ap (λ b. own.clock == stamp.clock && b) other ∙ and_false (own.clock == stamp.clock)))

@@ -1,0 +1,17 @@
+-- The clocks of one replica's own stamps.
+use Rattle.std.specs.Prelude.{ℕ, ◌≤◌, ◌<◌, nat_eq, Bool, List, length, get_or}
+use Rattle.std.specs.List.{list_any}
+
+pub record Clocks : Type 0 where
+  pub clocks : List ℕ
+  -- how many more there is room for
+  pub room : ℕ
+
+abbrev pub is_clock_in : Clocks → ℕ → Bool
+is_clock_in clocks clock = list_any (nat_eq clock) clocks.clocks
+
+-- the clocks before the place are below this one, and no others
+pub record IsPlaceFor (clocks : List ℕ) (clock place : ℕ) : Type 0 where
+  pub among : place ≤ length clocks
+  pub before : (k : ℕ) → k < place → get_or clocks k 0 < clock
+  pub behind : (k : ℕ) → place ≤ k → k < length clocks → clock ≤ get_or clocks k 0

@@ -1,0 +1,22 @@
+use Rattle.std.proofs.Common.{◌≡◌, ℕ, List, length, sym, ap, ◌∙◌, subst, arith, true, Bool}
+use Rattle.ra_element_list.specs.ElementList.{arrival_at, is_marked}
+use Rattle.ra_replica_list.specs.declared.deed.Deed.TheVariants.{PutsIn}
+use Rattle.ra_replica_list.specs.ReplicaList.{ReplicaList}
+use Rattle.ra_replica_list.specs.Waiting.{labels_under}
+use Rattle.ra_replica_list.specs.Freed.{freed_under, IsKeptAfter}
+use Rattle.ra_replica_list.proofs.Alike.{kept_in}
+use Rattle.ra_replica_list.proofs.Finishing.{all_follow}
+use Rattle.ra_replica_list.proofs.replica_list.ReplicaList.put_in_with_waiting.Goals as goal
+
+pub returns-clause-got : goal.returns-clause-got
+returns-clause-got c = λ records had stand held is new.
+    let all = c.args.all.now in
+    let freed = c.in_ok-freed.freed in
+    let kept = kept_in c.args.self.now _ c.self.view_is held.kept in
+    let needs : is_marked c.self.inside.there.marks.items (arrival_at all.arrivals c.args.number).anchor ≡ true =
+    ap (λ (l : ReplicaList). is_marked l.marks (arrival_at all.arrivals c.args.number).anchor) c.self.view_is ∙ c.requires.anchor in
+    let amidst = c.in_ok-freed.ensures records had held.settled (PutsIn c.args.number) stand kept is new needs in
+    let says : (number : ℕ) → labels_under c.free_all.new.waiting number ≡ freed_under c.args.deeds.now freed.labels.items (labels_under c.self.inside.waiting) number =
+    λ number. c.free_all.ensures number ∙ ap (λ (ls : List ℕ). freed_under c.args.deeds.now ls (labels_under c.self.inside.waiting) number) c.as_slice.ensures.value in
+    subst (λ (n : ℕ). IsKeptAfter freed.state freed.there.marks.items c.free_all.new.waiting all.arrivals c.args.deeds.now records had held.settled c.args.label n) (omega (arith, c.len-steps.ensures, freed.labels.ok.0))
+    (all_follow c.free_all.new.waiting stand kept amidst.freeing says)

@@ -1,0 +1,4 @@
+pub mod Waiting
+pub mod Deeds
+pub mod ReplicaList
+pub mod Freed

@@ -1,0 +1,48 @@
+//! What later labels and deliveries leave of the list of a replica, each law the clause of a function that does
+//! nothing.
+ghost use Rattle.std.specs.Prelude.{◌≡◌, ℕ, true, false, List, ◌++◌, ◌∷◌, [], length, Option, Some, None};
+ghost use Rattle.ra_labels.specs.declared.kind.Kind.TheVariants.{Rga};
+ghost use Rattle.ra_labels.specs.declared.operation.Op.{Op};
+ghost use Rattle.ra_labels.specs.declared.operation.Update.TheVariants.{After, RgaRemove};
+ghost use Rattle.ra_labels.specs.declared.command.Command.TheVariants.{Operate, Deliver};
+ghost use Rattle.ra_labels.specs.Records.{Records, next_label};
+ghost use Rattle.ra_labels.specs.Visibility.{is_update};
+ghost use Rattle.ra_labels.specs.Linearization.{updates_admitted};
+ghost use Rattle.ra_labels.specs.NamedOrder.{named_sequence, timestamp_of};
+ghost use Rattle.ra_labels.specs.Insertion.{Makes};
+ghost use Rattle.ra_element_list.specs.ElementList.{Arrival, ElementList};
+ghost use Rattle.ra_replica_list.specs.declared.deed.Deed.{Deed};
+ghost use Rattle.ra_replica_list.specs.declared.deed.Deed.TheVariants.{PutsIn, Removes};
+ghost use Rattle.ra_replica_list.specs.Deeds.{element_at, AreElementsOf};
+ghost use Rattle.ra_replica_list.specs.ReplicaList.{ReplicaList, IsListOf};
+
+/// A label of another replica leaves the list of a replica, whatever it does, and so does a label of its own that does
+/// nothing; and so does a delivery to another one.
+pub fn a_list_stays_with_what_others_do()
+    ensures insertion { (list : ReplicaList) (all : ElementList) (new : Arrival) (deeds : List (Option Deed))
+        (records : Records) (replica by : ℕ) (op : Op) (clock : Option ℕ) → AreElementsOf all deeds records
+        → IsListOf list all.arrivals deeds records replica → ¬ (by ≡ replica)
+        → Makes op (After (element_at all.arrivals new.anchor) new.element)
+        → updates_admitted Rga (named_sequence Rga (Operate by op clock ∷ records)) ≡ true
+        → IsListOf list (all.arrivals ++ new ∷ []) (deeds ++ Some (PutsIn (length all.arrivals)) ∷ [])
+        (Operate by op clock ∷ records) replica }
+    ensures removal { (list : ReplicaList) (all : ElementList) (deeds : List (Option Deed)) (records : Records)
+        (replica by number : ℕ) (op : Op) (clock : Option ℕ) → AreElementsOf all deeds records
+        → IsListOf list all.arrivals deeds records replica → ¬ (by ≡ replica)
+        → Makes op (RgaRemove (element_at all.arrivals number))
+        → IsListOf list all.arrivals (deeds ++ Some (Removes number) ∷ []) (Operate by op clock ∷ records) replica }
+    ensures query { (list : ReplicaList) (all : ElementList) (deeds : List (Option Deed)) (records : Records)
+        (replica by : ℕ) (op : Op) (clock : Option ℕ) → AreElementsOf all deeds records
+        → IsListOf list all.arrivals deeds records replica → is_update op ≡ false
+        → IsListOf list all.arrivals (deeds ++ None ∷ []) (Operate by op clock ∷ records) replica }
+    ensures delivery { (list : ReplicaList) (all : ElementList) (deeds : List (Option Deed)) (records : Records)
+        (replica to n : ℕ) → AreElementsOf all deeds records → IsListOf list all.arrivals deeds records replica
+        → ¬ (to ≡ replica) → IsListOf list all.arrivals deeds (Deliver to n ∷ records) replica }
+{}
+
+/// A label with no stamp of its own ranks by the greatest stamp of the labels that its replica had.
+pub fn the_greatest_stamp_ranks_the_next_label()
+    ensures { (list : ReplicaList) (arrivals : List Arrival) (deeds : List (Option Deed)) (records : Records)
+        (by : ℕ) (op : Op) → IsListOf list arrivals deeds records by
+        → timestamp_of (Operate by op None ∷ records) (next_label records by op None) ≡ list.greatest }
+{}

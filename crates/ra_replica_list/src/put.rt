@@ -1,0 +1,32 @@
+ghost use Rattle.std.specs.Prelude.{◌≡◌, ◌==◌, ◌||◌, ℕ, unwrap_or, OnOk, OnErr};
+ghost use Rattle.ra_labels.specs.declared.operation.Update.TheVariants.{After};
+ghost use Rattle.ra_labels.specs.Specification.{step_of};
+ghost use Rattle.ra_element_list.specs.ElementList.{is_marked};
+
+use crate::marks::Marks;
+use ra_labels::{NoMemory, Update};
+use ra_seqspec::State;
+
+/// Puts the element of this number in behind another one, in one step, or changes nothing.
+pub fn put_in(
+    state: &mut State,
+    there: &mut Marks,
+    number: u32,
+    behind: u32,
+    element: u32,
+) -> Result<(), NoMemory>
+    ensures step { OnOk result (state.new ≡ unwrap_or (step_of state.old (After behind element)) state.old) }
+    ensures marks { OnOk result ((k : ℕ) → is_marked there.new.marks.items k
+        ≡ (is_marked there.old.marks.items k || k == number)) }
+    ensures err_state { OnErr result (state.new ≡ state.old) }
+    ensures err_marks { OnErr result ((k : ℕ)
+        → is_marked there.new.marks.items k ≡ is_marked there.old.marks.items k) }
+{
+    there.make_room(number)?;
+    state.apply(&Update::After {
+        anchor: behind,
+        element,
+    })?;
+    there.put(number);
+    Ok(())
+}

@@ -1,0 +1,135 @@
+-- When the elements of all labels are those of records: at first, with room for one more, and what is known of them.
+use Rattle.std.proofs.Common.{◌≡◌, ℕ, zero, suc, ◌<◌, ◌≤◌, Bool, true, false, List, [], ◌∷◌, ◌++◌, length, get_or, Option, Some, None, refl, sym, ap, ◌∙◌, subst, inl, inr, arith}
+use Rattle.std.specs.Prelude.{◌⊎◌, Contains}
+use Rattle.std.specs.List.{slice_get}
+use Rattle.std.proofs.lemmas.Bool.{cases_eq}
+use Rattle.std.proofs.lemmas.Option.{none-some}
+use Rattle.std.proofs.lemmas.List.Sorted.{Contains-permutation, IsPermutation-sym}
+use Rattle.ra_labels.specs.declared.kind.Kind.TheVariants as variant
+use Rattle.ra_labels.specs.declared.operation.Update.{Update}
+use Rattle.ra_labels.specs.declared.operation.Update.TheVariants.{After, RgaRemove}
+use Rattle.ra_labels.specs.declared.label.Label.{Label}
+use Rattle.ra_labels.specs.Records.{Records, labels_of}
+use Rattle.ra_labels.specs.Rewriting.{updates_of}
+use Rattle.ra_labels.specs.NamedOrder.{named_labels, named_sequence}
+use Rattle.ra_labels.specs.Insertion.{Makes}
+use Rattle.ra_labels.specs.Waiting.{is_there}
+use Rattle.ra_labels.proofs.TheLaws.{named_labels_are_sorted-same, what_is_there_a_label_put_in-all}
+use Rattle.ra_element_list.specs.ElementList.{Arrival, ElementList, root, arrival_at}
+use Rattle.ra_replica_list.specs.declared.deed.Deed.{Deed}
+use Rattle.ra_replica_list.specs.declared.deed.Deed.TheVariants.{PutsIn, Removes}
+use Rattle.ra_replica_list.specs.Deeds.{deed_at, element_at, update_of, AreElementsOf}
+use Rattle.ra_replica_list.specs.ReplicaList.{IsListOf}
+use Rattle.ra_witness.specs.declared.rga.Rga.{Rga}
+use Rattle.ra_witness.specs.Rga.{IsRgaOf}
+use Rattle.ra_witness.proofs.ReplicaLists.{AreListsOf}
+
+-- room for more does not matter
+pub elements_like : (a b : ElementList) (deeds : List (Option Deed)) (records : Records) → a.elements ≡ b.elements → a.arrivals ≡ b.arrivals
+    → AreElementsOf a deeds records → AreElementsOf b deeds records
+elements_like a b deeds records same_elements same_arrivals are =
+    let roomy : AreElementsOf (record { elements = a.elements; arrivals = a.arrivals; has_room = b.has_room }) deeds records = record {
+      count = are.count;
+      made = are.made;
+      makes = are.makes;
+      known = are.known;
+      stamp = are.stamp;
+      unstamped = are.unstamped;
+      some = are.some;
+      first = are.first;
+      came = are.came;
+      anchored = are.anchored;
+      once = are.once;
+      listed = are.listed;
+    } in
+    subst (λ es. AreElementsOf (record { elements = es; arrivals = b.arrivals; has_room = b.has_room }) deeds records) same_elements
+    (subst (λ rs. AreElementsOf (record { elements = a.elements; arrivals = rs; has_room = b.has_room }) deeds records) same_arrivals roomy)
+
+pub rga_like : (a b : Rga) (first : ℕ) (records : Records) → a.all.elements ≡ b.all.elements → a.all.arrivals ≡ b.all.arrivals → a.deeds.items ≡ b.deeds.items → a.lists.items ≡ b.lists.items
+    → IsRgaOf a first records → IsRgaOf b first records
+rga_like a b first records same_elements same_arrivals same_deeds same_lists stands = record {
+  elements = subst (λ ds. AreElementsOf b.all ds records) same_deeds (elements_like a.all b.all a.deeds.items records same_elements same_arrivals stands.elements);
+  replicas = ap length (sym same_lists) ∙ stands.replicas;
+  lists =
+      subst (λ ls. AreListsOf ls b.all.arrivals b.deeds.items records) same_lists
+      (subst (λ ds. AreListsOf a.lists.items b.all.arrivals ds records) same_deeds (subst (λ rs. AreListsOf a.lists.items rs a.deeds.items records) same_arrivals stands.lists));
+  few = omega (arith, stands.few, ap length same_arrivals);
+}
+
+none_there : (n : ℕ) (x : Deed) → deed_at [] n ≡ Some x → ⊥
+none_there n x is = none-some x is
+
+-- no labels: the root alone
+pub no_elements : (all : ElementList) → all.elements ≡ 0 ∷ [] → all.arrivals ≡ root ∷ [] → AreElementsOf all [] []
+no_elements all elements arrivals =
+    let one : ElementList = record { elements = 0 ∷ []; arrivals = root ∷ []; has_room = all.has_room } in
+    elements_like one all [] [] (sym elements) (sym arrivals) (record {
+      count = refl;
+      made = λ label update there makes. absurd (omega (arith, there.1));
+      makes = λ n deed at. absurd (none_there n deed at);
+      known = λ n deed at. absurd (none_there n deed at);
+      stamp = λ label number there at. absurd (omega (arith, there.1));
+      unstamped = λ label number there at. absurd (omega (arith, there.1));
+      some = omega arith;
+      first = refl;
+      came = λ number some there. absurd (omega (arith, some, there));
+      anchored = anchored;
+      once = λ m n within there same. omega (arith, within, there);
+      listed = ((0, false) ∷ [], refl, refl);
+    })
+  where
+    anchored : (number : ℕ) → number < length (root ∷ []) → (arrival_at (root ∷ []) number).anchor < length (root ∷ [])
+    anchored zero within = omega arith
+    anchored (suc n) within = absurd (omega (arith, within))
+
+module _ (all : ElementList) (deeds : List (Option Deed)) (records : Records) (are : AreElementsOf all deeds records) where
+  -- a label put each element in but the root
+  pub its_label : (n : ℕ) → 0 < n → n < length all.arrivals → (label : Label) × Contains (labels_of records) label
+      × Makes label.op (After (element_at all.arrivals (arrival_at all.arrivals n).anchor) (element_at all.arrivals n)) × (label.stamp ≡ Some (arrival_at all.arrivals n).stamp)
+  its_label n some within =
+      let (m, at) = are.came n some within in
+      let (label, there, number, makes) = are.makes m (PutsIn n) at in
+      (label, there, makes, are.stamp label n there (ap (deed_at deeds) number ∙ at))
+
+  -- the number of the element that a label put in
+  pub record IsPutInAs (label : Label) (x n : ℕ) : Type 0 where
+    pub within : n < length all.arrivals
+    pub is : element_at all.arrivals n ≡ x
+    pub stamp : label.stamp ≡ Some (arrival_at all.arrivals n).stamp
+
+  pub its_number : (label : Label) (anchor x : ℕ) → Contains (labels_of records) label → Makes label.op (After anchor x) → (n : ℕ) × IsPutInAs label x n
+  its_number label anchor x there makes =
+      let (deed, at, is) = are.made label (After anchor x) there makes in
+      by deed at is
+    where
+      by : (deed : Deed) → deed_at deeds label.number ≡ Some deed → update_of all.arrivals deed ≡ After anchor x → (n : ℕ) × IsPutInAs label x n
+      by (PutsIn n) at is = let same : element_at all.arrivals n ≡ x = cc (is) in (n, record { within = are.known label.number (PutsIn n) at; is = same; stamp = are.stamp label n there at })
+      by (Removes n) at is = absurd (cc (is))
+
+  -- what is there has a number
+  pub there_numbered : (x : ℕ) → is_there x (updates_of (named_sequence variant.Rga records)) ≡ true → (n : ℕ) × (n < length all.arrivals) × (element_at all.arrivals n ≡ x)
+  there_numbered x is =
+      let named = named_labels variant.Rga records in
+      elim ((what_is_there_a_label_put_in-all named x).0 is) [
+        | inl root_is ↦ (0, are.some, ap (λ (a : Arrival). a.element) are.first ∙ sym root_is)
+        | inr (label, anchor, there, makes) ↦
+            let (n, as_number) = its_number label anchor x
+            (Contains-permutation named (labels_of records) label (IsPermutation-sym (labels_of records) named (named_labels_are_sorted-same variant.Rga records)) there) makes in
+            (n, as_number.within, as_number.is)
+      ]
+
+  pub numbered_there : (x n : ℕ) → n < length all.arrivals → element_at all.arrivals n ≡ x → is_there x (updates_of (named_sequence variant.Rga records)) ≡ true
+  numbered_there x n within same = elim (cases_eq n 0) [
+    | inl zero_is ↦
+        (what_is_there_a_label_put_in-all (named_labels variant.Rga records) x).1
+        (inl (sym (sym (ap (λ (a : Arrival). a.element) are.first) ∙ sym (ap (element_at all.arrivals) zero_is) ∙ same)))
+    | inr other ↦
+        let named = named_labels variant.Rga records in
+        let (label, there, makes, stamp) = its_label n (omega (arith, other)) within in
+        (what_is_there_a_label_put_in-all named x).1 (inr (
+          label,
+          element_at all.arrivals (arrival_at all.arrivals n).anchor,
+          Contains-permutation (labels_of records) named label (named_labels_are_sorted-same variant.Rga records) there,
+          subst (λ y. Makes label.op (After (element_at all.arrivals (arrival_at all.arrivals n).anchor) y)) same makes,
+        ))
+  ]

@@ -1,0 +1,176 @@
+-- A new label alone decides: what it asks is held against the state of its replica.
+use Rattle.std.proofs.Common.{◌≡◌, ℕ, Bool, true, false, cond, List, [], ◌∷◌, ◌++◌, Option, Some, None, refl, sym, ap, ◌∙◌, subst, inl, inr, arith}
+use Rattle.std.specs.Prelude.{◌&&◌, not, Contains, map, flat_map}
+use Rattle.std.specs.List.{list_all}
+use Rattle.std.proofs.lemmas.Bool.{and_parts, and_from, false≢true}
+use Rattle.std.proofs.lemmas.Option.{none-some}
+use Rattle.std.proofs.lemmas.List.{append-nil}
+use Rattle.std.proofs.lemmas.List.Folds.{list_all-append}
+use Rattle.std.proofs.lemmas.List.Elements.{filter_map-append}
+use Rattle.std.proofs.lemmas.Grind.{flat_map-append}
+use Rattle.ra_labels.specs.declared.kind.Kind.{Kind}
+use Rattle.ra_labels.specs.declared.kind.Kind.TheVariants.{Counter, Register, LwwSet, OrSet, Rga}
+use Rattle.ra_labels.specs.declared.operation.Op.{Op}
+use Rattle.ra_labels.specs.declared.operation.Update.{Update}
+use Rattle.ra_labels.specs.declared.operation.Query.{Query}
+use Rattle.ra_labels.specs.declared.label.Label.{Label}
+use Rattle.ra_labels.specs.declared.command.Command.TheVariants.{Operate}
+use Rattle.ra_labels.specs.declared.reply.Cause.TheVariants as cause
+use Rattle.ra_labels.specs.Records.{Records, label_count, next_label}
+use Rattle.ra_labels.specs.Rewriting.{Part, Half, Act, Does, Asks, acts_of, part_of, parts_of, update_of, updates_of}
+use Rattle.ra_labels.specs.Specification.{State, answers, state_after}
+use Rattle.ra_labels.specs.Linearization.{visible_updates, extends_visibility, updates_admitted, queries_admitted}
+use Rattle.ra_labels.specs.NamedOrder.{named_labels, named_sequence}
+use Rattle.ra_labels.specs.Fault.{Holds, cause_of}
+use Rattle.ra_labels.specs.Answer.{kind_of, is_kind}
+use Rattle.ra_labels.specs.Laws.{IsAnsweredAfter, kind_of_update, kind_of_act}
+use Rattle.ra_labels.specs.Insertion.{updates_had, IsAnsweredItself}
+use Rattle.ra_labels.proofs.TheLaws.{a_new_label_alone_decides-query, a_new_label_leaves_what_the_others_see-own, a_new_label_leaves_the_order_of_the_others, updates_of_the_kind_are_admitted-only, updates_of_the_kind_are_admitted-exactly, parts_are_of_their_kind}
+use Rattle.ra_witness.specs.Labels.{queries_in, answers_in, cause_in}
+use Rattle.ra_witness.proofs.Places.{head_or_behind, at_head, behind_head, reached, from_where, pass_together}
+
+-- each query that is asked is answered
+all_answered : (o : Option State) (acts : List (Half × Act)) → ((half : Half) (query : Query) → Contains acts (half, Asks query) → answers_in o query ≡ true)
+    → list_all (answers_in o) (queries_in acts) ≡ true
+all_answered o [] each = refl
+all_answered o ((half, Does u) ∷ acts) each =
+    all_answered o acts (λ h query there. each h query (behind_head (half, Does u) acts (h, Asks query) there))
+all_answered o ((half, Asks asked) ∷ acts) each =
+    and_from (answers_in o asked) (list_all (answers_in o) (queries_in acts)) (each half asked (at_head (half, Asks asked) acts))
+    (all_answered o acts (λ h query there. each h query (behind_head (half, Asks asked) acts (h, Asks query) there)))
+
+same_query : (o : Option State) (asked query : Query) → Asks asked ≡ Asks query → answers_in o asked ≡ true → answers_in o query ≡ true
+same_query o asked query is passes =
+    let same : asked ≡ query = cc in
+    subst (λ q. answers_in o q ≡ true) same passes
+
+each_answered : (o : Option State) (acts : List (Half × Act)) → list_all (answers_in o) (queries_in acts) ≡ true
+    → (act : Half × Act) (query : Query) → Contains acts act → act.1 ≡ Asks query → answers_in o query ≡ true
+each_answered o [] pass act query there is = absurd (omega (arith, there.1))
+each_answered o ((half, Does u) ∷ acts) pass act query there is = elim (head_or_behind (half, Does u) acts act there) [
+  | inl here ↦ absurd (none-some u (sym (ap (λ (a : Half × Act). update_of a.1) here ∙ ap update_of is)))
+  | inr further ↦ each_answered o acts pass act query further is
+]
+each_answered o ((half, Asks asked) ∷ acts) pass act query there is =
+    let parts = and_parts (answers_in o asked) (list_all (answers_in o) (queries_in acts)) pass in
+    elim (head_or_behind (half, Asks asked) acts act there) [
+      | inl here ↦ same_query o asked query (ap (λ (a : Half × Act). a.1) here ∙ is) parts.0
+      | inr further ↦ each_answered o acts parts.1 act query further is
+    ]
+
+yes_in : (o : Option State) (query : Query) → answers_in o query ≡ true → (state : State) × (o ≡ Some state) × (answers state query ≡ true)
+yes_in None query passes = absurd (false≢true passes)
+yes_in (Some state) query passes = (state, refl, passes)
+
+module _ (kind : Kind) (records : Records) (by : ℕ) (op : Op) (clock : Option ℕ) where
+  abbrev now : Records
+  now = Operate by op clock ∷ records
+
+  abbrev label : Label
+  label = next_label records by op clock
+
+  abbrev before : Option State
+  before = state_after kind (updates_had kind records by)
+
+  sees_had : visible_updates now (named_sequence kind now) (label_count records) ≡ updates_had kind records by
+  sees_had = a_new_label_leaves_what_the_others_see-own kind records by op clock
+
+  answered_before : (query : Query) → IsAnsweredAfter kind (visible_updates now (named_sequence kind now) (label_count records)) query → answers_in before query ≡ true
+  answered_before query (state, led, passes) =
+      ap (λ o. answers_in o query) (sym (ap (state_after kind) sees_had) ∙ led) ∙ passes
+
+  answered_itself : (query : Query) → answers_in before query ≡ true → IsAnsweredAfter kind (visible_updates now (named_sequence kind now) (label_count records)) query
+  answered_itself query passes =
+      let (state, led, is) = yes_in before query passes in
+      (state, ap (state_after kind) sees_had ∙ led, is)
+
+  from_itself : IsAnsweredItself kind now label (named_sequence kind now) → list_all (answers_in before) (queries_in (acts_of op)) ≡ true
+  from_itself itself = all_answered before (acts_of op) (λ half query there.
+      answered_before query (itself (part_of label (half, Asks query)) query (reached (part_of label) (acts_of op) (half, Asks query) there) refl))
+
+  to_itself : list_all (answers_in before) (queries_in (acts_of op)) ≡ true → IsAnsweredItself kind now label (named_sequence kind now)
+  to_itself pass = λ part query there is.
+      let (act, found, same) = from_where (part_of label) (acts_of op) part there in
+      answered_itself query (each_answered before (acts_of op) pass act query found (ap (λ (p : Part). p.act) same ∙ is))
+
+  queries_agree : queries_admitted kind records (named_sequence kind records) ≡ true
+      → queries_admitted kind now (named_sequence kind now) ≡ list_all (answers_in before) (queries_in (acts_of op))
+  queries_agree held =
+      let decides = a_new_label_alone_decides-query kind records by op clock held in
+      pass_together (queries_admitted kind now (named_sequence kind now)) (list_all (answers_in before) (queries_in (acts_of op)))
+      (λ admitted. from_itself (decides.0 admitted)) (λ pass. decides.1 (to_itself pass))
+
+cause_by_tests : (kind : Kind) (records : Records) (updates queries : Bool)
+    → extends_visibility records (named_sequence kind records) ≡ true
+    → updates_admitted kind (named_sequence kind records) ≡ updates
+    → queries_admitted kind records (named_sequence kind records) ≡ queries
+    → cause_of kind records ≡ cond (not updates) (Some cause.Update) (cond (not queries) (Some cause.Query) None)
+cause_by_tests kind records updates queries e u q = rw (e, u, q) refl
+
+swapped : (b : Bool) → cond (not b) (Some cause.Query) None ≡ cond b None (Some cause.Query)
+swapped true = refl
+swapped false = refl
+
+-- where a new label fits, the cause at it is that of the updates of all labels, or else that of what it asks
+pub cause_where_it_fits : (kind : Kind) (records : Records) (by : ℕ) (op : Op) (clock : Option ℕ) (admitted : Bool) → Holds kind records
+    → let now = Operate by op clock ∷ records in extends_visibility now (named_sequence kind now) ≡ true
+    → updates_admitted kind (named_sequence kind now) ≡ admitted
+    → cause_of kind now ≡ cond (not admitted) (Some cause.Update) (cause_in (state_after kind (updates_had kind records by)) (acts_of op))
+cause_where_it_fits kind records by op clock admitted holds extended is =
+    let now = Operate by op clock ∷ records in
+    let asked = list_all (answers_in (state_after kind (updates_had kind records by))) (queries_in (acts_of op)) in
+    cause_by_tests kind now admitted asked extended is (queries_agree kind records by op clock holds.queries)
+    ∙ ap (λ c. cond (not admitted) (Some cause.Update) c) (swapped asked)
+
+-- updates of a kind whose updates are all admitted
+abbrev pub are_of : Kind → List Update → Bool
+are_of kind updates = list_all (λ update. is_kind kind (kind_of_update update)) updates
+
+of_kind-acts : (kind other : Kind) (own : Label) (acts : List (Half × Act)) → is_kind kind other ≡ true → list_all (λ (act : Half × Act). is_kind other (kind_of_act act.1)) acts ≡ true
+    → are_of kind (updates_of (map (part_of own) acts)) ≡ true
+of_kind-acts kind other own [] is pass = refl
+of_kind-acts kind other own ((half, Asks query) ∷ acts) is pass =
+    of_kind-acts kind other own acts is (and_parts (is_kind other (kind_of_act (Asks query))) (list_all (λ (act : Half × Act). is_kind other (kind_of_act act.1)) acts) pass).1
+of_kind-acts kind other own ((half, Does u) ∷ acts) is pass =
+    let parts = and_parts (is_kind other (kind_of_update u)) (list_all (λ (act : Half × Act). is_kind other (kind_of_act act.1)) acts) pass in
+    and_from (is_kind kind (kind_of_update u)) (are_of kind (updates_of (map (part_of own) acts))) (one_kind kind other (kind_of_update u) is parts.0)
+    (of_kind-acts kind other own acts is parts.1)
+  where
+    one_kind : (a b c : Kind) → is_kind a b ≡ true → is_kind b c ≡ true → is_kind a c ≡ true
+    one_kind Counter Counter c ab bc = bc
+    one_kind Register Register c ab bc = bc
+    one_kind LwwSet LwwSet c ab bc = bc
+    one_kind OrSet OrSet c ab bc = bc
+    one_kind Rga Rga c ab bc = bc
+    one_kind a b c ab bc = absurd (false≢true ab)
+
+-- the updates of labels
+abbrev pub updates_by : List Label → List Update
+updates_by labels = updates_of (flat_map parts_of labels)
+
+updates_by-both : (xs ys : List Label) → updates_by (xs ++ ys) ≡ updates_by xs ++ updates_by ys
+updates_by-both xs ys =
+    ap updates_of (flat_map-append parts_of xs ys) ∙ filter_map-append (λ (p : Part). update_of p.act) (flat_map parts_of xs) (flat_map parts_of ys)
+
+pub are_of-both : (kind : Kind) (xs ys : List Label) → are_of kind (updates_by (xs ++ ys)) ≡ (are_of kind (updates_by xs) && are_of kind (updates_by ys))
+are_of-both kind xs ys =
+    ap (are_of kind) (updates_by-both xs ys) ∙ list_all-append (λ update. is_kind kind (kind_of_update update)) (updates_by xs) (updates_by ys)
+
+-- with a new label that is of it, the updates of all labels are admitted, but for an RGA
+pub still_admitted : (kind : Kind) (records : Records) (by : ℕ) (op : Op) (clock : Option ℕ) → ¬ (kind ≡ Rga) → Holds kind records
+    → is_kind kind (kind_of op) ≡ true → updates_admitted kind (named_sequence kind (Operate by op clock ∷ records)) ≡ true
+still_admitted kind records by op clock not_rga holds of_kind =
+    let label = next_label records by op clock in
+    let (before, behind, was, is) = a_new_label_leaves_the_order_of_the_others kind records by op clock in
+    let all = updates_of_the_kind_are_admitted-only kind (updates_by (named_labels kind records)) holds.updates in
+    let two = and_parts (are_of kind (updates_by before)) (are_of kind (updates_by behind)) (sym (ap (λ ls. are_of kind (updates_by ls)) was ∙ are_of-both kind before behind) ∙ all) in
+    let own : are_of kind (updates_by (label ∷ [])) ≡ true =
+    ap (λ ps. are_of kind (updates_of ps)) (append-nil (parts_of label))
+    ∙ of_kind-acts kind (kind_of op) label (acts_of op) of_kind (parts_are_of_their_kind op) in
+    let later : are_of kind (updates_by (label ∷ behind)) ≡ true =
+    are_of-both kind (label ∷ []) behind ∙ and_from (are_of kind (updates_by (label ∷ []))) (are_of kind (updates_by behind)) own two.1 in
+    let every : are_of kind (updates_by (named_labels kind (Operate by op clock ∷ records))) ≡ true =
+    ap (λ ls. are_of kind (updates_by ls)) is
+    ∙ are_of-both kind before (label ∷ behind)
+    ∙ and_from (are_of kind (updates_by before)) (are_of kind (updates_by (label ∷ behind))) two.0 later in
+    updates_of_the_kind_are_admitted-exactly kind (updates_by (named_labels kind (Operate by op clock ∷ records))) not_rga ∙ every

@@ -1,0 +1,87 @@
+-- What is known of an operation that is offered, by its form.
+use Rattle.std.proofs.Common.{◌≡◌, ℕ, ◌≤◌, true, false, List, Option, Some, None, refl, sym, ap, ◌∙◌, subst}
+use Rattle.std.specs.Prelude.{◌&&◌, option_map}
+use Rattle.std.specs.List.{list_all}
+use Rattle.std.proofs.lemmas.Bool.{and_from}
+use Rattle.std.proofs.lemmas.Option.{none-some}
+use Rattle.ra_labels.specs.declared.kind.Kind.{Kind}
+use Rattle.ra_labels.specs.declared.kind.Kind.TheVariants.{Counter, Register, LwwSet, OrSet, Rga}
+use Rattle.ra_labels.specs.declared.operation.Op.{Op}
+use Rattle.ra_labels.specs.declared.operation.Op.TheVariants as op
+use Rattle.ra_labels.specs.declared.operation.Update.{Update}
+use Rattle.ra_labels.specs.declared.label.Label.{Label}
+use Rattle.ra_labels.specs.Records.{Records, next_label, stamp_at}
+use Rattle.ra_labels.specs.Rewriting.{acts_of}
+use Rattle.ra_labels.specs.Lists.{rises}
+use Rattle.ra_labels.specs.Answer.{kind_of, is_kind, has_rising_list, carries_stamp}
+use Rattle.ra_labels.specs.Laws.{HasItsClock}
+use Rattle.ra_labels.proofs.TheLaws.{forms_that_deserve_no_refusal}
+use Rattle.ra_seqspec.specs.Asked.{asks_rising}
+use Rattle.ra_witness.specs.Labels.{queries_in, update_in}
+use Rattle.ra_witness.specs.Offered.{IsOffered}
+
+pub same_kind : (kind : Kind) → is_kind kind kind ≡ true
+same_kind Counter = refl
+same_kind Register = refl
+same_kind LwwSet = refl
+same_kind OrSet = refl
+same_kind Rga = refl
+
+pub asks_only_rising : (operation : Op) → has_rising_list operation ≡ true → list_all asks_rising (queries_in (acts_of operation)) ≡ true
+asks_only_rising op.Inc rising = refl
+asks_only_rising op.Dec rising = refl
+asks_only_rising (op.Count v) rising = refl
+asks_only_rising (op.Write value) rising = refl
+asks_only_rising (op.Last value) rising = refl
+asks_only_rising (op.LwwAdd x) rising = refl
+asks_only_rising (op.LwwRemove x) rising = refl
+asks_only_rising (op.LwwRead list) rising = and_from (rises list) true rising refl
+asks_only_rising (op.OrAdd x id) rising = refl
+asks_only_rising (op.OrRemove x ids) rising = and_from (rises ids) true rising refl
+asks_only_rising (op.OrRead list) rising = and_from (rises list) true rising refl
+asks_only_rising (op.After anchor x) rising = refl
+asks_only_rising (op.RgaRemove x) rising = refl
+asks_only_rising (op.RgaRead list) rising = refl
+
+module _ (kind : Kind) (first : ℕ) (records : Records) (by : ℕ) (op : Op) (clock : Option ℕ) (label : Label) (offered : IsOffered kind first records by op clock label) where
+  pub of_its_kind : kind_of op ≡ kind
+  of_its_kind = ((forms_that_deserve_no_refusal kind by op clock).0 offered.form).0
+
+  pub is_of_kind : is_kind kind (kind_of op) ≡ true
+  is_of_kind = ap (is_kind kind) of_its_kind ∙ same_kind kind
+
+  pub rising : list_all asks_rising (queries_in (acts_of op)) ≡ true
+  rising = asks_only_rising op ((forms_that_deserve_no_refusal kind by op clock).0 offered.form).1
+
+  pub its_clock : HasItsClock op clock
+  its_clock = ((forms_that_deserve_no_refusal kind by op clock).0 offered.form).2
+
+  pub its_replica : label.replica ≡ by
+  its_replica = ap (λ (l : Label). l.replica) offered.next
+
+  pub its_op : label.op ≡ op
+  its_op = ap (λ (l : Label). l.op) offered.next
+
+  -- of a register and an LWW set, and of an RGA, an operation that puts something in has a stamp
+  pub has_stamp : carries_stamp op ≡ true → (at : ℕ) × (clock ≡ Some at) × (1 ≤ at) × (label.stamp ≡ Some (stamp_at by at))
+  has_stamp carries =
+      let (at, least, is) = its_clock.0 carries in
+      (at, is, least, ap (λ (l : Label). l.stamp) offered.next ∙ ap (option_map (stamp_at by)) is)
+
+-- what a register or an LWW set does has a stamp
+pub writes_are_stamped : (operation : Op) (u : Update) → ¬ (kind_of operation ≡ Counter) → ¬ (kind_of operation ≡ OrSet) → ¬ (kind_of operation ≡ Rga)
+    → update_in operation ≡ Some u → carries_stamp operation ≡ true
+writes_are_stamped op.Inc u counter or_set rga is = absurd (counter refl)
+writes_are_stamped op.Dec u counter or_set rga is = absurd (counter refl)
+writes_are_stamped (op.Count v) u counter or_set rga is = absurd (counter refl)
+writes_are_stamped (op.Write value) u counter or_set rga is = refl
+writes_are_stamped (op.Last value) u counter or_set rga is = absurd (none-some u is)
+writes_are_stamped (op.LwwAdd x) u counter or_set rga is = refl
+writes_are_stamped (op.LwwRemove x) u counter or_set rga is = refl
+writes_are_stamped (op.LwwRead list) u counter or_set rga is = absurd (none-some u is)
+writes_are_stamped (op.OrAdd x id) u counter or_set rga is = absurd (or_set refl)
+writes_are_stamped (op.OrRemove x ids) u counter or_set rga is = absurd (or_set refl)
+writes_are_stamped (op.OrRead list) u counter or_set rga is = absurd (or_set refl)
+writes_are_stamped (op.After anchor x) u counter or_set rga is = absurd (rga refl)
+writes_are_stamped (op.RgaRemove x) u counter or_set rga is = absurd (rga refl)
+writes_are_stamped (op.RgaRead list) u counter or_set rga is = absurd (rga refl)

@@ -1,0 +1,163 @@
+-- The elements of all labels with a label more that puts one in.
+use Rattle.std.proofs.Common.{◌≡◌, ℕ, zero, suc, ◌<◌, ◌≤◌, ◌+◌, Bool, true, false, cond, List, [], ◌∷◌, ◌++◌, length, Option, Some, None, refl, sym, ap, ◌∙◌, subst, inl, inr, arith, length-append}
+use Rattle.std.specs.Prelude.{◌==◌, Contains}
+use Rattle.std.specs.Ordering.{is_lt}
+use Rattle.std.proofs.lemmas.Bool.{cases_lt, cases_eq, cases_Bool, eq-eqb, ne_eqb, true≢false}
+use Rattle.std.proofs.lemmas.Option.{same_Some}
+use Rattle.std.proofs.lemmas.List.{get_or_append_left, get_or_at}
+use Rattle.ra_labels.specs.declared.kind.Kind.TheVariants as variant
+use Rattle.ra_labels.specs.declared.operation.Op.{Op}
+use Rattle.ra_labels.specs.declared.operation.Update.{Update}
+use Rattle.ra_labels.specs.declared.operation.Update.TheVariants.{After}
+use Rattle.ra_labels.specs.declared.label.Label.{Label}
+use Rattle.ra_labels.specs.declared.label.Stamp.{Stamp}
+use Rattle.ra_labels.specs.declared.command.Command.TheVariants.{Operate}
+use Rattle.ra_labels.specs.Records.{Records, label_count, labels_of, next_label}
+use Rattle.ra_labels.specs.NamedOrder.{named_sequence, stamp_cmp, lowest_rank, label_cmp}
+use Rattle.ra_labels.specs.Linearization.{updates_admitted}
+use Rattle.ra_labels.specs.Laws.{elements_in, StampsAreOneLabels}
+use Rattle.ra_labels.specs.Late.{put_after}
+use Rattle.ra_labels.specs.Insertion.{Makes}
+use Rattle.ra_labels.proofs.TheLaws.{an_operation_makes_one_update-one, a_new_label_in_the_list_of_all-insertion, labels_with_stamps_stand_in_their_order}
+use Rattle.ra_element_list.specs.ElementList.{Arrival, ElementList, root, arrival_at, IsBelowByStamp}
+use Rattle.ra_replica_list.specs.declared.deed.Deed.{Deed}
+use Rattle.ra_replica_list.specs.declared.deed.Deed.TheVariants.{PutsIn, Removes}
+use Rattle.ra_replica_list.specs.Deeds.{element_at, number_of, update_of, AreElementsOf}
+use Rattle.ra_witness.proofs.Places.{at_head, behind_head}
+use Rattle.ra_witness.proofs.StampOrder.{below_tested}
+use Rattle.ra_witness.proofs.Taken.{label_below}
+use Rattle.ra_witness.proofs.AllElements.{its_number}
+use Rattle.ra_witness.proofs.NewLabel.{Adds, list_after}
+
+-- the stamp that the element came with
+stamp_of : List Arrival → ℕ → Stamp
+stamp_of [] y = lowest_rank
+stamp_of (a ∷ as') y = cond (a.element == y) a.stamp (stamp_of as' y)
+
+abbrev AreOnce : List Arrival → Type 0
+AreOnce rs = (m n : ℕ) → m < length rs → n < length rs → element_at rs m ≡ element_at rs n → m ≡ n
+
+stamp_found : (rs : List Arrival) → AreOnce rs → (n : ℕ) → n < length rs → stamp_of rs (element_at rs n) ≡ (arrival_at rs n).stamp
+unfolding stamp_of
+stamp_found [] once n within = absurd (omega (arith, within))
+stamp_found (r ∷ rs) once zero within = ap (λ b. cond b r.stamp (stamp_of rs r.element)) (eq-eqb r.element r.element refl)
+stamp_found (r ∷ rs) once (suc n) within =
+    ap (λ b. cond b r.stamp (stamp_of rs (element_at rs n)))
+    (ne_eqb r.element (element_at rs n) (λ same. let here = once 0 (suc n) (omega arith) within same in omega (arith, here)))
+    ∙ stamp_found rs (λ i j a b same. let next = once (suc i) (suc j) (omega (arith, a)) (omega (arith, b)) same in omega (arith, next)) n (omega (arith, within))
+
+not_less : (b : Bool) → ¬ (b ≡ true) → b ≡ false
+not_less true other = absurd (other refl)
+not_less false other = refl
+
+module _ (all next : ElementList) (deeds : List (Option Deed)) (records : Records) (by : ℕ) (op : Op) (clock : Option ℕ) (m x : ℕ) (stamp : Stamp)
+    (are : AreElementsOf all deeds records) (makes : Makes op (After (element_at all.arrivals m) x)) (within : m < length all.arrivals)
+    (new : (n : ℕ) → n < length all.arrivals → ¬ (element_at all.arrivals n ≡ x)) (stamped : (next_label records by op clock).stamp ≡ Some stamp)
+    (clocked : 1 ≤ stamp.clock) (stamps : StampsAreOneLabels (Operate by op clock ∷ records))
+    (admitted : updates_admitted variant.Rga (named_sequence variant.Rga (Operate by op clock ∷ records)) ≡ true)
+    (arrivals : next.arrivals ≡ all.arrivals ++ record { element = x; stamp = stamp; anchor = m } ∷ [])
+    (elements : (below : ℕ → ℕ → Bool) (list : List (ℕ × Bool)) → IsBelowByStamp below x stamp all.arrivals → elements_in list ≡ all.elements
+    → next.elements ≡ elements_in (put_after below (arrival_at all.arrivals m).element x list)) where
+  abbrev now : Records
+  now = Operate by op clock ∷ records
+
+  abbrev own : Label
+  own = next_label records by op clock
+
+  abbrev newest : Arrival
+  newest = record { element = x; stamp = stamp; anchor = m }
+
+  abbrev number : ℕ
+  number = length all.arrivals
+
+  kept : (n : ℕ) → n < number → arrival_at next.arrivals n ≡ arrival_at all.arrivals n
+  kept n there = ap (λ rs. arrival_at rs n) arrivals ∙ get_or_append_left all.arrivals (newest ∷ []) root n there
+
+  is_newest : arrival_at next.arrivals number ≡ newest
+  is_newest = ap (λ rs. arrival_at rs number) arrivals ∙ get_or_at all.arrivals newest [] root number refl
+
+  count : length next.arrivals ≡ number + 1
+  count = omega (arith, ap length arrivals, length-append all.arrivals (newest ∷ []))
+
+  its_update : update_of next.arrivals (PutsIn number) ≡ After (element_at all.arrivals m) x
+  its_update =
+      ap (λ (a : Arrival). After (element_at next.arrivals a.anchor) a.element) is_newest
+      ∙ ap (λ (a : Arrival). After a.element x) (kept m within)
+
+  its_deed : (deed : Deed) → Some (PutsIn number) ≡ Some deed → PutsIn number ≡ deed
+  its_deed deed is = same_Some (PutsIn number) deed is
+
+  its_own_number : (n : ℕ) → Some (PutsIn number) ≡ Some (PutsIn n) → number ≡ n
+  its_own_number n is = cc (is)
+
+  once_more : (i j : ℕ) → i < length next.arrivals → j < length next.arrivals → element_at next.arrivals i ≡ element_at next.arrivals j → i ≡ j
+  once_more i j there_i there_j same = elim (cases_lt i number) [
+    | inl old_i ↦ elim (cases_lt j number) [
+      | inl old_j ↦ are.once i j old_i old_j (sym (ap (λ (a : Arrival). a.element) (kept i old_i)) ∙ same ∙ ap (λ (a : Arrival). a.element) (kept j old_j))
+      | inr new_j ↦
+          let at : j ≡ number = omega (arith, new_j, there_j, count) in
+          absurd (new i old_i (sym (ap (λ (a : Arrival). a.element) (kept i old_i)) ∙ same ∙ ap (λ k. element_at next.arrivals k) at ∙ ap (λ (a : Arrival). a.element) is_newest))
+    ]
+    | inr new_i ↦ elim (cases_lt j number) [
+      | inl old_j ↦
+          let at : i ≡ number = omega (arith, new_i, there_i, count) in
+          absurd (new j old_j (sym (ap (λ (a : Arrival). a.element) (kept j old_j)) ∙ sym same ∙ ap (λ k. element_at next.arrivals k) at ∙ ap (λ (a : Arrival). a.element) is_newest))
+      | inr new_j ↦ omega (arith, new_i, new_j, there_i, there_j, count)
+    ]
+  ]
+
+  -- of the elements that came, those with a greater stamp
+  abbrev below : ℕ → ℕ → Bool
+  below a y = is_lt (stamp_cmp stamp (stamp_of all.arrivals y))
+
+  below_by_stamp : IsBelowByStamp below x stamp all.arrivals
+  below_by_stamp n there = ap (λ s. is_lt (stamp_cmp stamp s)) (stamp_found all.arrivals are.once n there)
+
+  root_stamp : stamp_of all.arrivals 0 ≡ lowest_rank
+  root_stamp =
+      ap (stamp_of all.arrivals) (sym (ap (λ (a : Arrival). a.element) are.first))
+      ∙ stamp_found all.arrivals are.once 0 are.some
+      ∙ ap (λ (a : Arrival). a.stamp) are.first
+
+  not_below_lowest : is_lt (stamp_cmp stamp lowest_rank) ≡ true → ⊥
+  not_below_lowest is = elim (below_tested stamp lowest_rank is) [
+    | inl lower ↦ omega (arith, lower)
+    | inr (same, lower) ↦ omega (arith, same, clocked)
+  ]
+
+  not_below_root : below x 0 ≡ false
+  not_below_root = not_less (below x 0) (λ is. not_below_lowest (ap (λ s. is_lt (stamp_cmp stamp s)) (sym root_stamp) ∙ is))
+
+  others_stand : (other : Label) (behind y : ℕ) → Contains (labels_of records) other → Makes other.op (After behind y)
+      → below x y ≡ is_lt (label_cmp variant.Rga now own other)
+  others_stand other behind y there does =
+      let (n, as_number) = its_number all deeds records are other behind y there does in
+      let t = (arrival_at all.arrivals n).stamp in
+      let stands : label_cmp variant.Rga now own other ≡ stamp_cmp stamp t =
+      labels_with_stamps_stand_in_their_order variant.Rga now own other stamp t (λ e. cc (e)) (λ e. cc (e)) stamped as_number.stamp (λ same.
+      let one = stamps own other stamp (at_head own (labels_of records)) (behind_head own (labels_of records) other there) stamped (as_number.stamp ∙ ap Some (sym same)) in
+      let its : label_count records ≡ other.number = ap (λ (l : Label). l.number) one in
+      let lower = label_below records other there in
+      omega (arith, its, lower)) in
+      ap (below x) (sym as_number.is) ∙ below_by_stamp n as_number.within ∙ ap is_lt (sym stands)
+
+  pub adds_insertion : Adds all next deeds records by op clock (Some (PutsIn number))
+  adds_insertion = record {
+    kept = kept;
+    longer = omega (arith, count);
+    made = λ update does. (PutsIn number, refl, its_update ∙ an_operation_makes_one_update-one op (After (element_at all.arrivals m) x) update makes does);
+    makes = λ deed is. subst (λ d. Makes op (update_of next.arrivals d)) (its_deed deed is) (subst (λ u. Makes op u) (sym its_update) makes);
+    known = λ deed is. subst (λ d. number_of d < length next.arrivals) (its_deed deed is) (omega (arith, count));
+    stamp = λ n is. stamped ∙ ap (λ (a : Arrival). Some a.stamp) (sym is_newest) ∙ ap (λ k. Some (arrival_at next.arrivals k).stamp) (its_own_number n is);
+    unstamped = λ n is. absurd (cc (is));
+    came = λ n after there. let at : number ≡ n = omega (arith, after, there, count) in ap (λ k. Some (PutsIn k)) at;
+    anchored = λ n after there.
+        let at : n ≡ number = omega (arith, after, there, count) in
+        let anchor : (arrival_at next.arrivals n).anchor ≡ m = ap (λ k. (arrival_at next.arrivals k).anchor) at ∙ ap (λ (a : Arrival). a.anchor) is_newest in
+        omega (arith, anchor, within, count);
+    once = once_more;
+    listed =
+        let (list, led) = list_after now admitted in
+        let put = a_new_label_in_the_list_of_all-insertion records by op clock (element_at all.arrivals m) x are.listed.0 list below makes are.listed.1 led not_below_root others_stand in
+        (list, led, ap elements_in put ∙ sym (elements below are.listed.0 below_by_stamp are.listed.2));
+  }

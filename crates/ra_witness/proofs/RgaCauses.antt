@@ -1,0 +1,66 @@
+-- Why a label of an RGA fails that fits.
+use Rattle.std.proofs.Common.{◌≡◌, ℕ, Bool, true, false, cond, ◌∷◌, Option, Some, None, refl, sym, ap, ◌∙◌}
+use Rattle.std.specs.Prelude.{◌↔◌, not}
+use Rattle.ra_labels.specs.declared.kind.Kind.{Kind}
+use Rattle.ra_labels.specs.declared.kind.Kind.TheVariants as variant
+use Rattle.ra_labels.specs.declared.operation.Op.{Op}
+use Rattle.ra_labels.specs.declared.operation.Op.TheVariants as ops
+use Rattle.ra_labels.specs.declared.label.Label.{Label}
+use Rattle.ra_labels.specs.declared.command.Command.TheVariants.{Operate}
+use Rattle.ra_labels.specs.declared.reply.Cause.{Cause}
+use Rattle.ra_labels.specs.declared.reply.Cause.TheVariants as cause
+use Rattle.ra_labels.specs.Records.{Records}
+use Rattle.ra_labels.specs.Visibility.{is_update}
+use Rattle.ra_labels.specs.Rewriting.{acts_of}
+use Rattle.ra_labels.specs.Specification.{State, state_after, is_admitted}
+use Rattle.ra_labels.specs.NamedOrder.{named_sequence}
+use Rattle.ra_labels.specs.Linearization.{updates_admitted}
+use Rattle.ra_labels.specs.Fault.{cause_of}
+use Rattle.ra_labels.specs.Answer.{kind_of}
+use Rattle.ra_labels.specs.Insertion.{updates_had}
+use Rattle.ra_labels.proofs.TheLaws.{an_operation_puts_its_update_among_all-query}
+use Rattle.ra_witness.specs.Labels.{cause_in}
+use Rattle.ra_witness.specs.Offered.{IsOffered}
+use Rattle.ra_witness.proofs.Places.{pass_together}
+use Rattle.ra_witness.proofs.Causes.{cause_where_it_fits}
+
+-- what neither puts in nor removes asks
+pub asks_only : (operation : Op) → ((a x : ℕ) → ¬ (operation ≡ ops.After a x)) → ((x : ℕ) → ¬ (operation ≡ ops.RgaRemove x)) → kind_of operation ≡ variant.Rga
+    → is_update operation ≡ false
+asks_only ops.Inc after removes of = absurd (cc (of))
+asks_only ops.Dec after removes of = absurd (cc (of))
+asks_only (ops.Count v) after removes of = refl
+asks_only (ops.Write value) after removes of = absurd (cc (of))
+asks_only (ops.Last value) after removes of = refl
+asks_only (ops.LwwAdd x) after removes of = absurd (cc (of))
+asks_only (ops.LwwRemove x) after removes of = absurd (cc (of))
+asks_only (ops.LwwRead list) after removes of = refl
+asks_only (ops.OrAdd x id) after removes of = absurd (cc (of))
+asks_only (ops.OrRemove x ids) after removes of = absurd (cc (of))
+asks_only (ops.OrRead list) after removes of = refl
+asks_only (ops.After anchor x) after removes of = absurd (after anchor x refl)
+asks_only (ops.RgaRemove x) after removes of = absurd (removes x refl)
+asks_only (ops.RgaRead list) after removes of = refl
+
+either_cause : (a b : Bool) → b ≡ a → cond b None (Some cause.Update) ≡ cond (not a) (Some cause.Update) None
+either_cause true b same = ap (λ c. cond c None (Some cause.Update)) same
+either_cause false b same = ap (λ c. cond c None (Some cause.Update)) same
+
+module _ (first : ℕ) (records : Records) (by : ℕ) (op : Op) (clock : Option ℕ) (label : Label) (offered : IsOffered variant.Rga first records by op clock label) where
+  abbrev now : Records
+  now = Operate by op clock ∷ records
+
+  pub query_admitted : is_update op ≡ false → updates_admitted variant.Rga (named_sequence variant.Rga now) ≡ true
+  query_admitted asks = ap (is_admitted variant.Rga) (an_operation_puts_its_update_among_all-query variant.Rga records by op clock asks) ∙ offered.holds.updates
+
+  pub query_cause : is_update op ≡ false → cause_in (state_after variant.Rga (updates_had variant.Rga records by)) (acts_of op) ≡ cause_of variant.Rga now
+  query_cause asks = sym (cause_where_it_fits variant.Rga records by op clock true offered.holds offered.fits (query_admitted asks))
+
+  pub update_cause : (b : Bool) → ((o : Option State) → cause_in o (acts_of op) ≡ None)
+      → (b ≡ true) ↔ (updates_admitted variant.Rga (named_sequence variant.Rga now) ≡ true) → cond b None (Some cause.Update) ≡ cause_of variant.Rga now
+  update_cause b none exactly =
+      let a = updates_admitted variant.Rga (named_sequence variant.Rga now) in
+      let o = state_after variant.Rga (updates_had variant.Rga records by) in
+      either_cause a b (pass_together b a exactly.0 exactly.1)
+      ∙ ap (λ c. cond (not a) (Some cause.Update) c) (sym (none o))
+      ∙ sym (cause_where_it_fits variant.Rga records by op clock a offered.holds offered.fits refl)

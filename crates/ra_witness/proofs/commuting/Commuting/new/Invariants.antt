@@ -1,0 +1,7 @@
+use Rattle.std.proofs.Common.{◌≡◌, replicate}
+use Rattle.ra_labels.specs.Specification.{start_of}
+use Rattle.ra_witness.proofs.commuting.Commuting.new.Given as goal
+
+-- the states so far
+abbrev pub invariant-loop : goal.invariant-loop
+invariant-loop l = l.states.items ≡ replicate l.counter (start_of l.kind)

@@ -1,0 +1,90 @@
+use Rattle.std.proofs.Common.{◌≡◌, ◌∙◌, ◌++◌, ◌∷◌, sym, ap, subst, arith}
+use Rattle.std.specs.Prelude.{nat_eq}
+use Rattle.std.specs.HashMap.{get, hash_map_len}
+use Rattle.ra_labels.specs.NamedOrder.{named_labels}
+use Rattle.ra_witness.specs.Offered.{IsTold}
+use Rattle.ra_witness.specs.Overriding.{write_at, updates_of}
+use Rattle.ra_witness.proofs.Lasts.{on_ok, on_err, on_err_any, if_some_at}
+use Rattle.ra_witness.proofs.Carrying.{is_commuting, is_overriding, is_rga, told_there, can_tell, commuting_told, if_some_use}
+use Rattle.ra_witness.proofs.Writing.{writes_counted, told_write, can_bring, overriding_told, overriding_same}
+use Rattle.ra_labels.proofs.TheLaws.{had_updates-there}
+use Rattle.ra_witness.proofs.kept.Kept.deliver.Goals as goal
+
+pub deliver-requires-clause-label : goal.deliver-requires-clause-label
+deliver-requires-clause-label c =
+    let may = c.requires in
+    let kept = c.in-Commuting.kept in
+    let known = is_commuting c.args.self.now may.kind may.first may.records may.stands kept c.in-Commuting.is in
+    omega (arith, kept.updates.ok.0, told_there kept.updates.items kept.states.items may.kind may.first may.records known.states c.args.replica c.args.label may.told)
+
+pub deliver-requires-clause-can : goal.deliver-requires-clause-can
+deliver-requires-clause-can c =
+    let may = c.requires in
+    let kept = c.in-Commuting.kept in
+    let known = is_commuting c.args.self.now may.kind may.first may.records may.stands kept c.in-Commuting.is in
+    can_tell kept may.kind may.first may.records c.args.replica c.args.label may.stands.few known may.told
+
+pub returns-in-Commuting-clause-delivered : goal.returns-in-Commuting-clause-delivered
+returns-in-Commuting-clause-delivered c = λ kind first records stands told.
+    let kept = c.in-Commuting.kept in
+    let known = is_commuting c.args.self.now kind first records stands kept c.in-Commuting.is in
+    on_ok c.deliver.result c.deliver.ensures.states
+    (commuting_told kept c.deliver.new.self kind first records c.args.replica c.args.label stands.few known told c.deliver.ensures.updates)
+
+pub deliver-requires-in-Overriding-clause-label : goal.deliver-requires-in-Overriding-clause-label
+deliver-requires-in-Overriding-clause-label c =
+    let may = c.requires in
+    let kept = c.in-Overriding.kept in
+    let known = is_overriding c.args.self.now may.kind may.first may.records may.stands kept c.in-Overriding.is in
+    omega (arith, kept.writes.ok.0, writes_counted kept may.kind may.first may.records known, had_updates-there may.records c.args.label may.told.update)
+
+pub deliver-requires-in-Overriding-clause-can : goal.deliver-requires-in-Overriding-clause-can
+deliver-requires-in-Overriding-clause-can c =
+    let may = c.requires in
+    let kept = c.in-Overriding.kept in
+    let known = is_overriding c.args.self.now may.kind may.first may.records may.stands kept c.in-Overriding.is in
+    let (write, found) = told_write kept may.kind may.first may.records c.args.label known may.told.update in
+    if_some_at (write_at kept.writes.items c.args.label) write _ found
+    (can_bring kept may.kind may.first may.records known c.args.replica c.args.label may.told write found may.stands.few)
+
+pub returns-in_ok-deliver-in-Overriding-clause-delivered : goal.returns-in_ok-deliver-in-Overriding-clause-delivered
+returns-in_ok-deliver-in-Overriding-clause-delivered c = λ kind first records stands told.
+    let kept = c.in-Overriding.kept in
+    let known = is_overriding c.args.self.now kind first records stands kept c.in-Overriding.is in
+    let (write, found) = told_write kept kind first records c.args.label known told.update in
+    let left = c.in_ok-deliver-in-Overriding.ensures in
+    record {
+      few = stands.few;
+      form = overriding_told kept kind first records known c.args.replica c.args.label told write found c.deliver-in-Overriding.new.self left.writes left.numbers left.replicas
+          (if_some_use (write_at kept.writes.items c.args.label) write _ found left.states) (if_some_use (write_at kept.writes.items c.args.label) write _ found left.lasts);
+    }
+
+pub returns-in_err-deliver-in-Overriding-clause-same : goal.returns-in_err-deliver-in-Overriding-clause-same
+returns-in_err-deliver-in-Overriding-clause-same c = λ kind first records stands.
+    let kept = c.in-Overriding.kept in
+    let new = c.deliver-in-Overriding.new.self in
+    let known = is_overriding c.args.self.now kind first records stands kept c.in-Overriding.is in
+    let left = c.in_err-deliver-in-Overriding.ensures in
+    on_err_any c.from_residual.result (record {
+      few = stands.few;
+      form = overriding_same kept new kind first records known (ap (λ ws. ws.items) left.writes) left.same_states left.replicas left.same_lasts
+          (λ x. ap (λ ns. get nat_eq ns.numbers x) left.numbers) (ap (λ ns. hash_map_len ns.numbers) left.numbers);
+    })
+
+pub returns-in-Rga-clause-delivered : goal.returns-in-Rga-clause-delivered
+returns-in-Rga-clause-delivered c = λ kind first records stands told.
+    let known = is_rga c.args.self.now kind first records stands c.in-Rga.kept c.in-Rga.is in
+    on_ok c.deliver-in-Rga.result (c.deliver-in-Rga.ensures.delivered first records known.1 (subst (λ k. IsTold k first records c.args.replica c.args.label) known.0 told))
+    (λ form. record { few = stands.few; form = (known.0, form) })
+
+pub returns-in-Rga-clause-few_steps : goal.returns-in-Rga-clause-few_steps
+returns-in-Rga-clause-few_steps c = λ kind first records before behind it stands told is number.
+    let known = is_rga c.args.self.now kind first records stands c.in-Rga.kept c.in-Rga.is in
+    c.deliver-in-Rga.ensures.few_steps first records before behind it known.1 (subst (λ k. IsTold k first records c.args.replica c.args.label) known.0 told)
+    (subst (λ k. named_labels k records ≡ before ++ it ∷ behind) known.0 is) number
+
+pub returns-in-Rga-clause-same : goal.returns-in-Rga-clause-same
+returns-in-Rga-clause-same c = λ kind first records stands.
+    let known = is_rga c.args.self.now kind first records stands c.in-Rga.kept c.in-Rga.is in
+    on_err c.deliver-in-Rga.result (c.deliver-in-Rga.ensures.same first records known.1)
+    (λ form. record { few = stands.few; form = (known.0, form) })

@@ -1,0 +1,50 @@
+use Rattle.std.proofs.Common.{◌≡◌, ◌∷◌, true, subst, arith}
+use Rattle.ra_labels.specs.declared.kind.Kind.TheVariants as variant
+use Rattle.ra_labels.specs.declared.command.Command.TheVariants.{Operate}
+use Rattle.ra_labels.specs.NamedOrder.{named_sequence}
+use Rattle.ra_labels.specs.Linearization.{updates_admitted}
+use Rattle.ra_witness.specs.Offered.{IsOffered}
+use Rattle.ra_witness.proofs.Lasts.{on_ok, on_err}
+use Rattle.ra_witness.proofs.Carrying.{on_ok_two, is_commuting, is_overriding, is_rga, not_rga-commuting, can_take, commuting_taken}
+use Rattle.ra_witness.proofs.kept.Kept.take.Goals as goal
+
+pub take-requires-clause-can : goal.take-requires-clause-can
+take-requires-clause-can c =
+    let may = c.requires in
+    let kept = c.in-Commuting.kept in
+    let known = is_commuting c.args.self.now may.kind may.first may.records may.stands kept c.in-Commuting.is in
+    can_take kept.updates.items kept.states.items may.kind may.first may.records known.states may.by may.op may.clock c.args.label.now c.args.update
+    (not_rga-commuting may.kind known.one) may.offered may.update_is
+
+pub returns-in-Commuting-clause-taken : goal.returns-in-Commuting-clause-taken
+returns-in-Commuting-clause-taken c = λ kind first records by op clock stands offered admitted same.
+    let kept = c.in-Commuting.kept in
+    let known = is_commuting c.args.self.now kind first records stands kept c.in-Commuting.is in
+    on_ok_two c.take.result c.take.ensures.updates c.take.ensures.states
+    (commuting_taken kept c.take.new.self kind first records by op clock c.args.label.now c.args.update known offered same)
+
+pub returns-in-Overriding-clause-taken : goal.returns-in-Overriding-clause-taken
+returns-in-Overriding-clause-taken c = λ kind first records by op clock stands offered admitted same.
+    let known = is_overriding c.args.self.now kind first records stands c.in-Overriding.kept c.in-Overriding.is in
+    on_ok c.take_write.result (c.take_write.ensures.taken kind first records by op clock known offered same)
+    (λ form. record { few = omega (arith, offered.few); form = form })
+
+pub returns-in-Overriding-clause-same : goal.returns-in-Overriding-clause-same
+returns-in-Overriding-clause-same c = λ kind first records stands.
+    let known = is_overriding c.args.self.now kind first records stands c.in-Overriding.kept c.in-Overriding.is in
+    on_err c.take_write.result (c.take_write.ensures.same kind first records known)
+    (λ form. record { few = stands.few; form = form })
+
+pub returns-in-Rga-clause-taken : goal.returns-in-Rga-clause-taken
+returns-in-Rga-clause-taken c = λ kind first records by op clock stands offered admitted same.
+    let known = is_rga c.args.self.now kind first records stands c.in-Rga.kept c.in-Rga.is in
+    on_ok c.take-in-Rga.result
+    (c.take-in-Rga.ensures.taken first records by op clock known.1 (subst (λ k. IsOffered k first records by op clock c.args.label.now) known.0 offered)
+    (subst (λ k. updates_admitted k (named_sequence k (Operate by op clock ∷ records)) ≡ true) known.0 admitted))
+    (λ form. record { few = omega (arith, offered.few); form = (known.0, form) })
+
+pub returns-in-Rga-clause-same : goal.returns-in-Rga-clause-same
+returns-in-Rga-clause-same c = λ kind first records stands.
+    let known = is_rga c.args.self.now kind first records stands c.in-Rga.kept c.in-Rga.is in
+    on_err c.take-in-Rga.result (c.take-in-Rga.ensures.same first records known.1)
+    (λ form. record { few = stands.few; form = (known.0, form) })

@@ -1,0 +1,10 @@
+use Rattle.ra_witness.proofs.Overridden.{is_new_write, counting-last, lasts-kept}
+use Rattle.ra_witness.proofs.laws.the_last_labels_with_a_delivery.Goals as goal
+
+pub returns : goal.returns
+returns c = record {
+  counting = λ writes lasts number_of records to n write are last once within is new found.
+      counting-last writes lasts number_of records to n are last once within (is_new_write writes records to n write is new found);
+  kept = λ writes lasts next number_of records to n write are last once within is new found same says.
+      lasts-kept writes lasts number_of records to n are last once within (is_new_write writes records to n write is new found) next same says;
+}

@@ -1,0 +1,103 @@
+use Rattle.std.proofs.Common.{◌≡◌, ◌<◌, ◌∷◌, ◌++◌, [], ◌∙◌, length, true, Some, None, refl, sym, ap, subst, arith}
+use Rattle.std.specs.Prelude.{IsSome}
+use Rattle.std.specs.Vec.{with_item}
+use Rattle.std.proofs.lemmas.Bool.{false≢true}
+use Rattle.std.proofs.lemmas.Option.{slice_get_read}
+use Rattle.ra_labels.specs.declared.kind.Kind.TheVariants as variant
+use Rattle.ra_labels.specs.declared.operation.Op.TheVariants as ops
+use Rattle.ra_labels.specs.declared.operation.Update.TheVariants.{After}
+use Rattle.ra_labels.specs.declared.command.Command.TheVariants.{Operate}
+use Rattle.ra_labels.specs.NamedOrder.{named_sequence}
+use Rattle.ra_labels.specs.Linearization.{updates_admitted}
+use Rattle.ra_labels.specs.Insertion.{Makes}
+use Rattle.ra_replica_list.specs.declared.deed.Deed.TheVariants.{PutsIn}
+use Rattle.ra_replica_list.specs.Deeds.{element_at}
+use Rattle.ra_replica_list.specs.ReplicaList.{IsListOf}
+use Rattle.ra_witness.specs.declared.rga.Rga.{Rga}
+use Rattle.ra_witness.specs.Rga.{IsRgaOf}
+use Rattle.ra_witness.specs.Offered.{IsOffered}
+use Rattle.ra_witness.proofs.Lasts.{on_err_any}
+use Rattle.ra_witness.proofs.Forms.{its_replica}
+use Rattle.ra_witness.proofs.Admitted.{makes_after}
+use Rattle.ra_witness.proofs.AllElements.{rga_like}
+use Rattle.ra_witness.proofs.ReplicaLists.{rga_same}
+use Rattle.ra_witness.proofs.RgaTaken.{rga_put}
+use Rattle.ra_witness.proofs.rga.Rga.put_in.Goals as goal
+
+pub unreachable-requires : goal.unreachable-requires
+unreachable-requires c =
+    let (n, within, is) = c.requires.known in
+    c.in_default.not-Some n ((c.number_of.ensures n).1 (within, is))
+
+pub unreachable-requires-in_default-stamp : goal.unreachable-requires-in_default-stamp
+unreachable-requires-in_default-stamp c = false≢true (subst (λ o. IsSome o) c.in_default-stamp.is c.requires.stamp)
+
+pub returns-in_err-spare-clause-same : goal.returns-in_err-spare-clause-same
+returns-in_err-spare-clause-same c = λ first records stands.
+    let self = c.args.self.now in
+    let spared : Rga = record { deeds = self.deeds; all = c.spare.new.self; lists = self.lists } in
+    let left = c.in_err-spare.ensures in
+    on_err_any c.from_residual.result (rga_like self spared first records (sym left.elements) (sym left.arrivals) refl refl stands)
+
+pub put_own-requires-clause-anchor : goal.put_own-requires-clause-anchor
+put_own-requires-clause-anchor c =
+    let known = (c.in-Some.ensures c.in-Some.behind).0 refl in
+    let count = ap length c.in_ok-spare.ensures.arrivals in
+    omega (arith, known.0, count)
+
+pub insert-requires-clause-anchor : goal.insert-requires-clause-anchor
+insert-requires-clause-anchor c =
+    let known = (c.in-Some.ensures c.in-Some.behind).0 refl in
+    let count = ap length c.in_ok-spare.ensures.arrivals in
+    omega (arith, known.0, count)
+
+pub returns-in_err-steps-clause-same : goal.returns-in_err-steps-clause-same
+returns-in_err-steps-clause-same c = λ first records stands.
+    let self = c.args.self.now in
+    let spared : Rga = record { deeds = self.deeds; all = c.spare.new.self; lists = self.lists } in
+    let room = c.in_ok-spare.ensures in
+    let there_still = rga_like self spared first records (sym room.elements) (sym room.arrivals) refl refl stands in
+    let lists = self.lists.items in
+    let r = c.args.label.now.replica in
+    let list = c.index_mut-list.result.now in
+    let within : r < length lists = omega (arith, c.requires.replica, self.lists.ok.0) in
+    let there = slice_get_read lists (length lists) r list refl within c.index_mut-list.ensures.value in
+    on_err_any c.from_residual-in_err-steps.result
+    (rga_same spared first records there_still r c.put_own.new.self within (c.in_err-steps.ensures.err spared.all.arrivals self.deeds.items records r (there_still.lists r list there)))
+
+pub returns-clause-taken : goal.returns-clause-taken
+returns-clause-taken c = λ first records by op clock stands offered admitted is.
+    let self = c.args.self.now in
+    let label = c.args.label.now in
+    let r = label.replica in
+    let lists = self.lists.items in
+    let anchor = c.args.anchor in
+    let x = c.args.element in
+    let m = c.in-Some.behind in
+    let stamp = c.in-Some-stamp.stamp in
+    let all = c.spare.new.self in
+    let spared : Rga = record { deeds = self.deeds; all = all; lists = self.lists } in
+    let room = c.in_ok-spare.ensures in
+    let there_still = rga_like self spared first records (sym room.elements) (sym room.arrivals) refl refl stands in
+    let list = c.index_mut-list.result.now in
+    let replica = its_replica variant.Rga first records by op clock label offered in
+    let within : r < length lists = omega (arith, c.requires.replica, self.lists.ok.0) in
+    let there = slice_get_read lists (length lists) r list refl within c.index_mut-list.ensures.value in
+    let known = (c.in-Some.ensures m).0 refl in
+    let count = ap length room.arrivals in
+    let m_within : m < length all.arrivals = omega (arith, known.0, count) in
+    let m_is : element_at all.arrivals m ≡ anchor = ap (λ rs. element_at rs m) room.arrivals ∙ known.1 in
+    let after = subst (λ b. IsOffered variant.Rga first records b (ops.After anchor x) clock label) (sym replica) (subst (λ o. IsOffered variant.Rga first records by o clock label) is offered) in
+    let now_admitted = subst (λ b. updates_admitted variant.Rga (named_sequence variant.Rga (Operate b (ops.After anchor x) clock ∷ records)) ≡ true) (sym replica)
+    (subst (λ o. updates_admitted variant.Rga (named_sequence variant.Rga (Operate by o clock ∷ records)) ≡ true) is admitted) in
+    let makes = subst (λ y. Makes (ops.After anchor x) (After y x)) (sym m_is) (makes_after anchor x) in
+    let own = c.in_ok-steps.ensures.put self.deeds.items records r (ops.After anchor x) clock there_still.elements (there_still.lists r list there) (ap (λ l. l.number) after.next) makes
+    (sym (ap (λ l. l.stamp) after.next) ∙ c.in-Some-stamp.is) after.fits now_admitted in
+    let next : Rga = record { deeds = c.push_reserved.new.self; all = c.insert.new.self; lists = with_item self.lists r c.put_own.new.self } in
+    let pushed : c.push_reserved.new.self.items ≡ self.deeds.items ++ Some (PutsIn (length all.arrivals)) ∷ [] =
+    c.push_reserved.ensures.items ∙ ap (λ n. self.deeds.items ++ Some (PutsIn n) ∷ []) c.len-number.ensures in
+    subst (λ o. IsRgaOf next first (Operate by o clock ∷ records)) (sym is)
+    (subst (λ b. IsRgaOf next first (Operate b (ops.After anchor x) clock ∷ records)) replica
+    (rga_put spared next first records r clock label there_still anchor x m stamp c.put_own.new.self after c.in-Some-stamp.is m_within m_is
+    (λ n there same. c.requires.new n (omega (arith, there, count)) (ap (λ rs. element_at rs n) (sym room.arrivals) ∙ same)) now_admitted pushed
+    c.insert.ensures.arrivals c.insert.ensures.elements refl own))

@@ -1,0 +1,26 @@
+use Rattle.std.proofs.Common.{arith}
+use Rattle.ra_witness.proofs.Offering.{is_told, delivered}
+use Rattle.ra_witness.proofs.witness.Witness.deliver.Goals as goal
+
+pub deliver-requires : goal.deliver-requires
+deliver-requires g c =
+    let may = c.requires in record {
+      kind = may.kind;
+      first = may.first;
+      records = may.records;
+      stands = may.stands.kept;
+      told = is_told g.O.NamedOrder.stands_for c.args.self.now may.kind may.first may.records c.args.replica c.args.label may.stands may.accepted;
+    }
+
+pub returns-clause-delivered : goal.returns-clause-delivered
+returns-clause-delivered g c = λ kind first records stands accepted.
+    let told = is_told g.O.NamedOrder.stands_for c.args.self.now kind first records c.args.replica c.args.label stands accepted in
+    delivered g.O.NamedOrder.stands_for c.args.self.now _ kind first records c.args.replica c.args.label stands accepted
+    ((g.met.O.NamedOrder g.world.𝓛 g.world.𝓜 g.world.𝓡 ((λ s x. x), (λ x. x), (λ x. x), λ x. x)).keeps c.args.self.now.order kind first records c.args.replica c.args.label stands.order)
+    (c.in_ok-steps.ensures.delivered kind first records stands.kept told)
+
+pub returns-clause-few_steps : goal.returns-clause-few_steps
+returns-clause-few_steps g c = λ kind first records before behind it stands accepted is number.
+    let told = is_told g.O.NamedOrder.stands_for c.args.self.now kind first records c.args.replica c.args.label stands accepted in
+    let few = c.in_ok-steps.ensures.few_steps kind first records before behind it stands.kept told is number in
+    omega (arith, few, c.saturating_add-self.ensures)

@@ -1,0 +1,38 @@
+-- What labels do and ask.
+use Rattle.std.specs.Prelude.{Bool, false, List, [], ◌∷◌, Option, Some, None, map, reverse, filter_map, if◌then◌else◌}
+use Rattle.std.specs.List.{list_all}
+use Rattle.std.specs.Option.{option_map_or}
+use Rattle.ra_labels.specs.declared.operation.Op.{Op}
+use Rattle.ra_labels.specs.declared.operation.Update.{Update}
+use Rattle.ra_labels.specs.declared.operation.Query.{Query}
+use Rattle.ra_labels.specs.declared.reply.Cause.{Cause}
+use Rattle.ra_labels.specs.declared.reply.Cause.TheVariants as cause
+use Rattle.ra_labels.specs.Records.{Records, labels_of}
+use Rattle.ra_labels.specs.Rewriting.{Half, Act, acts_of, update_of, query_of}
+use Rattle.ra_labels.specs.Specification.{State, answers}
+
+abbrev pub updates_in : List (Half × Act) → List Update
+updates_in acts = filter_map (λ act. update_of act.1) acts
+
+abbrev pub queries_in : List (Half × Act) → List Query
+queries_in acts = filter_map (λ act. query_of act.1) acts
+
+abbrev pub first_of : {A : Type 0} → List A → Option A
+first_of [] = None
+first_of (x ∷ xs) = Some x
+
+-- what the operation does, if anything
+abbrev pub update_in : Op → Option Update
+update_in op = first_of (updates_in (acts_of op))
+
+-- what each label does, the oldest first
+abbrev pub updates_by_number : Records → List (Option Update)
+updates_by_number records = map (λ label. update_in label.op) (reverse (labels_of records))
+
+-- is the query's answer that of the state, if there is one?
+abbrev pub answers_in : Option State → Query → Bool
+answers_in state query = option_map_or (λ s. answers s query) state false
+
+-- why a label with these parts fails at a replica in this state, as far as it asks
+abbrev pub cause_in : Option State → List (Half × Act) → Option Cause
+cause_in state acts = if list_all (answers_in state) (queries_in acts) then None else Some cause.Query

@@ -1,0 +1,12 @@
+pub mod Sequence
+pub mod Labels
+pub mod States
+pub mod Standing
+pub mod Numbers
+pub mod Last
+pub mod Overriding
+pub mod Overridden
+pub mod Rga
+pub mod Offered
+pub mod Kept
+pub mod Witness

@@ -1,0 +1,25 @@
+-- The elements of an LWW set, by their numbers.
+use Rattle.std.specs.Prelude.{ℕ, ◌+◌, ◌==◌, is_some, Option, Some, None, unwrap_or, if◌then◌else◌}
+use Rattle.ra_labels.specs.declared.operation.Update.{Update}
+use Rattle.ra_labels.specs.declared.operation.Update.TheVariants.{LwwAdd, LwwRemove}
+
+-- the element of an LWW set that the update is on
+abbrev pub element_of : Update → Option ℕ
+element_of (LwwAdd x) = Some x
+element_of (LwwRemove x) = Some x
+element_of _ = None
+
+-- the number of an element, or of a register's one value; the next one where none is known
+abbrev pub number_in : (ℕ → Option ℕ) → ℕ → Option ℕ → ℕ
+number_in number_of next None = 0
+number_in number_of next (Some x) = unwrap_or (number_of x) next
+
+-- the elements' numbers, once this one is known
+abbrev pub number_with : (ℕ → Option ℕ) → Option ℕ → ℕ → ℕ → Option ℕ
+number_with number_of None number y = number_of y
+number_with number_of (Some x) number y = if x == y then Some number else number_of y
+
+-- how many elements there are, once this one is known
+abbrev pub count_with : (ℕ → Option ℕ) → ℕ → Option ℕ → ℕ
+count_with number_of count None = count
+count_with number_of count (Some x) = if is_some (number_of x) then count else count + 1

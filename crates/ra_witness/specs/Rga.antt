@@ -1,0 +1,41 @@
+-- When what is kept of an RGA is that of records.
+use Rattle.std.specs.Prelude.{◌≡◌, ℕ, ◌+◌, ◌≤◌, ◌∷◌, true, length, Option, Some}
+use Rattle.std.specs.List.{slice_get}
+use Rattle.ra_labels.specs.declared.kind.Kind.TheVariants as variant
+use Rattle.ra_labels.specs.declared.operation.Op.{Op}
+use Rattle.ra_labels.specs.declared.label.Label.{Label}
+use Rattle.ra_labels.specs.declared.command.Command.TheVariants.{Operate}
+use Rattle.ra_labels.specs.Records.{Records, label_count, replica_count}
+use Rattle.ra_labels.specs.Linearization.{updates_admitted}
+use Rattle.ra_labels.specs.NamedOrder.{named_sequence}
+use Rattle.ra_replica_list.specs.Deeds.{AreElementsOf}
+use Rattle.ra_replica_list.specs.ReplicaList.{ReplicaList, IsListOf}
+use Rattle.ra_witness.specs.declared.rga.Rga.{Rga}
+use Rattle.ra_witness.specs.Offered.{IsOffered, IsTold}
+
+-- the labels' deeds and the elements of all of them, and of each replica its list
+pub record IsRgaOf (rga : Rga) (first : ℕ) (records : Records) : Type 0 where
+  pub elements : AreElementsOf rga.all rga.deeds.items records
+  pub replicas : length rga.lists.items ≡ replica_count first records
+  pub lists : (replica : ℕ) (list : ReplicaList) → slice_get rga.lists.items replica ≡ Some list
+      → IsListOf list rga.all.arrivals rga.deeds.items records replica
+  -- an element for each label at most, and the root
+  pub few : length rga.all.arrivals ≤ label_count records + 1
+
+-- after some records of which this is kept the label is offered, and with it the updates of all labels are admitted
+pub record MayGrow (rga : Rga) (label : Label) : Type 0 where
+  pub first : ℕ
+  pub records : Records
+  pub by : ℕ
+  pub op : Op
+  pub clock : Option ℕ
+  pub stands : IsRgaOf rga first records
+  pub offered : IsOffered variant.Rga first records by op clock label
+  pub admitted : updates_admitted variant.Rga (named_sequence variant.Rga (Operate by op clock ∷ records)) ≡ true
+
+-- after some records of which this is kept the delivery is told
+pub record MayHear (rga : Rga) (to n : ℕ) : Type 0 where
+  pub first : ℕ
+  pub records : Records
+  pub stands : IsRgaOf rga first records
+  pub told : IsTold variant.Rga first records to n

@@ -1,0 +1,53 @@
+ghost use Rattle.std.specs.Prelude.{◌≡◌, ◌<◌, ℕ, [], Some, vec_len, slice_set, OnOk, OnErr};
+ghost use Rattle.ra_witness.specs.Last.{label_on};
+
+use ra_labels::NoMemory;
+use std::alloc::Global;
+
+/// Of each element, by its number, the label of the last update on it that a replica had.
+#[derive(Debug, Drop)]
+pub struct Last {
+    /// There is none beyond the end.
+    pub labels: Vec<Option<u32>>,
+}
+
+impl Last {
+    /// The replica had nothing. It takes no memory.
+    pub fn new(alloc: Global) -> Last
+        ensures { result.labels.items ≡ [] }
+    {
+        Last {
+            labels: Vec::new(alloc),
+        }
+    }
+
+    /// The label of the last update on the element.
+    pub fn on(&self, element: u32) -> Option<u32>
+        ensures { result ≡ label_on self.now.labels.items element }
+    {
+        match self.labels.get(element as usize) {
+            Some(label) => *label,
+            None => None,
+        }
+    }
+
+    /// Makes room for the element, and changes nothing else.
+    pub fn make_room(&mut self, element: u32) -> Result<(), NoMemory>
+        ensures room { OnOk result (element < vec_len self.new.labels) }
+        ensures same { (k : ℕ) → label_on self.new.labels.items k ≡ label_on self.old.labels.items k }
+    {
+        let element = element as usize;
+        if self.labels.len() <= element {
+            self.labels.resize(element + 1, None)?;
+        }
+        Ok(())
+    }
+
+    /// The label's update is the last on the element from now on, for which there is room.
+    pub fn put(&mut self, element: u32, label: u32)
+        requires { element < vec_len self.old.labels }
+        ensures { self.new.labels.items ≡ slice_set self.old.labels.items element (Some label) }
+    {
+        self.labels[element as usize] = Some(label);
+    }
+}

@@ -1,0 +1,143 @@
+//! What one more label or delivery changes in what is kept, each law the clause of a function that does nothing.
+ghost use Rattle.std.specs.Prelude.{◌≡◌, ℕ, ◌+◌, ◌<◌, true, false, not, List, [], ◌∷◌, ◌++◌, Contains, length, map, flat_map, Option, Some, None, if◌then◌else◌};
+ghost use Rattle.ra_labels.specs.declared.kind.Kind.{Kind};
+ghost use Rattle.ra_labels.specs.declared.kind.Kind.TheVariants.{Counter, Register, LwwSet, OrSet, Rga};
+ghost use Rattle.ra_labels.specs.declared.operation.Op.{Op};
+ghost use Rattle.ra_labels.specs.declared.operation.Update.{Update};
+ghost use Rattle.ra_labels.specs.declared.label.Label.{Label};
+ghost use Rattle.ra_labels.specs.declared.command.Command.TheVariants.{Operate, Deliver};
+ghost use Rattle.ra_labels.specs.declared.reply.Cause.TheVariants as cause;
+ghost use Rattle.ra_labels.specs.Records.{Records, label_count, labels_of};
+ghost use Rattle.ra_labels.specs.Visibility.{had, is_update_at, IsCausal};
+ghost use Rattle.ra_labels.specs.Rewriting.{acts_of};
+ghost use Rattle.ra_labels.specs.Specification.{State, state_after};
+ghost use Rattle.ra_labels.specs.Linearization.{extends_visibility, updates_admitted};
+ghost use Rattle.ra_labels.specs.NamedOrder.{named_sequence};
+ghost use Rattle.ra_labels.specs.Fault.{Holds, cause_of};
+ghost use Rattle.ra_labels.specs.Answer.{kind_of, is_kind};
+ghost use Rattle.ra_labels.specs.Laws.{IdentifiersAreOneLabels, StampsAreOneLabels};
+ghost use Rattle.ra_labels.specs.Insertion.{updates_had, Makes};
+ghost use Rattle.ra_visibility.specs.Order.{IsByTimestamp, numbers_in};
+ghost use Rattle.ra_witness.specs.Numbers.{element_of, number_with};
+ghost use Rattle.ra_witness.specs.Sequence.{ref_of, refs_at};
+ghost use Rattle.ra_witness.specs.Labels.{update_in, updates_by_number, cause_in};
+ghost use Rattle.ra_witness.specs.States.{update_at, states_after};
+ghost use Rattle.ra_witness.specs.Standing.{IsKeptOf};
+ghost use Rattle.ra_witness.specs.declared.written.Written.{Written};
+ghost use Rattle.ra_witness.specs.Overriding.{updates_of, write_at, last_label, counting, last_with};
+ghost use Rattle.ra_witness.specs.Overridden.{AreWritesOf, AreLastOf, IsLastOn, AreBelow, IsNextWrite};
+
+/// Where a new label fits, its update is the last one of those that its replica had.
+pub fn a_new_update_is_the_last_of_its_replica()
+    ensures { (kind : Kind) (records : Records) (by : ℕ) (op : Op) (clock : Option ℕ) (update : Update)
+        → Makes op update → let now = Operate by op clock ∷ records in
+        extends_visibility now (named_sequence kind now) ≡ true
+        → updates_had kind now by ≡ updates_had kind records by ++ update ∷ [] }
+{}
+
+/// Where a new label fits, the cause at it is that of the updates of all labels, or else that of what it asks of the
+/// state of its replica. But for an RGA the updates of all labels are admitted where they were, with one of the kind.
+pub fn the_cause_at_a_new_label()
+    ensures cause { (kind : Kind) (records : Records) (by : ℕ) (op : Op) (clock : Option ℕ) → Holds kind records
+        → let now = Operate by op clock ∷ records in let sequence = named_sequence kind now in
+        extends_visibility now sequence ≡ true → cause_of kind now
+        ≡ (if not (updates_admitted kind sequence) then Some cause.Update
+        else cause_in (state_after kind (updates_had kind records by)) (acts_of op)) }
+    ensures admitted { (kind : Kind) (records : Records) (by : ℕ) (op : Op) (clock : Option ℕ) → ¬ (kind ≡ Rga)
+        → Holds kind records → is_kind kind (kind_of op) ≡ true
+        → updates_admitted kind (named_sequence kind (Operate by op clock ∷ records)) ≡ true }
+{}
+
+/// What is kept with one more label that fits is what was kept and its update, which its replica made, but for an RGA.
+pub fn what_is_kept_with_a_label()
+    ensures { (updates : List (Option Update)) (states : List State) (kind : Kind) (first : ℕ) (records : Records)
+        (by : ℕ) (op : Op) (clock : Option ℕ) → ¬ (kind ≡ Rga) → IsKeptOf updates states kind first records
+        → by < length states → is_kind kind (kind_of op) ≡ true
+        → let now = Operate by op clock ∷ records in extends_visibility now (named_sequence kind now) ≡ true
+        → IsKeptOf (updates ++ update_in op ∷ []) (states_after states by (update_in op)) kind first now }
+{}
+
+/// What is kept of a counter or an OR-Set with one more delivery is what was kept, once the receiver made the update.
+pub fn what_is_kept_with_a_delivery()
+    ensures counter { (updates : List (Option Update)) (states : List State) (first : ℕ) (records : Records)
+        (to n : ℕ) → IsKeptOf updates states Counter first records → to < length states
+        → is_update_at records n ≡ true → had records to n ≡ false → Holds Counter records
+        → IsKeptOf updates (states_after states to (update_at updates n)) Counter first (Deliver to n ∷ records) }
+    ensures or_set { (updates : List (Option Update)) (states : List State) (first : ℕ) (records : Records)
+        (to n : ℕ) → IsKeptOf updates states OrSet first records → to < length states
+        → is_update_at records n ≡ true → Holds OrSet records → IdentifiersAreOneLabels records
+        → IsCausal (Deliver to n ∷ records)
+        → IsKeptOf updates (states_after states to (update_at updates n)) OrSet first (Deliver to n ∷ records) }
+{}
+
+/// What is kept of a register or an LWW set with one more delivery is what was kept, once the receiver made the update
+/// that counts: that of the delivered label or of the last one on its element, whichever has the greater stamp.
+pub fn what_is_kept_with_a_delivery_that_may_be_overridden()
+    ensures register { (writes : List (Option Written)) (lasts : List (List (Option ℕ))) (number_of : ℕ → Option ℕ)
+        (states : List State) (first : ℕ) (records : Records) (to n : ℕ) (write : Written)
+        → IsKeptOf (updates_of writes) states Register first records → AreWritesOf writes number_of records
+        → AreLastOf writes lasts records → StampsAreOneLabels records → Holds Register records
+        → to < length lasts → to < length states → is_update_at records n ≡ true → had records to n ≡ false
+        → write_at writes n ≡ Some write
+        → let update = update_at (updates_of writes) (counting writes lasts to n write) in
+        IsKeptOf (updates_of writes) (states_after states to update) Register first (Deliver to n ∷ records) }
+    ensures lww_set { (writes : List (Option Written)) (lasts : List (List (Option ℕ))) (number_of : ℕ → Option ℕ)
+        (states : List State) (first : ℕ) (records : Records) (to n : ℕ) (write : Written)
+        → IsKeptOf (updates_of writes) states LwwSet first records → AreWritesOf writes number_of records
+        → AreLastOf writes lasts records → StampsAreOneLabels records → Holds LwwSet records
+        → to < length lasts → to < length states → is_update_at records n ≡ true → had records to n ≡ false
+        → write_at writes n ≡ Some write
+        → let update = update_at (updates_of writes) (counting writes lasts to n write) in
+        IsKeptOf (updates_of writes) (states_after states to update) LwwSet first (Deliver to n ∷ records) }
+{}
+
+/// The parts of the labels in the named order are the named sequence.
+pub fn the_parts_are_the_named_sequence()
+    ensures { (kind : Kind) (records : Records)
+        → flat_map (refs_at (updates_by_number records)) (numbers_in kind records)
+        ≡ map ref_of (named_sequence kind records) }
+{}
+
+/// A new label that does nothing leaves the writes and the last labels. One that does something and fits is the last
+/// one on its element that its replica had, whose number is as before, or the next one where the element had none.
+pub fn the_last_labels_with_a_label()
+    ensures query_writes { (writes : List (Option Written)) (number_of : ℕ → Option ℕ) (records : Records) (by : ℕ)
+        (op : Op) (clock : Option ℕ) → updates_of writes ≡ updates_by_number records
+        → AreWritesOf writes number_of records
+        → AreWritesOf (writes ++ None ∷ []) number_of (Operate by op clock ∷ records) }
+    ensures query_lasts { (writes : List (Option Written)) (lasts : List (List (Option ℕ))) (records : Records) (by : ℕ)
+        (op : Op) (clock : Option ℕ) → updates_of writes ≡ updates_by_number records → AreLastOf writes lasts records
+        → AreLastOf (writes ++ None ∷ []) lasts (Operate by op clock ∷ records) }
+    ensures writes { (kind : Kind) (writes : List (Option Written)) (number_of : ℕ → Option ℕ) (count by : ℕ) (op : Op)
+        (clock : Option ℕ) (records : Records) (write : Written) → IsByTimestamp kind
+        → updates_of writes ≡ updates_by_number records → AreWritesOf writes number_of records
+        → AreBelow number_of count → IsNextWrite write number_of count by op clock
+        → let now = Operate by op clock ∷ records in extends_visibility now (named_sequence kind now) ≡ true
+        → StampsAreOneLabels now → let numbers = number_with number_of (element_of write.update) write.on in
+        AreWritesOf (writes ++ Some write ∷ []) numbers now × AreBelow numbers (count + 1) }
+    ensures lasts { (kind : Kind) (writes : List (Option Written)) (lasts next : List (List (Option ℕ)))
+        (number_of : ℕ → Option ℕ) (count by : ℕ) (op : Op) (clock : Option ℕ) (records : Records) (write : Written)
+        → IsByTimestamp kind → updates_of writes ≡ updates_by_number records → AreWritesOf writes number_of records
+        → AreBelow number_of count → IsNextWrite write number_of count by op clock
+        → let now = Operate by op clock ∷ records in extends_visibility now (named_sequence kind now) ≡ true
+        → StampsAreOneLabels now → AreLastOf writes lasts records → length next ≡ length lasts
+        → ((q c : ℕ) → last_label next q c ≡ last_with lasts by write.on (label_count records) q c)
+        → AreLastOf (writes ++ Some write ∷ []) next now }
+{}
+
+/// Once a label is delivered, that one or the last one on its element is the last one, which has the greater stamp; and
+/// what else is kept of last labels stays.
+pub fn the_last_labels_with_a_delivery()
+    ensures counting { (writes : List (Option Written)) (lasts : List (List (Option ℕ))) (number_of : ℕ → Option ℕ)
+        (records : Records) (to n : ℕ) (write : Written) → AreWritesOf writes number_of records
+        → AreLastOf writes lasts records → StampsAreOneLabels records → to < length lasts
+        → is_update_at records n ≡ true → had records to n ≡ false → write_at writes n ≡ Some write
+        → IsLastOn writes (Deliver to n ∷ records) to write.on (counting writes lasts to n write) }
+    ensures kept { (writes : List (Option Written)) (lasts next : List (List (Option ℕ))) (number_of : ℕ → Option ℕ)
+        (records : Records) (to n : ℕ) (write : Written) → AreWritesOf writes number_of records
+        → AreLastOf writes lasts records → StampsAreOneLabels records → to < length lasts
+        → is_update_at records n ≡ true → had records to n ≡ false → write_at writes n ≡ Some write
+        → length next ≡ length lasts
+        → ((q c : ℕ) → last_label next q c ≡ last_with lasts to write.on (counting writes lasts to n write) q c)
+        → AreLastOf writes next (Deliver to n ∷ records) }
+{}

@@ -1,0 +1,231 @@
+//! Of a register and of an LWW set: of the updates on one element the last one counts.
+ghost use Rattle.std.specs.Prelude.{◌≡◌, ◌==◌, ◌+◌, ◌<◌, ◌≤◌, ◌^◌, ◌++◌, ◌∷◌, [], ℕ, true, nat_eq, replicate, set, vec_len, option_map, Option, Some, None, IfOk, IfSome, IsSome, OnOk, OnErr, if◌then◌else◌};
+ghost use Rattle.std.specs.List.{list_all};
+ghost use Rattle.std.specs.HashMap.{get, hash_map_len};
+ghost use Rattle.ra_labels.specs.declared.label.Stamp.{Stamp};
+ghost use Rattle.ra_labels.specs.Specification.{start_of, answers};
+ghost use Rattle.ra_seqspec.specs.Asked.{asks_rising};
+ghost use Rattle.ra_rewrite.specs.Parts.{acts_in};
+ghost use Rattle.ra_witness.specs.Labels.{queries_in, cause_in};
+ghost use Rattle.ra_witness.specs.States.{state_at, update_at, after_step, CanStep, states_after};
+ghost use Rattle.ra_witness.specs.Numbers.{element_of, number_in, number_with, count_with};
+ghost use Rattle.ra_witness.specs.Last.{label_on};
+ghost use Rattle.ra_witness.specs.Overriding.{updates_of, write_of, write_at, later_of, is_above, labels_in, last_label, counting, last_with};
+ghost use Rattle.ra_witness.specs.declared.written.Written.{Written};
+
+use crate::asked;
+use crate::last::Last;
+use crate::numbers::Numbers;
+use crate::written::Written;
+use ra_labels::{Cause, Kind, NoMemory, Stamp, Update};
+use ra_rewrite::Parts;
+use ra_seqspec::State;
+use std::alloc::Global;
+
+/// What the labels do, and of each replica the state after the updates that it had.
+#[derive(Debug, Drop)]
+pub struct Overriding {
+    /// Of each label what it does, if anything, the oldest first.
+    pub writes: Vec<Option<Written>>,
+    pub numbers: Numbers,
+    /// Of each replica.
+    pub states: Vec<State>,
+    /// Of each replica, for each element the label of the last update on it that the replica had.
+    pub lasts: Vec<Last>,
+}
+
+impl Overriding {
+    /// No labels, of so many replicas. Costs a state for each.
+    pub fn new(alloc: Global, kind: Kind, replicas: u8) -> Result<Overriding, NoMemory>
+        ensures writes { IfOk result (λ kept. kept.writes.items ≡ []) }
+        ensures states { IfOk result (λ kept. kept.states.items ≡ replicate replicas (start_of kind)) }
+        ensures lasts { IfOk result (λ kept. labels_in kept.lasts.items ≡ replicate replicas []) }
+        ensures numbers { IfOk result (λ kept. (x : ℕ) → get nat_eq kept.numbers.numbers x ≡ None) }
+        ensures none { IfOk result (λ kept. hash_map_len kept.numbers.numbers ≡ 0) }
+    {
+        let mut states = Vec::with_capacity(alloc, replicas as usize)?;
+        let mut lasts = Vec::with_capacity(alloc, replicas as usize)?;
+        for _ in 0..replicas {
+            states.push(State::new(alloc, kind)?)?;
+            lasts.push(Last::new(alloc))?;
+        }
+        Ok(Overriding {
+            writes: Vec::new(alloc),
+            numbers: Numbers::new(alloc),
+            states,
+            lasts,
+        })
+    }
+
+    /// Why a label of the replica fails that has these parts, if so: its query is not answered yes.
+    pub fn cause(&self, replica: u8, parts: &Parts) -> Option<Cause>
+        requires replica { replica < vec_len self.now.states }
+        requires rising { list_all asks_rising (queries_in (acts_in parts.now)) ≡ true }
+        ensures { result ≡ cause_in (Some (state_at self.now.states.items replica)) (acts_in parts.now) }
+    {
+        asked::cause(&self.states[replica as usize], parts)
+    }
+
+    /// Takes the next label in, which does nothing.
+    pub fn take_query(&mut self) -> Result<(), NoMemory>
+        ensures writes { OnOk result (self.new.writes.items ≡ self.old.writes.items ++ None ∷ []) }
+        ensures err { OnErr result (self.new.writes.items ≡ self.old.writes.items) }
+        ensures same { self.new ≡ record self.old { writes = self.new.writes } }
+    {
+        self.writes.push(None)?;
+        Ok(())
+    }
+
+    /// Takes the next label in, of this replica, which does this with this stamp, above all that the replica had.
+    pub fn take(&mut self, replica: u8, update: Update, stamp: Stamp) -> Result<(), NoMemory>
+        requires state { replica < vec_len self.old.states }
+        requires last { replica < vec_len self.old.lasts }
+        requires few { vec_len self.old.writes < 2 ^ 32 }
+        requires known { hash_map_len self.old.numbers.numbers < 2 ^ 32 }
+        requires can { CanStep (state_at self.old.states.items replica) (Some update) }
+        ensures writes { OnOk result (self.new.writes.items ≡ self.old.writes.items
+            ++ Some (write_of self.old.numbers update stamp) ∷ []) }
+        ensures states { OnOk result (self.new.states.items
+            ≡ states_after self.old.states.items replica (Some update)) }
+        ensures lasts { OnOk result ((q c : ℕ) → last_label (labels_in self.new.lasts.items) q c
+            ≡ last_with (labels_in self.old.lasts.items) replica (write_of self.old.numbers update stamp).on
+            (vec_len self.old.writes) q c) }
+        ensures numbers { OnOk result ((x : ℕ) → get nat_eq self.new.numbers.numbers x
+            ≡ number_with (get nat_eq self.old.numbers.numbers) (element_of update)
+            (write_of self.old.numbers update stamp).on x) }
+        ensures count { OnOk result (hash_map_len self.new.numbers.numbers
+            ≡ count_with (get nat_eq self.old.numbers.numbers) (hash_map_len self.old.numbers.numbers)
+            (element_of update)) }
+        ensures replicas { vec_len self.new.lasts ≡ vec_len self.old.lasts }
+        ensures same_writes { OnErr result (self.new.writes.items ≡ self.old.writes.items) }
+        ensures same_states { OnErr result (self.new.states.items ≡ self.old.states.items) }
+        ensures same_lasts { OnErr result ((q c : ℕ) → last_label (labels_in self.new.lasts.items) q c
+            ≡ last_label (labels_in self.old.lasts.items) q c) }
+        ensures same_numbers { OnErr result ((x : ℕ) → get nat_eq self.new.numbers.numbers x
+            ≡ get nat_eq self.old.numbers.numbers x) }
+        ensures same_count { OnErr result (hash_map_len self.new.numbers.numbers
+            ≡ hash_map_len self.old.numbers.numbers) }
+    {
+        let label = self.writes.len() as u32;
+        let on = self.numbers.of(&update);
+        self.writes.reserve(1)?;
+        self.numbers.make_room()?;
+        let state = &mut self.states[replica as usize];
+        let last = &mut self.lasts[replica as usize];
+        make_own(state, last, &update, on, label)?;
+        self.numbers.keep(&update, on);
+        self.writes
+            .push_reserved(Some(Written { update, stamp, on }));
+        Ok(())
+    }
+
+    /// The label is delivered to the replica, which does something.
+    pub fn deliver(&mut self, replica: u8, label: u32) -> Result<(), NoMemory>
+        requires state { replica < vec_len self.old.states }
+        requires last { replica < vec_len self.old.lasts }
+        requires label { label < vec_len self.old.writes }
+        requires can { IfSome (write_at self.old.writes.items label) (λ written.
+            CanStep (state_at self.old.states.items replica) (update_at (updates_of self.old.writes.items)
+            (counting self.old.writes.items (labels_in self.old.lasts.items) replica label written))) }
+        ensures writes { self.new.writes ≡ self.old.writes }
+        ensures numbers { self.new.numbers ≡ self.old.numbers }
+        ensures replicas { vec_len self.new.lasts ≡ vec_len self.old.lasts }
+        ensures states { IfSome (write_at self.old.writes.items label) (λ written. OnOk result (self.new.states.items
+            ≡ states_after self.old.states.items replica (update_at (updates_of self.old.writes.items)
+            (counting self.old.writes.items (labels_in self.old.lasts.items) replica label written)))) }
+        ensures lasts { IfSome (write_at self.old.writes.items label) (λ written. OnOk result ((q c : ℕ)
+            → last_label (labels_in self.new.lasts.items) q c
+            ≡ last_with (labels_in self.old.lasts.items) replica written.on
+            (counting self.old.writes.items (labels_in self.old.lasts.items) replica label written) q c)) }
+        ensures same_states { OnErr result (self.new.states.items ≡ self.old.states.items) }
+        ensures same_lasts { OnErr result ((q c : ℕ) → last_label (labels_in self.new.lasts.items) q c
+            ≡ last_label (labels_in self.old.lasts.items) q c) }
+    {
+        let writes = self.writes.as_slice();
+        let Some(written) = &writes[label as usize] else {
+            return Ok(());
+        };
+        let state = &mut self.states[replica as usize];
+        let last = &mut self.lasts[replica as usize];
+        bring(state, last, writes, label, written)
+    }
+}
+
+// The replica gets the label: its update, or that of the last label on its element, is made, whichever stands later.
+fn bring(
+    state: &mut State,
+    last: &mut Last,
+    writes: &[Option<Written>],
+    label: u32,
+    written: &Written,
+) -> Result<(), NoMemory>
+    requires { CanStep state.old (update_at (updates_of writes.now)
+        (later_of writes.now (label_on last.old.labels.items written.now.on) label written.now.stamp)) }
+    ensures state { OnOk result (state.new ≡ after_step state.old (update_at (updates_of writes.now)
+        (later_of writes.now (label_on last.old.labels.items written.now.on) label written.now.stamp))) }
+    ensures last { OnOk result ((c : ℕ) → label_on last.new.labels.items c
+        ≡ (if c == written.now.on then
+        Some (later_of writes.now (label_on last.old.labels.items written.now.on) label written.now.stamp)
+        else label_on last.old.labels.items c)) }
+    ensures same_state { OnErr result (state.new ≡ state.old) }
+    ensures same_last { OnErr result ((c : ℕ) → label_on last.new.labels.items c ≡ label_on last.old.labels.items c) }
+{
+    last.make_room(written.on)?;
+    let later = later_of(writes, last.on(written.on), label, written.stamp);
+    make(state, writes, later)?;
+    last.put(written.on, later);
+    Ok(())
+}
+
+// The replica makes this update of its own label on the element, as the last one.
+fn make_own(
+    state: &mut State,
+    last: &mut Last,
+    update: &Update,
+    on: u32,
+    label: u32,
+) -> Result<(), NoMemory>
+    requires { CanStep state.old (Some update.now) }
+    ensures state { OnOk result (state.new ≡ after_step state.old (Some update.now)) }
+    ensures last { OnOk result ((c : ℕ) → label_on last.new.labels.items c
+        ≡ (if c == on then Some label else label_on last.old.labels.items c)) }
+    ensures same_state { OnErr result (state.new ≡ state.old) }
+    ensures same_last { OnErr result ((c : ℕ) → label_on last.new.labels.items c ≡ label_on last.old.labels.items c) }
+{
+    last.make_room(on)?;
+    state.apply(update)?;
+    last.put(on, label);
+    Ok(())
+}
+
+// Of a label with this stamp and of the last one on its element, the one that stands later.
+fn later_of(writes: &[Option<Written>], last: Option<u32>, label: u32, stamp: Stamp) -> u32
+    ensures { result ≡ later_of writes.now last label stamp }
+{
+    match last {
+        Some(other) if is_above(writes, stamp, other) => other,
+        _ => label,
+    }
+}
+
+// Is the label's stamp above this one?
+fn is_above(writes: &[Option<Written>], stamp: Stamp, label: u32) -> bool
+    ensures { result ≡ is_above writes.now stamp label }
+{
+    match writes.get(label as usize) {
+        Some(Some(other)) => stamp < other.stamp,
+        _ => false,
+    }
+}
+
+// Makes what the label does, if anything.
+fn make(state: &mut State, writes: &[Option<Written>], label: u32) -> Result<(), NoMemory>
+    requires { CanStep state.old (update_at (updates_of writes.now) label) }
+    ensures made { OnOk result (state.new ≡ after_step state.old (update_at (updates_of writes.now) label)) }
+    ensures same { OnErr result (state.new ≡ state.old) }
+{
+    if let Some(Some(written)) = writes.get(label as usize) {
+        state.apply(&written.update)?;
+    }
+    Ok(())
+}

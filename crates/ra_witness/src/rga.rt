@@ -1,0 +1,239 @@
+//! Of an RGA: an element that comes late comes in behind the nearest one before it that is there.
+ghost use Rattle.std.specs.Prelude.{◌≡◌, ◌↔◌, ℕ, ◌+◌, ◌<◌, ◌≤◌, ◌^◌, ◌++◌, ◌∷◌, [], true, List, length, Option, Some, None, vec_len, vec_capacity, IsTrue, IsSome, IfOk, OnOk, OnErr, if◌then◌else◌};
+ghost use Rattle.ra_labels.specs.declared.kind.Kind.TheVariants as kinds;
+ghost use Rattle.ra_labels.specs.declared.operation.Op.{Op};
+ghost use Rattle.ra_labels.specs.declared.operation.Op.TheVariants as ops;
+ghost use Rattle.ra_labels.specs.declared.label.Label.{Label};
+ghost use Rattle.ra_labels.specs.declared.command.Command.TheVariants.{Operate, Deliver};
+ghost use Rattle.ra_labels.specs.Records.{Records};
+ghost use Rattle.ra_labels.specs.Visibility.{had};
+ghost use Rattle.ra_labels.specs.Rewriting.{acts_of};
+ghost use Rattle.std.specs.Ordering.{is_lt, is_le};
+ghost use Rattle.ra_labels.specs.NamedOrder.{stamp_cmp, named_labels, named_sequence};
+ghost use Rattle.ra_labels.specs.Linearization.{updates_admitted};
+ghost use Rattle.ra_labels.specs.Fault.{cause_of};
+ghost use Rattle.ra_labels.specs.Specification.{state_after};
+ghost use Rattle.ra_labels.specs.Insertion.{updates_among, updates_had};
+ghost use Rattle.ra_rewrite.specs.Parts.{acts_in};
+ghost use Rattle.ra_seqspec.specs.Asked.{asks_rising};
+ghost use Rattle.std.specs.List.{list_all};
+ghost use Rattle.ra_replica_list.specs.Deeds.{element_at};
+ghost use Rattle.ra_witness.specs.Labels.{queries_in, cause_in};
+ghost use Rattle.ra_witness.specs.Rga.{IsRgaOf, MayGrow, MayHear};
+ghost use Rattle.ra_witness.specs.Offered.{IsOffered, IsTold};
+
+use crate::asked;
+use ra_element_list::{ElementList, ROOT};
+use ra_labels::{Cause, Label, NoMemory, Op, Stamp};
+use ra_replica_list::{Deed, ReplicaList};
+use ra_rewrite::Parts;
+use std::alloc::Global;
+
+/// What the labels do, the list of all elements, and of each replica the list after the updates that it had.
+#[derive(Debug, Drop)]
+pub struct Rga {
+    /// Of each label what it does, if anything.
+    pub deeds: Vec<Option<Deed>>,
+    /// The elements of all labels.
+    pub all: ElementList,
+    /// Of each replica.
+    pub lists: Vec<ReplicaList>,
+}
+
+impl Rga {
+    /// No labels, of so many replicas.
+    pub fn new(alloc: Global, replicas: u8) -> Result<Rga, NoMemory>
+        ensures { IfOk result (λ kept. IsRgaOf kept replicas []) }
+    {
+        let mut lists = Vec::with_capacity(alloc, replicas as usize)?;
+        for _ in 0..replicas {
+            lists.push(ReplicaList::new(alloc)?)?;
+        }
+        Ok(Rga {
+            deeds: Vec::new(alloc),
+            all: ElementList::new(alloc)?,
+            lists,
+        })
+    }
+
+    /// The first condition but the order's that fails with the next label, which has these parts.
+    pub fn cause(&self, label: &Label, parts: &Parts) -> Option<Cause>
+        requires replica { label.now.replica < vec_len self.now.lists }
+        requires rising { list_all asks_rising (queries_in (acts_in parts.now)) ≡ true }
+        ensures { (first : ℕ) (records : Records) (by : ℕ) (op : Op) (clock : Option ℕ)
+            → IsRgaOf self.now first records → IsOffered kinds.Rga first records by op clock label.now
+            → acts_in parts.now ≡ acts_of op → result ≡ cause_of kinds.Rga (Operate by op clock ∷ records) }
+    {
+        match &label.op {
+            Op::After { anchor, element } => {
+                update_unless(self.admits_insertion(*anchor, *element, label.stamp))
+            }
+            Op::RgaRemove(element) => update_unless(self.admits_removal(label.replica, *element)),
+            _ => self.cause_of_query(label.replica, parts),
+        }
+    }
+
+    // Is it known, of all labels, that the anchor comes before the new element, and the element not?
+    fn admits_insertion(&self, anchor: u32, element: u32, stamp: Option<Stamp>) -> bool
+        ensures { (first : ℕ) (records : Records) (by : ℕ) (op : Op) (clock : Option ℕ) (label : Label)
+            → IsRgaOf self.now first records → IsOffered kinds.Rga first records by op clock label
+            → op ≡ ops.After anchor element → label.stamp ≡ stamp
+            → IsTrue result
+            ↔ (updates_admitted kinds.Rga (named_sequence kinds.Rga (Operate by op clock ∷ records)) ≡ true) }
+    {
+        let Some(number) = self.all.number_of(anchor) else {
+            return false;
+        };
+        let Some(stamp) = stamp else {
+            return false;
+        };
+        is_below(self.all.stamp(number), stamp) && self.all.number_of(element).is_none()
+    }
+
+    // Is it known, of all labels, that the element comes before its removal by this replica?
+    fn admits_removal(&self, replica: u8, element: u32) -> bool
+        requires { replica < vec_len self.now.lists }
+        ensures { (first : ℕ) (records : Records) (op : Op) (clock : Option ℕ) (label : Label)
+            → IsRgaOf self.now first records → IsOffered kinds.Rga first records replica op clock label
+            → op ≡ ops.RgaRemove element → IsTrue result
+            ↔ (updates_admitted kinds.Rga (named_sequence kinds.Rga (Operate replica op clock ∷ records)) ≡ true) }
+    {
+        let Some(number) = self.all.number_of(element) else {
+            return false;
+        };
+        let greatest = self.lists[replica as usize].greatest();
+        number != ROOT && is_up_to(self.all.stamp(number), greatest)
+    }
+
+    // Why a query of the replica fails, if so: its list does not answer it yes, or one of its updates waits.
+    fn cause_of_query(&self, replica: u8, parts: &Parts) -> Option<Cause>
+        requires replica { replica < vec_len self.now.lists }
+        requires rising { list_all asks_rising (queries_in (acts_in parts.now)) ≡ true }
+        ensures { (first : ℕ) (records : Records) → IsRgaOf self.now first records
+            → result ≡ cause_in (state_after kinds.Rga (updates_had kinds.Rga records replica)) (acts_in parts.now) }
+    {
+        asked::cause_if_any(self.lists[replica as usize].state(), parts)
+    }
+
+    /// Takes the next label in: answers how many steps that took.
+    pub fn take(&mut self, label: &Label) -> Result<u64, NoMemory>
+        requires { MayGrow self.old label.now }
+        ensures taken { (first : ℕ) (records : Records) (by : ℕ) (op : Op) (clock : Option ℕ)
+            → IsRgaOf self.old first records → IsOffered kinds.Rga first records by op clock label.now
+            → updates_admitted kinds.Rga (named_sequence kinds.Rga (Operate by op clock ∷ records)) ≡ true
+            → OnOk result (IsRgaOf self.new first (Operate by op clock ∷ records)) }
+        ensures same { (first : ℕ) (records : Records) → IsRgaOf self.old first records
+            → OnErr result (IsRgaOf self.new first records) }
+    {
+        self.deeds.reserve(1)?;
+        match &label.op {
+            Op::After { anchor, element } => self.put_in(label, *anchor, *element),
+            Op::RgaRemove(element) => self.remove(label, *element),
+            _ => {
+                self.deeds.push_reserved(None);
+                Ok(0)
+            }
+        }
+    }
+
+    // The next label puts the element in behind the anchor.
+    fn put_in(&mut self, label: &Label, anchor: u32, element: u32) -> Result<u64, NoMemory>
+        requires room { vec_len self.old.deeds < vec_capacity self.old.deeds }
+        requires replica { label.now.replica < vec_len self.old.lists }
+        requires few { length self.old.all.arrivals < 2 ^ 32 }
+        requires stamp { IsSome label.now.stamp }
+        requires known { (n : ℕ) × (n < length self.old.all.arrivals) × (element_at self.old.all.arrivals n ≡ anchor) }
+        requires new { (n : ℕ) → n < length self.old.all.arrivals → ¬ (element_at self.old.all.arrivals n ≡ element) }
+        ensures taken { (first : ℕ) (records : Records) (by : ℕ) (op : Op) (clock : Option ℕ)
+            → IsRgaOf self.old first records → IsOffered kinds.Rga first records by op clock label.now
+            → updates_admitted kinds.Rga (named_sequence kinds.Rga (Operate by op clock ∷ records)) ≡ true
+            → op ≡ ops.After anchor element
+            → OnOk result (IsRgaOf self.new first (Operate by op clock ∷ records)) }
+        ensures same { (first : ℕ) (records : Records) → IsRgaOf self.old first records
+            → OnErr result (IsRgaOf self.new first records) }
+    {
+        let Some(behind) = self.all.number_of(anchor) else {
+            unreachable!()
+        };
+        let Some(stamp) = label.stamp else {
+            unreachable!()
+        };
+        self.all.spare()?;
+        let number = self.all.len() as u32;
+        let list = &mut self.lists[label.replica as usize];
+        let steps = list.put_own(&self.all, label.number, element, stamp, behind)?;
+        self.all.insert(element, stamp, behind);
+        self.deeds.push_reserved(Some(Deed::PutsIn(number)));
+        Ok(steps)
+    }
+
+    // The next label removes the element.
+    fn remove(&mut self, label: &Label, element: u32) -> Result<u64, NoMemory>
+        requires room { vec_len self.old.deeds < vec_capacity self.old.deeds }
+        requires replica { label.now.replica < vec_len self.old.lists }
+        requires known { (n : ℕ) × (n < length self.old.all.arrivals) × (element_at self.old.all.arrivals n ≡ element) }
+        ensures taken { (first : ℕ) (records : Records) (by : ℕ) (op : Op) (clock : Option ℕ)
+            → IsRgaOf self.old first records → IsOffered kinds.Rga first records by op clock label.now
+            → updates_admitted kinds.Rga (named_sequence kinds.Rga (Operate by op clock ∷ records)) ≡ true
+            → op ≡ ops.RgaRemove element
+            → OnOk result (IsRgaOf self.new first (Operate by op clock ∷ records)) }
+        ensures same { (first : ℕ) (records : Records) → IsRgaOf self.old first records
+            → OnErr result (IsRgaOf self.new first records) }
+    {
+        let Some(number) = self.all.number_of(element) else {
+            unreachable!()
+        };
+        let list = &mut self.lists[label.replica as usize];
+        let steps = list.remove_own(&self.all, label.number, number)?;
+        self.deeds.push_reserved(Some(Deed::Removes(number)));
+        Ok(steps)
+    }
+
+    /// The label is delivered to the replica: answers how many steps that took.
+    pub fn deliver(&mut self, replica: u8, label: u32) -> Result<u64, NoMemory>
+        requires { MayHear self.old replica label }
+        ensures delivered { (first : ℕ) (records : Records) → IsRgaOf self.old first records
+            → IsTold kinds.Rga first records replica label
+            → OnOk result (IsRgaOf self.new first (Deliver replica label ∷ records)) }
+        ensures few_steps { (first : ℕ) (records : Records) (before behind : List Label) (it : Label)
+            → IsRgaOf self.old first records → IsTold kinds.Rga first records replica label
+            → named_labels kinds.Rga records ≡ before ++ it ∷ behind → it.number ≡ label
+            → IfOk result (λ steps. steps ≤ 1 + length (updates_among (had records replica) behind)) }
+        ensures same { (first : ℕ) (records : Records) → IsRgaOf self.old first records
+            → OnErr result (IsRgaOf self.new first records) }
+    {
+        let deeds = self.deeds.as_slice();
+        let Some(deed) = deeds[label as usize] else {
+            unreachable!()
+        };
+        self.lists[replica as usize].deliver(&self.all, deeds, label, deed)
+    }
+
+    /// Where the collections live.
+    pub fn allocator(&self) -> Global {
+        *self.deeds.allocator()
+    }
+}
+
+// Why an update fails, unless it is admitted.
+fn update_unless(is_admitted: bool) -> Option<Cause>
+    ensures { result ≡ (if is_admitted then None else Some Cause.Update) }
+{
+    if is_admitted {
+        None
+    } else {
+        Some(Cause::Update)
+    }
+}
+
+fn is_below(stamp: Stamp, other: Stamp) -> bool
+    ensures { result ≡ is_lt (stamp_cmp stamp other) }
+{
+    stamp < other
+}
+
+fn is_up_to(stamp: Stamp, other: Stamp) -> bool
+    ensures { result ≡ is_le (stamp_cmp stamp other) }
+{
+    stamp <= other
+}

@@ -1,0 +1,115 @@
+ghost use Rattle.std.specs.Prelude.{◌≡◌, ℕ, ◌+◌, ◌≤◌, ◌++◌, ◌∷◌, [], List, length, map, Option, None, Ok, IfOk, OnOk, OnErr};
+ghost use Rattle.ra_labels.specs.declared.kind.Kind.{Kind};
+ghost use Rattle.ra_labels.specs.declared.operation.Op.{Op};
+ghost use Rattle.ra_labels.specs.declared.label.Label.{Label};
+ghost use Rattle.ra_labels.specs.declared.command.Command.TheVariants.{Operate, Deliver};
+ghost use Rattle.ra_labels.specs.Records.{Records};
+ghost use Rattle.ra_labels.specs.Visibility.{had};
+ghost use Rattle.ra_labels.specs.NamedOrder.{named_labels, named_sequence};
+ghost use Rattle.ra_labels.specs.Fault.{cause_of};
+ghost use Rattle.ra_labels.specs.Answer.{refusal_of};
+ghost use Rattle.ra_labels.specs.Insertion.{updates_among};
+ghost use Rattle.ra_witness.specs.Sequence.{ref_of};
+ghost use Rattle.ra_witness.specs.Witness.{IsWitnessOf, IsNext, MayOffer, MayDeliver};
+
+use crate::kept::Kept;
+use crate::part_ref::PartRef;
+use crate::sequence::part_refs;
+use ra_labels::{Cause, Kind, Label, NoMemory};
+use ra_rewrite::parts;
+use ra_visibility::{NamedOrder, Seen};
+use std::alloc::Global;
+
+/// Labels in the named order of their kind, and of each replica the state after the updates that it had.
+#[derive(Debug, Drop)]
+pub struct Witness<O: NamedOrder> {
+    order: O,
+    kept: Kept,
+    steps: u64,
+}
+
+impl<O: NamedOrder> Witness<O> {
+    /// The witness of no labels, of so many replicas. The order is empty, and that of the kind.
+    pub fn new(alloc: Global, kind: Kind, replicas: u8, order: O) -> Result<Witness<O>, NoMemory>
+        ensures stands { O.stands_for order kind replicas [] → IfOk result (λ witness.
+            IsWitnessOf O.stands_for witness kind replicas []) }
+        ensures steps { IfOk result (λ witness. witness.steps ≡ 0) }
+    {
+        let kept = Kept::new(alloc, kind, replicas)?;
+        Ok(Witness {
+            order,
+            kept,
+            steps: 0,
+        })
+    }
+
+    /// Takes the next label in, with what it sees, and answers none; or answers the first condition that fails with it,
+    /// and is as before. So it is where a growth is refused.
+    pub fn offer(&mut self, label: Label, seen: &Seen<'_>) -> Result<Option<Cause>, NoMemory>
+        requires { MayOffer O.stands_for self.old label seen.now }
+        ensures cause { (kind : Kind) (first : ℕ) (records : Records) (by : ℕ) (op : Op) (clock : Option ℕ)
+            → IsWitnessOf O.stands_for self.old kind first records
+            → IsNext kind first records by op clock label seen.now
+            → IfOk result (λ cause. cause ≡ cause_of kind (Operate by op clock ∷ records)) }
+        ensures taken { (kind : Kind) (first : ℕ) (records : Records) (by : ℕ) (op : Op) (clock : Option ℕ)
+            → IsWitnessOf O.stands_for self.old kind first records
+            → IsNext kind first records by op clock label seen.now
+            → result ≡ Ok None → IsWitnessOf O.stands_for self.new kind first (Operate by op clock ∷ records) }
+        ensures same { (kind : Kind) (first : ℕ) (records : Records)
+            → IsWitnessOf O.stands_for self.old kind first records
+            → ¬ (result ≡ Ok None) → IsWitnessOf O.stands_for self.new kind first records }
+        ensures steps { ¬ (result ≡ Ok None) → self.new.steps ≡ self.old.steps }
+    {
+        let place = self.order.place(&label, seen);
+        if !place.fits {
+            return Ok(Some(Cause::Order));
+        }
+        let parts = parts(&label)?;
+        if let Some(cause) = self.kept.cause(&label, &parts) {
+            return Ok(Some(cause));
+        }
+        self.order.spare()?;
+        let steps = self.kept.take(&label, parts.into_update())?;
+        self.order.put(&label, seen, place);
+        self.steps = self.steps.saturating_add(steps);
+        Ok(None)
+    }
+
+    /// The label is delivered to the replica. It is out of memory where a growth is refused, and then as before.
+    pub fn deliver(&mut self, replica: u8, label: u32) -> Result<(), NoMemory>
+        requires { MayDeliver O.stands_for self.old replica label }
+        ensures delivered { (kind : Kind) (first : ℕ) (records : Records)
+            → IsWitnessOf O.stands_for self.old kind first records
+            → refusal_of kind first records (Deliver replica label) ≡ None
+            → OnOk result (IsWitnessOf O.stands_for self.new kind first (Deliver replica label ∷ records)) }
+        ensures same { (kind : Kind) (first : ℕ) (records : Records)
+            → IsWitnessOf O.stands_for self.old kind first records
+            → OnErr result (IsWitnessOf O.stands_for self.new kind first records) }
+        ensures steps { OnErr result (self.new.steps ≡ self.old.steps) }
+        ensures few_steps { (kind : Kind) (first : ℕ) (records : Records) (before behind : List Label) (it : Label)
+            → IsWitnessOf O.stands_for self.old kind first records
+            → refusal_of kind first records (Deliver replica label) ≡ None
+            → named_labels kind records ≡ before ++ it ∷ behind → it.number ≡ label
+            → OnOk result (self.new.steps ≤ self.old.steps + 64 + length (updates_among (had records replica) behind)) }
+    {
+        let steps = self.kept.deliver(replica, label)?;
+        self.steps = self.steps.saturating_add(steps);
+        Ok(())
+    }
+
+    /// How often `State::apply` was called by calls that changed the witness. It takes no memory, and stays at the
+    /// greatest number once there.
+    pub fn steps(&self) -> u64
+        ensures { result ≡ self.now.steps }
+    {
+        self.steps
+    }
+
+    /// All parts in the named order. Costs what the order asks for the label at each position.
+    pub fn sequence(&self) -> Result<Vec<PartRef>, NoMemory>
+        ensures { (kind : Kind) (first : ℕ) (records : Records) → IsWitnessOf O.stands_for self.now kind first records
+            → IfOk result (λ parts. parts.items ≡ map ref_of (named_sequence kind records)) }
+    {
+        part_refs(self.kept.allocator(), &self.order, self.kept.updates())
+    }
+}
