@@ -8,6 +8,7 @@ use ra_labels::{Cause, Command, Reply};
 use ra_monitor::{Desk, Monitor};
 use ra_ticket::{CallFault, GREATEST_TICKET, Glance, Pass, TicketLock};
 use std::process::Abort;
+use std::sync::Wait;
 use std::test::Fail;
 
 #[test]
@@ -127,7 +128,7 @@ fn a_glance_tells_the_label_of_a_fault(rt: HostRuntime) -> Result<(), Fail> {
 }
 
 // A read of what its replica has not got.
-fn fail(rt: &HostRuntime, desk: &Desk, pass: &mut Pass<Monitor>)
+fn fail<R: Abort + Wait>(rt: &R, desk: &Desk, pass: &mut Pass<Monitor>)
     requires { IsPassOf desk.now pass.old }
 {
     let increment = increment(0);
