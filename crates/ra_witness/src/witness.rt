@@ -45,32 +45,32 @@ impl<O: NamedOrder> Witness<O> {
 
     /// Takes the next label in, with what it sees, and answers none; or answers the first condition that fails with it,
     /// and is as before. So it is where a growth is refused.
-    pub fn offer(&mut self, label: Label, seen: &Seen<'_>) -> Result<Option<Cause>, NoMemory>
-        requires { MayOffer O.stands_for self.old label seen.now }
+    pub fn offer(&mut self, label: &Label, seen: &Seen<'_>) -> Result<Option<Cause>, NoMemory>
+        requires { MayOffer O.stands_for self.old label.now seen.now }
         ensures cause { (kind : Kind) (first : ℕ) (records : Records) (by : ℕ) (op : Op) (clock : Option ℕ)
             → IsWitnessOf O.stands_for self.old kind first records
-            → IsNext kind first records by op clock label seen.now
+            → IsNext kind first records by op clock label.now seen.now
             → IfOk result (λ cause. cause ≡ cause_of kind (Operate by op clock ∷ records)) }
         ensures taken { (kind : Kind) (first : ℕ) (records : Records) (by : ℕ) (op : Op) (clock : Option ℕ)
             → IsWitnessOf O.stands_for self.old kind first records
-            → IsNext kind first records by op clock label seen.now
+            → IsNext kind first records by op clock label.now seen.now
             → result ≡ Ok None → IsWitnessOf O.stands_for self.new kind first (Operate by op clock ∷ records) }
         ensures same { (kind : Kind) (first : ℕ) (records : Records)
             → IsWitnessOf O.stands_for self.old kind first records
             → ¬ (result ≡ Ok None) → IsWitnessOf O.stands_for self.new kind first records }
         ensures steps { ¬ (result ≡ Ok None) → self.new.steps ≡ self.old.steps }
     {
-        let place = self.order.place(&label, seen);
+        let place = self.order.place(label, seen);
         if !place.fits {
             return Ok(Some(Cause::Order));
         }
-        let parts = parts(&label)?;
-        if let Some(cause) = self.kept.cause(&label, &parts) {
+        let parts = parts(label)?;
+        if let Some(cause) = self.kept.cause(label, &parts) {
             return Ok(Some(cause));
         }
         self.order.spare()?;
-        let steps = self.kept.take(&label, parts.into_update())?;
-        self.order.put(&label, seen, place);
+        let steps = self.kept.take(label, parts.into_update())?;
+        self.order.put(label, seen, place);
         self.steps = self.steps.saturating_add(steps);
         Ok(None)
     }
