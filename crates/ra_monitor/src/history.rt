@@ -195,12 +195,7 @@ impl History {
 
     // Takes an operation that is not refused, and gives it back. All that is taken besides is asked for before the
     // witness, and where that gives up, the tracker takes the label back.
-    fn accept(
-        &mut self,
-        replica: u8,
-        op: &mut Op,
-        clock: Option<u32>,
-    ) -> Result<Reply, NoMemory>
+    fn accept(&mut self, replica: u8, op: &mut Op, clock: Option<u32>) -> Result<Reply, NoMemory>
         requires { MayAccept self.old replica op.old clock }
         ensures taken { (setup : Setup) (records : Records) → StandsFor self.old setup records
             → fault_of setup.kind records ≡ None
