@@ -78,7 +78,7 @@ impl Sorted {
         is_at_most(self.last, rank)
     }
 
-    /// How many labels have no greater rank than this one. Costs a step for each run behind, and a binary search in a run.
+    /// How many labels have no greater rank than this one. Costs a step for each run behind and a search in one.
     pub fn position(&self, rank: Stamp) -> usize
         ensures among { result ≤ length self.now.entries }
         ensures split { IsPartitionedBy (not_above rank) self.now.entries → IsPositionOf rank self.now.entries result }
