@@ -1,4 +1,4 @@
-ghost use Rattle.std.specs.Prelude.{◌≡◌, ℕ, ◌+◌, ◌≤◌, ◌++◌, ◌∷◌, [], List, length, map, Option, None, Ok, IfOk, OnOk, OnErr};
+ghost use Rattle.std.specs.Prelude.{◌≡◌, ℕ, ◌+◌, ◌<◌, ◌≤◌, ◌++◌, ◌∷◌, [], true, List, length, map, Option, None, Ok, IfOk, OnOk, OnErr};
 ghost use Rattle.ra_labels.specs.declared.kind.Kind.{Kind};
 ghost use Rattle.ra_labels.specs.declared.operation.Op.{Op};
 ghost use Rattle.ra_labels.specs.declared.label.Label.{Label};
@@ -8,7 +8,8 @@ ghost use Rattle.ra_labels.specs.Visibility.{had};
 ghost use Rattle.ra_labels.specs.NamedOrder.{named_labels, named_sequence};
 ghost use Rattle.ra_labels.specs.Fault.{cause_of};
 ghost use Rattle.ra_labels.specs.Answer.{refusal_of};
-ghost use Rattle.ra_labels.specs.Insertion.{updates_among};
+ghost use Rattle.ra_labels.specs.Specification.{is_admitted};
+ghost use Rattle.ra_labels.specs.Insertion.{updates_among, updates_had};
 ghost use Rattle.ra_witness.specs.Sequence.{ref_of};
 ghost use Rattle.ra_witness.specs.Witness.{IsWitnessOf, IsNext, MayOffer, MayDeliver};
 
@@ -75,7 +76,8 @@ impl<O: NamedOrder> Witness<O> {
         Ok(None)
     }
 
-    /// The label is delivered to the replica. It is out of memory where a growth is refused, and then as before.
+    /// The label is delivered to the replica. It is out of memory where a growth is refused, and then as before. It takes
+    /// a step at least where none of the replica's updates waits then.
     pub fn deliver(&mut self, replica: u8, label: u32) -> Result<(), NoMemory>
         requires { MayDeliver O.stands_for self.old replica label }
         ensures delivered { (kind : Kind) (first : ℕ) (records : Records)
@@ -91,6 +93,11 @@ impl<O: NamedOrder> Witness<O> {
             → refusal_of kind first records (Deliver replica label) ≡ None
             → named_labels kind records ≡ before ++ it ∷ behind → it.number ≡ label
             → OnOk result (self.new.steps ≤ self.old.steps + 64 + length (updates_among (had records replica) behind)) }
+        ensures some_step { (kind : Kind) (first : ℕ) (records : Records)
+            → IsWitnessOf O.stands_for self.old kind first records
+            → refusal_of kind first records (Deliver replica label) ≡ None
+            → is_admitted kind (updates_had kind (Deliver replica label ∷ records) replica) ≡ true
+            → self.old.steps < 18446744073709551615 → OnOk result (self.old.steps < self.new.steps) }
     {
         let steps = self.kept.deliver(replica, label)?;
         self.steps = self.steps.saturating_add(steps);
