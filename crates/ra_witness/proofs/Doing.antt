@@ -115,10 +115,10 @@ told_step updates records n kept is =
       | None ↦ λ none. absurd (false≢true (sym (makes_none label.op none) ∙ at.update))
       | Some u ↦ λ some.
           ap steps_of (
-            ap (update_at updates) (sym at.number)
-            ∙ ap (λ us. update_at us label.number) kept
-            ∙ done_at records label at.there
-            ∙ made_once label.op u (makes_it label.op u some)
+          ap (update_at updates) (sym at.number)
+          ∙ ap (λ us. update_at us label.number) kept
+          ∙ done_at records label at.there
+          ∙ made_once label.op u (makes_it label.op u some)
           )
     ] in
     made (update_in label.op) refl

@@ -76,8 +76,8 @@ impl<O: NamedOrder> Witness<O> {
         Ok(None)
     }
 
-    /// The label is delivered to the replica. It is out of memory where a growth is refused, and then as before. It takes
-    /// a step at least where none of the replica's updates waits then.
+    /// The label is delivered to the replica. It is out of memory where a growth is refused, and then as before. Where
+    /// none of the replica's updates waits then, it takes a step at least.
     pub fn deliver(&mut self, replica: u8, label: u32) -> Result<(), NoMemory>
         requires { MayDeliver O.stands_for self.old replica label }
         ensures delivered { (kind : Kind) (first : ℕ) (records : Records)
