@@ -21,6 +21,7 @@ use ra_labels::{Command, Fault, Label, NoMemory, Op, Refusal, Reply, Stamp, fits
 use ra_visibility::{DeliverFault, Tracker};
 use ra_witness::{PartRef, Witness};
 use std::alloc::Global;
+use std::mem;
 
 /// The accepted commands, as what they amount to.
 #[derive(Debug, Drop)]
@@ -55,7 +56,7 @@ impl History {
     }
 
     /// All parts in the named order, of the labels before the fault. Costs a step for each label, and by
-    /// timestamps one for each 512 labels before it.
+    /// timestamps one for each 256 labels before it.
     pub fn sequence(&self) -> Result<Vec<PartRef>, NoMemory>
         ensures { (setup : Setup) (records : Records) → StandsFor self.now setup records → IfOk result (λ parts.
             parts.items ≡ map ref_of (named_sequence setup.kind (records_before_fault setup.kind records))) }
@@ -63,13 +64,15 @@ impl History {
         self.witness.sequence()
     }
 
-    /// Takes a command and answers it as the one-thread monitor. After `NoMemory` the records are as before.
+    /// Takes a command and answers it as the one-thread monitor. After `NoMemory` the records are as before. The
+    /// command's operation is that of a label in between, and is given back, so no list is copied.
     /// Costs what the tracker, the order and the witness ask, and of no label but the command's own.
-    pub fn take(&mut self, setup: &Setup, command: &Command) -> Result<Reply, NoMemory>
+    pub fn take(&mut self, setup: &Setup, command: &mut Command) -> Result<Reply, NoMemory>
         requires { IsOfFew self.old setup.now }
         ensures taken { (records : Records) → StandsFor self.old setup.now records → IfOk result (λ reply.
-            (reply ≡ answer_of setup.now.kind setup.now.replicas records command.now)
-            × StandsFor self.new setup.now (records_after setup.now.kind setup.now.replicas records command.now)) }
+            (reply ≡ answer_of setup.now.kind setup.now.replicas records command.old)
+            × StandsFor self.new setup.now (records_after setup.now.kind setup.now.replicas records command.old)) }
+        ensures command { command.new ≡ command.old }
         ensures err { (records : Records) → StandsFor self.old setup.now records
             → OnErr result (StandsFor self.new setup.now records) }
         ensures one { self.new.labels ≤ self.old.labels + 1 }
@@ -190,26 +193,30 @@ impl History {
         }
     }
 
-    // Takes an operation that is not refused. All that is taken besides is asked for before the witness, and where that
-    // gives up, the tracker takes the label back.
-    fn accept(&mut self, replica: u8, op: &Op, clock: Option<u32>) -> Result<Reply, NoMemory>
-        requires { MayAccept self.old replica op.now clock }
+    // Takes an operation that is not refused, and gives it back. All that is taken besides is asked for before the
+    // witness, and where that gives up, the tracker takes the label back.
+    fn accept(&mut self, replica: u8, op: &mut Op, clock: Option<u32>) -> Result<Reply, NoMemory>
+        requires { MayAccept self.old replica op.old clock }
         ensures taken { (setup : Setup) (records : Records) → StandsFor self.old setup records
             → fault_of setup.kind records ≡ None
-            → refusal_of setup.kind setup.replicas records (Command.Operate replica op.now clock) ≡ None
-            → misfit_of setup.kind (Command.Operate replica op.now clock) ≡ None
+            → refusal_of setup.kind setup.replicas records (Command.Operate replica op.old clock) ≡ None
+            → misfit_of setup.kind (Command.Operate replica op.old clock) ≡ None
             → IfOk result (λ reply.
-            (reply ≡ answer_to_accepted setup.kind records (Command.Operate replica op.now clock))
-            × StandsFor self.new setup (Command.Operate replica op.now clock ∷ records)) }
+            (reply ≡ answer_to_accepted setup.kind records (Command.Operate replica op.old clock))
+            × StandsFor self.new setup (Command.Operate replica op.old clock ∷ records)) }
         ensures err { (setup : Setup) (records : Records) → StandsFor self.old setup records
             → OnErr result (StandsFor self.new setup records) }
+        ensures op { op.new ≡ op.old }
         ensures one { OnOk result (self.new.labels ≡ self.old.labels + 1) }
         ensures kept { OnErr result (self.new.labels ≡ self.old.labels) }
     {
-        let label = label_of(self.labels, replica, op, clock)?;
         self.taken.make_room(replica)?;
         self.tracker.issue(replica, op.is_update())?;
-        match self.answer(label, Brought::by(replica, op, clock)) {
+        let brought = Brought::by(replica, op, clock);
+        let label = label_of(self.labels, replica, mem::replace(op, Op::Inc), clock);
+        let answer = self.answer(&label, brought);
+        *op = label.op;
+        match answer {
             Ok(reply) => Ok(reply),
             Err(NoMemory) => {
                 self.tracker.withdraw();
@@ -219,10 +226,10 @@ impl History {
     }
 
     // Answers the newest label, and keeps what it brings where all holds.
-    fn answer(&mut self, label: Label, brought: Brought) -> Result<Reply, NoMemory>
-        requires { MayAnswer self.old label brought }
+    fn answer(&mut self, label: &Label, brought: Brought) -> Result<Reply, NoMemory>
+        requires { MayAnswer self.old label.now brought }
         ensures answered { (setup : Setup) (records : Records) (by : ℕ) (op : Op) (clock : Option ℕ)
-            → HasNewest self.old setup records by op clock label brought
+            → HasNewest self.old setup records by op clock label.now brought
             → IfOk result (λ reply.
             (reply ≡ answer_to_accepted setup.kind records (Command.Operate by op clock))
             × StandsFor self.new setup (Command.Operate by op clock ∷ records)) }
@@ -257,19 +264,17 @@ impl History {
 }
 
 // The label with this number that the operation becomes.
-fn label_of(number: u32, replica: u8, op: &Op, clock: Option<u32>) -> Result<Label, NoMemory>
-    ensures op { IfOk result (λ label. label.op ≡ op.now) }
-    ensures next { (records : Records) → number ≡ label_count records
-        → IfOk result (λ label. label ≡ next_label records replica op.now clock) }
+fn label_of(number: u32, replica: u8, op: Op, clock: Option<u32>) -> Label
+    ensures op { result.op ≡ op }
+    ensures next { (records : Records) → number ≡ label_count records → result ≡ next_label records replica op clock }
 {
-    let op = op.clone()?;
     let stamp = clock.map(|clock| Stamp { clock, replica });
-    Ok(Label {
+    Label {
         number,
         replica,
         op,
         stamp,
-    })
+    }
 }
 
 // The reply that tells of a fault.

@@ -95,7 +95,7 @@ impl Monitor {
     }
 
     /// All parts in the named order: of the labels before a fault, or of all where there is none.
-    /// Costs a step for each label, and by timestamps one for each 512 labels before it.
+    /// Costs a step for each label, and by timestamps one for each 256 labels before it.
     pub fn sequence(&self) -> Result<Vec<PartRef>, NoMemory>
         ensures named { IfOk result (λ parts. parts.items
             ≡ map ref_of (named_sequence self.now.setup.kind (records_before_fault_in self.now.setup self.now.log))) }
@@ -204,7 +204,8 @@ impl Journal for Monitor {
         if self.log.reserve(1).is_err() {
             return Err(StepFault::NoMemory(command));
         }
-        match self.history.take(&self.setup, &command) {
+        let mut command = command;
+        match self.history.take(&self.setup, &mut command) {
             Ok(reply) => {
                 self.refused += refusals(reply);
                 let entry = Entry {

@@ -1,30 +1,31 @@
 -- A label that is delivered.
-use Rattle.std.proofs.Common.{◌≡◌, ℕ, ◌+◌, ◌≤◌, Bool, true, false, List, ◌∷◌, ◌++◌, length, Option, Some, None, refl, sym, ap, ◌∙◌, subst, arith}
+use Rattle.std.proofs.Common.{◌≡◌, ℕ, ◌+◌, ◌≤◌, Bool, true, false, List, ◌∷◌, ◌++◌, length, Option, Some, refl, sym, ap, ◌∙◌, subst, arith}
 use Rattle.std.specs.Prelude.{Contains, flat_map, Result, Ok, Err, IfOk, OnOk}
 use Rattle.std.specs.Option.{option_map_or}
 use Rattle.std.proofs.lemmas.List.Elements.{All-contains, All-contains_itself, Contains-append_right}
 use Rattle.std.proofs.lemmas.List.Sorted.{All-permutation}
 use Rattle.ra_labels.specs.declared.kind.Kind.TheVariants.{Rga}
-use Rattle.ra_labels.specs.declared.operation.Update.{Update}
 use Rattle.ra_labels.specs.declared.label.Stamp.{Stamp}
 use Rattle.ra_labels.specs.declared.label.Label.{Label}
 use Rattle.ra_labels.specs.declared.command.Command.TheVariants.{Deliver}
-use Rattle.ra_labels.specs.Records.{Records, label_at, labels_of}
+use Rattle.ra_labels.specs.Records.{Records, labels_of}
 use Rattle.ra_labels.specs.Visibility.{is_update, is_update_at, had}
 use Rattle.ra_labels.specs.Rewriting.{parts_of}
+use Rattle.ra_labels.specs.Specification.{is_admitted}
 use Rattle.ra_labels.specs.Linearization.{updates_admitted}
 use Rattle.ra_labels.specs.NamedOrder.{greater_of, named_labels, named_sequence}
-use Rattle.ra_labels.specs.Insertion.{updates_among, updates_passing, or_label, Makes}
+use Rattle.ra_labels.specs.Insertion.{updates_among, updates_passing, updates_had, or_label, Makes}
 use Rattle.ra_labels.specs.Waiting.{IsSettled}
-use Rattle.ra_labels.proofs.TheLaws.{named_labels_are_sorted-same, each_number_has_its_label-found, an_operation_makes_one_update-exactly, a_replica_had_one_more-delivery, a_delivery_puts_its_update_in-order, settled_labels_stay_settled-alike, settled_labels_stay_settled-delivery, tests_that_agree_let_the_same_updates_pass, what_is_settled_follows_from_what_was_had, one_more_label_settles_none_before_it-count}
+use Rattle.ra_labels.proofs.TheLaws.{named_labels_are_sorted-same, each_number_has_its_label-found, an_operation_makes_one_update-exactly, a_replica_had_one_more-delivery, a_delivery_puts_its_update_in-order, settled_labels_stay_settled-alike, settled_labels_stay_settled-delivery, tests_that_agree_let_the_same_updates_pass, a_later_command_leaves_the_updates_that_pass-delivery, one_more_label_puts_its_update_in-count, settled_updates_are_admitted-same, what_is_settled_follows_from_what_was_had, one_more_label_settles_none_before_it-count}
 use Rattle.ra_element_list.specs.ElementList.{ElementList, arrival_at}
 use Rattle.ra_replica_list.specs.declared.deed.Deed.{Deed}
 use Rattle.ra_replica_list.specs.declared.deed.Deed.TheVariants.{PutsIn, Removes}
 use Rattle.ra_replica_list.specs.Deeds.{deed_at, update_of, AreElementsOf}
-use Rattle.ra_replica_list.specs.ReplicaList.{ReplicaList, IsGreatestOf, IsListBy, IsListOf}
+use Rattle.ra_replica_list.specs.ReplicaList.{ReplicaList, IsGreatestOf, IsListOf}
 use Rattle.ra_replica_list.specs.Freed.{IsKeptAfter}
 use Rattle.ra_replica_list.proofs.Places.{at_head}
 use Rattle.ra_replica_list.proofs.Deeds.{same_label, all_admitted}
+use Rattle.ra_replica_list.proofs.Fewer.{passing_fewer}
 use Rattle.ra_replica_list.proofs.Alike.{kept_alike, kept_delivered, greatest_alike, greatest_delivered}
 use Rattle.ra_replica_list.proofs.Greatest.{greatest_with, greatest_without}
 
@@ -88,6 +89,24 @@ module _ {all : ElementList} {deeds : List (Option Deed)} {records : Records} wh
       let passing = tests_that_agree_let_the_same_updates_pass Rga records now.settled after.settled
       (λ l u l_in makes. what_is_settled_follows_from_what_was_had later (had later to) now.settled after.settled admitted now.kept.settles settles l u l_in makes) in
       ap length passing ∙ after.count
+
+  -- where none waits then, the label itself is settled at least
+  pub some_step : {list : ReplicaList} (next : ReplicaList) (to label steps : ℕ) (deed : Deed) → AreElementsOf all deeds records → (was : IsListOf list all.arrivals deeds records to)
+      → deed_at deeds label ≡ Some deed → had records to label ≡ false
+      → IsKeptAfter next.state next.marks next.waiting all.arrivals deeds records (had records to) was.settled label steps
+      → is_admitted Rga (updates_had Rga (Deliver to label ∷ records) to) ≡ true → 1 ≤ steps
+  some_step next to label steps deed stand was is new after none_waits =
+      let (l, l_in, l_num, l_makes) = stand.makes label deed is in
+      let later = Deliver to label ∷ records in
+      let more = or_label (had records to) label in
+      let passing : updates_passing Rga later (had later to) ≡ updates_passing Rga records more =
+      a_later_command_leaves_the_updates_that_pass-delivery Rga records to label (had later to)
+      ∙ tests_that_agree_let_the_same_updates_pass Rga records (had later to) more (λ m u m_in makes. a_replica_had_one_more-delivery records to label m.number (does_update stand label deed is)) in
+      let same = settled_updates_are_admitted-same records more after.settled (all_admitted stand) after.kept.settles (sym (ap (is_admitted Rga) passing) ∙ none_waits) in
+      let one = subst (λ (k : ℕ). length (updates_passing Rga records (or_label (had records to) k)) ≡ length (updates_passing Rga records (had records to)) + 1) l_num
+      (one_more_label_puts_its_update_in-count Rga records (had records to) l (update_of all.arrivals deed) l_in l_makes (ap (had records to) l_num ∙ new)) in
+      let fewer = passing_fewer records was.settled (had records to) was.kept.settles.had_them in
+      omega (arith, after.count, ap length same, one, fewer)
 
   -- the greatest stamp with the label
   pub with_stamp : {test : ℕ → Bool} {greatest : Stamp} (label number : ℕ) (stamp : Stamp) → AreElementsOf all deeds records → IsGreatestOf records test greatest → deed_at deeds label ≡ Some (PutsIn number)

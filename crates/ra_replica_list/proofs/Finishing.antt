@@ -1,8 +1,8 @@
 -- When all labels have followed.
-use Rattle.std.proofs.Common.{◌≡◌, ℕ, ◌+◌, ◌<◌, ◌≤◌, Bool, true, false, cond, List, [], ◌∷◌, ◌++◌, filter, map, length, take, drop, Option, Some, None, refl, sym, ap, ◌∙◌, subst, inl, inr, arith}
-use Rattle.std.specs.Prelude.{◌⊎◌, ◌==◌, Contains, flat_map}
+use Rattle.std.proofs.Common.{◌≡◌, ℕ, ◌<◌, ◌≤◌, Bool, true, false, cond, List, [], ◌∷◌, ◌++◌, filter, map, length, take, drop, Option, Some, None, refl, sym, ap, ◌∙◌, subst, inl, inr, arith}
+use Rattle.std.specs.Prelude.{Contains, flat_map}
 use Rattle.std.specs.Option.{option_map_or}
-use Rattle.std.specs.List.{list_any, filter_map}
+use Rattle.std.specs.List.{list_any}
 use Rattle.std.proofs.lemmas.Bool.{false≢true, cases_Bool, cases_eq, false_from_ne_true, eqb-true, eq-eqb, cond-true, cond-false, or_left, or_right, or_cases}
 use Rattle.std.proofs.lemmas.List.{length-append}
 use Rattle.std.proofs.lemmas.List.Elements.{filter-append, filter_map-append}
@@ -24,14 +24,14 @@ use Rattle.ra_labels.specs.Laws.{NoneTwice}
 use Rattle.ra_labels.specs.Insertion.{updates_among, updates_passing, or_label}
 use Rattle.ra_labels.specs.Waiting.{is_there, needed_by}
 use Rattle.ra_labels.proofs.TheLaws.{what_is_settled_does_not_wait, named_labels_are_sorted-same}
-use Rattle.ra_element_list.specs.ElementList.{Arrival, ElementList, is_marked}
+use Rattle.ra_element_list.specs.ElementList.{ElementList, is_marked}
 use Rattle.ra_replica_list.specs.declared.deed.Deed.{Deed}
 use Rattle.ra_replica_list.specs.declared.deed.Deed.TheVariants.{PutsIn, Removes}
 use Rattle.ra_replica_list.specs.Waiting.{labels_under}
-use Rattle.ra_replica_list.specs.Deeds.{deed_at, needed_number, update_of, AreElementsOf, AreDeedsOf}
+use Rattle.ra_replica_list.specs.Deeds.{deed_at, needed_number, AreElementsOf}
 use Rattle.ra_replica_list.specs.ReplicaList.{IsKept}
-use Rattle.ra_replica_list.specs.Freed.{puts, is_put_by, freed_under, IsFreeing, IsAmidst, IsKeptAfter}
-use Rattle.ra_replica_list.proofs.Places.{head_or_behind, at_head, behind_head, none_there, not_both, still_passes, others_pass, passes_or_is}
+use Rattle.ra_replica_list.specs.Freed.{puts, is_put_by, freed_under, IsFreeing, IsKeptAfter}
+use Rattle.ra_replica_list.proofs.Places.{head_or_behind, at_head, behind_head, none_there, not_both, still_passes, others_pass}
 use Rattle.ra_replica_list.proofs.Deeds.{deeds_stand, needed_marked, needed_known, marked_label, root_marked}
 use Rattle.ra_replica_list.proofs.Freeing.{unmarked, marked}
 

@@ -1,17 +1,16 @@
 -- One label after another follows.
-use Rattle.std.proofs.Common.{◌≡◌, ℕ, ◌+◌, ◌<◌, ◌≤◌, Bool, true, false, cond, List, [], ◌∷◌, ◌++◌, length, take, drop, get_or, Option, Some, None, refl, sym, ap, ◌∙◌, subst, inl, inr, arith}
-use Rattle.std.specs.Prelude.{◌⊎◌, ◌==◌, ◌||◌, Contains}
-use Rattle.std.proofs.lemmas.Bool.{false≢true, cases_Bool, cases_eq, false_from_ne_true, eqb-true, eq-eqb, or_left, or_right, or_from}
+use Rattle.std.proofs.Common.{◌≡◌, ℕ, ◌+◌, ◌<◌, Bool, true, false, List, [], ◌∷◌, ◌++◌, length, take, drop, get_or, Option, Some, refl, sym, ap, ◌∙◌, subst, inl, inr, arith}
+use Rattle.std.specs.Prelude.{Contains}
+use Rattle.std.proofs.lemmas.Bool.{false≢true, cases_Bool, false_from_ne_true, eqb-true, eq-eqb, or_left, or_right, or_from}
 use Rattle.std.proofs.lemmas.Option.{same_Some}
-use Rattle.std.proofs.lemmas.List.{append-nil, length-append, take-append-le, drop-append-le, take_more, drop_more}
-use Rattle.std.proofs.lemmas.List.Elements.{Contains-append_left, Contains-append_right, Contains-append_cases, Contains-push, Contains-push_cases}
+use Rattle.std.proofs.lemmas.List.{length-append, take-append-le, drop-append-le, take_more, drop_more}
+use Rattle.std.proofs.lemmas.List.Elements.{Contains-append_left, Contains-append_right, Contains-append_cases, Contains-push_cases}
 use Rattle.ra_labels.specs.declared.kind.Kind.TheVariants.{Rga}
-use Rattle.ra_labels.specs.declared.operation.Update.{Update}
 use Rattle.ra_labels.specs.Records.{Records}
 use Rattle.ra_labels.specs.Specification.{State, state_after}
 use Rattle.ra_labels.specs.Laws.{NoneTwice}
 use Rattle.ra_labels.specs.Insertion.{updates_passing, or_label}
-use Rattle.ra_labels.specs.Waiting.{is_there, needed_by, NoneWaits, OthersWait}
+use Rattle.ra_labels.specs.Waiting.{NoneWaits, OthersWait}
 use Rattle.ra_labels.proofs.TheLaws.{what_is_settled_does_not_wait, one_more_label_puts_its_update_in-count}
 use Rattle.ra_element_list.specs.ElementList.{Arrival, is_marked}
 use Rattle.ra_replica_list.specs.declared.deed.Deed.{Deed}

@@ -1,27 +1,25 @@
 -- One more label that is had: it waits, or does what it does.
-use Rattle.std.proofs.Common.{◌≡◌, ◌≢◌, ℕ, ◌+◌, Bool, true, false, List, [], ◌∷◌, ◌++◌, length, Option, Some, refl, sym, ap, ◌∙◌, subst, inl, inr, arith}
-use Rattle.std.specs.Prelude.{◌⊎◌, ◌==◌, ◌||◌, Contains}
+use Rattle.std.proofs.Common.{◌≡◌, ◌≢◌, ℕ, ◌+◌, Bool, true, false, List, [], ◌∷◌, ◌++◌, length, Option, Some, sym, ap, ◌∙◌, subst, inl, inr, arith}
+use Rattle.std.specs.Prelude.{◌⊎◌, Contains}
 use Rattle.std.proofs.lemmas.Bool.{cases_eq, false_from_ne_true, or_from}
 use Rattle.std.proofs.lemmas.Option.{same_Some}
-use Rattle.std.proofs.lemmas.List.Elements.{Contains-append_left, Contains-append_right, Contains-push, Contains-push_cases}
+use Rattle.std.proofs.lemmas.List.Elements.{Contains-append_left, Contains-append_right, Contains-push_cases}
 use Rattle.ra_labels.specs.declared.kind.Kind.TheVariants.{Rga}
 use Rattle.ra_labels.specs.declared.operation.Update.{Update}
-use Rattle.ra_labels.specs.declared.label.Label.{Label}
-use Rattle.ra_labels.specs.Records.{Records, labels_of}
+use Rattle.ra_labels.specs.Records.{Records}
 use Rattle.ra_labels.specs.Specification.{State, state_after}
 use Rattle.ra_labels.specs.Laws.{NoneTwice}
-use Rattle.ra_labels.specs.Insertion.{updates_passing, or_label, Makes}
+use Rattle.ra_labels.specs.Insertion.{updates_passing, or_label}
 use Rattle.ra_labels.specs.Waiting.{is_there, needed_by, NoneWaits, IsSettled}
 use Rattle.ra_labels.proofs.TheLaws.{what_is_settled_does_not_wait, settled_labels_stay_settled-waiting, one_more_update_is_one_step-none_waits, one_more_label_puts_its_update_in-count}
 use Rattle.ra_element_list.specs.ElementList.{Arrival, is_marked}
 use Rattle.ra_replica_list.specs.declared.deed.Deed.{Deed}
-use Rattle.ra_replica_list.specs.declared.deed.Deed.TheVariants.{PutsIn, Removes}
 use Rattle.ra_replica_list.specs.Waiting.{labels_under}
 use Rattle.ra_replica_list.specs.Deeds.{deed_at, needed_number, update_of, AreDeedsOf}
-use Rattle.ra_replica_list.specs.ReplicaList.{AreThere, AreWaiting, IsKept}
+use Rattle.ra_replica_list.specs.ReplicaList.{IsKept}
 use Rattle.ra_replica_list.specs.Freed.{puts, IsKeptAfter}
 use Rattle.ra_replica_list.proofs.Places.{head_or_behind, at_head, none_there, none_twice-append, none_twice-one, not_both, it_passes, still_passes, passes_or_is, others_pass, not_before, not_it}
-use Rattle.ra_replica_list.proofs.Deeds.{same_label, needed_marked, needed_known, AreMarksWith, there_with}
+use Rattle.ra_replica_list.proofs.Deeds.{needed_marked, AreMarksWith, there_with}
 
 -- the label waits under this number from now on
 pub record IsAdded (waiting next : List (ℕ × List ℕ)) (number label : ℕ) : Type 0 where

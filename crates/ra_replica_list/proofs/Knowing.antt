@@ -1,9 +1,8 @@
 -- One more label that is there, and was not had.
-use Rattle.std.proofs.Common.{◌≡◌, ℕ, ◌+◌, ◌<◌, ◌≤◌, Bool, true, false, List, [], ◌∷◌, ◌++◌, length, get_or, Option, Some, None, refl, sym, ap, ◌∙◌, subst, inl, inr, arith}
+use Rattle.std.proofs.Common.{◌≡◌, ℕ, ◌<◌, ◌≤◌, Bool, true, false, List, [], ◌∷◌, ◌++◌, length, Option, Some, None, refl, sym, ap, ◌∙◌, subst, inl, inr, arith}
 use Rattle.std.specs.Prelude.{◌==◌, ◌&&◌, ◌||◌, Contains}
-use Rattle.std.proofs.lemmas.Bool.{false≢true, cases_lt, cases_eq, ne_eqb, false_from_ne_true, and_left, and_right}
-use Rattle.std.proofs.lemmas.Option.{none-some}
-use Rattle.std.proofs.lemmas.List.{get_or_append_left, get_or_at, get_or_past, length-append}
+use Rattle.std.proofs.lemmas.Bool.{false≢true, cases_lt, ne_eqb, false_from_ne_true, and_right}
+use Rattle.std.proofs.lemmas.List.{get_or_append_left, length-append}
 use Rattle.ra_labels.specs.declared.kind.Kind.TheVariants.{Rga}
 use Rattle.ra_labels.specs.declared.operation.Op.{Op}
 use Rattle.ra_labels.specs.declared.label.Stamp.{Stamp}
@@ -15,9 +14,8 @@ use Rattle.ra_labels.specs.Specification.{State, state_after}
 use Rattle.ra_labels.specs.Insertion.{updates_passing}
 use Rattle.ra_labels.specs.Waiting.{is_there}
 use Rattle.ra_labels.proofs.TheLaws.{had_updates-updates, had_updates-there, settled_labels_stay_settled-operation, a_later_command_leaves_the_updates_that_pass-operation}
-use Rattle.ra_element_list.specs.ElementList.{Arrival, arrival_at, root}
+use Rattle.ra_element_list.specs.ElementList.{Arrival}
 use Rattle.ra_replica_list.specs.declared.deed.Deed.{Deed}
-use Rattle.ra_replica_list.specs.declared.deed.Deed.TheVariants.{PutsIn, Removes}
 use Rattle.ra_replica_list.specs.Waiting.{labels_under}
 use Rattle.ra_replica_list.specs.Deeds.{deed_at, element_at, needed_number}
 use Rattle.ra_replica_list.specs.ReplicaList.{IsKept, IsGreatestOf}

@@ -9,6 +9,7 @@ pub mod Entries
 pub mod Telling
 pub mod Starting
 pub mod Freeing
+pub mod Fewer
 pub mod Following
 pub mod Finishing
 pub mod Nearness

@@ -1,23 +1,20 @@
 -- Where a new element comes in among those that are there.
-use Rattle.std.proofs.Common.{◌≡◌, ℕ, Bool, true, false, List, [], ◌∷◌, ◌++◌, Option, Some, refl, sym, ap, ◌∙◌, subst, inl, inr, arith}
-use Rattle.std.specs.Prelude.{◌⊎◌, not, Contains, map}
+use Rattle.std.proofs.Common.{◌≡◌, ℕ, Bool, true, false, List, [], ◌∷◌, ◌++◌, Option, Some, refl, sym, ap, ◌∙◌, subst, inl, inr}
+use Rattle.std.specs.Prelude.{◌⊎◌, not, Contains}
 use Rattle.std.specs.List.{list_all}
-use Rattle.std.specs.Ordering.{is_lt}
-use Rattle.std.specs.declared.cmp.Ordering.TheVariants.{Less}
-use Rattle.std.proofs.lemmas.Bool.{false≢true, cases_Bool, and_from, not_from_false, false_from_ne_true}
+use Rattle.std.proofs.lemmas.Bool.{and_from, not_from_false, false_from_ne_true}
 use Rattle.std.proofs.lemmas.List.{map-append}
 use Rattle.std.proofs.lemmas.List.Elements.{All-contains, All-contains_itself, Contains-append_left, Contains-append_right}
 use Rattle.std.proofs.lemmas.List.Sorted.{All-permutation}
-use Rattle.ra_labels.specs.declared.kind.Kind.TheVariants.{Rga, Counter, OrSet}
-use Rattle.ra_labels.specs.declared.operation.Update.{Update}
-use Rattle.ra_labels.specs.declared.operation.Update.TheVariants.{After, RgaRemove}
+use Rattle.ra_labels.specs.declared.kind.Kind.TheVariants.{Rga}
+use Rattle.ra_labels.specs.declared.operation.Update.TheVariants.{After}
 use Rattle.ra_labels.specs.declared.label.Stamp.{Stamp}
 use Rattle.ra_labels.specs.declared.label.Label.{Label}
 use Rattle.ra_labels.specs.Records.{Records, labels_of}
 use Rattle.ra_labels.specs.Rewriting.{updates_of}
 use Rattle.ra_labels.specs.Specification.{Listed, state_after}
-use Rattle.ra_labels.specs.NamedOrder.{stamp_cmp, label_cmp, named_labels, named_sequence}
-use Rattle.ra_labels.specs.Laws.{elements_in, RootFirst, NoneTwice, IsStampBelow}
+use Rattle.ra_labels.specs.NamedOrder.{named_labels, named_sequence}
+use Rattle.ra_labels.specs.Laws.{elements_in, NoneTwice, IsStampBelow}
 use Rattle.ra_labels.specs.Insertion.{updates_passing, Makes}
 use Rattle.ra_labels.specs.Waiting.{is_there}
 use Rattle.ra_labels.proofs.TheLaws.{a_list_has_what_was_put_in-root, a_list_has_what_was_put_in-once, between_an_anchor_and_its_element_stand_later_ones, labels_with_stamps_stand_in_their_order, stamps_by_clock_and_then_by_replica-less, an_element_is_there_where_its_label_passes-label, what_is_there_a_label_put_in-passing, named_labels_are_sorted-same}
@@ -28,7 +25,7 @@ use Rattle.ra_replica_list.specs.Deeds.{deed_at, element_at, update_of, AreEleme
 use Rattle.ra_replica_list.specs.ReplicaList.{AreThere, IsGreatestOf}
 use Rattle.ra_replica_list.proofs.Places.{head_or_behind, at_head, behind_head, none_there}
 use Rattle.ra_replica_list.proofs.Deeds.{all_admitted, deeds_stand, needed_marked}
-use Rattle.ra_replica_list.proofs.Greatest.{below_below, not_below_itself}
+use Rattle.ra_replica_list.proofs.Greatest.{below_below}
 
 -- a test that each passes
 all_pass : (p : ℕ × Bool → Bool) (xs : List (ℕ × Bool)) → ((x : ℕ × Bool) → Contains xs x → p x ≡ true) → list_all p xs ≡ true

@@ -1,9 +1,9 @@
 -- A new label that fits stands behind all that its replica had.
-use Rattle.std.proofs.Common.{◌≡◌, ℕ, Bool, true, false, List, [], ◌∷◌, ◌++◌, Option, Some, None, refl, sym, ap, ◌∙◌, subst, inl, inr, arith}
-use Rattle.std.specs.Prelude.{◌&&◌, ◌||◌, not, is_some, Contains, map, flat_map}
+use Rattle.std.proofs.Common.{◌≡◌, ℕ, Bool, true, false, List, [], ◌∷◌, ◌++◌, Option, refl, sym, ap, ◌∙◌, subst, inl, inr}
+use Rattle.std.specs.Prelude.{◌||◌, not, Contains, map, flat_map}
 use Rattle.std.specs.Option.{option_map_or}
 use Rattle.std.specs.List.{list_all}
-use Rattle.std.proofs.lemmas.Bool.{and_parts, or_left, false≢true, false_from_ne_true, cases_eq, not-true}
+use Rattle.std.proofs.lemmas.Bool.{and_parts, or_left, false_from_ne_true, not-true}
 use Rattle.std.proofs.lemmas.List.Elements.{All-contains, Contains-append_left, Contains-append_right}
 use Rattle.std.proofs.lemmas.List.Folds.{list_all-append}
 use Rattle.std.proofs.lemmas.List.Sums.{AllPass-from_list_all}
@@ -13,15 +13,14 @@ use Rattle.ra_labels.specs.declared.operation.Op.{Op}
 use Rattle.ra_labels.specs.declared.operation.Update.{Update}
 use Rattle.ra_labels.specs.declared.label.Label.{Label}
 use Rattle.ra_labels.specs.declared.command.Command.TheVariants.{Operate}
-use Rattle.ra_labels.specs.Records.{Records, label_count, label_at, labels_of, next_label}
-use Rattle.ra_labels.specs.Visibility.{is_update, is_update_at, had, sees}
-use Rattle.ra_labels.specs.Rewriting.{Part, Half, Act, Does, acts_of, part_of, parts_of, update_of}
+use Rattle.ra_labels.specs.Records.{Records, labels_of, next_label}
+use Rattle.ra_labels.specs.Visibility.{is_update, had, sees}
+use Rattle.ra_labels.specs.Rewriting.{Part, Half, Act, Does, acts_of, part_of, parts_of}
 use Rattle.ra_labels.specs.Linearization.{must_precede, is_earlier_there, is_query_half_of, is_visible_to, extends, extends_visibility}
 use Rattle.ra_labels.specs.NamedOrder.{named_labels, named_sequence}
 use Rattle.ra_labels.specs.Insertion.{Makes}
-use Rattle.ra_labels.proofs.TheLaws.{a_new_label_leaves_the_order_of_the_others, had_updates-updates, had_updates-there, each_number_has_its_label-found, an_operation_makes_one_update-exactly}
+use Rattle.ra_labels.proofs.TheLaws.{a_new_label_leaves_the_order_of_the_others, had_updates-updates, each_number_has_its_label-found, an_operation_makes_one_update-exactly}
 use Rattle.ra_replica_list.proofs.Places.{head_or_behind, at_head, behind_head, none_there, not_both}
-use Rattle.ra_replica_list.proofs.Knowing.{not_had}
 use Rattle.ra_replica_list.proofs.Ranks.{sees_had}
 use Rattle.ra_replica_list.proofs.Delivering.{in_named}
 

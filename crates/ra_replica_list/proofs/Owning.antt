@@ -1,39 +1,37 @@
 -- A label that the replica issues.
-use Rattle.std.proofs.Common.{◌≡◌, ◌≢◌, ℕ, ◌+◌, ◌<◌, Bool, true, false, List, [], ◌∷◌, ◌++◌, length, Option, Some, None, refl, sym, ap, ◌∙◌, subst, inl, inr, arith}
-use Rattle.std.specs.Prelude.{◌||◌, ◌==◌, Contains, unwrap_or, option_map}
+use Rattle.std.proofs.Common.{◌≡◌, ℕ, ◌<◌, Bool, true, false, List, [], ◌∷◌, ◌++◌, length, Option, Some, None, refl, sym, ap, ◌∙◌, subst, arith}
+use Rattle.std.specs.Prelude.{Contains, unwrap_or, option_map}
 use Rattle.std.proofs.lemmas.Bool.{eqb-true, false_from_ne_true}
 use Rattle.ra_labels.specs.declared.kind.Kind.TheVariants.{Rga}
 use Rattle.ra_labels.specs.declared.operation.Op.{Op}
 use Rattle.ra_labels.specs.declared.operation.Update.{Update}
-use Rattle.ra_labels.specs.declared.operation.Update.TheVariants.{After, RgaRemove}
+use Rattle.ra_labels.specs.declared.operation.Update.TheVariants.{After}
 use Rattle.ra_labels.specs.declared.label.Stamp.{Stamp}
-use Rattle.ra_labels.specs.declared.label.Label.{Label}
 use Rattle.ra_labels.specs.declared.command.Command.TheVariants.{Operate}
 use Rattle.ra_labels.specs.Records.{Records, label_count, labels_of, next_label, stamp_at}
-use Rattle.ra_labels.specs.Visibility.{is_update, had}
+use Rattle.ra_labels.specs.Visibility.{had}
 use Rattle.ra_labels.specs.Specification.{State, step_of, state_after}
 use Rattle.ra_labels.specs.Linearization.{extends_visibility, updates_admitted}
 use Rattle.ra_labels.specs.NamedOrder.{greater_of, named_sequence}
 use Rattle.ra_labels.specs.Insertion.{updates_passing, or_label, Makes}
-use Rattle.ra_labels.specs.Waiting.{NoneWaits}
 use Rattle.ra_labels.proofs.TheLaws.{what_is_settled_does_not_wait, an_operation_makes_one_update-exactly, a_replica_had_one_more-operation, a_label_behind_all_that_pass_is_one_step}
-use Rattle.ra_element_list.specs.ElementList.{Arrival, ElementList, arrival_at, is_marked}
+use Rattle.ra_element_list.specs.ElementList.{Arrival, ElementList, is_marked}
 use Rattle.ra_replica_list.specs.declared.deed.Deed.{Deed}
-use Rattle.ra_replica_list.specs.declared.deed.Deed.TheVariants.{PutsIn, Removes}
+use Rattle.ra_replica_list.specs.declared.deed.Deed.TheVariants.{PutsIn}
 use Rattle.ra_replica_list.specs.Waiting.{labels_under}
 use Rattle.ra_replica_list.specs.Deeds.{deed_at, element_at, needed_number, AreElementsOf, AreDeedsOf}
-use Rattle.ra_replica_list.specs.ReplicaList.{ReplicaList, AreThere, IsKept, IsGreatestOf, IsListBy, IsListOf}
-use Rattle.ra_replica_list.specs.Freed.{puts, IsKeptAfter}
-use Rattle.ra_replica_list.proofs.Places.{at_head, none_there, not_both}
+use Rattle.ra_replica_list.specs.ReplicaList.{ReplicaList, IsKept, IsGreatestOf, IsListOf}
+use Rattle.ra_replica_list.specs.Freed.{IsKeptAfter}
+use Rattle.ra_replica_list.proofs.Places.{at_head, not_both}
 use Rattle.ra_replica_list.proofs.Deeds.{deeds_stand, needed_known, AreMarksWith}
 use Rattle.ra_replica_list.proofs.Alike.{kept_alike, greatest_alike}
 use Rattle.ra_replica_list.proofs.Greatest.{greatest_with, greatest_without}
 use Rattle.ra_replica_list.proofs.Stepping.{none_waits_with, leads_with}
 use Rattle.ra_replica_list.proofs.Getting.{IsAdded, held_back, goes_in}
 use Rattle.ra_replica_list.proofs.Taking.{not_settled}
-use Rattle.ra_replica_list.proofs.Knowing.{not_had, none_longer, kept_known, greatest_known}
-use Rattle.ra_replica_list.proofs.Growing.{needed_same, first_same, new_last, longer_by_one, grown_by_one, grown_by_removal}
-use Rattle.ra_replica_list.proofs.Newest.{IsLastOf, newest_is_last}
+use Rattle.ra_replica_list.proofs.Knowing.{not_had, kept_known, greatest_known}
+use Rattle.ra_replica_list.proofs.Growing.{needed_same, first_same, new_last, longer_by_one, grown_by_one}
+use Rattle.ra_replica_list.proofs.Newest.{newest_is_last}
 use Rattle.std.proofs.lemmas.List.{get_or_at}
 
 none_in : (xs : List ℕ) → ((n : ℕ) → ¬ Contains xs n) → xs ≡ []

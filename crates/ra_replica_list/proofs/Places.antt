@@ -1,7 +1,7 @@
 -- Where an element stands in a list, lists with none twice, and tests.
 use Rattle.std.proofs.Common.{◌≡◌, ℕ, zero, suc, Bool, true, false, List, [], ◌∷◌, ◌++◌, length, refl, sym, ap, ◌∙◌, inl, inr, arith}
-use Rattle.std.specs.Prelude.{◌⊎◌, ◌==◌, ◌||◌, Contains, Result, Ok, Err, IfOk, OnOk, OnErr, Option, Some, None, option_map}
-use Rattle.std.proofs.lemmas.Bool.{false≢true, cases_Bool, or_left, or_right, eqb-true, eq-eqb, false_from_ne_true, cases_eq, ne_eqb}
+use Rattle.std.specs.Prelude.{◌⊎◌, ◌==◌, ◌||◌, Contains, Result, Ok, Err, OnOk, OnErr}
+use Rattle.std.proofs.lemmas.Bool.{false≢true, or_left, or_right, eqb-true, eq-eqb, false_from_ne_true, cases_eq, ne_eqb}
 use Rattle.ra_labels.specs.Laws.{NoneTwice}
 use Rattle.ra_labels.specs.Insertion.{or_label}
 

@@ -1,15 +1,13 @@
 -- The list of a replica that had nothing.
-use Rattle.std.proofs.Common.{◌≡◌, ℕ, ◌<◌, ◌≤◌, Bool, true, false, List, [], ◌∷◌, length, get_or, set, Some, refl, sym, ap, ◌∙◌, subst, inl, inr, arith}
-use Rattle.std.proofs.lemmas.Bool.{false≢true, cases_eq}
+use Rattle.std.proofs.Common.{◌≡◌, ℕ, ◌<◌, ◌≤◌, Bool, true, false, List, [], ◌∷◌, length, get_or, set, Some, refl, sym, ap, ◌∙◌, subst, inl, arith}
+use Rattle.std.proofs.lemmas.Bool.{false≢true}
 use Rattle.std.proofs.lemmas.List.{get_or-set_same, get_or-set_other}
 use Rattle.ra_labels.specs.declared.kind.Kind.TheVariants.{Rga}
-use Rattle.ra_labels.specs.declared.label.Stamp.{Stamp}
-use Rattle.ra_labels.specs.Visibility.{had}
 use Rattle.ra_labels.specs.Specification.{State, start_of}
 use Rattle.ra_labels.specs.NamedOrder.{lowest_rank}
 use Rattle.ra_element_list.specs.ElementList.{root, is_marked}
 use Rattle.ra_replica_list.specs.Waiting.{labels_under}
-use Rattle.ra_replica_list.specs.ReplicaList.{ReplicaList, IsListOf}
+use Rattle.ra_replica_list.specs.ReplicaList.{IsListOf}
 use Rattle.ra_replica_list.proofs.Places.{none_there}
 use Rattle.std.specs.Prelude.{Contains}
 use Rattle.ra_labels.specs.Laws.{NoneTwice}

@@ -1,19 +1,18 @@
 -- One more label is one step.
-use Rattle.std.proofs.Common.{◌≡◌, ℕ, Bool, true, false, cond, List, Option, Some, None, refl, sym, ap, ◌∙◌, subst}
+use Rattle.std.proofs.Common.{◌≡◌, ℕ, Bool, true, false, cond, List, Option, Some, None, sym, ap, ◌∙◌, subst}
 use Rattle.std.proofs.lemmas.Bool.{false≢true}
 use Rattle.std.specs.Prelude.{is_some, unwrap_or, IfSome, ◌&&◌, not, ◌==◌}
 use Rattle.ra_labels.specs.declared.kind.Kind.TheVariants.{Rga}
 use Rattle.ra_labels.specs.declared.operation.Update.{Update}
 use Rattle.ra_labels.specs.declared.operation.Update.TheVariants.{After, RgaRemove}
-use Rattle.ra_labels.specs.declared.label.Label.{Label}
-use Rattle.ra_labels.specs.Records.{Records, labels_of}
+use Rattle.ra_labels.specs.Records.{Records}
 use Rattle.ra_labels.specs.Rewriting.{updates_of}
 use Rattle.ra_labels.specs.Lists.{is_in_list, insert_after, hide}
-use Rattle.ra_labels.specs.Specification.{State, Number, Written, Members, Pairs, Listed, step_of, state_after, is_admitted}
+use Rattle.ra_labels.specs.Specification.{State, Number, Written, Members, Pairs, Listed, step_of, state_after}
 use Rattle.ra_labels.specs.NamedOrder.{named_sequence}
 use Rattle.ra_labels.specs.Commuting.{then_step}
 use Rattle.ra_labels.specs.Insertion.{updates_passing, or_label}
-use Rattle.ra_labels.specs.Waiting.{is_there, needed_by, NoneWaits}
+use Rattle.ra_labels.specs.Waiting.{is_there, NoneWaits}
 use Rattle.ra_labels.proofs.TheLaws.{updates_are_admitted_where_none_waits-exactly, one_more_update_is_one_step-none_waits, one_more_update_is_one_step-insertion, one_more_update_is_one_step-removal}
 use Rattle.ra_seqspec.specs.Range.{IsInRange}
 use Rattle.ra_element_list.specs.ElementList.{Arrival, ElementList, arrival_at, is_marked, IsNearestBefore}
@@ -21,7 +20,7 @@ use Rattle.ra_replica_list.specs.declared.deed.Deed.{Deed}
 use Rattle.ra_replica_list.specs.declared.deed.Deed.TheVariants.{PutsIn, Removes}
 use Rattle.ra_replica_list.specs.Deeds.{deed_at, element_at, needed_number, update_of, AreElementsOf, AreDeedsOf}
 use Rattle.ra_replica_list.specs.ReplicaList.{AreThere}
-use Rattle.ra_replica_list.proofs.Deeds.{all_admitted, deeds_stand, needed_marked}
+use Rattle.ra_replica_list.proofs.Deeds.{deeds_stand, needed_marked}
 
 -- an update of an RGA may be made in any state
 in_range_if : (b : Bool) (next : List (ℕ × Bool)) → IfSome (cond b (Some (Listed next)) None) IsInRange

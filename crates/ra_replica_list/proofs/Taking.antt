@@ -1,5 +1,5 @@
 -- What a list does with a label that it gets or issues.
-use Rattle.std.proofs.Common.{◌≡◌, ℕ, Bool, true, false, List, [], ◌∷◌, Option, Some, refl, sym, ap, ◌∙◌, subst}
+use Rattle.std.proofs.Common.{◌≡◌, ℕ, Bool, true, false, List, [], Option, Some, refl, sym, ap, ◌∙◌}
 use Rattle.std.specs.Prelude.{unwrap_or, ◌||◌}
 use Rattle.std.proofs.lemmas.Bool.{false≢true, false_from_ne_true, eqb-true}
 use Rattle.ra_labels.specs.declared.kind.Kind.TheVariants.{Rga}
@@ -17,7 +17,7 @@ use Rattle.ra_replica_list.specs.declared.deed.Deed.TheVariants.{PutsIn, Removes
 use Rattle.ra_replica_list.specs.Waiting.{labels_under}
 use Rattle.ra_replica_list.specs.Deeds.{deed_at, element_at, AreElementsOf, AreDeedsOf}
 use Rattle.ra_replica_list.specs.ReplicaList.{IsKept}
-use Rattle.ra_replica_list.specs.Freed.{puts, IsKeptAfter}
+use Rattle.ra_replica_list.specs.Freed.{IsKeptAfter}
 use Rattle.ra_replica_list.proofs.Places.{not_both}
 use Rattle.ra_replica_list.proofs.Deeds.{AreMarksWith, deeds_stand}
 use Rattle.ra_replica_list.proofs.Stepping.{removal_leads, insertion_leads}

@@ -8,7 +8,7 @@ ghost use Rattle.ra_labels.specs.declared.command.Command.TheVariants.{Operate, 
 ghost use Rattle.ra_labels.specs.Records.{Records, label_count, stamp_at};
 ghost use Rattle.ra_labels.specs.Visibility.{had};
 ghost use Rattle.ra_labels.specs.Rewriting.{updates_of};
-ghost use Rattle.ra_labels.specs.Specification.{Listed, state_after};
+ghost use Rattle.ra_labels.specs.Specification.{Listed, state_after, is_admitted};
 ghost use Rattle.ra_labels.specs.Linearization.{extends_visibility, updates_admitted};
 ghost use Rattle.ra_labels.specs.NamedOrder.{greater_of, named_labels, named_sequence};
 ghost use Rattle.ra_labels.specs.Laws.{StampsAreOneLabels, elements_in};
@@ -167,7 +167,7 @@ impl ReplicaList {
     }
 
     /// The label is delivered to the replica, which does this. Answers how many steps that took: one, or none where it
-    /// waits, and one for each label that waited for its element, and so on.
+    /// waits, and one for each label that waited for its element, and so on; so where none waits then, at least one.
     pub fn deliver(
         &mut self,
         all: &ElementList,
@@ -191,6 +191,10 @@ impl ReplicaList {
             → deed_at deeds.now label ≡ Some deed → had records to label ≡ false
             → length (updates_passing Rga records now.settled)
             ≡ length (updates_passing Rga records was.settled) + steps) }
+        ensures some_step { IfOk result (λ steps. (records : Records) (to : ℕ) → AreElementsOf all.now deeds.now records
+            → IsListOf self.old all.now.arrivals deeds.now records to → deed_at deeds.now label ≡ Some deed
+            → had records to label ≡ false
+            → is_admitted Rga (updates_had Rga (Deliver to label ∷ records) to) ≡ true → 1 ≤ steps) }
         ensures err { OnErr result ((arrivals : List Arrival) (deeds : List (Option Deed)) (records : Records)
             (replica : ℕ) → IsListOf self.old arrivals deeds records replica
             → IsListOf self.new arrivals deeds records replica) }

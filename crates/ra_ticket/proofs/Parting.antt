@@ -1,7 +1,6 @@
 -- Two passes that met and part again.
 use Rattle.std.proofs.Common.{◌≡◌, ℕ, List, [], ◌∷◌, ◌++◌, max, Some, refl, sym, ap, ◌∙◌, subst}
 use lib.ListN.{get_elem?}
-use mathlib.Core.Option.{some}
 use Rattle.ra_ticket.specs.declared.board.View.{View}
 use Rattle.ra_ticket.specs.declared.board.View.TheVariants.{Spent, Knows, Met}
 use Rattle.ra_ticket.specs.declared.board.Known.{Known}

@@ -2,7 +2,7 @@
 use Rattle.std.specs.Prelude.{◌≡◌, ℕ, ◌+◌, ◌<◌, ◌≤◌, List, [], ◌∷◌, ◌++◌, Option, IfSome}
 use Rattle.ra_ticket.specs.declared.entry.Entry.{Entry}
 use Rattle.ra_ticket.specs.declared.fault.CallFault.{CallFault}
-use Rattle.ra_ticket.specs.declared.fault.CallFault.TheVariants.{Worn, Full, NoMemory, Busy}
+use Rattle.ra_ticket.specs.declared.fault.CallFault.TheVariants.{Busy}
 use Rattle.ra_ticket.specs.declared.journal.Journal.{Ghosts}
 use Rattle.ra_ticket.specs.declared.lock.TicketLock.{TicketLock}
 use Rattle.ra_ticket.specs.declared.pass.Pass.{Pass}

@@ -2,7 +2,6 @@ pub mod Each
 pub mod Ranks
 pub mod Rising
 pub mod Runs
-pub mod Found
 pub mod Halves
 pub mod Filing
 pub mod Table

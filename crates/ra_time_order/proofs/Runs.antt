@@ -11,7 +11,7 @@ use Rattle.ra_time_order.specs.declared.entry.Entry.{Entry}
 use Rattle.ra_time_order.specs.declared.run.Run.{Run}
 use Rattle.ra_time_order.specs.Positions.{not_above, IsPositionOf}
 use Rattle.ra_time_order.specs.Stamps.{AtMost}
-use Rattle.ra_time_order.specs.Sorted.{joined, AreBetween, FirstsRise, IsRunOf}
+use Rattle.ra_time_order.specs.Sorted.{joined, AreBetween, IsRunOf}
 use Rattle.ra_time_order.proofs.Ranks.{at_most_below, at_most_through, below_to, below_from}
 use Rattle.ra_time_order.proofs.Each.{each_append, each_left, each_right, each_at, each_from, each_insert, each_set, each_weaker}
 use Rattle.ra_time_order.proofs.Rising.{under_to, position_left, position_right}
@@ -60,10 +60,6 @@ pub own_first : (before : List Entry) (runs : List Run) (at : ℕ) (d : Run) →
 own_first before [] at d between there = absurd (omega arith)
 own_first before (run ∷ runs) zero d between there = each_left (λ (later : Entry). AtMost run.first later.rank) run.chunk.entries (joined runs) between.1
 own_first before (run ∷ runs) (suc at) d between there = own_first (before ++ run.chunk.entries) runs at d between.3 (omega arith)
-
-pub firsts_rise : (before : List Entry) (runs : List Run) → AreBetween before runs → FirstsRise runs
-firsts_rise before [] between = tt
-firsts_rise before (run ∷ runs) between = (between.2, firsts_rise (before ++ run.chunk.entries) runs between.3)
 
 -- below what is at most another is below that one
 less_through : (r s t : Stamp) → is_lt (stamp_cmp r s) ≡ true → AtMost s t → is_lt (stamp_cmp r t) ≡ true

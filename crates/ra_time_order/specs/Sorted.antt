@@ -45,11 +45,6 @@ AreBetween before (run ∷ runs) =
     × AllByRecursion (λ later. AtMost run.first later.first) runs
     × AreBetween (before ++ run.chunk.entries) runs
 
--- no first rank is greater than that of a later run
-abbrev pub FirstsRise : List Run → Type 0
-FirstsRise [] = Unit {0}
-FirstsRise (run ∷ runs) = AllByRecursion (λ later. AtMost run.first later.first) runs × FirstsRise runs
-
 -- it is the last run whose first rank is not above this one
 pub record IsRunOf (runs : List Run) (rank : Stamp) (at : ℕ) : Type 0 where
   pub there : at < length runs

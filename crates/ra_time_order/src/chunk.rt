@@ -9,7 +9,7 @@ use std::alloc::Global;
 use std::marker::Model;
 
 /// The most labels of a chunk: room for them is made once.
-const MOST_IN_CHUNK: usize = 512;
+const MOST_IN_CHUNK: usize = 256;
 
 /// A few labels, sorted by rank.
 #[derive(Debug, Drop)]

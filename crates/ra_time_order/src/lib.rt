@@ -5,7 +5,7 @@
 //! from the counts of what it sees, since of each replica the greatest own stamp among its first updates is kept, for
 //! each number of them. `laws` says which kinds stand in this order.
 //!
-//! The labels stand in runs of at most 512, so that a label that comes late moves few others.
+//! The labels stand in runs of at most 256, so that a label that comes late moves few others.
 #![tactic(auto)]
 
 mod chunk;

@@ -5,7 +5,7 @@ ghost use Rattle.std.specs.Ordering.{is_lt};
 ghost use Rattle.ra_labels.specs.NamedOrder.{lowest_rank, stamp_cmp};
 ghost use Rattle.ra_time_order.specs.declared.run.Run.{Run};
 ghost use Rattle.ra_time_order.specs.Positions.{not_above, IsPositionOf};
-ghost use Rattle.ra_time_order.specs.Sorted.{joined, FirstsRise, IsRunOf, IsSplit};
+ghost use Rattle.ra_time_order.specs.Sorted.{joined, IsRunOf, IsSplit};
 
 use crate::chunk::Chunk;
 use crate::entry::Entry;
@@ -78,7 +78,7 @@ impl Sorted {
         is_at_most(self.last, rank)
     }
 
-    /// How many labels have no greater rank than this one. Costs a binary search, and a step for each run behind.
+    /// How many labels have no greater rank than this one. Costs a step for each run behind and a search in one.
     pub fn position(&self, rank: Stamp) -> usize
         ensures among { result ≤ length self.now.entries }
         ensures split { IsPartitionedBy (not_above rank) self.now.entries → IsPositionOf rank self.now.entries result }
@@ -89,7 +89,7 @@ impl Sorted {
         labels - behind + self.runs[at].chunk.position(rank)
     }
 
-    /// Puts a label behind those that have no greater rank. Costs a binary search and a move within a run.
+    /// Puts a label behind those that have no greater rank. Costs a step for each run behind, and a move within a run.
     pub fn insert(&mut self, entry: Entry)
         requires room { 0 < self.old.room }
         requires few { length self.old.entries < 4294967295 }
@@ -120,19 +120,17 @@ impl Sorted {
     }
 }
 
-// The last run whose first rank is no greater: there labels of this rank stand.
+// The last run whose first rank is no greater: there labels of this rank stand. Costs a step for each run behind it.
 fn run_of(runs: &[Run], rank: Stamp) -> usize
     requires some { 0 < length runs.now }
     requires lowest { (d : Run) → (get_or runs.now 0 d).first ≡ lowest_rank }
-    requires rise { FirstsRise runs.now }
     ensures { IsRunOf runs.now rank result }
 {
-    let behind = runs.partition_point(
-        |run: &Run| -> bool
-            ensures { result ≡ not (is_lt (stamp_cmp rank run.now.first)) }
-        { run.first <= rank },
-    );
-    behind - 1
+    let mut at = runs.len() - 1;
+    while rank < runs[at].first {
+        at -= 1;
+    }
+    at
 }
 
 // How many labels these runs have.

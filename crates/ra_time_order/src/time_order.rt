@@ -55,7 +55,7 @@ impl NamedOrder for TimeOrder {
     ghost stands_for = { λ order kind first records. StandsFor order kind first records };
 
     /// Costs a constant where the label has a stamp of its own above those of all labels. Else a look-up for each
-    /// replica, a binary search and a step for each run behind the place.
+    /// replica, a step for each run behind the place and a binary search in one.
     fn place(&self, label: &Label, seen: &Seen<'_>) -> Place {
         if is_past_all(&self.sorted, label) {
             return Place {
@@ -77,8 +77,8 @@ impl NamedOrder for TimeOrder {
         self.sorted.spare()
     }
 
-    /// Costs a binary search and a move within a run, and a look-up for each replica where the label has no stamp of
-    /// its own.
+    /// Costs a step for each run behind the place and a move within one, and a look-up for each replica where the label
+    /// has no stamp of its own.
     fn put(&mut self, label: &Label, seen: &Seen<'_>, _place: Place) {
         let rank = self.replicas.rank(label.stamp, seen);
         self.sorted.insert(Entry {

@@ -1,28 +1,25 @@
 -- When the updates of all labels of an RGA are admitted with a new one, by the numbers of the elements.
-use Rattle.std.proofs.Common.{◌≡◌, ℕ, zero, suc, ◌<◌, ◌≤◌, Bool, true, false, cond, List, [], ◌∷◌, length, Option, Some, None, refl, sym, ap, ◌∙◌, subst, inl, inr, arith, Ordering}
-use Rattle.std.specs.Prelude.{◌⊎◌, ◌↔◌, Contains, option_map, not, is_some}
+use Rattle.std.proofs.Common.{◌≡◌, ℕ, ◌<◌, ◌≤◌, Bool, true, false, List, [], ◌∷◌, length, Option, Some, None, refl, sym, ap, ◌∙◌, subst, inl, inr, arith, Ordering}
+use Rattle.std.specs.Prelude.{◌⊎◌, Contains, not, is_some}
 use Rattle.std.specs.Ordering.{nat_cmp, is_lt, is_le, ordering_then}
 use Rattle.std.specs.declared.cmp.Ordering.TheVariants.{Less, Equal, Greater}
 use Rattle.std.proofs.lemmas.Cmp.{ranked, nat_cmp_total, tied_itself}
 use Rattle.std.specs.Ordering.{MatchOrdering}
 use Rattle.std.proofs.lemmas.Bool.{cases_eq, true≢false, false≢true}
-use Rattle.std.proofs.lemmas.Option.{none-some, same_Some}
+use Rattle.std.proofs.lemmas.Option.{same_Some}
 use Rattle.ra_labels.specs.declared.kind.Kind.TheVariants as variant
-use Rattle.ra_labels.specs.declared.operation.Op.{Op}
 use Rattle.ra_labels.specs.declared.operation.Op.TheVariants as ops
-use Rattle.ra_labels.specs.declared.operation.Update.{Update}
 use Rattle.ra_labels.specs.declared.operation.Update.TheVariants.{After, RgaRemove}
 use Rattle.ra_labels.specs.declared.label.Label.{Label}
 use Rattle.ra_labels.specs.declared.label.Stamp.{Stamp}
 use Rattle.ra_labels.specs.declared.command.Command.TheVariants.{Operate}
 use Rattle.ra_labels.specs.Records.{Records, label_count, labels_of, next_label, stamp_at}
-use Rattle.ra_labels.specs.Rewriting.{Half, Whole, Act, Does, acts_of, updates_of}
+use Rattle.ra_labels.specs.Rewriting.{Whole, Does, updates_of}
 use Rattle.ra_labels.specs.NamedOrder.{named_sequence, stamp_cmp, lowest_rank, label_cmp, timestamp_of}
 use Rattle.ra_labels.specs.Linearization.{updates_admitted}
 use Rattle.ra_labels.specs.Insertion.{Makes}
-use Rattle.ra_labels.specs.Laws.{IsStampBelow}
-use Rattle.ra_labels.specs.Waiting.{is_there, WasPutInBelow}
-use Rattle.ra_labels.proofs.TheLaws.{a_new_update_is_admitted_where_a_label_below_it_put_in_what_it_needs-insertion, a_new_update_is_admitted_where_a_label_below_it_put_in_what_it_needs-removal, labels_with_stamps_stand_in_their_order, an_operation_makes_one_update-one, stamps_by_clock_and_then_by_replica-less, a_timestamp_is_the_greatest_seen-own}
+use Rattle.ra_labels.specs.Waiting.{is_there}
+use Rattle.ra_labels.proofs.TheLaws.{a_new_update_is_admitted_where_a_label_below_it_put_in_what_it_needs-insertion, a_new_update_is_admitted_where_a_label_below_it_put_in_what_it_needs-removal, labels_with_stamps_stand_in_their_order, stamps_by_clock_and_then_by_replica-less, a_timestamp_is_the_greatest_seen-own}
 use Rattle.ra_element_list.specs.ElementList.{Arrival, ElementList, arrival_at}
 use Rattle.ra_replica_list.specs.declared.deed.Deed.{Deed}
 use Rattle.ra_replica_list.specs.Deeds.{element_at, AreElementsOf}
@@ -31,7 +28,7 @@ use Rattle.ra_witness.proofs.StampOrder.{not_below_itself}
 use Rattle.ra_witness.proofs.Places.{head_or_behind, at_head, behind_head}
 use Rattle.ra_witness.proofs.Taken.{label_below}
 use Rattle.ra_witness.proofs.Forms.{has_stamp, its_clock}
-use Rattle.ra_witness.proofs.AllElements.{IsPutInAs, its_label, its_number, there_numbered, numbered_there}
+use Rattle.ra_witness.proofs.AllElements.{its_label, its_number, there_numbered, numbered_there}
 
 is_less : (o : Ordering) → o ≡ Less → is_lt o ≡ true
 is_less o is = ap is_lt is

@@ -1,6 +1,6 @@
 -- What is kept, kind by kind, with one label or delivery more: of a counter and an OR-Set, and what all kinds share.
-use Rattle.std.proofs.Common.{◌≡◌, ℕ, ◌<◌, ◌≤◌, ◌+◌, true, cond, List, [], ◌∷◌, ◌++◌, length, Option, Some, None, refl, sym, ap, ◌∙◌, subst, inl, inr, arith}
-use Rattle.std.specs.Prelude.{◌⊎◌, not, Result, OnOk, Ok, Err, IfSome}
+use Rattle.std.proofs.Common.{◌≡◌, ℕ, ◌<◌, ◌≤◌, true, List, [], ◌∷◌, ◌++◌, length, Option, Some, None, sym, ap, ◌∙◌, subst, inl, inr, arith}
+use Rattle.std.specs.Prelude.{◌⊎◌, Result, OnOk, Ok, Err, IfSome}
 use Rattle.std.proofs.lemmas.Option.{none-some}
 use Rattle.ra_labels.specs.declared.kind.Kind.{Kind}
 use Rattle.ra_labels.specs.declared.kind.Kind.TheVariants as variant
@@ -8,12 +8,10 @@ use Rattle.ra_labels.specs.declared.operation.Op.{Op}
 use Rattle.ra_labels.specs.declared.operation.Update.{Update}
 use Rattle.ra_labels.specs.declared.label.Label.{Label}
 use Rattle.ra_labels.specs.declared.command.Command.TheVariants.{Operate, Deliver}
-use Rattle.ra_labels.specs.declared.reply.Cause.TheVariants as cause
 use Rattle.ra_labels.specs.Records.{Records, label_count, stamp_at}
 use Rattle.ra_labels.specs.Rewriting.{Half, Act, acts_of}
-use Rattle.ra_labels.specs.Specification.{State, state_after}
+use Rattle.ra_labels.specs.Specification.{State}
 use Rattle.ra_labels.specs.Fault.{Holds, cause_of}
-use Rattle.ra_labels.specs.Insertion.{updates_had}
 use Rattle.ra_labels.proofs.TheLaws.{had_updates-there}
 use Rattle.ra_witness.specs.declared.commuting.Commuting as commuting
 use Rattle.ra_witness.specs.declared.overriding.Overriding as overriding

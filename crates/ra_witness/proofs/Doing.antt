@@ -3,7 +3,7 @@ use Rattle.std.proofs.Common.{◌≡◌, ℕ, zero, suc, ◌<◌, ◌≤◌, tru
 use Rattle.std.specs.Prelude.{Contains, option_map}
 use Rattle.std.specs.Option.{option_map_or}
 use Rattle.std.specs.List.{slice_get, AllByRecursion}
-use Rattle.std.proofs.lemmas.Bool.{and_parts, true≢false}
+use Rattle.std.proofs.lemmas.Bool.{and_parts, true≢false, false≢true}
 use Rattle.std.proofs.lemmas.Option.{none-some, same_Some, slice_get-map, get_or_from_slice_get}
 use Rattle.std.proofs.lemmas.List.{append-nil}
 use Rattle.std.proofs.lemmas.List.Elements.{All-from_recursion, All-contains}
@@ -14,7 +14,7 @@ use Rattle.ra_labels.specs.declared.operation.Op.TheVariants as op
 use Rattle.ra_labels.specs.declared.operation.Update.{Update}
 use Rattle.ra_labels.specs.declared.label.Label.{Label}
 use Rattle.ra_labels.specs.Records.{Records, labels_of}
-use Rattle.ra_labels.specs.Visibility.{is_update, had}
+use Rattle.ra_labels.specs.Visibility.{is_update, is_update_at, had}
 use Rattle.ra_labels.specs.Rewriting.{Half, Act, Does, Asks, acts_of, parts_of, update_of, updates_of}
 use Rattle.ra_labels.specs.NamedOrder.{named_labels}
 use Rattle.ra_labels.specs.Fault.{Holds}
@@ -24,11 +24,11 @@ use Rattle.ra_labels.specs.Insertion.{Makes}
 use Rattle.ra_labels.proofs.TheLaws.{each_number_has_its_label-found, had_updates-updates, named_labels_are_sorted-same, updates_of_the_kind_are_admitted-only}
 use Rattle.ra_witness.specs.declared.written.Written.{Written}
 use Rattle.ra_witness.specs.Labels.{updates_in, first_of, update_in, updates_by_number}
-use Rattle.ra_witness.specs.States.{update_at}
+use Rattle.ra_witness.specs.States.{update_at, steps_of}
 use Rattle.ra_witness.specs.Overriding as overriding
 use Rattle.ra_witness.specs.Overriding.{write_at}
 use Rattle.ra_witness.proofs.Places.{head_or_behind}
-use Rattle.ra_witness.proofs.Found.{IsFoundIn, found_in_turn, makes_it, makes_none}
+use Rattle.ra_witness.proofs.Found.{IsFoundIn, found_in_turn, makes_it, makes_none, update_found}
 use Rattle.ra_witness.proofs.Causes.{are_of, are_of-both, updates_by}
 use Rattle.ra_witness.proofs.Keeping.{made_among}
 
@@ -105,6 +105,23 @@ pub its_write : (writes : List (Option Written)) (records : Records) (label : La
     → Contains (labels_of records) label → Makes label.op u → HasWrite writes label.number u
 its_write writes records label u kept there makes =
     write_kept writes label.number u (ap (λ us. update_at us label.number) kept ∙ done_at records label there ∙ made_once label.op u makes)
+
+-- a label that is told makes one step
+pub told_step : (updates : List (Option Update)) (records : Records) (n : ℕ) → updates ≡ updates_by_number records → is_update_at records n ≡ true
+    → steps_of (update_at updates n) ≡ 1
+told_step updates records n kept is =
+    let (label, at) = update_found records n is in
+    let made : (o : Option Update) → update_in label.op ≡ o → steps_of (update_at updates n) ≡ 1 = elim [
+      | None ↦ λ none. absurd (false≢true (sym (makes_none label.op none) ∙ at.update))
+      | Some u ↦ λ some.
+          ap steps_of (
+          ap (update_at updates) (sym at.number)
+          ∙ ap (λ us. update_at us label.number) kept
+          ∙ done_at records label at.there
+          ∙ made_once label.op u (makes_it label.op u some)
+          )
+    ] in
+    made (update_in label.op) refl
 
 -- a write that is kept is what its label does
 update_kept : (writes : List (Option Written)) (n : ℕ) (write : Written) → write_at writes n ≡ Some write → update_at (overriding.updates_of writes) n ≡ Some write.update

@@ -1,6 +1,6 @@
 -- What is known of an operation that is offered, by its form.
-use Rattle.std.proofs.Common.{◌≡◌, ℕ, ◌≤◌, true, false, List, Option, Some, None, refl, sym, ap, ◌∙◌, subst}
-use Rattle.std.specs.Prelude.{◌&&◌, option_map}
+use Rattle.std.proofs.Common.{◌≡◌, ℕ, ◌≤◌, true, Option, Some, refl, ap, ◌∙◌}
+use Rattle.std.specs.Prelude.{option_map}
 use Rattle.std.specs.List.{list_all}
 use Rattle.std.proofs.lemmas.Bool.{and_from}
 use Rattle.std.proofs.lemmas.Option.{none-some}
@@ -10,7 +10,7 @@ use Rattle.ra_labels.specs.declared.operation.Op.{Op}
 use Rattle.ra_labels.specs.declared.operation.Op.TheVariants as op
 use Rattle.ra_labels.specs.declared.operation.Update.{Update}
 use Rattle.ra_labels.specs.declared.label.Label.{Label}
-use Rattle.ra_labels.specs.Records.{Records, next_label, stamp_at}
+use Rattle.ra_labels.specs.Records.{Records, stamp_at}
 use Rattle.ra_labels.specs.Rewriting.{acts_of}
 use Rattle.ra_labels.specs.Lists.{rises}
 use Rattle.ra_labels.specs.Answer.{kind_of, is_kind, has_rising_list, carries_stamp}

@@ -1,13 +1,12 @@
 -- The elements of all labels with a label more that puts one in.
-use Rattle.std.proofs.Common.{◌≡◌, ℕ, zero, suc, ◌<◌, ◌≤◌, ◌+◌, Bool, true, false, cond, List, [], ◌∷◌, ◌++◌, length, Option, Some, None, refl, sym, ap, ◌∙◌, subst, inl, inr, arith, length-append}
+use Rattle.std.proofs.Common.{◌≡◌, ℕ, zero, suc, ◌<◌, ◌≤◌, ◌+◌, Bool, true, false, cond, List, [], ◌∷◌, ◌++◌, length, Option, Some, refl, sym, ap, ◌∙◌, subst, inl, inr, arith, length-append}
 use Rattle.std.specs.Prelude.{◌==◌, Contains}
 use Rattle.std.specs.Ordering.{is_lt}
-use Rattle.std.proofs.lemmas.Bool.{cases_lt, cases_eq, cases_Bool, eq-eqb, ne_eqb, true≢false}
+use Rattle.std.proofs.lemmas.Bool.{cases_lt, eq-eqb, ne_eqb}
 use Rattle.std.proofs.lemmas.Option.{same_Some}
 use Rattle.std.proofs.lemmas.List.{get_or_append_left, get_or_at}
 use Rattle.ra_labels.specs.declared.kind.Kind.TheVariants as variant
 use Rattle.ra_labels.specs.declared.operation.Op.{Op}
-use Rattle.ra_labels.specs.declared.operation.Update.{Update}
 use Rattle.ra_labels.specs.declared.operation.Update.TheVariants.{After}
 use Rattle.ra_labels.specs.declared.label.Label.{Label}
 use Rattle.ra_labels.specs.declared.label.Stamp.{Stamp}
@@ -21,7 +20,7 @@ use Rattle.ra_labels.specs.Insertion.{Makes}
 use Rattle.ra_labels.proofs.TheLaws.{an_operation_makes_one_update-one, a_new_label_in_the_list_of_all-insertion, labels_with_stamps_stand_in_their_order}
 use Rattle.ra_element_list.specs.ElementList.{Arrival, ElementList, root, arrival_at, IsBelowByStamp}
 use Rattle.ra_replica_list.specs.declared.deed.Deed.{Deed}
-use Rattle.ra_replica_list.specs.declared.deed.Deed.TheVariants.{PutsIn, Removes}
+use Rattle.ra_replica_list.specs.declared.deed.Deed.TheVariants.{PutsIn}
 use Rattle.ra_replica_list.specs.Deeds.{element_at, number_of, update_of, AreElementsOf}
 use Rattle.ra_witness.proofs.Places.{at_head, behind_head}
 use Rattle.ra_witness.proofs.StampOrder.{below_tested}

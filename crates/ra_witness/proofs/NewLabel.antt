@@ -1,7 +1,7 @@
 -- The elements of all labels with one label more, whatever it does.
-use Rattle.std.proofs.Common.{◌≡◌, ℕ, zero, suc, ◌<◌, ◌≤◌, Bool, true, false, List, [], ◌∷◌, ◌++◌, length, get_or, map, Option, Some, None, refl, sym, ap, ◌∙◌, subst, inl, inr, arith, length-append}
-use Rattle.std.specs.Prelude.{◌⊎◌, Contains}
-use Rattle.std.proofs.lemmas.Bool.{cases_lt, cases_eq, true≢false}
+use Rattle.std.proofs.Common.{◌≡◌, ℕ, zero, suc, ◌<◌, ◌≤◌, Bool, true, false, List, [], ◌∷◌, ◌++◌, length, Option, Some, None, refl, sym, ap, ◌∙◌, subst, inl, inr, arith, length-append}
+use Rattle.std.specs.Prelude.{◌⊎◌}
+use Rattle.std.proofs.lemmas.Bool.{cases_lt, true≢false}
 use Rattle.std.proofs.lemmas.Option.{none-some, same_Some}
 use Rattle.std.proofs.lemmas.List.{get_or_append_left, get_or_at}
 use Rattle.ra_labels.specs.declared.kind.Kind.TheVariants as variant
@@ -17,10 +17,10 @@ use Rattle.ra_labels.specs.Specification.{State, Number, Written, Members, Pairs
 use Rattle.ra_labels.specs.Lists.{hide}
 use Rattle.ra_labels.specs.NamedOrder.{named_sequence}
 use Rattle.ra_labels.specs.Linearization.{updates_admitted}
-use Rattle.ra_labels.specs.Laws.{elements_in, kind_of_state}
+use Rattle.ra_labels.specs.Laws.{elements_in}
 use Rattle.ra_labels.specs.Insertion.{Makes}
 use Rattle.ra_labels.proofs.TheLaws.{an_operation_makes_one_update-exactly, an_operation_makes_one_update-one, an_operation_puts_its_update_among_all-query, updates_admitted_where_they_lead_to_a_state, states_are_of_their_kind, a_new_label_in_the_list_of_all-removal}
-use Rattle.ra_element_list.specs.ElementList.{Arrival, ElementList, root, arrival_at}
+use Rattle.ra_element_list.specs.ElementList.{Arrival, ElementList, arrival_at}
 use Rattle.ra_replica_list.specs.declared.deed.Deed.{Deed}
 use Rattle.ra_replica_list.specs.declared.deed.Deed.TheVariants.{PutsIn, Removes}
 use Rattle.ra_replica_list.specs.Deeds.{deed_at, element_at, number_of, update_of, AreElementsOf}

@@ -3,11 +3,9 @@ use Rattle.std.proofs.Common.{◌≡◌, ℕ, ◌<◌, ◌≤◌, Bool, true, fa
 use Rattle.std.specs.Prelude.{flat_map, unwrap_or, IfSome}
 use Rattle.std.specs.List.{cons_option}
 use Rattle.std.proofs.lemmas.Int.{ints}
-use Rattle.std.proofs.lemmas.Option.{same_Some}
 use Rattle.std.proofs.lemmas.List.{length-set}
 use Rattle.std.proofs.lemmas.List.Sorted.{length_permutation}
 use Rattle.std.proofs.lemmas.List.Elements.{filter_map-append}
-use Rattle.std.proofs.lemmas.Grind.{flat_map-append}
 use Rattle.ra_labels.specs.declared.kind.Kind.{Kind}
 use Rattle.ra_labels.specs.declared.kind.Kind.TheVariants.{Counter}
 use Rattle.ra_labels.specs.declared.operation.Update.{Update}
@@ -17,7 +15,6 @@ use Rattle.ra_labels.specs.Visibility.{had}
 use Rattle.ra_labels.specs.Rewriting.{Half, Act, Does, Asks, Part, acts_of, part_of, parts_of, update_of, updates_of}
 use Rattle.ra_labels.specs.Specification.{State, Number, Written, Members, Pairs, Listed, step_of, state_after}
 use Rattle.ra_labels.specs.NamedOrder.{named_labels}
-use Rattle.ra_labels.specs.Laws.{kind_of_state}
 use Rattle.ra_labels.specs.Insertion.{updates_had}
 use Rattle.ra_labels.proofs.TheLaws.{states_are_of_their_kind, a_counter_goes_no_further_than_its_updates, named_labels_are_sorted-same}
 use Rattle.ra_seqspec.specs.Range.{IsInRange}

@@ -1,6 +1,6 @@
 -- The lists of replicas of an RGA, where one of them changes.
-use Rattle.std.proofs.Common.{◌≡◌, ℕ, zero, suc, ◌<◌, true, false, List, [], ◌∷◌, ◌++◌, length, set, get_or, replicate, Option, Some, None, refl, sym, ap, ◌∙◌, subst, inl, inr, arith}
-use Rattle.std.specs.Prelude.{◌⊎◌, flat_map, vec_len}
+use Rattle.std.proofs.Common.{◌≡◌, ℕ, zero, suc, ◌<◌, true, List, [], ◌∷◌, ◌++◌, length, set, Option, Some, None, refl, sym, ap, ◌∙◌, subst, inl, inr, arith}
+use Rattle.std.specs.Prelude.{◌⊎◌, flat_map}
 use Rattle.std.specs.List.{slice_get}
 use Rattle.std.specs.Vec.{with_item}
 use Rattle.std.proofs.lemmas.Bool.{false≢true}
@@ -22,7 +22,6 @@ use Rattle.ra_replica_list.proofs.TheLaws.{a_list_stays_with_what_others_do-deli
 use Rattle.ra_witness.specs.declared.rga.Rga.{Rga}
 use Rattle.ra_witness.specs.Labels.{update_in}
 use Rattle.ra_witness.specs.Rga.{IsRgaOf}
-use Rattle.ra_witness.specs.Offered.{IsTold}
 use Rattle.ra_witness.proofs.Found.{update_found, makes_it, makes_none}
 
 -- where one changed, each is that one or was there before

@@ -1,7 +1,5 @@
 -- What is kept of an RGA with one more label.
-use Rattle.std.proofs.Common.{◌≡◌, ℕ, ◌<◌, ◌≤◌, ◌+◌, Bool, true, false, List, [], ◌∷◌, ◌++◌, length, set, Option, Some, None, refl, sym, ap, ◌∙◌, subst, arith, length-append}
-use Rattle.std.specs.Prelude.{option_map}
-use Rattle.std.specs.List.{slice_get}
+use Rattle.std.proofs.Common.{◌≡◌, ℕ, ◌<◌, Bool, true, false, List, [], ◌∷◌, ◌++◌, length, set, Option, Some, None, refl, sym, ap, ◌∙◌, subst, arith, length-append}
 use Rattle.std.proofs.lemmas.List.{length-set}
 use Rattle.ra_labels.specs.declared.kind.Kind.TheVariants as variant
 use Rattle.ra_labels.specs.declared.operation.Op.{Op}
@@ -10,7 +8,7 @@ use Rattle.ra_labels.specs.declared.operation.Update.TheVariants.{After, RgaRemo
 use Rattle.ra_labels.specs.declared.label.Label.{Label}
 use Rattle.ra_labels.specs.declared.label.Stamp.{Stamp}
 use Rattle.ra_labels.specs.declared.command.Command.TheVariants.{Operate}
-use Rattle.ra_labels.specs.Records.{Records, label_count, next_label, stamp_at}
+use Rattle.ra_labels.specs.Records.{Records, next_label}
 use Rattle.ra_labels.specs.Visibility.{is_update}
 use Rattle.ra_labels.specs.NamedOrder.{named_sequence}
 use Rattle.ra_labels.specs.Linearization.{updates_admitted}
@@ -18,7 +16,6 @@ use Rattle.ra_labels.specs.Laws.{elements_in}
 use Rattle.ra_labels.specs.Late.{put_after}
 use Rattle.ra_labels.specs.Insertion.{Makes}
 use Rattle.ra_element_list.specs.ElementList.{Arrival, ElementList, arrival_at, IsBelowByStamp}
-use Rattle.ra_replica_list.specs.declared.deed.Deed.{Deed}
 use Rattle.ra_replica_list.specs.declared.deed.Deed.TheVariants.{PutsIn, Removes}
 use Rattle.ra_replica_list.specs.Deeds.{element_at, AreElementsOf}
 use Rattle.ra_replica_list.specs.ReplicaList.{ReplicaList, IsListOf}
@@ -26,10 +23,10 @@ use Rattle.ra_replica_list.proofs.TheLaws.{a_list_stays_with_what_others_do-inse
 use Rattle.ra_witness.specs.declared.rga.Rga.{Rga}
 use Rattle.ra_witness.specs.Rga.{IsRgaOf}
 use Rattle.ra_witness.specs.Offered.{IsOffered}
-use Rattle.ra_witness.proofs.Forms.{its_clock, its_replica}
+use Rattle.ra_witness.proofs.Forms.{its_clock}
 use Rattle.ra_witness.proofs.Admitted.{makes_after, makes_removal, some_clock}
 use Rattle.ra_witness.proofs.ReplicaLists.{AreListsOf, lists_with}
-use Rattle.ra_witness.proofs.NewLabel.{Adds, elements_more, adds_nothing, adds_removal}
+use Rattle.ra_witness.proofs.NewLabel.{elements_more, adds_nothing, adds_removal}
 use Rattle.ra_witness.proofs.NewElement.{adds_insertion}
 
 module _ (old next : Rga) (first : ℕ) (records : Records) (by : ℕ) (clock : Option ℕ) (label : Label) (stands : IsRgaOf old first records) where

@@ -1,5 +1,5 @@
 -- What is kept of a register and an LWW set with one more label.
-use Rattle.std.proofs.Common.{◌≡◌, ℕ, zero, suc, inl, inr, get_or, ◌<◌, ◌≤◌, ◌+◌, true, false, List, [], ◌∷◌, ◌++◌, map, length, set, Option, Some, None, refl, sym, ap, ◌∙◌, subst, arith}
+use Rattle.std.proofs.Common.{◌≡◌, ℕ, zero, suc, get_or, ◌≤◌, ◌+◌, List, [], ◌∷◌, ◌++◌, length, Option, Some, None, refl, sym, ap, ◌∙◌, subst, arith}
 use Rattle.std.specs.Prelude.{◌⊎◌, nat_eq, vec_len, option_map, pos, replicate}
 use Rattle.std.specs.HashMap.{get, hash_map_len}
 use Rattle.std.proofs.lemmas.Option.{none-some}
@@ -11,15 +11,15 @@ use Rattle.ra_labels.specs.declared.operation.Update.{Update}
 use Rattle.ra_labels.specs.declared.label.Stamp.{Stamp}
 use Rattle.ra_labels.specs.declared.label.Label.{Label}
 use Rattle.ra_labels.specs.declared.command.Command.TheVariants.{Operate}
-use Rattle.ra_labels.specs.Records.{Records, label_count, replica_count, stamp_at}
-use Rattle.ra_labels.specs.Specification.{State, Number, start_of}
+use Rattle.ra_labels.specs.Records.{Records, label_count}
+use Rattle.ra_labels.specs.Specification.{Number, start_of}
 use Rattle.ra_witness.specs.declared.written.Written.{Written}
 use Rattle.ra_witness.specs.declared.overriding.Overriding.{Overriding}
 use Rattle.ra_witness.specs.Labels.{update_in}
-use Rattle.ra_witness.specs.States.{state_at, after_step, states_after}
+use Rattle.ra_witness.specs.States.{states_after}
 use Rattle.ra_witness.specs.Standing.{IsKeptOf}
 use Rattle.ra_witness.specs.Last.{label_on}
-use Rattle.ra_witness.specs.Numbers.{element_of, number_in, number_with, count_with}
+use Rattle.ra_witness.specs.Numbers.{element_of, number_with, count_with}
 use Rattle.ra_witness.specs.Overriding.{updates_of, write_of, labels_in, last_label, last_with}
 use Rattle.ra_witness.specs.Overridden.{AreWritesOf, AreLastOf, AreBelow, IsNextWrite}
 use Rattle.ra_witness.specs.Offered.{IsOffered}

@@ -1,20 +1,17 @@
 -- What is kept of a register and an LWW set with one label or delivery more.
-use Rattle.std.proofs.Common.{◌≡◌, ℕ, ◌<◌, ◌≤◌, ◌+◌, Bool, true, false, cond, List, [], ◌∷◌, ◌++◌, map, length, set, Option, Some, None, refl, sym, ap, ◌∙◌, subst, inl, inr, arith}
-use Rattle.std.specs.Prelude.{◌⊎◌, ◌==◌, nat_eq, vec_len, is_some, unwrap_or, option_map, IfSome}
+use Rattle.std.proofs.Common.{◌≡◌, ℕ, ◌<◌, ◌≤◌, ◌+◌, Bool, true, false, cond, List, ◌∷◌, length, Option, Some, None, refl, sym, ap, ◌∙◌, subst, inl, inr, arith}
+use Rattle.std.specs.Prelude.{◌⊎◌, nat_eq, vec_len, is_some, unwrap_or, option_map}
 use Rattle.std.specs.HashMap.{get, hash_map_len}
 use Rattle.std.proofs.lemmas.Bool.{cases_eq, eq-eqb, ne_eqb, false≢true}
-use Rattle.std.proofs.lemmas.Option.{none-some, same_Some}
-use Rattle.std.proofs.lemmas.List.{map-append, length-map, set-get_or}
+use Rattle.std.proofs.lemmas.Option.{same_Some}
+use Rattle.std.proofs.lemmas.List.{length-map}
 use Rattle.ra_labels.specs.declared.kind.Kind.{Kind}
 use Rattle.ra_labels.specs.declared.kind.Kind.TheVariants as variant
-use Rattle.ra_labels.specs.declared.operation.Op.{Op}
 use Rattle.ra_labels.specs.declared.operation.Update.{Update}
-use Rattle.ra_labels.specs.declared.label.Stamp.{Stamp}
-use Rattle.ra_labels.specs.declared.label.Label.{Label}
-use Rattle.ra_labels.specs.declared.command.Command.TheVariants.{Operate, Deliver}
-use Rattle.ra_labels.specs.Records.{Records, label_count, replica_count, stamp_at}
+use Rattle.ra_labels.specs.declared.command.Command.TheVariants.{Deliver}
+use Rattle.ra_labels.specs.Records.{Records, label_count, replica_count}
 use Rattle.ra_labels.specs.Visibility.{is_update_at}
-use Rattle.ra_labels.specs.Specification.{State, Number}
+use Rattle.ra_labels.specs.Specification.{State}
 use Rattle.ra_labels.specs.Fault.{Holds}
 use Rattle.ra_visibility.specs.Order.{IsByTimestamp}
 use Rattle.ra_witness.specs.declared.written.Written.{Written}
@@ -22,19 +19,17 @@ use Rattle.ra_witness.specs.declared.overriding.Overriding.{Overriding}
 use Rattle.ra_witness.specs.Labels.{update_in}
 use Rattle.ra_witness.specs.States.{state_at, update_at, states_after, CanStep}
 use Rattle.ra_witness.specs.Standing.{IsKeptOf}
-use Rattle.ra_witness.specs.Numbers.{element_of, number_in, number_with, count_with}
-use Rattle.ra_witness.specs.Overriding.{updates_of, write_of, write_at, labels_in, last_label, counting, last_with}
-use Rattle.ra_witness.specs.Overridden.{AreWritesOf, AreLastOf, AreBelow, IsNextWrite}
-use Rattle.ra_witness.specs.Offered.{IsOffered, IsTold}
+use Rattle.ra_witness.specs.Numbers.{number_in, number_with, count_with}
+use Rattle.ra_witness.specs.Overriding.{updates_of, write_at, labels_in, last_label, counting, last_with}
+use Rattle.ra_witness.specs.Overridden.{AreWritesOf, AreLastOf, AreBelow}
+use Rattle.ra_witness.specs.Offered.{IsTold}
 use Rattle.ra_witness.specs.Kept.{IsOverridingOf}
 use Rattle.ra_witness.proofs.Found.{updates_counted, update_found, makes_it, makes_none}
 use Rattle.ra_witness.proofs.Doing.{its_write}
 use Rattle.ra_witness.proofs.Overridden.{is_new_write, lasts-kept}
 use Rattle.ra_witness.proofs.LastMade.{kept-register, kept-lww_set}
-use Rattle.ra_witness.proofs.Taken.{writes-query, lasts-query, writes-update, lasts-update, still_below}
-use Rattle.ra_witness.proofs.Forms.{its_replica}
+use Rattle.ra_witness.proofs.Taken.{still_below}
 use Rattle.ra_witness.proofs.Range.{can_step}
-use Rattle.ra_witness.proofs.Carrying.{not_rga-overriding, states_taken}
 
 pub by_timestamp : (kind : Kind) → (kind ≡ variant.Register) ⊎ (kind ≡ variant.LwwSet) → IsByTimestamp kind
 by_timestamp kind (inl is) = subst IsByTimestamp (sym is) (λ rs l. refl)

@@ -11,7 +11,8 @@ ghost use Rattle.ra_labels.specs.NamedOrder.{named_labels, named_sequence};
 ghost use Rattle.ra_labels.specs.Linearization.{updates_admitted};
 ghost use Rattle.ra_labels.specs.Fault.{cause_of};
 ghost use Rattle.ra_labels.specs.Laws.{EachLabelFits};
-ghost use Rattle.ra_labels.specs.Insertion.{updates_among};
+ghost use Rattle.ra_labels.specs.Specification.{is_admitted};
+ghost use Rattle.ra_labels.specs.Insertion.{updates_among, updates_had};
 ghost use Rattle.ra_rewrite.specs.Parts.{acts_in};
 ghost use Rattle.ra_witness.specs.Labels.{update_in, updates_by_number};
 ghost use Rattle.ra_witness.specs.Sequence.{has_query_half};
@@ -93,6 +94,10 @@ impl Kept {
             → IsKept self.old kind first records → IsTold kind first records replica label
             → named_labels kind records ≡ before ++ it ∷ behind → it.number ≡ label
             → IfOk result (λ steps. steps ≤ 1 + length (updates_among (had records replica) behind)) }
+        ensures some_step { (kind : Kind) (first : ℕ) (records : Records) → IsKept self.old kind first records
+            → IsTold kind first records replica label
+            → is_admitted kind (updates_had kind (Deliver replica label ∷ records) replica) ≡ true
+            → IfOk result (λ steps. 1 ≤ steps) }
         ensures same { (kind : Kind) (first : ℕ) (records : Records) → IsKept self.old kind first records
             → OnErr result (IsKept self.new kind first records) }
     {

@@ -12,7 +12,7 @@ ghost use Rattle.std.specs.Ordering.{is_lt, is_le};
 ghost use Rattle.ra_labels.specs.NamedOrder.{stamp_cmp, named_labels, named_sequence};
 ghost use Rattle.ra_labels.specs.Linearization.{updates_admitted};
 ghost use Rattle.ra_labels.specs.Fault.{cause_of};
-ghost use Rattle.ra_labels.specs.Specification.{state_after};
+ghost use Rattle.ra_labels.specs.Specification.{state_after, is_admitted};
 ghost use Rattle.ra_labels.specs.Insertion.{updates_among, updates_had};
 ghost use Rattle.ra_rewrite.specs.Parts.{acts_in};
 ghost use Rattle.ra_seqspec.specs.Asked.{asks_rising};
@@ -199,6 +199,10 @@ impl Rga {
             → IsRgaOf self.old first records → IsTold kinds.Rga first records replica label
             → named_labels kinds.Rga records ≡ before ++ it ∷ behind → it.number ≡ label
             → IfOk result (λ steps. steps ≤ 1 + length (updates_among (had records replica) behind)) }
+        ensures some_step { (first : ℕ) (records : Records) → IsRgaOf self.old first records
+            → IsTold kinds.Rga first records replica label
+            → is_admitted kinds.Rga (updates_had kinds.Rga (Deliver replica label ∷ records) replica) ≡ true
+            → IfOk result (λ steps. 1 ≤ steps) }
         ensures same { (first : ℕ) (records : Records) → IsRgaOf self.old first records
             → OnErr result (IsRgaOf self.new first records) }
     {

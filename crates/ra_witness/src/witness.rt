@@ -1,4 +1,4 @@
-ghost use Rattle.std.specs.Prelude.{◌≡◌, ℕ, ◌+◌, ◌≤◌, ◌++◌, ◌∷◌, [], List, length, map, Option, None, Ok, IfOk, OnOk, OnErr};
+ghost use Rattle.std.specs.Prelude.{◌≡◌, ℕ, ◌+◌, ◌<◌, ◌≤◌, ◌++◌, ◌∷◌, [], true, List, length, map, Option, None, Ok, IfOk, OnOk, OnErr};
 ghost use Rattle.ra_labels.specs.declared.kind.Kind.{Kind};
 ghost use Rattle.ra_labels.specs.declared.operation.Op.{Op};
 ghost use Rattle.ra_labels.specs.declared.label.Label.{Label};
@@ -8,7 +8,8 @@ ghost use Rattle.ra_labels.specs.Visibility.{had};
 ghost use Rattle.ra_labels.specs.NamedOrder.{named_labels, named_sequence};
 ghost use Rattle.ra_labels.specs.Fault.{cause_of};
 ghost use Rattle.ra_labels.specs.Answer.{refusal_of};
-ghost use Rattle.ra_labels.specs.Insertion.{updates_among};
+ghost use Rattle.ra_labels.specs.Specification.{is_admitted};
+ghost use Rattle.ra_labels.specs.Insertion.{updates_among, updates_had};
 ghost use Rattle.ra_witness.specs.Sequence.{ref_of};
 ghost use Rattle.ra_witness.specs.Witness.{IsWitnessOf, IsNext, MayOffer, MayDeliver};
 
@@ -45,37 +46,38 @@ impl<O: NamedOrder> Witness<O> {
 
     /// Takes the next label in, with what it sees, and answers none; or answers the first condition that fails with it,
     /// and is as before. So it is where a growth is refused.
-    pub fn offer(&mut self, label: Label, seen: &Seen<'_>) -> Result<Option<Cause>, NoMemory>
-        requires { MayOffer O.stands_for self.old label seen.now }
+    pub fn offer(&mut self, label: &Label, seen: &Seen<'_>) -> Result<Option<Cause>, NoMemory>
+        requires { MayOffer O.stands_for self.old label.now seen.now }
         ensures cause { (kind : Kind) (first : ℕ) (records : Records) (by : ℕ) (op : Op) (clock : Option ℕ)
             → IsWitnessOf O.stands_for self.old kind first records
-            → IsNext kind first records by op clock label seen.now
+            → IsNext kind first records by op clock label.now seen.now
             → IfOk result (λ cause. cause ≡ cause_of kind (Operate by op clock ∷ records)) }
         ensures taken { (kind : Kind) (first : ℕ) (records : Records) (by : ℕ) (op : Op) (clock : Option ℕ)
             → IsWitnessOf O.stands_for self.old kind first records
-            → IsNext kind first records by op clock label seen.now
+            → IsNext kind first records by op clock label.now seen.now
             → result ≡ Ok None → IsWitnessOf O.stands_for self.new kind first (Operate by op clock ∷ records) }
         ensures same { (kind : Kind) (first : ℕ) (records : Records)
             → IsWitnessOf O.stands_for self.old kind first records
             → ¬ (result ≡ Ok None) → IsWitnessOf O.stands_for self.new kind first records }
         ensures steps { ¬ (result ≡ Ok None) → self.new.steps ≡ self.old.steps }
     {
-        let place = self.order.place(&label, seen);
+        let place = self.order.place(label, seen);
         if !place.fits {
             return Ok(Some(Cause::Order));
         }
-        let parts = parts(&label)?;
-        if let Some(cause) = self.kept.cause(&label, &parts) {
+        let parts = parts(label)?;
+        if let Some(cause) = self.kept.cause(label, &parts) {
             return Ok(Some(cause));
         }
         self.order.spare()?;
-        let steps = self.kept.take(&label, parts.into_update())?;
-        self.order.put(&label, seen, place);
+        let steps = self.kept.take(label, parts.into_update())?;
+        self.order.put(label, seen, place);
         self.steps = self.steps.saturating_add(steps);
         Ok(None)
     }
 
-    /// The label is delivered to the replica. It is out of memory where a growth is refused, and then as before.
+    /// The label is delivered to the replica. It is out of memory where a growth is refused, and then as before. Where
+    /// none of the replica's updates waits then, it takes a step at least.
     pub fn deliver(&mut self, replica: u8, label: u32) -> Result<(), NoMemory>
         requires { MayDeliver O.stands_for self.old replica label }
         ensures delivered { (kind : Kind) (first : ℕ) (records : Records)
@@ -91,6 +93,11 @@ impl<O: NamedOrder> Witness<O> {
             → refusal_of kind first records (Deliver replica label) ≡ None
             → named_labels kind records ≡ before ++ it ∷ behind → it.number ≡ label
             → OnOk result (self.new.steps ≤ self.old.steps + 64 + length (updates_among (had records replica) behind)) }
+        ensures some_step { (kind : Kind) (first : ℕ) (records : Records)
+            → IsWitnessOf O.stands_for self.old kind first records
+            → refusal_of kind first records (Deliver replica label) ≡ None
+            → is_admitted kind (updates_had kind (Deliver replica label ∷ records) replica) ≡ true
+            → self.old.steps < 18446744073709551615 → OnOk result (self.old.steps < self.new.steps) }
     {
         let steps = self.kept.deliver(replica, label)?;
         self.steps = self.steps.saturating_add(steps);

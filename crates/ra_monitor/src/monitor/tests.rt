@@ -1,10 +1,18 @@
-//! What deliveries cost, read on the witness of a monitor.
+//! What deliveries cost, read on the witness of a monitor, and how wide the log's entries are.
 
 use crate::monitor::Monitor;
 use ra_labels::{Command, Kind, Op, Reply};
-use ra_ticket::{Journal, StepFault};
+use ra_ticket::{Entry, Journal, StepFault};
+use std::mem::size_of;
 use std::process::Abort;
 use std::test::Fail;
+
+// Whatever its command says.
+#[test]
+fn an_entry_of_the_log_has_72_bytes(rt: HostRuntime) -> Result<(), Fail> {
+    assert_eq!(rt; size_of::<Entry<Command, Reply>>(), 72);
+    Ok(())
+}
 
 // A register: a writes 0 to 299 at the clocks 2 to 301, b writes 7 at the clock 1, and c gets them all, b's write last.
 #[test]

@@ -1,4 +1,3 @@
-use Rattle.std.proofs.Common.{rules}
 use Rattle.ra_ticket.proofs.Journals.{of_journal}
 use Rattle.ra_ticket.proofs.Closings.{is_left}
 use Rattle.ra_ticket.proofs.close.take_apart.Goals as goal

@@ -1,4 +1,4 @@
-use Rattle.std.proofs.Common.{rules, ap, ◌∙◌}
+use Rattle.std.proofs.Common.{ap, ◌∙◌}
 use Rattle.ra_ticket.proofs.Journals.{of_journal}
 use Rattle.ra_ticket.proofs.Parting.{met_so, parted, told_first, told_others, one_log, bounds_are}
 use Rattle.ra_ticket.proofs.meet.look_and_part.Goals as goal

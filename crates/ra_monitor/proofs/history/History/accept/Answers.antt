@@ -1,5 +1,7 @@
 use Rattle.std.proofs.Common.{◌≡◌, ◌<◌, Some, refl, sym, ap, ◌∙◌, arith}
 use Rattle.std.specs.Prelude.{vec_len}
+use Rattle.ra_labels.specs.declared.operation.Op.{Op}
+use Rattle.ra_labels.specs.Records.{next_label}
 use Rattle.ra_labels.specs.Fault.{records_before_fault}
 use Rattle.ra_visibility.specs.Tracked.{Tracked}
 use Rattle.ra_monitor.specs.declared.history.History.{History}
@@ -7,8 +9,8 @@ use Rattle.ra_monitor.specs.declared.taken.Taken.{Taken}
 use Rattle.ra_monitor.proofs.Growth.{newest_stands, stands_same, taken_alike, taken_known}
 use Rattle.ra_monitor.proofs.history.History.accept.Goals as goal
 
-pub answer-requires : goal.answer-requires
-answer-requires c =
+pub answer-answer-requires : goal.answer-answer-requires
+answer-answer-requires c =
     let r = c.requires in
     let self = c.args.self.now in
     let with_label : History = record {
@@ -24,9 +26,9 @@ answer-requires c =
       by = c.args.replica;
       op = c.args.op.now;
       clock = c.args.clock;
-      newest = newest_stands self with_label r.setup r.records c.args.replica c.args.op.now c.args.clock c.in_ok-label.label c.by.result r.stands r.none
+      newest = newest_stands self with_label r.setup r.records c.args.replica c.args.op.now c.args.clock c.label_of-label.result c.by-brought.result r.stands r.none
           (c.in_ok-issue.ensures.stands r.setup.replicas r.records c.args.op.now c.args.clock r.stands.tracker (sym c.is_update.ensures))
-          (c.in_ok-label.ensures.next r.records r.stands.labels) c.by.ensures refl refl refl
+          (c.label_of-label.ensures.next r.records r.stands.labels ∙ ap (λ (o : Op). next_label r.records c.args.replica o c.args.clock) c.replace.ensures.value) c.by-brought.ensures refl refl refl
           (taken_alike r.records self.taken c.make_room.new.self c.make_room.ensures.stamps c.make_room.ensures.identifiers (taken_known self r.setup r.records r.stands r.none))
           c.make_room.ensures.replicas r.replica r.fits r.accepted;
       few = r.few;
@@ -45,9 +47,9 @@ returns-in-Ok-clause-taken c = λ setup records stands none accepted fits.
       fault = self.fault;
     } in
     c.in-Ok.ensures.answered setup records c.args.replica c.args.op.now c.args.clock
-    (newest_stands self with_label setup records c.args.replica c.args.op.now c.args.clock c.in_ok-label.label c.by.result stands none
+    (newest_stands self with_label setup records c.args.replica c.args.op.now c.args.clock c.label_of-label.result c.by-brought.result stands none
     (c.in_ok-issue.ensures.stands setup.replicas records c.args.op.now c.args.clock stands.tracker (sym c.is_update.ensures))
-    (c.in_ok-label.ensures.next records stands.labels) c.by.ensures refl refl refl
+    (c.label_of-label.ensures.next records stands.labels ∙ ap (λ (o : Op). next_label records c.args.replica o c.args.clock) c.replace.ensures.value) c.by-brought.ensures refl refl refl
     (taken_alike records self.taken c.make_room.new.self c.make_room.ensures.stamps c.make_room.ensures.identifiers (taken_known self setup records stands none))
     c.make_room.ensures.replicas known fits accepted)
 

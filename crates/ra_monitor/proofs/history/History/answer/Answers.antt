@@ -18,7 +18,7 @@ keep-requires c =
 pub returns-in-None-clause-answered : goal.returns-in-None-clause-answered
 returns-in-None-clause-answered c = λ setup records by op clock newest.
     let self = c.args.self.now in
-    let label = c.args.label in
+    let label = c.args.label.now in
     let brought = c.args.brought in
     let is : label.number ≡ label_count records = ap (λ (l : Label). l.number) newest.next in
     let next = comes_next self setup records by op clock label brought c.vis-seen.result newest c.vis-seen.ensures.seen in
@@ -35,7 +35,7 @@ returns-in-None-clause-answered c = λ setup records by op clock newest.
 pub returns-in-Some-clause-answered : goal.returns-in-Some-clause-answered
 returns-in-Some-clause-answered c = λ setup records by op clock newest.
     let self = c.args.self.now in
-    let label = c.args.label in
+    let label = c.args.label.now in
     let brought = c.args.brought in
     let is : label.number ≡ label_count records = ap (λ (l : Label). l.number) newest.next in
     let next = comes_next self setup records by op clock label brought c.vis-seen.result newest c.vis-seen.ensures.seen in

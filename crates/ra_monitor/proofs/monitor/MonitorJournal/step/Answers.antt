@@ -1,16 +1,24 @@
 use Rattle.std.proofs.Common.{◌≡◌, ℕ, ◌+◌, ◌<◌, ◌∷◌, ◌++◌, [], List, length, refl, sym, ap, ◌∙◌, subst, arith}
+use Rattle.ra_labels.specs.declared.command.Command.{Command}
 use Rattle.ra_labels.specs.Answer.{answer_of}
 use Rattle.ra_monitor.specs.Monitor.{MonitorEntry, Monitor, records_of, IsRaLinearizable, IsNoAtFault, IsNextTicket}
 use Rattle.ra_monitor.proofs.Legal.{linearizable_after, no_after}
 use Rattle.ra_monitor.proofs.Keeping.{legal_after, kept_after}
 use Rattle.ra_monitor.proofs.monitor.MonitorJournal.step.Goals as goal
 
--- the entry that joins the log
+-- the entry that joins the log, with this command
+abbrev entry_with : goal.After-append → Command → MonitorEntry
+entry_with c command = record { pass = c.args.pass; ticket = c.args.ticket; command = command; reply = c.in-Ok.reply }
+
+-- it has the command that came, which was given back
 abbrev entry_of : goal.After-append → MonitorEntry
-entry_of c = record { pass = c.args.pass; ticket = c.args.ticket; command = c.args.command; reply = c.in-Ok.reply }
+entry_of c = entry_with c c.args.command
 
 log_is : (c : goal.After-append) → c.append.new.log.items ≡ c.self.inside.log.items ++ entry_of c ∷ []
-log_is c = c.append.ensures ∙ ap (λ (l : List MonitorEntry). l ++ entry_of c ∷ []) c.reserve.ensures.items
+log_is c =
+    c.append.ensures
+    ∙ ap (λ (l : List MonitorEntry). l ++ entry_with c c.take.new.command ∷ []) c.reserve.ensures.items
+    ∙ ap (λ (command : Command). c.self.inside.log.items ++ entry_with c command ∷ []) c.take.ensures.command
 
 next_is : (c : goal.After-append) → IsNextTicket (record { setup = c.self.inside.setup; log = c.self.inside.log.items }) c.args.ticket
 next_is c = subst (λ (l : Monitor). IsNextTicket l c.args.ticket) (sym c.self.view_is) c.requires

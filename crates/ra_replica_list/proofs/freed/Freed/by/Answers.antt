@@ -1,4 +1,4 @@
-use Rattle.std.proofs.Common.{◌≡◌, ◌+◌, ◌<◌, length, get_or, sym, arith, rules}
+use Rattle.std.proofs.Common.{◌<◌, length, sym, arith, rules}
 use Rattle.std.proofs.lemmas.List.{get_or_read}
 use Rattle.ra_replica_list.proofs.Following.{none_followed, amidst_at}
 use Rattle.ra_replica_list.proofs.Finishing.{not_many}

@@ -1,4 +1,4 @@
-use Rattle.std.proofs.Common.{◌≡◌, ℕ, false, ◌∙◌, ap, List, Bool, arith}
+use Rattle.std.proofs.Common.{◌∙◌, ap, List, Bool, arith}
 use Rattle.ra_element_list.specs.ElementList.{is_marked}
 use Rattle.ra_replica_list.proofs.Starting.{starts}
 use Rattle.ra_replica_list.proofs.replica_list.ReplicaList.new.Goals as goal

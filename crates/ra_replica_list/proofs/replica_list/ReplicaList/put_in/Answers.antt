@@ -1,4 +1,4 @@
-use Rattle.std.proofs.Common.{◌≡◌, ℕ, List, [], Bool, true, false, length, get_or, sym, ap, ◌∙◌, subst, arith, rules}
+use Rattle.std.proofs.Common.{◌≡◌, ℕ, true, false, sym, ap, ◌∙◌, subst}
 use Rattle.std.specs.Prelude.{unwrap_or}
 use Rattle.ra_labels.specs.declared.operation.Update.TheVariants.{After}
 use Rattle.ra_labels.specs.Specification.{step_of}
@@ -6,7 +6,6 @@ use Rattle.ra_element_list.specs.ElementList.{arrival_at, is_marked}
 use Rattle.ra_replica_list.specs.declared.deed.Deed.TheVariants.{PutsIn}
 use Rattle.ra_replica_list.specs.ReplicaList.{ReplicaList}
 use Rattle.ra_replica_list.specs.Deeds.{element_at}
-use Rattle.ra_replica_list.specs.Waiting.{labels_under}
 use Rattle.ra_replica_list.proofs.Deeds.{deeds_stand, put_in_later, root_marked}
 use Rattle.ra_replica_list.proofs.Alike.{kept_in}
 use Rattle.ra_replica_list.proofs.Getting.{IsAdded, held_back}

@@ -1,9 +1,7 @@
-use Rattle.std.proofs.Common.{◌≡◌, ℕ, List, Bool, true, false, Option, [], ◌∷◌, ◌++◌, Some, length, sym, ap, ◌∙◌, subst, arith}
+use Rattle.std.proofs.Common.{◌≡◌, ℕ, true, false, [], ◌∷◌, ◌++◌, Some, length, sym, ap, ◌∙◌, subst}
 use Rattle.std.specs.Prelude.{unwrap_or, ◌==◌, ◌||◌}
-use Rattle.ra_labels.specs.declared.label.Stamp.{Stamp}
 use Rattle.ra_labels.specs.declared.operation.Update.TheVariants.{After}
 use Rattle.ra_labels.specs.declared.command.Command.TheVariants.{Operate}
-use Rattle.ra_labels.specs.Records.{label_count}
 use Rattle.ra_labels.specs.Visibility.{had}
 use Rattle.ra_labels.specs.Specification.{step_of}
 use Rattle.ra_labels.specs.NamedOrder.{greater_of}

@@ -1,8 +1,7 @@
-use Rattle.std.proofs.Common.{◌≡◌, true, false, sym, ap, ◌∙◌, subst, arith}
+use Rattle.std.proofs.Common.{sym, ap, ◌∙◌, subst}
 use Rattle.std.specs.Prelude.{unwrap_or}
 use Rattle.ra_labels.specs.declared.operation.Update.TheVariants.{RgaRemove}
 use Rattle.ra_labels.specs.Specification.{step_of}
-use Rattle.ra_element_list.specs.ElementList.{is_marked}
 use Rattle.ra_replica_list.specs.declared.deed.Deed.TheVariants.{Removes}
 use Rattle.ra_replica_list.specs.ReplicaList.{ReplicaList, IsKept}
 use Rattle.ra_replica_list.proofs.Stepping.{remove_in_range}

@@ -1,4 +1,4 @@
-use Rattle.std.proofs.Common.{None, ap, ◌∙◌, sym}
+use Rattle.std.proofs.Common.{None, ap, ◌∙◌}
 use Rattle.std.proofs.lemmas.Option.{none-some}
 use Rattle.ra_replica_list.specs.Waiting.{labels_under}
 use Rattle.ra_replica_list.proofs.Entries.{under_now, under_other, none_empty}

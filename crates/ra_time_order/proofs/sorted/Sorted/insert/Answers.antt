@@ -1,4 +1,4 @@
-use Rattle.std.proofs.Common.{List, [], length, ◌+◌, sym, ap, ◌∙◌, subst}
+use Rattle.std.proofs.Common.{List, length, ◌+◌, sym, ap, ◌∙◌, subst}
 use Rattle.std.specs.Prelude.{set}
 use Rattle.std.specs.List.{AllByRecursion, insert}
 use Rattle.ra_labels.specs.NamedOrder.{greater_of}
@@ -6,13 +6,9 @@ use Rattle.std.proofs.lemmas.List.Edits.{length-insert}
 use Rattle.ra_time_order.specs.declared.entry.Entry.{Entry}
 use Rattle.ra_time_order.specs.Positions.{IsPositionOf}
 use Rattle.ra_time_order.specs.Stamps.{AtMost}
-use Rattle.ra_time_order.specs.Sorted.{Sorted, joined, FirstsRise, IsRunOf}
-use Rattle.ra_time_order.proofs.Runs.{firsts_rise}
+use Rattle.ra_time_order.specs.Sorted.{Sorted, joined, IsRunOf}
 use Rattle.ra_time_order.proofs.Filing.{room_says, filed, under_with}
 use Rattle.ra_time_order.proofs.sorted.Sorted.insert.Goals as goal
-
-pub run_of-at-requires-clause-rise : goal.run_of-at-requires-clause-rise
-run_of-at-requires-clause-rise c = subst FirstsRise (sym c.as_slice.ensures.value) (firsts_rise [] c.self.inside.runs.items c.self.invariant.kept.between)
 
 pub invariant_of-self : goal.invariant_of-self
 invariant_of-self c =

@@ -1,13 +1,9 @@
-use Rattle.std.proofs.Common.{List, [], length, sym, ap, ◌∙◌, subst, ◌+◌, ◌-◌, arith}
+use Rattle.std.proofs.Common.{List, length, ap, ◌∙◌, subst, ◌+◌, ◌-◌, arith}
 use Rattle.ra_time_order.specs.declared.entry.Entry.{Entry}
 use Rattle.ra_time_order.specs.Positions.{IsPositionOf}
-use Rattle.ra_time_order.specs.Sorted.{Sorted, FirstsRise, IsRunOf}
-use Rattle.ra_time_order.proofs.Runs.{firsts_rise}
+use Rattle.ra_time_order.specs.Sorted.{Sorted, IsRunOf}
 use Rattle.ra_time_order.proofs.Filing.{behind_is, few_behind, position_in_all}
 use Rattle.ra_time_order.proofs.sorted.Sorted.position.Goals as goal
-
-pub run_of-at-requires-clause-rise : goal.run_of-at-requires-clause-rise
-run_of-at-requires-clause-rise c = subst FirstsRise (sym c.as_slice.ensures.value) (firsts_rise [] c.self.inside.runs.items c.self.invariant.kept.between)
 
 pub count-behind-requires : goal.count-behind-requires
 count-behind-requires c =

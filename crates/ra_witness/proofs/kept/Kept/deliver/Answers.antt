@@ -1,11 +1,16 @@
-use Rattle.std.proofs.Common.{◌≡◌, ◌∙◌, ◌++◌, ◌∷◌, sym, ap, subst, arith}
+use Rattle.std.proofs.Common.{◌≡◌, ◌++◌, ◌∷◌, true, ap, subst, arith}
+use Rattle.std.proofs.lemmas.Result.{IfOk-weaker}
+use Rattle.ra_labels.specs.declared.command.Command.TheVariants.{Deliver}
+use Rattle.ra_labels.specs.Specification.{is_admitted}
+use Rattle.ra_labels.specs.Insertion.{updates_had}
 use Rattle.std.specs.Prelude.{nat_eq}
 use Rattle.std.specs.HashMap.{get, hash_map_len}
 use Rattle.ra_labels.specs.NamedOrder.{named_labels}
 use Rattle.ra_witness.specs.Offered.{IsTold}
-use Rattle.ra_witness.specs.Overriding.{write_at, updates_of}
+use Rattle.ra_witness.specs.Overriding.{write_at}
 use Rattle.ra_witness.proofs.Lasts.{on_ok, on_err, on_err_any, if_some_at}
 use Rattle.ra_witness.proofs.Carrying.{is_commuting, is_overriding, is_rga, told_there, can_tell, commuting_told, if_some_use}
+use Rattle.ra_witness.proofs.Doing.{told_step}
 use Rattle.ra_witness.proofs.Writing.{writes_counted, told_write, can_bring, overriding_told, overriding_same}
 use Rattle.ra_labels.proofs.TheLaws.{had_updates-there}
 use Rattle.ra_witness.proofs.kept.Kept.deliver.Goals as goal
@@ -88,3 +93,15 @@ returns-in-Rga-clause-same c = λ kind first records stands.
     let known = is_rga c.args.self.now kind first records stands c.in-Rga.kept c.in-Rga.is in
     on_err c.deliver-in-Rga.result (c.deliver-in-Rga.ensures.same first records known.1)
     (λ form. record { few = stands.few; form = (known.0, form) })
+
+pub returns-in-Commuting-clause-some_step : goal.returns-in-Commuting-clause-some_step
+returns-in-Commuting-clause-some_step c = λ kind first records stands told none_waits.
+    let kept = c.in-Commuting.kept in
+    let known = is_commuting c.args.self.now kind first records stands kept c.in-Commuting.is in
+    IfOk-weaker c.deliver.result _ _ (λ steps is. omega (arith, is, told_step kept.updates.items records c.args.label known.states.labels told.update)) c.deliver.ensures.steps
+
+pub returns-in-Rga-clause-some_step : goal.returns-in-Rga-clause-some_step
+returns-in-Rga-clause-some_step c = λ kind first records stands told none_waits.
+    let known = is_rga c.args.self.now kind first records stands c.in-Rga.kept c.in-Rga.is in
+    c.deliver-in-Rga.ensures.some_step first records known.1 (subst (λ k. IsTold k first records c.args.replica c.args.label) known.0 told)
+    (subst (λ k. is_admitted k (updates_had k (Deliver c.args.replica c.args.label ∷ records) c.args.replica) ≡ true) known.0 none_waits)

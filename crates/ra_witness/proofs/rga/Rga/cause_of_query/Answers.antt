@@ -1,5 +1,4 @@
 use Rattle.std.proofs.Common.{◌<◌, ◌∙◌, length, refl, ap, arith}
-use Rattle.std.specs.Prelude.{vec_len}
 use Rattle.std.proofs.lemmas.Option.{slice_get_read}
 use Rattle.ra_rewrite.specs.Parts.{acts_in}
 use Rattle.ra_witness.specs.Labels.{cause_in}

@@ -1,11 +1,8 @@
-use Rattle.std.proofs.Common.{◌≡◌, ◌<◌, ◌∙◌, ◌∷◌, List, length, Option, refl, sym, ap, subst, arith}
-use Rattle.std.specs.Prelude.{Some}
-use Rattle.std.specs.List.{slice_get}
+use Rattle.std.proofs.Common.{◌<◌, ◌∙◌, ◌∷◌, length, refl, sym, ap, subst, arith}
 use Rattle.std.proofs.lemmas.Option.{slice_get_read}
 use Rattle.std.proofs.lemmas.Result.{IfOk-weaker}
 use Rattle.ra_labels.specs.declared.command.Command.TheVariants.{Deliver}
 use Rattle.ra_labels.proofs.TheLaws.{had_updates-there}
-use Rattle.ra_replica_list.specs.declared.deed.Deed.{Deed}
 use Rattle.ra_replica_list.specs.Deeds.{deed_at, AreElementsOf}
 use Rattle.ra_replica_list.specs.ReplicaList.{IsListOf}
 use Rattle.ra_witness.proofs.Lasts.{on_ok, on_err}
@@ -72,3 +69,13 @@ returns-clause-same c = λ first records stands.
     on_err c.deliver.result c.deliver.ensures.err (λ same.
     rga_same self first records stands c.args.replica c.deliver.new.self within
     (same self.all.arrivals self.deeds.items records c.args.replica (stands.lists c.args.replica list there)))
+
+pub returns-clause-some_step : goal.returns-clause-some_step
+returns-clause-some_step c = λ first records stands told none_waits.
+    let self = c.args.self.now in
+    let list = c.index_mut.result.now in
+    let value = c.as_slice-deeds.ensures.value in
+    let there = slice_get_read self.lists.items (length self.lists.items) c.args.replica list refl (omega (arith, stands.replicas, told.replica)) c.index_mut.ensures.value in
+    let own = subst (λ ds. IsListOf list self.all.arrivals ds records c.args.replica) (sym value) (stands.lists c.args.replica list there) in
+    let elements = subst (λ ds. AreElementsOf self.all ds records) (sym value) stands.elements in
+    IfOk-weaker c.deliver.result _ _ (λ steps some. some records c.args.replica elements own c.in-Some.is told.causal.0 none_waits) c.deliver.ensures.some_step

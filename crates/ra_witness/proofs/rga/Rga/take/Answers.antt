@@ -1,13 +1,11 @@
-use Rattle.std.proofs.Common.{◌≡◌, ◌<◌, ◌∷◌, ◌∙◌, ◌++◌, [], None, ℕ, length, true, refl, sym, ap, subst, arith}
+use Rattle.std.proofs.Common.{◌≡◌, ◌∷◌, ◌∙◌, ◌++◌, [], None, true, refl, sym, ap, subst}
 use Rattle.ra_labels.specs.declared.kind.Kind.TheVariants as variant
 use Rattle.ra_labels.specs.declared.operation.Op.TheVariants as ops
 use Rattle.ra_labels.specs.declared.command.Command.TheVariants.{Operate}
 use Rattle.ra_labels.specs.NamedOrder.{named_sequence}
 use Rattle.ra_labels.specs.Linearization.{updates_admitted}
-use Rattle.ra_labels.specs.Records.{stamp_at}
 use Rattle.ra_witness.specs.declared.rga.Rga.{Rga}
 use Rattle.ra_witness.specs.Offered.{IsOffered}
-use Rattle.ra_witness.proofs.Lasts.{on_ok, on_err}
 use Rattle.ra_witness.proofs.Forms.{of_its_kind, its_op, has_stamp}
 use Rattle.ra_witness.proofs.Admitted.{insertion_new, insertion_needs, removal_needs}
 use Rattle.ra_witness.proofs.RgaCauses.{asks_only}

@@ -24,3 +24,9 @@ returns-clause-few_steps g c = λ kind first records before behind it stands acc
     let told = is_told g.O.NamedOrder.stands_for c.args.self.now kind first records c.args.replica c.args.label stands accepted in
     let few = c.in_ok-steps.ensures.few_steps kind first records before behind it stands.kept told is number in
     omega (arith, few, c.saturating_add-self.ensures)
+
+pub returns-clause-some_step : goal.returns-clause-some_step
+returns-clause-some_step g c = λ kind first records stands accepted none_waits few.
+    let told = is_told g.O.NamedOrder.stands_for c.args.self.now kind first records c.args.replica c.args.label stands accepted in
+    let some = c.in_ok-steps.ensures.some_step kind first records stands.kept told none_waits in
+    omega (arith, some, few, c.saturating_add-self.ensures)

@@ -20,9 +20,9 @@ cause-requires g c =
       op = may.op;
       clock = may.clock;
       stands = may.stands.kept;
-      offered = is_offered g.O.NamedOrder.stands_for c.args.self.now may.kind may.first may.records may.by may.op may.clock c.args.label c.args.seen.now c.place-place.result may.stands may.next is
+      offered = is_offered g.O.NamedOrder.stands_for c.args.self.now may.kind may.first may.records may.by may.op may.clock c.args.label.now c.args.seen.now c.place-place.result may.stands may.next is
           (from_not c.place-place.result.fits true c.if-not-place.false) may.few;
-      acts_are = c.in_ok-parts.ensures.acts ∙ same_op c.args.label may.records may.by may.op may.clock may.next.comes.next;
+      acts_are = c.in_ok-parts.ensures.acts ∙ same_op c.args.label.now may.records may.by may.op may.clock may.next.comes.next;
     }
 
 pub returns-in-Some-clause-cause : goal.returns-in-Some-clause-cause
@@ -34,16 +34,16 @@ returns-in-Some-clause-cause g c = λ kind first records by op clock stands next
     let known = listed_count may.kind may.records listed ((g.met.O.NamedOrder g.world.𝓛 g.world.𝓜 g.world.𝓡 ((λ s x. x), (λ x. x), (λ x. x), λ x. x)).lists order may.kind may.first may.records may.stands.order) in
     let is = c.place-place.ensures kind first records by op clock stands.order next.comes in
     c.in-Some.ensures kind first records by op clock stands.kept
-    (is_offered g.O.NamedOrder.stands_for c.args.self.now kind first records by op clock c.args.label c.args.seen.now c.place-place.result stands next is
+    (is_offered g.O.NamedOrder.stands_for c.args.self.now kind first records by op clock c.args.label.now c.args.seen.now c.place-place.result stands next is
     (from_not c.place-place.result.fits true c.if-not-place.false) (omega (arith, may.few, count, known)))
-    (c.in_ok-parts.ensures.acts ∙ same_op c.args.label records by op clock next.comes.next)
+    (c.in_ok-parts.ensures.acts ∙ same_op c.args.label.now records by op clock next.comes.next)
 
 pub take-requires : goal.take-requires
 take-requires g c =
     let may = c.requires in
     let is = c.place-place.ensures may.kind may.first may.records may.by may.op may.clock may.stands.order may.next.comes in
-    let acts = c.in_ok-parts.ensures.acts ∙ same_op c.args.label may.records may.by may.op may.clock may.next.comes.next in
-    let offered = is_offered g.O.NamedOrder.stands_for c.args.self.now may.kind may.first may.records may.by may.op may.clock c.args.label c.args.seen.now c.place-place.result may.stands may.next is
+    let acts = c.in_ok-parts.ensures.acts ∙ same_op c.args.label.now may.records may.by may.op may.clock may.next.comes.next in
+    let offered = is_offered g.O.NamedOrder.stands_for c.args.self.now may.kind may.first may.records may.by may.op may.clock c.args.label.now c.args.seen.now c.place-place.result may.stands may.next is
     (from_not c.place-place.result.fits true c.if-not-place.false) may.few in
     record {
       kind = may.kind;
@@ -75,8 +75,8 @@ returns-clause-cause g c = λ kind first records by op clock stands next.
     let count = listed_count kind records listed ((g.met.O.NamedOrder g.world.𝓛 g.world.𝓜 g.world.𝓡 ((λ s x. x), (λ x. x), (λ x. x), λ x. x)).lists order kind first records stands.order) in
     let known = listed_count may.kind may.records listed ((g.met.O.NamedOrder g.world.𝓛 g.world.𝓜 g.world.𝓡 ((λ s x. x), (λ x. x), (λ x. x), λ x. x)).lists order may.kind may.first may.records may.stands.order) in
     let is = c.place-place.ensures kind first records by op clock stands.order next.comes in
-    let acts = c.in_ok-parts.ensures.acts ∙ same_op c.args.label records by op clock next.comes.next in
-    let offered = is_offered g.O.NamedOrder.stands_for c.args.self.now kind first records by op clock c.args.label c.args.seen.now c.place-place.result stands next is
+    let acts = c.in_ok-parts.ensures.acts ∙ same_op c.args.label.now records by op clock next.comes.next in
+    let offered = is_offered g.O.NamedOrder.stands_for c.args.self.now kind first records by op clock c.args.label.now c.args.seen.now c.place-place.result stands next is
     (from_not c.place-place.result.fits true c.if-not-place.false) (omega (arith, may.few, count, known)) in
     sym c.in_default.is ∙ c.cause.ensures kind first records by op clock stands.kept offered acts
 
@@ -88,10 +88,10 @@ returns-clause-taken g c = λ kind first records by op clock stands next same.
     let count = listed_count kind records listed ((g.met.O.NamedOrder g.world.𝓛 g.world.𝓜 g.world.𝓡 ((λ s x. x), (λ x. x), (λ x. x), λ x. x)).lists order kind first records stands.order) in
     let known = listed_count may.kind may.records listed ((g.met.O.NamedOrder g.world.𝓛 g.world.𝓜 g.world.𝓡 ((λ s x. x), (λ x. x), (λ x. x), λ x. x)).lists order may.kind may.first may.records may.stands.order) in
     let is = c.place-place.ensures kind first records by op clock stands.order next.comes in
-    let acts = c.in_ok-parts.ensures.acts ∙ same_op c.args.label records by op clock next.comes.next in
-    let offered = is_offered g.O.NamedOrder.stands_for c.args.self.now kind first records by op clock c.args.label c.args.seen.now c.place-place.result stands next is
+    let acts = c.in_ok-parts.ensures.acts ∙ same_op c.args.label.now records by op clock next.comes.next in
+    let offered = is_offered g.O.NamedOrder.stands_for c.args.self.now kind first records by op clock c.args.label.now c.args.seen.now c.place-place.result stands next is
     (from_not c.place-place.result.fits true c.if-not-place.false) (omega (arith, may.few, count, known)) in
     let because = sym c.in_default.is ∙ c.cause.ensures kind first records by op clock stands.kept offered acts in
-    taken g.O.NamedOrder.stands_for c.args.self.now _ kind first records by op clock c.args.label c.args.seen.now stands next because
+    taken g.O.NamedOrder.stands_for c.args.self.now _ kind first records by op clock c.args.label.now c.args.seen.now stands next because
     (c.put.ensures.stands kind first records by op clock (c.in_ok-spare.ensures.stands kind first records stands.order) next.comes is)
     (c.in_ok-steps.ensures.taken kind first records by op clock stands.kept offered (all_admitted kind (Operate by op clock ∷ records) because) (update_known c.into_update.result _ op c.into_update.ensures acts))
