@@ -4,6 +4,7 @@ ghost use Rattle.ra_history_text.specs.Fields.{IsCutAt, pieces_at};
 ghost use Rattle.ra_history_text.specs.Reading.{mark_first};
 ghost use Rattle.ra_history_text.specs.Grammar.{fields_of, marked};
 
+use memchr::memchr;
 use std::marker::Model;
 
 /// What stands before the first such byte, and what behind it. `None` where there is no such byte. Costs as much as
@@ -11,7 +12,7 @@ use std::marker::Model;
 pub fn cut_at(byte: u8, bytes: &[u8]) -> Option<(&[u8], &[u8])>
     ensures { MatchOption result (All (λ b. b ≢ byte) bytes.now) (λ cut. IsCutAt byte bytes.now cut.0.now cut.1.now) }
 {
-    let at = bytes.iter().position(|b| *b == byte)?;
+    let at = memchr(byte, bytes)?;
     Some((&bytes[..at], &bytes[at + 1..]))
 }
 

@@ -7,6 +7,7 @@ ghost use Rattle.ra_history_text.specs.Laws.{BeginsWith};
 ghost use Rattle.ra_history_text.specs.Spelling.{spaced, commas, line_of, name_of, AreSmall};
 
 use crate::name::Names;
+use itoa::Buffer;
 use ra_labels::{Command, Elements, NoMemory, Op};
 
 /// Puts the line of the command behind the bytes, with no line feed. A replica that has no name gets none. Costs as
@@ -160,8 +161,6 @@ fn put_number(out: &mut Vec<u8>, number: u32) -> Result<(), NoMemory>
     ensures put { OnOk result (out.new.items ≡ out.old.items ++ decimal number) }
     ensures part { OnErr result (BeginsWith out.old.items out.new.items) }
 {
-    if number >= 10 {
-        put_number(out, number / 10)?;
-    }
-    Ok(out.push(b'0' + (number % 10) as u8)?)
+    let mut buffer = Buffer::new();
+    Ok(out.extend_from_slice(buffer.format(number).as_bytes())?)
 }

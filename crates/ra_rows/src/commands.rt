@@ -2,8 +2,8 @@
 
 ghost use Rattle.std.specs.Prelude.{◌≡◌, []};
 
-use ra_labels::{Command, Kind, Op, Reply};
-use ra_monitor::Monitor;
+use ra_labels::{Command, Elements, Kind, Op, Reply};
+use ra_monitor::{Monitor, PartRef};
 use ra_ticket::{Journal, StepFault};
 use std::alloc::Global;
 use std::process::Abort;
@@ -41,14 +41,27 @@ pub fn got(replica: u8, label: u32) -> Command {
     Command::Deliver { replica, label }
 }
 
+/// How often a call is made that is refused a growth. `tests/refused_memory` refuses each growth in turn, one in a run,
+/// and then all has to be answered as ever.
+const ATTEMPTS: u32 = 2;
+
 /// A monitor of a counter at this many replicas, whose log may have this many entries.
 pub fn counter_of(rt: &impl Abort, alloc: Global, replicas: u8, limit: u32) -> Monitor
     ensures { result.log ≡ [] }
 {
-    match Monitor::new(alloc, Kind::Counter, replicas, limit) {
-        Ok(monitor) => monitor,
-        Err(_) => panic!(rt; "no monitor"),
+    monitor_of(rt, alloc, Kind::Counter, replicas, limit)
+}
+
+/// A monitor of this kind at this many replicas, whose log may have this many entries.
+pub fn monitor_of(rt: &impl Abort, alloc: Global, kind: Kind, replicas: u8, limit: u32) -> Monitor
+    ensures { result.log ≡ [] }
+{
+    for _attempt in 0..ATTEMPTS {
+        if let Ok(monitor) = Monitor::new(alloc, kind, replicas, limit) {
+            return monitor;
+        }
     }
+    panic!(rt; "no monitor")
 }
 
 /// The outcome of one step of this pass, with this ticket, which has to be above the last.
@@ -71,9 +84,33 @@ pub fn step_by(
 /// The reply to one command of pass 0, with the number of commands before it as its ticket.
 pub fn reply_to(rt: &impl Abort, monitor: &mut Monitor, command: Command) -> Reply {
     let ticket = monitor.log().len() as u64;
-    match step_by(rt, monitor, 0, ticket, command) {
-        Ok(reply) => reply,
-        Err(StepFault::Full(_)) => panic!(rt; "full"),
-        Err(StepFault::NoMemory(_)) => panic!(rt; "no memory"),
+    let mut command = command;
+    for _attempt in 0..ATTEMPTS {
+        match step_by(rt, monitor, 0, ticket, command) {
+            Ok(reply) => return reply,
+            Err(StepFault::Full(_)) => panic!(rt; "full"),
+            Err(StepFault::NoMemory(back)) => command = back,
+        }
     }
+    panic!(rt; "no memory")
+}
+
+/// The parts of the monitor's labels in their order.
+pub fn sequence_of(rt: &impl Abort, monitor: &Monitor) -> Vec<PartRef> {
+    for _attempt in 0..ATTEMPTS {
+        if let Ok(sequence) = monitor.sequence() {
+            return sequence;
+        }
+    }
+    panic!(rt; "no memory")
+}
+
+/// The list of these elements.
+pub fn elements_of(rt: &impl Abort, alloc: Global, list: &[u32]) -> Elements {
+    for _attempt in 0..ATTEMPTS {
+        if let Ok(items) = Vec::from_slice(alloc, list) {
+            return Elements::new(items);
+        }
+    }
+    panic!(rt; "no memory")
 }

@@ -1,11 +1,9 @@
 //! Limits of a monitor, and histories of thousands.
 
-use crate::commands::{counter_of, got, increment, read, reply_to, step_by};
-use crate::rows::are_parts;
+use crate::commands::{counter_of, got, increment, read, reply_to, sequence_of, step_by};
 use ra_labels::{Command, Kind, Refusal, Reply};
-use ra_monitor::{Monitor, NewFault};
+use ra_monitor::{Half, Monitor, NewFault};
 use ra_ticket::{Journal, StepFault};
-use std::alloc::Global;
 use std::process::Abort;
 use std::test::Fail;
 
@@ -66,7 +64,7 @@ fn thousands_of_labels_are_taken(rt: HostRuntime) -> Result<(), Fail> {
         let reply = reply_to(&rt, &mut monitor, increment((number % 2) as u8));
         assert_eq!(rt; reply, Reply::Ok(number));
         if number == 299 {
-            stands_in_turn(&rt, rt.alloc(), &monitor, 300);
+            stands_in_turn(&rt, &monitor, 300);
         }
     }
     assert_eq!(rt;
@@ -83,15 +81,16 @@ fn thousands_of_labels_are_taken(rt: HostRuntime) -> Result<(), Fail> {
         reply_to(&rt, &mut monitor, Command::Verdict),
         Reply::Yes(5_002)
     );
-    stands_in_turn(&rt, rt.alloc(), &monitor, 5_002);
+    stands_in_turn(&rt, &monitor, 5_002);
     Ok(())
 }
 
 // The sequence has this many labels, in the order of their numbers, each of one part.
-fn stands_in_turn(rt: &impl Abort, alloc: Global, monitor: &Monitor, labels: u32) {
-    let (Ok(sequence), Ok(wanted)) = (monitor.sequence(), (0..labels).collect::<Vec<u32>>(alloc))
-    else {
-        panic!(rt; "no memory");
-    };
-    assert!(rt; are_parts(sequence.as_slice(), wanted.as_slice()));
+fn stands_in_turn(rt: &impl Abort, monitor: &Monitor, labels: u32) {
+    let sequence = sequence_of(rt, monitor);
+    assert_eq!(rt; sequence.len(), labels as usize);
+    for (label, part) in sequence.iter().enumerate() {
+        assert_eq!(rt; part.label as usize, label);
+        assert!(rt; part.half == Half::Whole);
+    }
 }

@@ -1,8 +1,10 @@
 //! Worked histories of any kind, as rows of a table: what is said, and what is answered.
 
-use crate::commands::{bare, got, increment, read, reply_to, stamped};
-use ra_labels::{Command, Elements, Fault, Kind, Op, Reply};
-use ra_monitor::{Half, Monitor, PartRef, Report};
+use crate::commands::{
+    bare, elements_of, got, increment, monitor_of, read, reply_to, sequence_of, stamped,
+};
+use ra_labels::{Command, Fault, Kind, Op, Reply};
+use ra_monitor::{Half, PartRef, Report};
 use std::alloc::Global;
 use std::process::Abort;
 
@@ -80,13 +82,6 @@ fn command_of(rt: &impl Abort, alloc: Global, say: Say) -> Command {
     }
 }
 
-fn elements_of(rt: &impl Abort, alloc: Global, list: &[u32]) -> Elements {
-    match Vec::from_slice(alloc, list) {
-        Ok(items) => Elements::new(items),
-        Err(_) => panic!(rt; "no memory"),
-    }
-}
-
 /// A history of three replicas.
 #[derive(Clone, Copy)]
 pub struct Row {
@@ -104,9 +99,7 @@ pub struct Row {
 /// Each row is answered as it says.
 pub fn are_answered(rt: &impl Abort, alloc: Global, rows: &[Row]) {
     for row in rows {
-        let Ok(mut monitor) = Monitor::new(alloc, row.kind, 3, 100) else {
-            panic!(rt; "no monitor");
-        };
+        let mut monitor = monitor_of(rt, alloc, row.kind, 3, 100);
         for (say, want) in row.steps {
             let command = command_of(rt, alloc, *say);
             let reply = reply_to(rt, &mut monitor, command);
@@ -123,9 +116,7 @@ pub fn are_answered(rt: &impl Abort, alloc: Global, rows: &[Row]) {
             fault: row.fault,
         };
         assert_eq!(rt; monitor.report(), report, "{}", row.name);
-        let Ok(sequence) = monitor.sequence() else {
-            panic!(rt; "no memory");
-        };
+        let sequence = sequence_of(rt, &monitor);
         assert!(rt;
             are_parts(sequence.as_slice(), row.sequence),
             "{}",

@@ -3,9 +3,8 @@
 ghost use Rattle.std.specs.Prelude.{◌≡◌, ◌+◌, ◌<◌, ◌≤◌, length};
 ghost use Rattle.ra_visibility.specs.Tracked.{labels_in, replicas_in};
 
-use crate::commands::{bare, reply_to, stamped};
+use crate::commands::{bare, monitor_of, reply_to, sequence_of, stamped};
 use ra_labels::{Elements, Kind, Label, Op, Query, Refusal, Reply, Stamp, Update};
-use ra_monitor::Monitor;
 use ra_seqspec::State;
 use ra_time_order::TimeOrder;
 use ra_visibility::{MOST_LABELS, NamedOrder, Tracker};
@@ -85,9 +84,7 @@ fn stand(rt: &impl Abort, tracker: &mut Tracker, order: &mut TimeOrder, stamp: S
 
 #[test]
 fn thousands_of_elements_are_put_in(rt: HostRuntime) -> Result<(), Fail> {
-    let Ok(mut monitor) = Monitor::new(rt.alloc(), Kind::LwwSet, 3, 1_048_576) else {
-        panic!(rt; "no monitor");
-    };
+    let mut monitor = monitor_of(&rt, rt.alloc(), Kind::LwwSet, 3, 1_048_576);
     let mut all = Vec::new(rt.alloc());
     for number in 0..4_200u32 {
         let replica = (number / 2_100) as u8;
@@ -95,7 +92,7 @@ fn thousands_of_elements_are_put_in(rt: HostRuntime) -> Result<(), Fail> {
         let add = stamped(replica, Op::LwwAdd(number ^ 1), clock);
         let reply = reply_to(&rt, &mut monitor, add);
         assert_eq!(rt; reply, Reply::Ok(number));
-        if number < 2_100 && all.push(number).is_err() {
+        if number < 2_100 && all.push(number).is_err() && all.push(number).is_err() {
             panic!(rt; "no memory");
         }
     }
@@ -107,9 +104,7 @@ fn thousands_of_elements_are_put_in(rt: HostRuntime) -> Result<(), Fail> {
     let read = bare(0, Op::LwwRead(Elements::new(all)));
     let reply = reply_to(&rt, &mut monitor, read);
     assert_eq!(rt; reply, Reply::Ok(4_200));
-    let Ok(sequence) = monitor.sequence() else {
-        panic!(rt; "no memory");
-    };
+    let sequence = sequence_of(&rt, &monitor);
     assert_eq!(rt; sequence.len(), 4_201);
     for (at, part) in sequence.iter().enumerate() {
         let first = if at % 2 == 0 { 2_100 } else { 0 };

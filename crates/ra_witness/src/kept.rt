@@ -67,13 +67,14 @@ impl Kept {
         }
     }
 
-    /// Takes the next label in, which does this, if anything: answers how many steps that took.
+    /// Takes the next label in, which does this, if anything: answers how many steps that took, one at most.
     pub fn take(&mut self, label: &Label, update: Option<Update>) -> Result<u64, NoMemory>
         requires { MayTake self.old label.now update }
         ensures taken { (kind : Kind) (first : ℕ) (records : Records) (by : ℕ) (op : Op) (clock : Option ℕ)
             → IsKept self.old kind first records → IsOffered kind first records by op clock label.now
             → updates_admitted kind (named_sequence kind (Operate by op clock ∷ records)) ≡ true
             → update ≡ update_in op → OnOk result (IsKept self.new kind first (Operate by op clock ∷ records)) }
+        ensures step { IfOk result (λ steps. steps ≤ 1) }
         ensures same { (kind : Kind) (first : ℕ) (records : Records) → IsKept self.old kind first records
             → OnErr result (IsKept self.new kind first records) }
     {
@@ -139,6 +140,7 @@ fn take_write(kept: &mut Overriding, label: &Label, update: Option<Update>) -> R
     ensures taken { (kind : Kind) (first : ℕ) (records : Records) (by : ℕ) (op : Op) (clock : Option ℕ)
         → IsOverridingOf kept.old kind first records → IsOffered kind first records by op clock label.now
         → update ≡ update_in op → OnOk result (IsOverridingOf kept.new kind first (Operate by op clock ∷ records)) }
+    ensures step { IfOk result (λ steps. steps ≤ 1) }
     ensures same { (kind : Kind) (first : ℕ) (records : Records) → IsOverridingOf kept.old kind first records
         → OnErr result (IsOverridingOf kept.new kind first records) }
 {

@@ -115,13 +115,14 @@ impl Rga {
         asked::cause_if_any(self.lists[replica as usize].state(), parts)
     }
 
-    /// Takes the next label in: answers how many steps that took.
+    /// Takes the next label in: answers how many steps that took, one at most.
     pub fn take(&mut self, label: &Label) -> Result<u64, NoMemory>
         requires { MayGrow self.old label.now }
         ensures taken { (first : ℕ) (records : Records) (by : ℕ) (op : Op) (clock : Option ℕ)
             → IsRgaOf self.old first records → IsOffered kinds.Rga first records by op clock label.now
             → updates_admitted kinds.Rga (named_sequence kinds.Rga (Operate by op clock ∷ records)) ≡ true
             → OnOk result (IsRgaOf self.new first (Operate by op clock ∷ records)) }
+        ensures step { IfOk result (λ steps. steps ≤ 1) }
         ensures same { (first : ℕ) (records : Records) → IsRgaOf self.old first records
             → OnErr result (IsRgaOf self.new first records) }
     {
@@ -149,6 +150,7 @@ impl Rga {
             → updates_admitted kinds.Rga (named_sequence kinds.Rga (Operate by op clock ∷ records)) ≡ true
             → op ≡ ops.After anchor element
             → OnOk result (IsRgaOf self.new first (Operate by op clock ∷ records)) }
+        ensures step { IfOk result (λ steps. steps ≤ 1) }
         ensures same { (first : ℕ) (records : Records) → IsRgaOf self.old first records
             → OnErr result (IsRgaOf self.new first records) }
     {
@@ -177,6 +179,7 @@ impl Rga {
             → updates_admitted kinds.Rga (named_sequence kinds.Rga (Operate by op clock ∷ records)) ≡ true
             → op ≡ ops.RgaRemove element
             → OnOk result (IsRgaOf self.new first (Operate by op clock ∷ records)) }
+        ensures step { IfOk result (λ steps. steps ≤ 1) }
         ensures same { (first : ℕ) (records : Records) → IsRgaOf self.old first records
             → OnErr result (IsRgaOf self.new first records) }
     {

@@ -44,8 +44,8 @@ impl<O: NamedOrder> Witness<O> {
         })
     }
 
-    /// Takes the next label in, with what it sees, and answers none; or answers the first condition that fails with it,
-    /// and is as before. So it is where a growth is refused.
+    /// Takes the next label in, with what it sees, by one step at most, and answers none; or answers the first condition
+    /// that fails with it, and is as before. So it is where a growth is refused.
     pub fn offer(&mut self, label: &Label, seen: &Seen<'_>) -> Result<Option<Cause>, NoMemory>
         requires { MayOffer O.stands_for self.old label.now seen.now }
         ensures cause { (kind : Kind) (first : ℕ) (records : Records) (by : ℕ) (op : Op) (clock : Option ℕ)
@@ -60,6 +60,7 @@ impl<O: NamedOrder> Witness<O> {
             → IsWitnessOf O.stands_for self.old kind first records
             → ¬ (result ≡ Ok None) → IsWitnessOf O.stands_for self.new kind first records }
         ensures steps { ¬ (result ≡ Ok None) → self.new.steps ≡ self.old.steps }
+        ensures one_step { self.new.steps ≤ self.old.steps + 1 }
     {
         let place = self.order.place(label, seen);
         if !place.fits {

@@ -3,9 +3,14 @@
 use crate::monitor::Monitor;
 use ra_labels::{Command, Kind, Op, Reply};
 use ra_ticket::{Entry, Journal, StepFault};
+use std::alloc::Global;
 use std::mem::size_of;
 use std::process::Abort;
 use std::test::Fail;
+
+// How often a call is made that is refused a growth. `tests/refused_memory` refuses each growth in turn, one in a run,
+// and then all has to be answered as ever.
+const ATTEMPTS: u32 = 2;
 
 // Whatever its command says.
 #[test]
@@ -17,9 +22,7 @@ fn an_entry_of_the_log_has_72_bytes(rt: HostRuntime) -> Result<(), Fail> {
 // A register: a writes 0 to 299 at the clocks 2 to 301, b writes 7 at the clock 1, and c gets them all, b's write last.
 #[test]
 fn a_late_write_costs_few_steps(rt: HostRuntime) -> Result<(), Fail> {
-    let Ok(mut monitor) = Monitor::new(rt.alloc(), Kind::Register, 3, 1_000) else {
-        panic!(rt; "no monitor");
-    };
+    let mut monitor = monitor_of(&rt, rt.alloc(), Kind::Register);
     for value in 0..300 {
         assert_eq!(rt;
             reply_to(&rt, &mut monitor, write(0, value, value + 2)),
@@ -43,9 +46,7 @@ fn a_late_write_costs_few_steps(rt: HostRuntime) -> Result<(), Fail> {
 // An RGA: b's updates wait at c for a's element, and then follow it, each by one step.
 #[test]
 fn those_that_wait_cost_a_step_each(rt: HostRuntime) -> Result<(), Fail> {
-    let Ok(mut monitor) = Monitor::new(rt.alloc(), Kind::Rga, 3, 1_000) else {
-        panic!(rt; "no monitor");
-    };
+    let mut monitor = monitor_of(&rt, rt.alloc(), Kind::Rga);
     for (label, command) in [
         (0, after(0, 0, 5, 1)),
         (1, after(1, 5, 6, 2)),
@@ -81,18 +82,28 @@ fn steps_of(monitor: &Monitor) -> u64 {
     monitor.history.witness.steps()
 }
 
-// The reply to one command of pass 0, with the number of commands before it as its ticket. A command that is handed
-// back for want of memory is made once more.
+// A monitor of this kind at three replicas.
+fn monitor_of(rt: &impl Abort, alloc: Global, kind: Kind) -> Monitor {
+    for _attempt in 0..ATTEMPTS {
+        if let Ok(monitor) = Monitor::new(alloc, kind, 3, 1_000) {
+            return monitor;
+        }
+    }
+    panic!(rt; "no monitor")
+}
+
+// The reply to one command of pass 0, with the number of commands before it as its ticket.
 fn reply_to(rt: &impl Abort, monitor: &mut Monitor, command: Command) -> Reply {
     let ticket = monitor.log().len() as u64;
-    match step_by(rt, monitor, ticket, command) {
-        Ok(reply) => reply,
-        Err(StepFault::Full(_)) => panic!(rt; "full"),
-        Err(StepFault::NoMemory(command)) => match step_by(rt, monitor, ticket, command) {
-            Ok(reply) => reply,
-            Err(_) => panic!(rt; "no memory"),
-        },
+    let mut command = command;
+    for _attempt in 0..ATTEMPTS {
+        match step_by(rt, monitor, ticket, command) {
+            Ok(reply) => return reply,
+            Err(StepFault::Full(_)) => panic!(rt; "full"),
+            Err(StepFault::NoMemory(back)) => command = back,
+        }
     }
+    panic!(rt; "no memory")
 }
 
 fn step_by(
