@@ -44,8 +44,8 @@ impl<O: NamedOrder> Witness<O> {
         })
     }
 
-    /// Takes the next label in, with what it sees, by one step at most, and answers none; or answers the first condition
-    /// that fails with it, and is as before. So it is where a growth is refused.
+    /// Takes the next label in, with what it sees, by one step at most, and answers none; or answers the first
+    /// condition that fails with it, and is as before. So it is where a growth is refused.
     pub fn offer(&mut self, label: &Label, seen: &Seen<'_>) -> Result<Option<Cause>, NoMemory>
         requires { MayOffer O.stands_for self.old label.now seen.now }
         ensures cause { (kind : Kind) (first : ℕ) (records : Records) (by : ℕ) (op : Op) (clock : Option ℕ)
