@@ -95,7 +95,7 @@ impl ReplicaList {
     }
 
     /// The replica issues the next label, which puts a new element in behind the anchor of this number. It stands
-    /// behind all that the replica had. Answers how many steps that took.
+    /// behind all that the replica had. Answers how many steps that took. Costs two look-ups.
     pub fn put_own(
         &mut self,
         all: &ElementList,
@@ -141,6 +141,7 @@ impl ReplicaList {
     }
 
     /// The replica issues the next label, which removes the element of this number. Answers how many steps that took.
+    /// Costs a look-up.
     pub fn remove_own(
         &mut self,
         all: &ElementList,
@@ -168,6 +169,8 @@ impl ReplicaList {
 
     /// The label is delivered to the replica, which does this. Answers how many steps that took: one, or none where it
     /// waits, and one for each label that waited for its element, and so on; so where none waits then, at least one.
+    /// Costs two look-ups and a walk back to the nearest element that is there, mostly of no step at all; where labels
+    /// had waited for its element, a copy of the list and as much for each of them.
     pub fn deliver(
         &mut self,
         all: &ElementList,

@@ -30,7 +30,8 @@ pub struct Witness<O: NamedOrder> {
 }
 
 impl<O: NamedOrder> Witness<O> {
-    /// The witness of no labels, of so many replicas. The order is empty, and that of the kind.
+    /// The witness of no labels, of so many replicas. The order is empty, and that of the kind. Costs a state for each
+    /// replica.
     pub fn new(alloc: Global, kind: Kind, replicas: u8, order: O) -> Result<Witness<O>, NoMemory>
         ensures stands { O.stands_for order kind replicas [] → IfOk result (λ witness.
             IsWitnessOf O.stands_for witness kind replicas []) }
@@ -45,7 +46,9 @@ impl<O: NamedOrder> Witness<O> {
     }
 
     /// Takes the next label in, with what it sees, by one step at most, and answers none; or answers the first
-    /// condition that fails with it, and is as before. So it is where a growth is refused.
+    /// condition that fails with it, and is as before. So it is where a growth is refused. Costs a place in the order,
+    /// and of a query what `State::admits` does, of an update one `State::apply`, and of a new element of an RGA its
+    /// place among the elements of all labels.
     pub fn offer(&mut self, label: &Label, seen: &Seen<'_>) -> Result<Option<Cause>, NoMemory>
         requires { MayOffer O.stands_for self.old label.now seen.now }
         ensures cause { (kind : Kind) (first : ℕ) (records : Records) (by : ℕ) (op : Op) (clock : Option ℕ)
@@ -78,7 +81,9 @@ impl<O: NamedOrder> Witness<O> {
     }
 
     /// The label is delivered to the replica. It is out of memory where a growth is refused, and then as before. Where
-    /// none of the replica's updates waits then, it takes a step at least.
+    /// none of the replica's updates waits then, it takes a step at least. Costs one `State::apply`, however late the
+    /// label is. Of an RGA it costs beside that a walk back to the nearest element that is there, mostly of no step at
+    /// all, and where labels had waited for its element a copy of the replica's list and a step for each of them.
     pub fn deliver(&mut self, replica: u8, label: u32) -> Result<(), NoMemory>
         requires { MayDeliver O.stands_for self.old replica label }
         ensures delivered { (kind : Kind) (first : ℕ) (records : Records)
