@@ -1,6 +1,7 @@
 ghost use Rattle.std.specs.Prelude.{◌≡◌, ℕ, ◌+◌, ◌≤◌, ◌++◌, ◌∷◌, [], true, List, length, Option, IfOk, OnOk, OnErr};
 ghost use Rattle.std.specs.List.{slice_get};
 ghost use Rattle.ra_labels.specs.declared.kind.Kind.{Kind};
+ghost use Rattle.ra_labels.specs.declared.kind.Kind.TheVariants as kinds;
 ghost use Rattle.ra_labels.specs.declared.operation.Op.{Op};
 ghost use Rattle.ra_labels.specs.declared.label.Label.{Label};
 ghost use Rattle.ra_labels.specs.declared.command.Command.TheVariants.{Operate, Deliver};
@@ -15,6 +16,7 @@ ghost use Rattle.ra_labels.specs.Specification.{is_admitted};
 ghost use Rattle.ra_labels.specs.Insertion.{updates_among, updates_had};
 ghost use Rattle.ra_rewrite.specs.Parts.{acts_in};
 ghost use Rattle.ra_witness.specs.Labels.{update_in, updates_by_number};
+ghost use Rattle.ra_witness.specs.States.{steps_of};
 ghost use Rattle.ra_witness.specs.Sequence.{has_query_half};
 ghost use Rattle.ra_witness.specs.Offered.{IsOffered, IsTold};
 ghost use Rattle.ra_witness.specs.Kept.{IsKept, IsOverridingOf, MayMeet, MayTake, MayWrite, MayGet};
@@ -75,6 +77,8 @@ impl Kept {
             → updates_admitted kind (named_sequence kind (Operate by op clock ∷ records)) ≡ true
             → update ≡ update_in op → OnOk result (IsKept self.new kind first (Operate by op clock ∷ records)) }
         ensures step { IfOk result (λ steps. steps ≤ 1) }
+        ensures counted { (kind : Kind) (first : ℕ) (records : Records) → IsKept self.old kind first records
+            → ¬ (kind ≡ kinds.Rga) → IfOk result (λ steps. steps ≡ steps_of update) }
         ensures same { (kind : Kind) (first : ℕ) (records : Records) → IsKept self.old kind first records
             → OnErr result (IsKept self.new kind first records) }
     {
@@ -99,6 +103,8 @@ impl Kept {
             → IsTold kind first records replica label
             → is_admitted kind (updates_had kind (Deliver replica label ∷ records) replica) ≡ true
             → IfOk result (λ steps. 1 ≤ steps) }
+        ensures counted { (kind : Kind) (first : ℕ) (records : Records) → IsKept self.old kind first records
+            → IsTold kind first records replica label → ¬ (kind ≡ kinds.Rga) → IfOk result (λ steps. steps ≡ 1) }
         ensures same { (kind : Kind) (first : ℕ) (records : Records) → IsKept self.old kind first records
             → OnErr result (IsKept self.new kind first records) }
     {
@@ -140,7 +146,7 @@ fn take_write(kept: &mut Overriding, label: &Label, update: Option<Update>) -> R
     ensures taken { (kind : Kind) (first : ℕ) (records : Records) (by : ℕ) (op : Op) (clock : Option ℕ)
         → IsOverridingOf kept.old kind first records → IsOffered kind first records by op clock label.now
         → update ≡ update_in op → OnOk result (IsOverridingOf kept.new kind first (Operate by op clock ∷ records)) }
-    ensures step { IfOk result (λ steps. steps ≤ 1) }
+    ensures counted { IfOk result (λ steps. steps ≡ steps_of update) }
     ensures same { (kind : Kind) (first : ℕ) (records : Records) → IsOverridingOf kept.old kind first records
         → OnErr result (IsOverridingOf kept.new kind first records) }
 {

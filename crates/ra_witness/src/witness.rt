@@ -1,5 +1,6 @@
 ghost use Rattle.std.specs.Prelude.{◌≡◌, ℕ, ◌+◌, ◌<◌, ◌≤◌, ◌++◌, ◌∷◌, [], true, List, length, map, Option, None, Ok, IfOk, OnOk, OnErr};
 ghost use Rattle.ra_labels.specs.declared.kind.Kind.{Kind};
+ghost use Rattle.ra_labels.specs.declared.kind.Kind.TheVariants as kinds;
 ghost use Rattle.ra_labels.specs.declared.operation.Op.{Op};
 ghost use Rattle.ra_labels.specs.declared.label.Label.{Label};
 ghost use Rattle.ra_labels.specs.declared.command.Command.TheVariants.{Operate, Deliver};
@@ -10,6 +11,8 @@ ghost use Rattle.ra_labels.specs.Fault.{cause_of};
 ghost use Rattle.ra_labels.specs.Answer.{refusal_of};
 ghost use Rattle.ra_labels.specs.Specification.{is_admitted};
 ghost use Rattle.ra_labels.specs.Insertion.{updates_among, updates_had};
+ghost use Rattle.ra_witness.specs.Labels.{update_in};
+ghost use Rattle.ra_witness.specs.States.{steps_of};
 ghost use Rattle.ra_witness.specs.Sequence.{ref_of};
 ghost use Rattle.ra_witness.specs.Witness.{IsWitnessOf, IsNext, MayOffer, MayDeliver};
 
@@ -63,7 +66,13 @@ impl<O: NamedOrder> Witness<O> {
             → IsWitnessOf O.stands_for self.old kind first records
             → ¬ (result ≡ Ok None) → IsWitnessOf O.stands_for self.new kind first records }
         ensures steps { ¬ (result ≡ Ok None) → self.new.steps ≡ self.old.steps }
+        ensures grows { self.old.steps ≤ self.new.steps }
         ensures one_step { self.new.steps ≤ self.old.steps + 1 }
+        ensures counted { (kind : Kind) (first : ℕ) (records : Records) (by : ℕ) (op : Op) (clock : Option ℕ)
+            → IsWitnessOf O.stands_for self.old kind first records
+            → IsNext kind first records by op clock label.now seen.now
+            → ¬ (kind ≡ kinds.Rga) → result ≡ Ok None → self.old.steps < 18446744073709551615
+            → self.new.steps ≡ self.old.steps + steps_of (update_in op) }
     {
         let place = self.order.place(label, seen);
         if !place.fits {
@@ -99,6 +108,17 @@ impl<O: NamedOrder> Witness<O> {
             → refusal_of kind first records (Deliver replica label) ≡ None
             → named_labels kind records ≡ before ++ it ∷ behind → it.number ≡ label
             → OnOk result (self.new.steps ≤ self.old.steps + 64 + length (updates_among (had records replica) behind)) }
+        ensures one_each { (kind : Kind) (first : ℕ) (records : Records) (before behind : List Label) (it : Label)
+            → IsWitnessOf O.stands_for self.old kind first records
+            → refusal_of kind first records (Deliver replica label) ≡ None
+            → named_labels kind records ≡ before ++ it ∷ behind → it.number ≡ label
+            → OnOk result (self.new.steps ≤ self.old.steps + 1 + length (updates_among (had records replica) behind)) }
+        ensures grows { self.old.steps ≤ self.new.steps }
+        ensures counted { (kind : Kind) (first : ℕ) (records : Records)
+            → IsWitnessOf O.stands_for self.old kind first records
+            → refusal_of kind first records (Deliver replica label) ≡ None
+            → ¬ (kind ≡ kinds.Rga) → self.old.steps < 18446744073709551615
+            → OnOk result (self.new.steps ≡ self.old.steps + 1) }
         ensures some_step { (kind : Kind) (first : ℕ) (records : Records)
             → IsWitnessOf O.stands_for self.old kind first records
             → refusal_of kind first records (Deliver replica label) ≡ None

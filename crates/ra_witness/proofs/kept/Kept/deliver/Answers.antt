@@ -105,3 +105,15 @@ returns-in-Rga-clause-some_step c = λ kind first records stands told none_waits
     let known = is_rga c.args.self.now kind first records stands c.in-Rga.kept c.in-Rga.is in
     c.deliver-in-Rga.ensures.some_step first records known.1 (subst (λ k. IsTold k first records c.args.replica c.args.label) known.0 told)
     (subst (λ k. is_admitted k (updates_had k (Deliver c.args.replica c.args.label ∷ records) c.args.replica) ≡ true) known.0 none_waits)
+
+pub returns-in-Commuting-clause-counted : goal.returns-in-Commuting-clause-counted
+returns-in-Commuting-clause-counted c = λ kind first records stands told other.
+    let kept = c.in-Commuting.kept in
+    let known = is_commuting c.args.self.now kind first records stands kept c.in-Commuting.is in
+    IfOk-weaker c.deliver.result _ _
+    (λ steps is. omega (arith, is, told_step kept.updates.items records c.args.label known.states.labels told.update))
+    c.deliver.ensures.steps
+
+pub returns-in-Rga-clause-counted : goal.returns-in-Rga-clause-counted
+returns-in-Rga-clause-counted c = λ kind first records stands told other.
+    absurd (other (is_rga c.args.self.now kind first records stands c.in-Rga.kept c.in-Rga.is).0)

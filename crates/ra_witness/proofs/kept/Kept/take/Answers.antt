@@ -47,3 +47,7 @@ returns-in-Rga-clause-same c = λ kind first records stands.
     let known = is_rga c.args.self.now kind first records stands c.in-Rga.kept c.in-Rga.is in
     on_err c.take-in-Rga.result (c.take-in-Rga.ensures.same first records known.1)
     (λ form. record { few = stands.few; form = (known.0, form) })
+
+pub returns-in-Rga-clause-counted : goal.returns-in-Rga-clause-counted
+returns-in-Rga-clause-counted c = λ kind first records stands other.
+    absurd (other (is_rga c.args.self.now kind first records stands c.in-Rga.kept c.in-Rga.is).0)

@@ -30,3 +30,15 @@ returns-clause-some_step g c = λ kind first records stands accepted none_waits 
     let told = is_told g.O.NamedOrder.stands_for c.args.self.now kind first records c.args.replica c.args.label stands accepted in
     let some = c.in_ok-steps.ensures.some_step kind first records stands.kept told none_waits in
     omega (arith, some, few, c.saturating_add-self.ensures)
+
+pub returns-clause-one_each : goal.returns-clause-one_each
+returns-clause-one_each g c = λ kind first records before behind it stands accepted is number.
+    let told = is_told g.O.NamedOrder.stands_for c.args.self.now kind first records c.args.replica c.args.label stands accepted in
+    let few = c.in_ok-steps.ensures.few_steps kind first records before behind it stands.kept told is number in
+    omega (arith, few, c.saturating_add-self.ensures)
+
+pub returns-clause-counted : goal.returns-clause-counted
+returns-clause-counted g c = λ kind first records stands accepted other few.
+    let told = is_told g.O.NamedOrder.stands_for c.args.self.now kind first records c.args.replica c.args.label stands accepted in
+    let one = c.in_ok-steps.ensures.counted kind first records stands.kept told other in
+    omega (arith, one, few, c.saturating_add-self.ensures)

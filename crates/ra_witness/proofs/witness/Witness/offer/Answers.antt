@@ -1,5 +1,6 @@
-use Rattle.std.proofs.Common.{◌∷◌, true, false, sym, ◌∙◌, arith}
+use Rattle.std.proofs.Common.{◌∷◌, true, false, sym, ap, ◌∙◌, arith}
 use Rattle.ra_labels.specs.declared.command.Command.TheVariants.{Operate}
+use Rattle.ra_witness.specs.States.{steps_of}
 use Rattle.ra_witness.proofs.Offering.{from_not, is_offered, order_fails, listed_count, update_known, all_admitted, same_op, taken}
 use Rattle.ra_witness.proofs.witness.Witness.offer.Goals as goal
 
@@ -95,3 +96,10 @@ returns-clause-taken g c = λ kind first records by op clock stands next same.
     taken g.O.NamedOrder.stands_for c.args.self.now _ kind first records by op clock c.args.label.now c.args.seen.now stands next because
     (c.put.ensures.stands kind first records by op clock (c.in_ok-spare.ensures.stands kind first records stands.order) next.comes is)
     (c.in_ok-steps.ensures.taken kind first records by op clock stands.kept offered (all_admitted kind (Operate by op clock ∷ records) because) (update_known c.into_update.result _ op c.into_update.ensures acts))
+
+pub returns-clause-counted : goal.returns-clause-counted
+returns-clause-counted g c = λ kind first records by op clock stands next other same few.
+    let acts = c.in_ok-parts.ensures.acts ∙ same_op c.args.label.now records by op clock next.comes.next in
+    let count = c.in_ok-steps.ensures.counted kind first records stands.kept other in
+    let known = ap steps_of (update_known c.into_update.result _ op c.into_update.ensures acts) in
+    omega (arith, count, known, few, c.in_ok-steps.ensures.step, c.saturating_add-self.ensures)
