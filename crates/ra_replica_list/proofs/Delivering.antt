@@ -108,6 +108,25 @@ module _ {all : ElementList} {deeds : List (Option Deed)} {records : Records} wh
       let fewer = passing_fewer records was.settled (had records to) was.kept.settles.had_them in
       omega (arith, after.count, ap length same, one, fewer)
 
+  -- where none waited before either, it alone is
+  pub one_step : {list : ReplicaList} (next : ReplicaList) (to label steps : ℕ) (deed : Deed) → AreElementsOf all deeds records → (was : IsListOf list all.arrivals deeds records to)
+      → deed_at deeds label ≡ Some deed → had records to label ≡ false
+      → IsKeptAfter next.state next.marks next.waiting all.arrivals deeds records (had records to) was.settled label steps
+      → is_admitted Rga (updates_had Rga records to) ≡ true
+      → is_admitted Rga (updates_had Rga (Deliver to label ∷ records) to) ≡ true → steps ≡ 1
+  one_step next to label steps deed stand was is new after none_waited none_waits =
+      let (l, l_in, l_num, l_makes) = stand.makes label deed is in
+      let later = Deliver to label ∷ records in
+      let more = or_label (had records to) label in
+      let passing : updates_passing Rga later (had later to) ≡ updates_passing Rga records more =
+      a_later_command_leaves_the_updates_that_pass-delivery Rga records to label (had later to)
+      ∙ tests_that_agree_let_the_same_updates_pass Rga records (had later to) more (λ m u m_in makes. a_replica_had_one_more-delivery records to label m.number (does_update stand label deed is)) in
+      let same = settled_updates_are_admitted-same records more after.settled (all_admitted stand) after.kept.settles (sym (ap (is_admitted Rga) passing) ∙ none_waits) in
+      let before = settled_updates_are_admitted-same records (had records to) was.settled (all_admitted stand) was.kept.settles none_waited in
+      let one = subst (λ (k : ℕ). length (updates_passing Rga records (or_label (had records to) k)) ≡ length (updates_passing Rga records (had records to)) + 1) l_num
+      (one_more_label_puts_its_update_in-count Rga records (had records to) l (update_of all.arrivals deed) l_in l_makes (ap (had records to) l_num ∙ new)) in
+      omega (arith, after.count, ap length same, ap length before, one)
+
   -- the greatest stamp with the label
   pub with_stamp : {test : ℕ → Bool} {greatest : Stamp} (label number : ℕ) (stamp : Stamp) → AreElementsOf all deeds records → IsGreatestOf records test greatest → deed_at deeds label ≡ Some (PutsIn number)
       → stamp ≡ (arrival_at all.arrivals number).stamp → IsGreatestOf records (or_label test label) (greater_of greatest stamp)

@@ -198,6 +198,10 @@ impl ReplicaList {
             → IsListOf self.old all.now.arrivals deeds.now records to → deed_at deeds.now label ≡ Some deed
             → had records to label ≡ false
             → is_admitted Rga (updates_had Rga (Deliver to label ∷ records) to) ≡ true → 1 ≤ steps) }
+        ensures one_step { IfOk result (λ steps. (records : Records) (to : ℕ) → AreElementsOf all.now deeds.now records
+            → IsListOf self.old all.now.arrivals deeds.now records to → deed_at deeds.now label ≡ Some deed
+            → had records to label ≡ false → is_admitted Rga (updates_had Rga records to) ≡ true
+            → is_admitted Rga (updates_had Rga (Deliver to label ∷ records) to) ≡ true → steps ≡ 1) }
         ensures err { OnErr result ((arrivals : List Arrival) (deeds : List (Option Deed)) (records : Records)
             (replica : ℕ) → IsListOf self.old arrivals deeds records replica
             → IsListOf self.new arrivals deeds records replica) }

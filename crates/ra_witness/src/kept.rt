@@ -103,6 +103,10 @@ impl Kept {
             → IsTold kind first records replica label
             → is_admitted kind (updates_had kind (Deliver replica label ∷ records) replica) ≡ true
             → IfOk result (λ steps. 1 ≤ steps) }
+        ensures one_step { (kind : Kind) (first : ℕ) (records : Records) → IsKept self.old kind first records
+            → IsTold kind first records replica label → is_admitted kind (updates_had kind records replica) ≡ true
+            → is_admitted kind (updates_had kind (Deliver replica label ∷ records) replica) ≡ true
+            → IfOk result (λ steps. steps ≡ 1) }
         ensures counted { (kind : Kind) (first : ℕ) (records : Records) → IsKept self.old kind first records
             → IsTold kind first records replica label → ¬ (kind ≡ kinds.Rga) → IfOk result (λ steps. steps ≡ 1) }
         ensures same { (kind : Kind) (first : ℕ) (records : Records) → IsKept self.old kind first records

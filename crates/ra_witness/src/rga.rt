@@ -206,6 +206,11 @@ impl Rga {
             → IsTold kinds.Rga first records replica label
             → is_admitted kinds.Rga (updates_had kinds.Rga (Deliver replica label ∷ records) replica) ≡ true
             → IfOk result (λ steps. 1 ≤ steps) }
+        ensures one_step { (first : ℕ) (records : Records) → IsRgaOf self.old first records
+            → IsTold kinds.Rga first records replica label
+            → is_admitted kinds.Rga (updates_had kinds.Rga records replica) ≡ true
+            → is_admitted kinds.Rga (updates_had kinds.Rga (Deliver replica label ∷ records) replica) ≡ true
+            → IfOk result (λ steps. steps ≡ 1) }
         ensures same { (first : ℕ) (records : Records) → IsRgaOf self.old first records
             → OnErr result (IsRgaOf self.new first records) }
     {

@@ -114,6 +114,12 @@ impl<O: NamedOrder> Witness<O> {
             → named_labels kind records ≡ before ++ it ∷ behind → it.number ≡ label
             → OnOk result (self.new.steps ≤ self.old.steps + 1 + length (updates_among (had records replica) behind)) }
         ensures grows { self.old.steps ≤ self.new.steps }
+        ensures one_step { (kind : Kind) (first : ℕ) (records : Records)
+            → IsWitnessOf O.stands_for self.old kind first records
+            → refusal_of kind first records (Deliver replica label) ≡ None
+            → is_admitted kind (updates_had kind records replica) ≡ true
+            → is_admitted kind (updates_had kind (Deliver replica label ∷ records) replica) ≡ true
+            → self.old.steps < 18446744073709551615 → OnOk result (self.new.steps ≡ self.old.steps + 1) }
         ensures counted { (kind : Kind) (first : ℕ) (records : Records)
             → IsWitnessOf O.stands_for self.old kind first records
             → refusal_of kind first records (Deliver replica label) ≡ None

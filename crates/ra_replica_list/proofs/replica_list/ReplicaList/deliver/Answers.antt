@@ -11,7 +11,7 @@ use Rattle.ra_replica_list.proofs.Places.{on_err}
 use Rattle.ra_replica_list.proofs.Entries.{on_err_any}
 use Rattle.ra_replica_list.proofs.Deeds.{deeds_stand}
 use Rattle.ra_replica_list.proofs.Alike.{list_alike}
-use Rattle.ra_replica_list.proofs.Delivering.{if_ok_on, if_ok_map, delivered, few_steps, counted, some_step, with_stamp, with_none}
+use Rattle.ra_replica_list.proofs.Delivering.{if_ok_on, if_ok_map, delivered, few_steps, counted, some_step, one_step, with_stamp, with_none}
 use Rattle.ra_replica_list.proofs.replica_list.ReplicaList.deliver.Goals as goal
 
 pub returns-in_err-steps-in-PutsIn-clause-err : goal.returns-in_err-steps-in-PutsIn-clause-err
@@ -82,3 +82,15 @@ returns-in-Removes-clause-some_step c = if_ok_map c.remove.result c.remove.ensur
     let removes : deed_at c.args.deeds.now c.args.label ≡ Some (Removes c.in-Removes.number) = is ∙ ap (λ (d : Deed). Some d) c.in-Removes.is in
     let after = got c.args.deeds.now records (had records to) (deeds_stand stand) held removes new in
     some_step c.remove.new.self to c.args.label steps (Removes c.in-Removes.number) stand held removes new after none_waits)
+
+pub returns-in_ok-steps-in-PutsIn-clause-one_step : goal.returns-in_ok-steps-in-PutsIn-clause-one_step
+returns-in_ok-steps-in-PutsIn-clause-one_step c = λ records to stand held is new none_waited none_waits.
+    let puts : deed_at c.args.deeds.now c.args.label ≡ Some (PutsIn c.in-PutsIn.number) = is ∙ ap (λ (d : Deed). Some d) c.in-PutsIn.is in
+    let after = c.in_ok-steps-in-PutsIn.ensures.got records (had records to) stand held puts new in
+    one_step c.put_in.new.self to c.args.label c.in_ok-steps-in-PutsIn.steps (PutsIn c.in-PutsIn.number) stand held puts new after none_waited none_waits
+
+pub returns-in-Removes-clause-one_step : goal.returns-in-Removes-clause-one_step
+returns-in-Removes-clause-one_step c = if_ok_map c.remove.result c.remove.ensures.got (λ steps got records to stand held is new none_waited none_waits.
+    let removes : deed_at c.args.deeds.now c.args.label ≡ Some (Removes c.in-Removes.number) = is ∙ ap (λ (d : Deed). Some d) c.in-Removes.is in
+    let after = got c.args.deeds.now records (had records to) (deeds_stand stand) held removes new in
+    one_step c.remove.new.self to c.args.label steps (Removes c.in-Removes.number) stand held removes new after none_waited none_waits)

@@ -117,3 +117,16 @@ returns-in-Commuting-clause-counted c = λ kind first records stands told other.
 pub returns-in-Rga-clause-counted : goal.returns-in-Rga-clause-counted
 returns-in-Rga-clause-counted c = λ kind first records stands told other.
     absurd (other (is_rga c.args.self.now kind first records stands c.in-Rga.kept c.in-Rga.is).0)
+
+pub returns-in-Commuting-clause-one_step : goal.returns-in-Commuting-clause-one_step
+returns-in-Commuting-clause-one_step c = λ kind first records stands told none_waited none_waits.
+    let kept = c.in-Commuting.kept in
+    let known = is_commuting c.args.self.now kind first records stands kept c.in-Commuting.is in
+    IfOk-weaker c.deliver.result _ _ (λ steps is. omega (arith, is, told_step kept.updates.items records c.args.label known.states.labels told.update)) c.deliver.ensures.steps
+
+pub returns-in-Rga-clause-one_step : goal.returns-in-Rga-clause-one_step
+returns-in-Rga-clause-one_step c = λ kind first records stands told none_waited none_waits.
+    let known = is_rga c.args.self.now kind first records stands c.in-Rga.kept c.in-Rga.is in
+    c.deliver-in-Rga.ensures.one_step first records known.1 (subst (λ k. IsTold k first records c.args.replica c.args.label) known.0 told)
+    (subst (λ k. is_admitted k (updates_had k records c.args.replica) ≡ true) known.0 none_waited)
+    (subst (λ k. is_admitted k (updates_had k (Deliver c.args.replica c.args.label ∷ records) c.args.replica) ≡ true) known.0 none_waits)

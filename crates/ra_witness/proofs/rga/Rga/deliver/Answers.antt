@@ -79,3 +79,13 @@ returns-clause-some_step c = λ first records stands told none_waits.
     let own = subst (λ ds. IsListOf list self.all.arrivals ds records c.args.replica) (sym value) (stands.lists c.args.replica list there) in
     let elements = subst (λ ds. AreElementsOf self.all ds records) (sym value) stands.elements in
     IfOk-weaker c.deliver.result _ _ (λ steps some. some records c.args.replica elements own c.in-Some.is told.causal.0 none_waits) c.deliver.ensures.some_step
+
+pub returns-clause-one_step : goal.returns-clause-one_step
+returns-clause-one_step c = λ first records stands told none_waited none_waits.
+    let self = c.args.self.now in
+    let list = c.index_mut.result.now in
+    let value = c.as_slice-deeds.ensures.value in
+    let there = slice_get_read self.lists.items (length self.lists.items) c.args.replica list refl (omega (arith, stands.replicas, told.replica)) c.index_mut.ensures.value in
+    let own = subst (λ ds. IsListOf list self.all.arrivals ds records c.args.replica) (sym value) (stands.lists c.args.replica list there) in
+    let elements = subst (λ ds. AreElementsOf self.all ds records) (sym value) stands.elements in
+    IfOk-weaker c.deliver.result _ _ (λ steps one. one records c.args.replica elements own c.in-Some.is told.causal.0 none_waited none_waits) c.deliver.ensures.one_step

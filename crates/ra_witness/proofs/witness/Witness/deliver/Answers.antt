@@ -42,3 +42,9 @@ returns-clause-counted g c = λ kind first records stands accepted other few.
     let told = is_told g.O.NamedOrder.stands_for c.args.self.now kind first records c.args.replica c.args.label stands accepted in
     let one = c.in_ok-steps.ensures.counted kind first records stands.kept told other in
     omega (arith, one, few, c.saturating_add-self.ensures)
+
+pub returns-clause-one_step : goal.returns-clause-one_step
+returns-clause-one_step g c = λ kind first records stands accepted none_waited none_waits few.
+    let told = is_told g.O.NamedOrder.stands_for c.args.self.now kind first records c.args.replica c.args.label stands accepted in
+    let one = c.in_ok-steps.ensures.one_step kind first records stands.kept told none_waited none_waits in
+    omega (arith, one, few, c.saturating_add-self.ensures)
