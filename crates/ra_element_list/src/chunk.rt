@@ -1,3 +1,5 @@
+//! A few elements of an RGA that stand one behind the other, and what is known of all of them: how many, and the least
+//! stamp.
 ghost use Rattle.std.specs.Prelude.{◌≡◌, ◌<◌, ◌≤◌, nat_lt, false, ◌∷◌, [], length, take, drop, IfOk, OnOk, OnErr, Contains};
 ghost use Rattle.std.specs.List.{insert};
 ghost use Rattle.ra_element_list.specs.Entries.{entry_at, numbers_in, lesser_of, AllAtLeast, IsBehind, IsPast};
@@ -17,7 +19,7 @@ const HIGHEST: Stamp = Stamp {
 };
 
 /// A few elements that stand one behind the other.
-#[derive(Debug, Drop)]
+#[derive(Drop)]
 pub struct Chunk {
     entries: Vec<Entry>,
     /// No element has a lower stamp.

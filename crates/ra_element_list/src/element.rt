@@ -1,7 +1,7 @@
 use ra_labels::Stamp;
 
 /// What is kept of an element, under its number.
-#[derive(Clone, Copy, Debug)]
+#[derive(Clone, Copy)]
 pub struct Element {
     pub element: u32,
     pub stamp: Stamp,

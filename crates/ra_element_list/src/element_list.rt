@@ -1,3 +1,5 @@
+//! The elements of all labels of an RGA in their order, in chunks; each is found by its number, and each new one its
+//! place.
 ghost use Rattle.std.specs.Prelude.{◌≡◌, ◌↔◌, ℕ, ◌<◌, true, Bool, List, ◌++◌, ◌∷◌, [], length, Some, IsTrue, IfOk, OnOk};
 ghost use Rattle.ra_labels.specs.Laws.{elements_in};
 ghost use Rattle.ra_labels.specs.Late.{put_after};
@@ -25,7 +27,7 @@ pub const LOWEST: Stamp = Stamp {
 
 /// The elements of all labels, in the order of the list after the updates of all labels. An element goes by its number:
 /// elements are numbered as they come, the root first.
-#[derive(Debug, Drop)]
+#[derive(Drop)]
 pub struct ElementList {
     /// Each element's number.
     numbers: HashMap<u32, u32>,

@@ -1,7 +1,7 @@
 use ra_labels::Stamp;
 
 /// What a chunk has of an element: 12 bytes.
-#[derive(Clone, Copy, Debug)]
+#[derive(Clone, Copy)]
 pub struct Entry {
     /// Its number.
     pub number: u32,

@@ -6,7 +6,7 @@ use crate::chunk::Chunk;
 use ra_labels::Stamp;
 
 /// Where a new element stands: in the chunk at a place, before the element at a position.
-#[derive(Clone, Copy, Debug)]
+#[derive(Clone, Copy)]
 pub struct Spot {
     pub place: usize,
     pub position: usize,

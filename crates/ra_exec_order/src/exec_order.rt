@@ -8,7 +8,7 @@ use ra_visibility::{NamedOrder, Place, Seen};
 use std::marker::Model;
 
 /// Labels in the order of their execution. Each call takes no memory and costs a constant.
-#[derive(Debug, Drop)]
+#[derive(Drop)]
 pub struct ExecOrder {
     labels: u32,
 }

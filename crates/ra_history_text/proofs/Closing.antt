@@ -5,15 +5,15 @@ use Rattle.std.proofs.lemmas.Bool.{cases_Bool, eq-eqb, leb-true, leb-false}
 use Rattle.std.proofs.lemmas.List.{append-nil}
 use Rattle.ra_labels.specs.declared.kind.Kind.{Kind}
 use Rattle.ra_history_text.specs.Faults.{ending_told, fault_at_line}
-use Rattle.ra_history_text.specs.Grammar.{ListsNames}
+use Rattle.ra_lines.specs.Grammar.{ListsNames}
 use Rattle.ra_history_text.specs.History.{History, said_of}
 use Rattle.ra_history_text.specs.Output.{replies_of}
 use Rattle.ra_history_text.specs.Sessions.{AddsReplies, StopsExtending, StopsClosing, TakesMemory, StopsLine}
 use Rattle.ra_history_text.specs.Text.{Said, OfKind, Progress, Ending, LineTooLong, next_line, line_start, stop_at, line_taken, taken}
 use Rattle.ra_history_text.specs.declared.fault.CheckFault.{CheckFault}
 use Rattle.ra_history_text.specs.declared.fault.CheckFault.TheVariants.{NoMemory}
-use Rattle.ra_history_text.specs.declared.fault.LineFault.{LineFault}
-use Rattle.ra_history_text.specs.declared.fault.LineFault.TheVariants as line_fault
+use Rattle.ra_lines.specs.declared.fault.LineFault.{LineFault}
+use Rattle.ra_lines.specs.declared.fault.LineFault.TheVariants as line_fault
 use Rattle.ra_history_text.proofs.Feeding.{stop_gathering, stop_gathered}
 use Rattle.ra_history_text.proofs.Lines.{names_taken, names_stop}
 use Rattle.ra_history_text.proofs.Taking.{taken_line, taken_part, taken_long}

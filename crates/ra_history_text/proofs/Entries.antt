@@ -1,39 +1,16 @@
 -- The lines of a log's accepted commands, one after another.
-use Rattle.std.proofs.Common.{◌≡◌, ℕ, zero, suc, ◌+◌, ◌<◌, ◌≤◌, Bool, true, false, cond, List, [], ◌∷◌, ◌++◌, length, map, take, drop, get_or, refl, sym, ap, subst, ◌∙◌, arith}
+use Rattle.std.proofs.Common.{◌≡◌, ℕ, zero, suc, ◌+◌, ◌<◌, ◌≤◌, Bool, true, false, cond, List, [], ◌∷◌, ◌++◌, length, map, drop, get_or, refl, sym, ap, subst, ◌∙◌, arith}
 use Rattle.std.specs.Prelude.{◌||◌}
 use Rattle.std.specs.List.{AllByRecursion}
-use Rattle.std.proofs.lemmas.List.{append_assoc, append-nil, length-append, map-append, take_more}
+use Rattle.std.proofs.lemmas.List.{append_assoc, append-nil, length-append, map-append}
 use Rattle.std.proofs.lemmas.List.Concat.{flat_map-append}
 use Rattle.ra_labels.specs.declared.command.Command.{Command}
 use Rattle.ra_monitor.specs.Monitor.{MonitorEntry}
 use Rattle.ra_history_text.specs.Accepted.{is_no, tells_accepted, accepted_one, accepted_in}
-use Rattle.ra_history_text.specs.Grammar.{bytes_of}
-use Rattle.ra_history_text.specs.Spelling.{spaced, name_of, line_of, AreSmall}
-use Rattle.ra_history_text.specs.Writing.{IsShort, AreShort, IsFirstLong}
+use Rattle.ra_lines.specs.Grammar.{bytes_of}
+use Rattle.ra_lines.specs.Spelling.{line_of, AreSmall, IsShort, AreShort}
+use Rattle.ra_history_text.specs.Writing.{IsFirstLong}
 use Rattle.ra_history_text.proofs.Accepting.{all-append}
-
--- ---- names
-
-spaced-append : (xs ys : List (List ℕ)) → spaced (xs ++ ys) ≡ spaced xs ++ spaced ys
-spaced-append [] ys = refl
-spaced-append (x ∷ xs) ys =
-    ap (λ (bs : List ℕ). 32 ∷ (x ++ bs)) (spaced-append xs ys) ∙ ap (λ (bs : List ℕ). 32 ∷ bs) (sym (append_assoc x (spaced xs) (spaced ys)))
-
-name_of-get : (names : List (List ℕ)) (i : ℕ) → get_or names i [] ≡ name_of names i
-name_of-get [] i = refl
-name_of-get (x ∷ names) zero = refl
-name_of-get (x ∷ names) (suc i) = name_of-get names i
-
--- one name more
-pub names_next : (out old mid new : List ℕ) (names : List (List ℕ)) (i : ℕ) → i < length names → old ≡ out ++ spaced (take i names)
-    → mid ≡ old ++ 32 ∷ [] → new ≡ mid ++ name_of names i → new ≡ out ++ spaced (take (i + 1) names)
-names_next out old mid new names i there before space last =
-    let name : List ℕ = name_of names i in
-    last ∙ ap (λ (bs : List ℕ). bs ++ name) space ∙ append_assoc old (32 ∷ []) name
-    ∙ ap (λ (bs : List ℕ). bs ++ 32 ∷ name) before ∙ append_assoc out (spaced (take i names)) (32 ∷ name)
-    ∙ ap (λ (bs : List ℕ). out ++ (spaced (take i names) ++ 32 ∷ bs)) (sym (append-nil name))
-    ∙ ap (λ (bs : List ℕ). out ++ bs) (sym (spaced-append (take i names) (name ∷ [])))
-    ∙ ap (λ (ns : List (List ℕ)). out ++ spaced ns) (sym (take_more names i [] there ∙ ap (λ (x : List ℕ). take i names ++ x ∷ []) (name_of-get names i)))
 
 -- ---- entries
 

@@ -2,7 +2,7 @@
 use Rattle.std.proofs.Common.{◌≡◌, ℕ, ◌+◌, ◌≤◌, List, [], ◌∷◌, ◌++◌, length, Option, Some, None, Result, Ok, Err, IfErr, refl, sym, ap, subst, ◌∙◌, arith}
 use Rattle.std.specs.Prelude.{MatchOption, OnOk}
 use Rattle.std.proofs.lemmas.List.{append_assoc, append-nil}
-use Rattle.ra_history_text.specs.Fields.{IsCutAt}
+use Rattle.ra_lines.specs.Fields.{IsCutAt}
 use Rattle.ra_history_text.specs.Faults.{ending_told}
 use Rattle.ra_history_text.specs.declared.fault.CheckFault.{CheckFault}
 use Rattle.ra_history_text.specs.declared.fault.CheckFault.TheVariants.{NoMemory}

@@ -10,7 +10,7 @@ use Rattle.ra_ticket.specs.declared.journal.StepFault.{StepFault}
 use Rattle.ra_ticket.specs.declared.journal.StepFault.TheVariants as handed
 use Rattle.ra_monitor.specs.Monitor.{Monitor, MonitorEntry, commands_of, records_of}
 use Rattle.ra_history_text.specs.declared.history.History.TheInside.{Inside}
-use Rattle.ra_history_text.specs.declared.limits.TheConstants.{MOST_COMMANDS}
+use Rattle.ra_lines.specs.declared.limits.TheConstants.{MOST_COMMANDS}
 use Rattle.ra_history_text.specs.History.{History, StopsAnswering, fault_at}
 use Rattle.ra_history_text.proofs.Replies.{answers_push}
 use Rattle.ra_history_text.specs.HistoryKept.{HistoryKept, are_tickets_below}

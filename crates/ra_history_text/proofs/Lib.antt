@@ -1,11 +1,3 @@
-pub mod Cuts
-pub mod SameKind
-pub mod Numbers
-pub mod Lists
-pub mod Operations
-pub mod Commands
-pub mod NameLists
-pub mod Heads
 pub mod Taking
 pub mod Replies
 pub mod Histories
@@ -17,9 +9,6 @@ pub mod Halts
 pub mod Texts
 pub mod Prefixes
 pub mod Reports
-pub mod Spelled
-pub mod Putting
-pub mod Sizes
 pub mod Accepting
 pub mod Entries
 pub mod WholeTexts

@@ -5,13 +5,14 @@ use Rattle.std.specs.Prelude.{option_map}
 use Rattle.ra_labels.specs.declared.kind.Kind.{Kind}
 use Rattle.ra_labels.specs.declared.command.Command.{Command}
 use Rattle.ra_labels.specs.declared.reply.Reply.{Reply}
-use Rattle.ra_history_text.specs.Grammar.{fields_of, ListsNames}
+use Rattle.ra_lines.specs.Grammar.{fields_of, ListsNames}
 use Rattle.ra_history_text.specs.History.{History, said_of, RecordsCommand}
-use Rattle.ra_history_text.specs.Output.{reply_line, replies_of}
-use Rattle.ra_history_text.specs.Reading.{kind_read, command_read}
+use Rattle.ra_lines.specs.Replies.{reply_line}
+use Rattle.ra_history_text.specs.Output.{replies_of}
+use Rattle.ra_lines.specs.Reading.{kind_read, command_read}
 use Rattle.ra_history_text.specs.Sessions.{AddsReplies}
 use Rattle.ra_history_text.specs.Text.{Nothing, OfKind, OfHistory, Syntax, Full, with_command, line_start, stop_at, line_taken_as, line_taken}
-use Rattle.ra_history_text.proofs.Heads.{names_read-listed, names_read-none}
+use Rattle.ra_lines.proofs.TheLaws.{a_line_of_names_is_read-only as names_read-listed, a_line_of_names_is_read-none as names_read-none}
 use Rattle.ra_history_text.proofs.Replies.{replies_push}
 
 -- ---- the first

@@ -1,5 +1,5 @@
 -- What was written for a part of a text, against its output.
-use Rattle.std.proofs.Common.{◌≡◌, ◌+◌, ◌-◌, ◌<◌, ℕ, true, eqb, ltb, cond, List, [], ◌∷◌, ◌++◌, length, get_or, Option, Some, None, Result, Ok, Err, inl, inr, refl, sym, ap, subst, ◌∙◌, arith}
+use Rattle.std.proofs.Common.{◌≡◌, ◌+◌, ◌-◌, ◌<◌, ℕ, true, eqb, ltb, cond, List, [], ◌∷◌, ◌++◌, length, Option, Some, Result, Ok, Err, inl, inr, refl, sym, ap, subst, ◌∙◌, arith}
 use Rattle.std.specs.Prelude.{flat_map, is_ok}
 use Rattle.std.proofs.lemmas.Bool.{cases_Bool}
 use Rattle.std.proofs.lemmas.List.{append_assoc, length-append, length_push}
@@ -8,19 +8,20 @@ use Rattle.ra_labels.specs.declared.kind.Kind.{Kind}
 use Rattle.ra_labels.specs.declared.command.Command.{Command}
 use Rattle.ra_labels.specs.declared.reply.Fault.{Fault}
 use Rattle.ra_labels.specs.declared.reply.Reply.{Reply}
-use Rattle.ra_labels.specs.declared.reply.Reply.TheVariants as reply
 use Rattle.ra_labels.specs.Fault.{fault_of}
 use Rattle.ra_labels.specs.Records.{Records, label_count}
 use Rattle.ra_labels.specs.Answer.{answers_to, records_after}
 use Rattle.ra_history_text.specs.declared.fault.CheckFault.{CheckFault}
 use Rattle.ra_history_text.specs.declared.fault.CheckFault.TheVariants as check_fault
-use Rattle.ra_history_text.specs.Grammar.{fields_of}
-use Rattle.ra_history_text.specs.Output.{reply_line, end_words, end_line, answers_in, records_in, replies_of, last_line_of, last_line_at, output_of}
-use Rattle.ra_history_text.specs.Laws.{BeginsWith, line_feeds, IsOfReader, IsLess, GrowsByPart, GrowsByReplies, AnswersEach}
-use Rattle.ra_history_text.specs.Reading.{kind_read, names_read, command_read}
+use Rattle.ra_lines.specs.Grammar.{fields_of}
+use Rattle.ra_lines.specs.Replies.{reply_line, end_words, end_line}
+use Rattle.ra_history_text.specs.Output.{answers_in, records_in, replies_of, last_line_of, last_line_at, output_of}
+use Rattle.ra_lines.specs.Spelling.{BeginsWith}
+use Rattle.ra_history_text.specs.Laws.{line_feeds, IsOfReader, IsLess, GrowsByPart, GrowsByReplies, AnswersEach}
+use Rattle.ra_lines.specs.Reading.{kind_read, names_read, command_read}
 use Rattle.ra_history_text.specs.Run.{WritesUpTo, WritesReplies, StopsCheck}
 use Rattle.ra_history_text.specs.Text.{Said, Nothing, OfKind, OfHistory, Progress, Stop, Ending, Regular, Syntax, Truncated, LineTooLong, Full, next_line, with_command, said_behind, has_names, text_start, byte_taken, taken, end_of, ending_of, said_by, does_not_stop}
-use Rattle.ra_history_text.proofs.Lists.{mapped}
+use Rattle.ra_lines.proofs.TheLaws.{mapped}
 use Rattle.ra_history_text.proofs.Replies.{taken_begins, output_begins}
 use Rattle.ra_history_text.proofs.Taking.{taken_then}
 use Rattle.ra_history_text.proofs.Texts.{taken_as_found, going_on, regular_progress}
@@ -181,16 +182,3 @@ each_is_answered text left old new (check_fault.Truncated n) own stops = absurd 
 each_is_answered text left old new (check_fault.LineTooLong n) own stops = absurd own
 each_is_answered text left old new check_fault.NoMemory own stops = absurd own
 each_is_answered text left old new (check_fault.Full n) own stops = absurd own
-
--- ---- the last line is none of them
-
-begins_with_e : (labels : ℕ) (fault : Option Fault) → get_or (end_line labels fault) 0 0 ≡ 101
-begins_with_e labels None = refl
-begins_with_e labels (Some fault) = refl
-
-pub no_end_line : (reply : Reply) (labels : ℕ) (fault : Option Fault) → reply_line reply ≡ end_line labels fault → ⊥
-no_end_line (reply.Ok n) labels fault same = omega (arith, ap (λ (bs : List ℕ). get_or bs 0 0) same, begins_with_e labels fault)
-no_end_line (reply.Got n) labels fault same = omega (arith, ap (λ (bs : List ℕ). get_or bs 0 0) same, begins_with_e labels fault)
-no_end_line (reply.Yes n) labels fault same = omega (arith, ap (λ (bs : List ℕ). get_or bs 0 0) same, begins_with_e labels fault)
-no_end_line (reply.No n why) labels fault same = omega (arith, ap (λ (bs : List ℕ). get_or bs 0 0) same, begins_with_e labels fault)
-no_end_line (reply.Refused why) labels fault same = omega (arith, ap (λ (bs : List ℕ). get_or bs 0 0) same, begins_with_e labels fault)

@@ -9,12 +9,13 @@ use Rattle.ra_labels.specs.declared.command.Command.{Command}
 use Rattle.ra_labels.specs.declared.reply.Reply.{Reply}
 use Rattle.ra_labels.specs.Records.{Records}
 use Rattle.ra_labels.specs.Answer.{answer_of, answers_to, records_after, records_after_all}
-use Rattle.ra_history_text.specs.Grammar.{fields_of}
-use Rattle.ra_history_text.specs.Output.{reply_line, answers_in, records_in, replies_of, last_line_at, output_of}
-use Rattle.ra_history_text.specs.Laws.{BeginsWith}
-use Rattle.ra_history_text.specs.Reading.{command_read}
+use Rattle.ra_lines.specs.Grammar.{fields_of}
+use Rattle.ra_lines.specs.Replies.{reply_line}
+use Rattle.ra_history_text.specs.Output.{answers_in, records_in, replies_of, last_line_at, output_of}
+use Rattle.ra_lines.specs.Spelling.{BeginsWith}
+use Rattle.ra_lines.specs.Reading.{command_read}
 use Rattle.ra_history_text.specs.Text.{Said, Nothing, OfKind, OfHistory, Progress, Stop, with_command, said_behind, is_full, text_start, line_taken_as, byte_taken, unless_stopped, taken, end_of}
-use Rattle.ra_history_text.proofs.Lists.{mapped}
+use Rattle.ra_lines.proofs.TheLaws.{mapped}
 use Rattle.ra_history_text.proofs.Taking.{taken_then}
 
 pub begins_same : (xs : List ℕ) → BeginsWith xs xs

@@ -7,13 +7,10 @@ use Rattle.std.proofs.lemmas.List.{append_assoc, append-nil, length_push, nil_fr
 use Rattle.std.proofs.lemmas.List.Elements.{All-append}
 use Rattle.ra_labels.specs.declared.kind.Kind.{Kind}
 use Rattle.ra_labels.specs.declared.command.Command.{Command}
-use Rattle.ra_history_text.specs.Grammar.{IsLine, bytes_of, fields_of, first_line, ListsNames, SpellEach, Says}
-use Rattle.ra_history_text.specs.Reading.{kind_read, names_read, command_read}
+use Rattle.ra_lines.specs.Grammar.{IsLine, bytes_of, fields_of, first_line, ListsNames, SpellEach, Says}
+use Rattle.ra_lines.specs.Reading.{kind_read, names_read, command_read}
 use Rattle.ra_history_text.specs.Text.{Said, Nothing, OfKind, OfHistory, Progress, Stop, Regular, Full, stop_at, next_line, with_command, said_behind, is_full, has_names, line_start, text_start, line_taken_as, line_taken, byte_taken, unless_stopped, taken, end_of, ending_of, said_by}
-use Rattle.ra_history_text.proofs.Commands.{command_found, command_only}
-use Rattle.ra_history_text.proofs.Heads.{kind_only, kind_found, names_read-Some, names_read-listed}
-use Rattle.ra_history_text.proofs.Lists.{mapped}
-use Rattle.ra_history_text.proofs.Operations.{chosen}
+use Rattle.ra_lines.proofs.TheLaws.{a_line_of_a_command_is_read-found as command_found, a_line_of_a_command_is_read-only as command_only, a_first_line_is_read-only as kind_only, a_first_line_is_read-found as kind_found, a_line_of_names_is_read-found as names_read-Some, a_line_of_names_is_read-only as names_read-listed, mapped, chosen}
 use Rattle.ra_history_text.proofs.Taking.{taken_then, taken_line, taken_part}
 
 -- ---- lines, one after another

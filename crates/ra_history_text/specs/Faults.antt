@@ -1,7 +1,7 @@
 -- The faults of a check: which of them tell how a text ends, and their words.
 use Rattle.std.specs.Prelude.{ℕ, List, ◌++◌, Option, Some, None, codes, decimal}
-use Rattle.ra_history_text.specs.declared.fault.LineFault.{LineFault}
-use Rattle.ra_history_text.specs.declared.fault.LineFault.TheVariants as line_fault
+use Rattle.ra_lines.specs.declared.fault.LineFault.{LineFault}
+use Rattle.ra_lines.specs.declared.fault.LineFault.TheVariants as line_fault
 use Rattle.ra_history_text.specs.declared.fault.CheckFault.{CheckFault}
 use Rattle.ra_history_text.specs.declared.fault.CheckFault.TheVariants as fault
 use Rattle.ra_history_text.specs.Text.{Ending, Syntax, Truncated, LineTooLong, Full}

@@ -8,7 +8,7 @@ use Rattle.ra_ticket.specs.declared.journal.StepFault.{StepFault}
 use Rattle.ra_ticket.specs.declared.journal.StepFault.TheVariants as handed
 use Rattle.ra_history_text.specs.declared.fault.CheckFault.{CheckFault}
 use Rattle.ra_history_text.specs.declared.fault.CheckFault.TheVariants.{NoMemory, Full}
-use Rattle.ra_history_text.specs.declared.limits.TheConstants.{MOST_COMMANDS}
+use Rattle.ra_lines.specs.declared.limits.TheConstants.{MOST_COMMANDS}
 use Rattle.ra_history_text.specs.Output.{records_in}
 use Rattle.ra_history_text.specs.Text.{Said, OfHistory}
 

@@ -3,7 +3,7 @@ use Rattle.std.specs.Prelude.{◌≡◌, ℕ, ◌≤◌, nat_lt, Bool, true, Lis
 use Rattle.std.specs.List.{list_all}
 use Rattle.ra_monitor.specs.Monitor.{MonitorEntry, commands_of}
 use Rattle.ra_history_text.specs.declared.history.History.TheInside.{Inside}
-use Rattle.ra_history_text.specs.declared.limits.TheConstants.{MOST_COMMANDS}
+use Rattle.ra_lines.specs.declared.limits.TheConstants.{MOST_COMMANDS}
 use Rattle.ra_history_text.specs.History.{History}
 use Rattle.ra_history_text.specs.Output.{answers_in}
 

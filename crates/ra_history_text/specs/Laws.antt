@@ -3,7 +3,7 @@ use Rattle.std.specs.Prelude.{◌≡◌, ◌==◌, ◌-◌, ◌<◌, ℕ, List, 
 use Rattle.ra_labels.specs.declared.reply.Reply.{Reply}
 use Rattle.ra_history_text.specs.declared.fault.CheckFault.{CheckFault}
 use Rattle.ra_history_text.specs.declared.fault.CheckFault.TheVariants.{Read, Endless}
-use Rattle.ra_history_text.specs.Output.{reply_line}
+use Rattle.ra_lines.specs.Replies.{reply_line}
 
 -- as many as there are whole lines
 abbrev pub line_feeds : List ℕ → ℕ
@@ -15,11 +15,7 @@ IsOfReader Read = ⊤
 IsOfReader Endless = ⊤
 IsOfReader _ = ⊥
 
--- all of it begins with this
-abbrev pub BeginsWith : List ℕ → List ℕ → Type 0
-BeginsWith front all = (more : List ℕ) × (all ≡ front ++ more)
-
--- and there is more
+-- all of it begins with this part, and there is more
 abbrev pub IsLess : List ℕ → List ℕ → Type 0
 IsLess part all = (more : List ℕ) × (all ≡ part ++ more) × (0 < length more)
 

@@ -1,8 +1,3 @@
-pub mod Grammar
-pub mod Fields
-pub mod Names
-pub mod Reading
-pub mod Lines
 pub mod Text
 pub mod Output
 pub mod Written
@@ -13,7 +8,5 @@ pub mod Sessions
 pub mod Run
 pub mod Laws
 pub mod Report
-pub mod Spelling
 pub mod Accepted
 pub mod Writing
-pub mod NamesKept

@@ -1,67 +1,17 @@
 -- What is written for a text, and the exit status.
-use Rattle.std.specs.Prelude.{◌≡◌, ℕ, ◌==◌, List, [], ◌∷◌, ◌++◌, length, count_by, flat_map, Option, Some, None, is_some, Result, Ok, Err, codes, decimal, if◌then◌else◌}
+use Rattle.std.specs.Prelude.{◌≡◌, ℕ, ◌==◌, List, [], ◌++◌, length, count_by, flat_map, is_some, Result, Ok, Err, if◌then◌else◌}
 use Rattle.ra_labels.specs.declared.kind.Kind.{Kind}
 use Rattle.ra_labels.specs.declared.command.Command.{Command}
-use Rattle.ra_labels.specs.declared.reply.Cause.{Cause}
-use Rattle.ra_labels.specs.declared.reply.Cause.TheVariants as cause
-use Rattle.ra_labels.specs.declared.reply.Fault.{Fault}
 use Rattle.ra_labels.specs.declared.reply.Reply.{Reply}
-use Rattle.ra_labels.specs.declared.reply.Reply.TheVariants as reply
-use Rattle.ra_labels.specs.declared.refusal.Refusal.{Refusal}
-use Rattle.ra_labels.specs.declared.refusal.Refusal.TheVariants as refusal
 use Rattle.ra_labels.specs.Records.{Records, label_count}
 use Rattle.ra_labels.specs.Fault.{fault_of}
 use Rattle.ra_labels.specs.Answer.{answers_to, records_after_all}
 use Rattle.ra_monitor.specs.declared.report.Report.{Report}
 use Rattle.ra_monitor.specs.Replies.{is_refused}
+use Rattle.ra_lines.specs.Replies.{reply_line, end_line}
 use Rattle.ra_history_text.specs.declared.fault.CheckFault.{CheckFault}
 use Rattle.ra_history_text.specs.declared.outcome.Outcome.{Outcome}
 use Rattle.ra_history_text.specs.Text.{Said, Nothing, OfKind, OfHistory, Ending, Regular, Syntax, Truncated, LineTooLong, Full, ending_of, said_by}
-
--- ---- replies
-
-abbrev pub cause_word : Cause → List ℕ
-cause_word cause.Order = codes "order"
-cause_word cause.Update = codes "update"
-cause_word cause.Query = codes "query"
-
-abbrev pub refusal_words : Refusal → List ℕ
-refusal_words refusal.UnknownReplica = codes "unknown-replica"
-refusal_words refusal.WrongKind = codes "wrong-kind"
-refusal_words refusal.BadList = codes "bad-list"
-refusal_words refusal.StampMissing = codes "stamp-missing"
-refusal_words refusal.StampUnwanted = codes "stamp-unwanted"
-refusal_words refusal.StampTaken = codes "stamp-taken"
-refusal_words refusal.IdTaken = codes "id-taken"
-refusal_words refusal.UnknownLabel = codes "unknown-label"
-refusal_words refusal.NotAnUpdate = codes "not-an-update"
-refusal_words refusal.AlreadySeen = codes "already-seen"
-refusal_words (refusal.NotCausal missing) = codes "not-causal " ++ decimal missing
-
--- a label at which the order failed, and why
-abbrev pub fault_words : ℕ → Cause → List ℕ
-fault_words label why = decimal label ++ (codes " " ++ cause_word why)
-
-abbrev pub reply_words : Reply → List ℕ
-reply_words (reply.Ok label) = codes "ok " ++ decimal label
-reply_words (reply.Got label) = codes "got " ++ decimal label
-reply_words (reply.Yes labels) = codes "yes " ++ decimal labels
-reply_words (reply.No label why) = codes "no " ++ fault_words label why
-reply_words (reply.Refused why) = codes "refused " ++ refusal_words why
-
--- the line of a reply, its line feed included
-abbrev pub reply_line : Reply → List ℕ
-reply_line reply = reply_words reply ++ 10 ∷ []
-
--- ---- the end
-
-abbrev pub end_words : ℕ → Option Fault → List ℕ
-end_words labels None = codes "end yes " ++ decimal labels
-end_words labels (Some fault) = codes "end no " ++ fault_words fault.label fault.cause
-
--- the last line, by the number of labels and the fault
-abbrev pub end_line : ℕ → Option Fault → List ℕ
-end_line labels fault = end_words labels fault ++ 10 ∷ []
 
 -- ---- all that is written
 

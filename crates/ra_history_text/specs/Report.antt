@@ -4,10 +4,10 @@ use Rattle.ra_labels.specs.declared.kind.Kind.{Kind}
 use Rattle.ra_labels.specs.declared.reply.Fault.{Fault}
 use Rattle.ra_monitor.specs.declared.report.Report.{Report}
 use Rattle.serde_json.specs.Data.{Data, string, number, unsigned, object, member, no_members}
-use Rattle.ra_history_text.specs.Grammar.{kind_word}
+use Rattle.ra_lines.specs.Grammar.{kind_word}
 use Rattle.ra_history_text.specs.declared.fault.CheckFault.{CheckFault}
 use Rattle.ra_history_text.specs.declared.fault.CheckFault.TheVariants as fault
-use Rattle.ra_history_text.specs.Output.{cause_word}
+use Rattle.ra_lines.specs.Replies.{cause_word}
 use Rattle.ra_history_text.specs.Written.{HasWritten}
 
 -- from the key `kind` to the key `labels`, or to the key `label` on a no

@@ -6,11 +6,11 @@ use Rattle.ra_history_text.specs.declared.session.Stage.{Stage}
 use Rattle.ra_history_text.specs.declared.session.Stage.TheVariants as stage
 use Rattle.ra_monitor.specs.declared.report.Report.{Report}
 use Rattle.ra_history_text.specs.Faults.{ending_told}
-use Rattle.ra_history_text.specs.declared.limits.TheConstants.{LONGEST_LINE}
-use Rattle.ra_history_text.specs.Grammar.{fields_of}
+use Rattle.ra_lines.specs.declared.limits.TheConstants.{LONGEST_LINE}
+use Rattle.ra_lines.specs.Grammar.{fields_of}
 use Rattle.ra_history_text.specs.History.{said_of}
 use Rattle.ra_history_text.specs.Output.{replies_of, last_line_of, Reports}
-use Rattle.ra_history_text.specs.Reading.{command_read, may_have_list}
+use Rattle.ra_lines.specs.Reading.{command_read, may_have_list}
 use Rattle.ra_history_text.specs.Text.{Said, Nothing, OfKind, OfHistory, Progress, Regular, stop_at, line_taken, taken, ending_at}
 
 -- what the lines that led to a stage say

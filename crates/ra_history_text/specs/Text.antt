@@ -2,9 +2,9 @@
 use Rattle.std.specs.Prelude.{ℕ, ◌+◌, ◌==◌, nat_lt, Bool, true, false, ◌&&◌, List, [], ◌∷◌, ◌++◌, length, Option, Some, None, option_map, Result, Ok, Err, is_ok, if◌then◌else◌}
 use Rattle.ra_labels.specs.declared.kind.Kind.{Kind}
 use Rattle.ra_labels.specs.declared.command.Command.{Command}
-use Rattle.ra_history_text.specs.declared.limits.TheConstants.{LONGEST_LINE, MOST_COMMANDS}
-use Rattle.ra_history_text.specs.Grammar.{fields_of, names_behind}
-use Rattle.ra_history_text.specs.Reading.{kind_read, names_read, command_read}
+use Rattle.ra_lines.specs.declared.limits.TheConstants.{LONGEST_LINE, MOST_COMMANDS}
+use Rattle.ra_lines.specs.Grammar.{fields_of, names_behind}
+use Rattle.ra_lines.specs.Reading.{kind_read, names_read, command_read}
 
 -- ---- what lines say
 

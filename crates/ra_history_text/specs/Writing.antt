@@ -1,26 +1,13 @@
 -- What is written of a history, and why it is not.
-use Rattle.std.specs.Prelude.{◌≡◌, ℕ, ◌<◌, ◌≤◌, List, ◌∷◌, ◌++◌, length, reverse, Option, Some, None}
+use Rattle.std.specs.Prelude.{◌≡◌, ℕ, ◌<◌, List, ◌∷◌, ◌++◌, length, reverse, Option, Some, None}
 use Rattle.std.specs.Io.KnownBytes.{Appends, Keeps}
-use Rattle.std.specs.List.{AllByRecursion}
 use Rattle.ra_labels.specs.declared.command.Command.{Command}
 use Rattle.ra_monitor.specs.Monitor.{Monitor, records_of}
 use Rattle.ra_history_text.specs.declared.fault.WriteFault.{WriteFault}
 use Rattle.ra_history_text.specs.declared.fault.WriteFault.TheVariants.{BadNames, LineTooLong, Write, NoMemory}
-use Rattle.ra_history_text.specs.declared.limits.TheConstants.{LONGEST_LINE}
-use Rattle.ra_history_text.specs.Spelling.{line_of, AreSmall}
+use Rattle.ra_lines.specs.declared.limits.TheConstants.{LONGEST_LINE}
+use Rattle.ra_lines.specs.Spelling.{line_of, AreShort}
 use Rattle.ra_history_text.specs.Text.{OfHistory, Regular, ending_of, said_by}
-
--- the line of the command is not too long
-abbrev pub IsShort : List (List ℕ) → Command → Type 0
-IsShort names command = length (line_of names command) ≤ LONGEST_LINE
-
--- and its numbers are of 32 bits
-abbrev pub IsWritable : List (List ℕ) → Command → Type 0
-IsWritable names command = IsShort names command × AreSmall command
-
--- each command's line is short enough
-abbrev pub AreShort : List (List ℕ) → List Command → Type 0
-AreShort names commands = AllByRecursion (IsShort names) commands
 
 -- the command at this place, from 0, is the first whose line is too long
 pub record IsFirstLong (names : List (List ℕ)) (commands : List Command) (at : ℕ) : Type 0 where

@@ -1,6 +1,4 @@
-//! Why a line, a list of names or a text is not taken.
-ghost use Rattle.ra_history_text.specs.declared.fault.LineFault.TheVariants as line_fault;
-ghost use Rattle.ra_history_text.specs.declared.fault.NamesFault.TheVariants as names_fault;
+//! Why a text is not taken, and why a history is not written.
 ghost use Rattle.ra_history_text.specs.declared.fault.CheckFault.TheVariants as check_fault;
 ghost use Rattle.ra_history_text.specs.declared.fault.WriteFault.TheVariants as write_fault;
 ghost use Rattle.ra_history_text.specs.Faults.{check_fault_words, fault_at_line};
@@ -8,74 +6,10 @@ ghost use Rattle.std.specs.Prelude.{◌≡◌, Some};
 
 use crate::write::Unwritten;
 use ra_labels::NoMemory;
+use ra_lines::LineFault;
 use std::alloc::{AllocError, AllocFailed};
 use std::fmt;
 use thiserror::Error;
-
-/// Why a line is not read.
-#[derive(Clone, Copy, Debug, PartialEq, Eq)]
-pub enum LineFault {
-    /// It is not a line of the text's grammar.
-    Syntax,
-    /// A growth was refused for want of memory.
-    NoMemory,
-}
-
-impl LineFault {
-    /// The fault of a text that has this fault at this line.
-    pub fn at(self, line: u32) -> CheckFault
-        ensures { result ≡ fault_at_line self line }
-    {
-        match self {
-            LineFault::Syntax => CheckFault::Syntax(line),
-            LineFault::NoMemory => CheckFault::NoMemory,
-        }
-    }
-}
-
-impl From<AllocError> for LineFault {
-    ghost from_gives = { λ _ fault. fault ≡ line_fault.NoMemory };
-
-    fn from(_refused: AllocError) -> LineFault {
-        LineFault::NoMemory
-    }
-}
-
-impl<T: Drop> From<AllocFailed<T>> for LineFault {
-    ghost from_gives = { λ _ fault. fault ≡ line_fault.NoMemory };
-
-    fn from(_refused: AllocFailed<T>) -> LineFault {
-        LineFault::NoMemory
-    }
-}
-
-impl From<NoMemory> for LineFault {
-    ghost from_gives = { λ _ fault. fault ≡ line_fault.NoMemory };
-
-    fn from(_refused: NoMemory) -> LineFault {
-        LineFault::NoMemory
-    }
-}
-
-/// Why names are not those of a history.
-#[derive(Clone, Copy, Debug, PartialEq, Eq)]
-pub enum NamesFault {
-    /// There are none, or more than 16.
-    BadCount,
-    /// The least place, from 0, whose name has another form than names have, is a word of the format's own, or repeats
-    /// an earlier one.
-    BadName(u32),
-    /// A growth was refused for want of memory.
-    NoMemory,
-}
-
-impl From<NoMemory> for NamesFault {
-    ghost from_gives = { λ _ fault. fault ≡ names_fault.NoMemory };
-
-    fn from(_refused: NoMemory) -> NamesFault {
-        NamesFault::NoMemory
-    }
-}
 
 /// Why a check gives no verdict. Lines count from 1.
 #[derive(Clone, Copy, Debug, PartialEq, Eq, Error)]
@@ -96,6 +30,18 @@ pub enum CheckFault {
     Endless,
     /// The line is a command, and 1,048,576 commands came before.
     Full(u32),
+}
+
+impl CheckFault {
+    /// The fault of a text that has this fault at this line.
+    pub fn at_line(fault: LineFault, line: u32) -> CheckFault
+        ensures { result ≡ fault_at_line fault line }
+    {
+        match fault {
+            LineFault::Syntax => CheckFault::Syntax(line),
+            LineFault::NoMemory => CheckFault::NoMemory,
+        }
+    }
 }
 
 impl fmt::Display for CheckFault {

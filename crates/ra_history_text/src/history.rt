@@ -1,14 +1,14 @@
 //! A history that is recorded: its commands, given to the monitor.
 ghost use Rattle.std.specs.Prelude.{◌≡◌, ◌+◌, ◌^◌, ◌∷◌, [], length, IfOk, IfErr};
 ghost use Rattle.ra_labels.specs.declared.command.Command.{Command};
-ghost use Rattle.ra_history_text.specs.Grammar.{AreNames};
+ghost use Rattle.ra_lines.specs.Grammar.{AreNames};
 ghost use Rattle.ra_history_text.specs.Output.{IsReportOf};
 ghost use Rattle.ra_history_text.specs.History.{RecordsCommand, StopsAnswering, fault_at};
 
 use crate::fault::CheckFault;
 use crate::limits::MOST_COMMANDS;
-use crate::name::Names;
 use ra_labels::{Command, Kind, NoMemory, Reply};
+use ra_lines::Names;
 use ra_monitor::{Monitor, Report};
 use ra_ticket::{Journal, StepFault};
 use std::alloc::Global;

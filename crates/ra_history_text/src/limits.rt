@@ -1,16 +1,6 @@
 //! The limits of a text and of its check.
 
-/// The most bytes of a line, its line feed left out.
-pub const LONGEST_LINE: usize = 1_048_576;
-
-/// The most commands of a text.
-pub const MOST_COMMANDS: u32 = 1_048_576;
-
-/// The most replicas that a history may have.
-pub const MOST_NAMES: usize = 16;
-
-/// The most bytes of a name.
-pub const LONGEST_NAME: usize = 16;
+pub use ra_lines::limits::{LONGEST_LINE, LONGEST_NAME, MOST_COMMANDS, MOST_NAMES};
 
 /// The most reads of one check, that which finds the end among them.
 pub const MOST_READS: u64 = 4_294_967_296;

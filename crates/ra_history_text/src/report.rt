@@ -5,10 +5,10 @@ ghost use Rattle.serde_json.specs.View.{view};
 ghost use Rattle.ra_history_text.specs.Report.{report_data, report_object, report_line, StopsReport};
 
 use crate::fault::CheckFault;
-use crate::kind_line::kind_word;
-use crate::reply::cause_word;
 use crate::write::write_out;
 use ra_labels::{Fault, NoMemory};
+use ra_lines::kind_line::kind_word;
+use ra_lines::reply::cause_word;
 use ra_monitor::Report;
 use serde_json::{Value, json};
 use std::alloc::{AllocError, Global};

@@ -6,15 +6,15 @@ ghost use Rattle.ra_history_text.specs.Sessions.{said_at, AddsReplies, StopsLine
 ghost use Rattle.ra_history_text.specs.Text as text;
 ghost use Rattle.ra_history_text.specs.Text.{text_start, line_start, next_line, line_taken, taken};
 
-use crate::command::command;
 use crate::fault::CheckFault;
-use crate::fields::cut_at;
 use crate::history::History;
-use crate::kind_line::kind_of;
 use crate::limits::LONGEST_LINE;
-use crate::name::Names;
-use crate::reply::{put_end, put_reply};
 use ra_labels::Kind;
+use ra_lines::Names;
+use ra_lines::command::command;
+use ra_lines::fields::cut_at;
+use ra_lines::kind_line::kind_of;
+use ra_lines::reply::{put_end, put_reply};
 use ra_monitor::Report;
 use std::alloc::Global;
 use std::marker::Model;
@@ -102,7 +102,7 @@ fn after_names(alloc: Global, kind: Kind, line: &[u8]) -> Result<Stage, CheckFau
 {
     let names = match Names::read(alloc, line) {
         Ok(names) => names,
-        Err(fault) => return Err(fault.at(2)),
+        Err(fault) => return Err(CheckFault::at_line(fault, 2)),
     };
     let history = History::new(alloc, kind, names)?;
     Ok(Stage::OfHistory(history))

@@ -3,18 +3,18 @@ ghost use Rattle.std.specs.Prelude.{◌≡◌, ◌+◌, ◌-◌, ◌++◌, ◌�
 ghost use Rattle.std.specs.List.{AllByRecursion};
 ghost use Rattle.ra_history_text.specs.Accepted as accepted;
 ghost use Rattle.ra_history_text.specs.Accepted.{accepted_in, accepted_one};
-ghost use Rattle.ra_history_text.specs.Grammar.{bytes_of, first_line};
-ghost use Rattle.ra_history_text.specs.Spelling.{line_of, names_line, AreSmall};
-ghost use Rattle.ra_history_text.specs.Writing.{AreShort, TellsFirstLong, AreAsMany, records_in_order, WritesHistory, StopsWriting, SaysHistory};
+ghost use Rattle.ra_lines.specs.Grammar.{bytes_of, first_line};
+ghost use Rattle.ra_lines.specs.Spelling.{line_of, names_line, AreSmall, AreShort};
+ghost use Rattle.ra_history_text.specs.Writing.{TellsFirstLong, AreAsMany, records_in_order, WritesHistory, StopsWriting, SaysHistory};
 
 use crate::fault::WriteFault;
-use crate::kind_line::kind_word;
 use crate::limits::LONGEST_LINE;
-use crate::name::Names;
-use crate::size::line_size;
-use crate::spelling::{put_command, put_names};
 use crate::write::write_out;
 use ra_labels::{Command, Kind, NoMemory, Reply};
+use ra_lines::Names;
+use ra_lines::kind_line::kind_word;
+use ra_lines::size::line_size;
+use ra_lines::spelling::{put_command, put_names};
 use ra_monitor::Monitor;
 use ra_ticket::Entry;
 use std::alloc::Global;

@@ -1,3 +1,4 @@
+//! What replicas do, as they report it, and its two halves: what it does to the state, and what it asks of it.
 ghost use Rattle.std.specs.Prelude.{◌≡◌};
 ghost use Rattle.ra_labels.specs.Visibility.{is_update};
 
@@ -67,7 +68,7 @@ impl Op {
 }
 
 /// What an operation does to the state of the sequential specification.
-#[derive(Clone, Debug, PartialEq, Eq, Drop)]
+#[derive(Drop)]
 pub enum Update {
     /// Counter: one more.
     Inc,
@@ -105,7 +106,7 @@ pub enum Update {
 }
 
 /// What an operation asks of the state of the sequential specification, with the answer that it got.
-#[derive(Clone, Debug, PartialEq, Eq, Drop)]
+#[derive(Drop)]
 pub enum Query {
     /// Counter: the number.
     Count(i32),

@@ -1,3 +1,4 @@
+//! Why a command is refused, and the refusals that its own form deserves.
 ghost use Rattle.std.specs.Prelude.{◌≡◌, ℕ};
 ghost use Rattle.ra_labels.specs.declared.command.Command.TheVariants.{Operate};
 ghost use Rattle.ra_labels.specs.Answer.{misfit_of, kind_of, has_rising_list, carries_stamp};

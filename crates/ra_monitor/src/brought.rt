@@ -5,7 +5,7 @@ ghost use Rattle.ra_monitor.specs.Taken.{brought_by};
 use ra_labels::{Op, Stamp};
 
 /// What a label has and no other may have.
-#[derive(Clone, Copy, Debug)]
+#[derive(Clone, Copy)]
 pub enum Brought {
     /// The identifier that it gives to an element.
     Identifier(u32),

@@ -6,7 +6,7 @@ use std::alloc::Global;
 use std::marker::Model;
 
 /// The clocks of one replica's own stamps, in rising order.
-#[derive(Debug, Drop)]
+#[derive(Drop)]
 pub struct Clocks {
     clocks: Vec<u32>,
 }

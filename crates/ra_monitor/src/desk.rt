@@ -1,6 +1,9 @@
 use crate::monitor::Monitor;
-use ra_ticket::TicketLock;
+use ra_ticket::{Caller, TicketLock};
 
 /// A monitor behind the ticket lock, for reporters on many threads: each holds a pass of it and reports by
 /// `TicketLock::submit`.
 pub type Desk = TicketLock<Monitor>;
+
+/// A reporter of a desk, for a thread of its own: a pass of the desk with the desk. `Caller::open` makes them.
+pub type DeskReporter = Caller<Monitor>;

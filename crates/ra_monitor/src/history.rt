@@ -1,3 +1,4 @@
+//! The accepted commands as what they amount to: a command is taken here, refused or answered.
 ghost use Rattle.std.specs.Prelude.{◌≡◌, ℕ, ◌+◌, ◌≤◌, ◌∷◌, [], map, IfOk, OnErr, OnOk, Option, None, if◌then◌else◌, is_some};
 ghost use Rattle.std.specs.Option.{option_or, option_map_or};
 ghost use Rattle.ra_labels.specs.declared.kind.Kind.{Kind};
@@ -24,7 +25,7 @@ use std::alloc::Global;
 use std::mem;
 
 /// The accepted commands, as what they amount to.
-#[derive(Debug, Drop)]
+#[derive(Drop)]
 pub struct History {
     /// How many labels there are.
     pub labels: u32,

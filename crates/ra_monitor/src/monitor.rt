@@ -1,3 +1,4 @@
+//! The monitor of one thread: a log, and the history that it amounts to.
 ghost use Rattle.std.specs.Prelude.{◌≡◌, ℕ, ◌<◌, ◌≤◌, ◌++◌, ◌∷◌, ◌↔◌, [], length, map, cond, vec_len, vec_capacity, option_map, IsTrue, IfSome, IfOk, IfErr, OnErr, OnOk, IsErrOf};
 ghost use Rattle.ra_labels.specs.Records.{label_count};
 ghost use Rattle.ra_labels.specs.Linearization.{IsRaLinearization};
@@ -23,7 +24,7 @@ use std::alloc::Global;
 use std::marker::Model;
 
 /// A monitor of one history, for one thread.
-#[derive(Debug, Drop)]
+#[derive(Drop)]
 pub struct Monitor {
     setup: Setup,
     log: Vec<Entry<Command, Reply>>,

@@ -9,7 +9,7 @@ use ra_visibility::{NamedOrder, Place, Seen};
 use std::alloc::Global;
 
 /// The order that a kind names.
-#[derive(Debug, Drop)]
+#[derive(Drop)]
 pub enum Order {
     /// Of a counter and of an OR-Set: that of execution.
     Execution(ExecOrder),

@@ -1,3 +1,4 @@
+//! What no two labels may have: own stamps, and identifiers of additions.
 ghost use Rattle.std.specs.Prelude.{◌≡◌, ℕ, ◌<◌, ◌||◌, false, IfOk, OnOk, vec_len};
 ghost use Rattle.ra_labels.specs.declared.label.Stamp.{Stamp};
 ghost use Rattle.ra_monitor.specs.Taken.{is_stamp_in, is_identifier_in, HasRoom, CanKeep, has_brought, gives_brought};
@@ -9,7 +10,7 @@ use std::alloc::Global;
 use std::collections::HashSet;
 
 /// What accepted labels have and no other may have: their own stamps, and the identifiers that they give.
-#[derive(Debug, Drop)]
+#[derive(Drop)]
 pub struct Taken {
     /// Of each replica.
     pub clocks: Vec<Clocks>,

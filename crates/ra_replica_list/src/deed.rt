@@ -2,7 +2,7 @@ ghost use Rattle.std.specs.Prelude.{◌≡◌};
 ghost use Rattle.ra_replica_list.specs.Deeds.{deed_at};
 
 /// What a label does to an element, by the element's number.
-#[derive(Clone, Copy, Debug)]
+#[derive(Clone, Copy)]
 pub enum Deed {
     /// It puts the element in.
     PutsIn(u32),

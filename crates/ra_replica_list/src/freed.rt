@@ -1,3 +1,4 @@
+//! What follows when an element comes in for which labels had waited.
 ghost use Rattle.std.specs.Prelude.{◌≡◌, ℕ, ◌<◌, ◌+◌, Bool, length, get_or, IfOk, OnOk};
 ghost use Rattle.ra_labels.specs.Records.{Records};
 ghost use Rattle.ra_replica_list.specs.Waiting.{labels_under};
@@ -13,7 +14,7 @@ use ra_seqspec::State;
 use std::alloc::Global;
 
 /// What becomes of a list when labels are freed, and these labels.
-#[derive(Debug, Drop)]
+#[derive(Drop)]
 pub struct Freed {
     pub state: State,
     pub there: Marks,

@@ -5,7 +5,7 @@ use ra_labels::NoMemory;
 use std::alloc::Global;
 
 /// A set of numbers.
-#[derive(Debug, Drop)]
+#[derive(Drop)]
 pub struct Marks {
     /// Of each number whether it is in. None beyond the end is.
     pub marks: Vec<bool>,

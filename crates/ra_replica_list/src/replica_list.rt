@@ -1,3 +1,4 @@
+//! The list of one replica of an RGA, after those of its updates that do not wait for another one.
 ghost use Rattle.std.specs.Prelude.{◌≡◌, ℕ, ◌+◌, ◌<◌, ◌≤◌, ◌^◌, Bool, true, false, List, ◌++◌, ◌∷◌, [], length, Option, Some, None, option_map, IfOk, OnOk, OnErr, if◌then◌else◌};
 ghost use Rattle.std.specs.Option.{option_copied};
 ghost use Rattle.ra_labels.specs.declared.kind.Kind.TheVariants.{Rga};
@@ -33,7 +34,7 @@ use std::alloc::Global;
 use std::marker::Model;
 
 /// What is kept of a replica: the list after those of the updates that it had which do not wait.
-#[derive(Debug, Drop)]
+#[derive(Drop)]
 pub struct ReplicaList {
     alloc: Global,
     state: State,

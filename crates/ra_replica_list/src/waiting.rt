@@ -1,3 +1,4 @@
+//! The labels that wait at a replica, each for an element that is not there yet.
 ghost use Rattle.std.specs.Prelude.{◌≡◌, true, false, ℕ, ◌++◌, ◌∷◌, [], ◌≢◌, Contains, OnOk, OnErr};
 ghost use Rattle.ra_replica_list.specs.Waiting.{labels_under};
 
@@ -7,7 +8,7 @@ use std::collections::HashMap;
 use std::marker::Model;
 
 /// The labels that wait at a replica, by the number of the element that each waits for.
-#[derive(Debug, Drop)]
+#[derive(Drop)]
 pub struct Waiting {
     alloc: Global,
     /// Of each element that labels wait for, these labels in the order in which they came.

@@ -5,7 +5,7 @@ ghost use Rattle.ra_rewrite.specs.Parts.{acts_in};
 use ra_labels::{Query, Update};
 
 /// What one part of a label does, or asks.
-#[derive(Debug, Drop)]
+#[derive(Drop)]
 pub enum Part {
     /// It asks.
     Query(Query),
@@ -14,7 +14,7 @@ pub enum Part {
 }
 
 /// What a label is rewritten into.
-#[derive(Debug, Drop)]
+#[derive(Drop)]
 pub enum Parts {
     /// It is its own one part.
     One(Part),

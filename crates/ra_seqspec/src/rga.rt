@@ -15,7 +15,7 @@ use std::mem;
 const ROOT: u32 = 0;
 
 /// The elements of an RGA in their order, the root first, each with whether a read shows it.
-#[derive(Debug, Drop)]
+#[derive(Drop)]
 pub struct RgaList {
     // The slot of the first node behind the root, where there are nodes.
     first: usize,
@@ -26,7 +26,7 @@ pub struct RgaList {
 }
 
 // An element behind the root.
-#[derive(Clone, Copy, Debug)]
+#[derive(Clone, Copy)]
 struct Node {
     element: u32,
     is_shown: bool,

@@ -1,3 +1,4 @@
+//! The sequential specification as a state: its step, and its answer.
 ghost use Rattle.std.specs.Prelude.{◌≡◌, ◌↔◌, ◌==◌, not, filter, IsTrue, IfOk, IsOk, IfSome, OnErr, true, false, is_some, unwrap_or};
 ghost use Rattle.std.specs.Ordering.{nat_cmp};
 ghost use Rattle.std.specs.BTreeSet.{IsOrdered};
@@ -14,13 +15,13 @@ use std::collections::BTreeSet;
 use std::marker::Model;
 
 /// A state of the sequential specification of one kind.
-#[derive(Debug, Drop)]
+#[derive(Drop)]
 pub struct State {
     form: Form,
 }
 
 // What each kind keeps.
-#[derive(Debug, Drop)]
+#[derive(Drop)]
 enum Form {
     // The counter's number.
     Counter(i32),

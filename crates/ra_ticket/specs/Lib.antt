@@ -5,3 +5,4 @@ pub mod Views
 pub mod Rule
 pub mod Steps
 pub mod Passes
+pub mod Callers

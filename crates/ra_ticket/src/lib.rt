@@ -10,6 +10,8 @@
 //! has then seen it. `meet` has two passes see one such log, which begins with what each had seen. `close` gives the
 //! journal back, with such a log.
 //!
+//! A `Caller` is a pass that has its lock with it: its calls are those of the lock and ask for nothing.
+//!
 //! Behind it stands the rule of the lock (`specs/Rule`), which each step on the table keeps: no two calls hold one
 //! ticket, the journal is out of its slot with one call at most, the one whose ticket is served, and there is one legal
 //! log, the front, of which each pass has seen a beginning with all its own entries, and which the word `mark` tells.
@@ -20,6 +22,7 @@
 mod at_once;
 mod backoff;
 mod board;
+mod caller;
 mod close;
 mod draw;
 mod enter;
@@ -36,6 +39,7 @@ mod plays;
 mod release;
 mod serve;
 
+pub use caller::{Caller, CloseFault};
 pub use close::Unsettled;
 pub use draw::GREATEST_TICKET;
 pub use entry::Entry;

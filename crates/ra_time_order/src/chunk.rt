@@ -1,3 +1,4 @@
+//! A few labels, sorted by rank, with what a search needs of them.
 ghost use Rattle.std.specs.Prelude.{◌≡◌, ℕ, ◌+◌, ◌<◌, ◌≤◌, nat_lt, false, [], length, take, drop, IfOk, OnOk, OnErr, option_map, slice_index_or};
 ghost use Rattle.std.specs.List.{insert, slice_get};
 ghost use Rattle.std.specs.List.Sorted.{IsPartitionedBy};
@@ -12,7 +13,7 @@ use std::marker::Model;
 const MOST_IN_CHUNK: usize = 256;
 
 /// A few labels, sorted by rank.
-#[derive(Debug, Drop)]
+#[derive(Drop)]
 pub struct Chunk {
     entries: Vec<Entry>,
 }

@@ -1,7 +1,7 @@
 use ra_labels::Stamp;
 
 /// What is kept of a label: 12 bytes.
-#[derive(Clone, Copy, Debug, PartialEq, Eq)]
+#[derive(Clone, Copy)]
 pub struct Entry {
     /// Its timestamp.
     pub rank: Stamp,

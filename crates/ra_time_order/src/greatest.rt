@@ -1,3 +1,4 @@
+//! The greatest own stamp among a replica's first updates, for each number of them.
 ghost use Rattle.std.specs.Prelude.{◌≡◌, ◌<◌, ◌++◌, ◌∷◌, [], not, OnOk};
 ghost use Rattle.std.specs.Ordering.{is_lt};
 ghost use Rattle.ra_labels.specs.NamedOrder.{stamp_cmp, greater_of};
@@ -8,7 +9,7 @@ use std::alloc::Global;
 use std::marker::Model;
 
 /// Of a replica, the greatest own stamp among its first updates, for each number of them.
-#[derive(Debug, Drop)]
+#[derive(Drop)]
 pub struct Greatest {
     stamps: Vec<Stamp>,
 }

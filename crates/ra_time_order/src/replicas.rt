@@ -1,3 +1,4 @@
+//! The greatest own stamp that a label sees, by how many updates of each replica it sees.
 ghost use Rattle.std.specs.Prelude.{◌≡◌, ℕ, ◌<◌, true, [], length, map, replicate, unwrap_or, IfOk, OnOk};
 ghost use Rattle.std.specs.List.{list_all};
 ghost use Rattle.ra_visibility.specs.Seen.{count_in};
@@ -11,7 +12,7 @@ use std::alloc::Global;
 use std::marker::Model;
 
 /// Of each replica the greatest own stamp among its first updates, for each number of them.
-#[derive(Debug, Drop)]
+#[derive(Drop)]
 pub struct Replicas {
     members: Vec<Greatest>,
 }

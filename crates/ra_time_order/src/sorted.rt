@@ -1,3 +1,4 @@
+//! Labels sorted by rank, in runs, so that a late one moves few others.
 ghost use Rattle.std.specs.Prelude.{◌≡◌, ℕ, ◌+◌, ◌<◌, ◌≤◌, true, [], length, get_or, not, vec_len, IfOk, OnOk, OnErr, option_map};
 ghost use Rattle.std.specs.List.{insert, slice_get};
 ghost use Rattle.std.specs.List.Sorted.{IsPartitionedBy};
@@ -16,7 +17,7 @@ use std::alloc::Global;
 use std::marker::Model;
 
 /// Labels, sorted by rank: in these contracts a list, which is split at a rank where it is sorted.
-#[derive(Debug, Drop)]
+#[derive(Drop)]
 pub struct Sorted {
     runs: Vec<Run>,
     labels: usize,

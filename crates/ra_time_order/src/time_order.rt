@@ -1,3 +1,4 @@
+//! The named order of registers, LWW sets and RGAs: by timestamp, and then by number.
 ghost use Rattle.std.specs.Prelude.{◌≡◌, ℕ, true, [], map, IfOk};
 ghost use Rattle.ra_labels.specs.declared.kind.Kind.{Kind};
 ghost use Rattle.ra_visibility.specs.Order.{IsByTimestamp};
@@ -13,7 +14,7 @@ use std::alloc::Global;
 use std::marker::Model;
 
 /// Labels in the order of their timestamps, and at one timestamp of their numbers.
-#[derive(Debug, Drop)]
+#[derive(Drop)]
 pub struct TimeOrder {
     sorted: Sorted,
     replicas: Replicas,

@@ -1,5 +1,5 @@
 /// The last change of a tracker, as far as it can be taken back.
-#[derive(Clone, Copy, Debug, PartialEq, Eq)]
+#[derive(Clone, Copy)]
 pub enum LastChange {
     /// None, or it was taken back.
     Nothing,

@@ -1,3 +1,4 @@
+//! What is kept of one replica: its updates in turn, and how many of each other one it had.
 ghost use Rattle.std.specs.Prelude.{◌≡◌, ◌<◌, ◌≤◌, ℕ, IfOk, OnOk, OnErr, Option, Some, None, true, length, get_or};
 ghost use Rattle.ra_visibility.specs.Replica.{new_replica, with_own, without_own, stored_at, with_next, without_last};
 
@@ -6,7 +7,7 @@ use std::alloc::Global;
 use std::marker::Model;
 
 /// What is kept of a replica.
-#[derive(Debug, Drop)]
+#[derive(Drop)]
 pub struct Replica {
     /// How many updates of each replica it had, its own among them.
     counts: Vec<u32>,

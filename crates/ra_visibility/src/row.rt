@@ -1,5 +1,5 @@
 /// What is kept of a label: 12 bytes.
-#[derive(Clone, Copy, Debug, PartialEq, Eq)]
+#[derive(Clone, Copy)]
 pub struct Row {
     /// The replica that issued it.
     pub replica: u8,

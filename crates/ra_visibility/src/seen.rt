@@ -5,7 +5,7 @@ use crate::row::Row;
 use std::marker::Model;
 
 /// What a label sees: a set of updates, that borrows the tracker.
-#[derive(Debug, Drop)]
+#[derive(Drop)]
 pub struct Seen<'a> {
     rows: &'a [Row],
     /// The label's replica, and how many of its own updates it sees.

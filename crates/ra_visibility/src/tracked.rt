@@ -1,3 +1,4 @@
+//! What replicas had and labels see, as counts.
 ghost use Rattle.std.specs.Prelude.{◌≡◌, ℕ, ◌<◌, IfOk, OnErr, None, true, is_none};
 ghost use Rattle.ra_visibility.specs.Tracked.{replicas_in, labels_in, replica_at, row_at, had_count, had_in, seen_in, first_missing_in, refusal_in};
 ghost use Rattle.ra_visibility.specs.Least.{lesser_of};
@@ -13,7 +14,7 @@ use std::alloc::Global;
 use std::marker::Model;
 
 /// What replicas had and labels see.
-#[derive(Debug, Drop)]
+#[derive(Drop)]
 pub struct Tracked {
     replicas: Vec<Replica>,
     rows: Vec<Row>,

@@ -1,3 +1,4 @@
+//! The tracker: what replicas had and labels see, with the last change, so that it can be taken back.
 ghost use Rattle.std.specs.Prelude.{◌≡◌, ℕ, ◌+◌, ◌<◌, ◌≤◌, ◌∷◌, [], IfOk, IfErr, OnErr, OnOk, IsSome, Option, Some, None, true};
 ghost use Rattle.ra_labels.specs.Records.{Records};
 ghost use Rattle.ra_labels.specs.Visibility.{is_update, IsCausal};
@@ -19,7 +20,7 @@ use std::alloc::Global;
 use std::marker::Model;
 
 /// What replicas had and labels see. A change can be taken back until the next one.
-#[derive(Debug, Drop)]
+#[derive(Drop)]
 pub struct Tracker {
     tracked: Tracked,
     last: LastChange,

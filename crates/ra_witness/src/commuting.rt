@@ -14,7 +14,7 @@ use ra_seqspec::State;
 use std::alloc::Global;
 
 /// What the labels do, and of each replica the state after the updates that it had.
-#[derive(Debug, Drop)]
+#[derive(Drop)]
 pub struct Commuting {
     /// Of each label what it does, if anything, the oldest first.
     pub updates: Vec<Option<Update>>,

@@ -1,3 +1,4 @@
+//! What is kept of each kind beside the order: for late updates that commute, that are overridden, and for lists.
 ghost use Rattle.std.specs.Prelude.{◌≡◌, ℕ, ◌+◌, ◌≤◌, ◌++◌, ◌∷◌, [], true, List, length, Option, IfOk, OnOk, OnErr};
 ghost use Rattle.std.specs.List.{slice_get};
 ghost use Rattle.ra_labels.specs.declared.kind.Kind.{Kind};
@@ -29,7 +30,7 @@ use ra_rewrite::Parts;
 use std::alloc::Global;
 
 /// What is kept of labels and replicas, by what becomes of an update that comes late.
-#[derive(Debug, Drop)]
+#[derive(Drop)]
 pub enum Kept {
     /// Of a counter and of an OR-Set: it counts as the last one.
     Commuting(Commuting),

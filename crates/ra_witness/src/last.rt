@@ -5,7 +5,7 @@ use ra_labels::NoMemory;
 use std::alloc::Global;
 
 /// Of each element, by its number, the label of the last update on it that a replica had.
-#[derive(Debug, Drop)]
+#[derive(Drop)]
 pub struct Last {
     /// There is none beyond the end.
     pub labels: Vec<Option<u32>>,

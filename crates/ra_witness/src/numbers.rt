@@ -8,7 +8,7 @@ use std::collections::HashMap;
 
 /// The elements of an LWW set, numbered in the order in which updates named them first. A register's one value has the
 /// number 0.
-#[derive(Debug, Drop)]
+#[derive(Drop)]
 pub struct Numbers {
     pub numbers: HashMap<u32, u32>,
 }

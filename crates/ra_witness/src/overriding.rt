@@ -23,7 +23,7 @@ use ra_seqspec::State;
 use std::alloc::Global;
 
 /// What the labels do, and of each replica the state after the updates that it had.
-#[derive(Debug, Drop)]
+#[derive(Drop)]
 pub struct Overriding {
     /// Of each label what it does, if anything, the oldest first.
     pub writes: Vec<Option<Written>>,

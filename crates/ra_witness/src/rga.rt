@@ -30,7 +30,7 @@ use ra_rewrite::Parts;
 use std::alloc::Global;
 
 /// What the labels do, the list of all elements, and of each replica the list after the updates that it had.
-#[derive(Debug, Drop)]
+#[derive(Drop)]
 pub struct Rga {
     /// Of each label what it does, if anything.
     pub deeds: Vec<Option<Deed>>,

@@ -1,3 +1,4 @@
+//! The one kept witness: an order of labels, and the state of each replica.
 ghost use Rattle.std.specs.Prelude.{◌≡◌, ℕ, ◌+◌, ◌<◌, ◌≤◌, ◌++◌, ◌∷◌, [], true, List, length, map, Option, None, Ok, IfOk, OnOk, OnErr};
 ghost use Rattle.ra_labels.specs.declared.kind.Kind.{Kind};
 ghost use Rattle.ra_labels.specs.declared.kind.Kind.TheVariants as kinds;
@@ -25,7 +26,7 @@ use ra_visibility::{NamedOrder, Seen};
 use std::alloc::Global;
 
 /// Labels in the named order of their kind, and of each replica the state after the updates that it had.
-#[derive(Debug, Drop)]
+#[derive(Drop)]
 pub struct Witness<O: NamedOrder> {
     order: O,
     kept: Kept,

@@ -1,7 +1,7 @@
 use ra_labels::{Stamp, Update};
 
 /// What is kept of a label that does something.
-#[derive(Debug, Drop)]
+#[derive(Drop)]
 pub struct Written {
     /// What it does.
     pub update: Update,

@@ -4,7 +4,7 @@ use Rattle.ra_history_text.proofs.session.after_names.Goals as goal
 
 pub returns-in-Err-clause-fault : goal.returns-in-Err-clause-fault
 returns-in-Err-clause-fault c =
-    names_fault c.args.kind c.args.line.now c.in-Err.fault c.at.result c.at.ensures (λ is. c.in-Err.ensures.syntax (ap Err is))
+    names_fault c.args.kind c.args.line.now c.in-Err.fault c.at_line.result c.at_line.ensures (λ is. c.in-Err.ensures.syntax (ap Err is))
 
 pub returns-clause-taken : goal.returns-clause-taken
 returns-clause-taken c =

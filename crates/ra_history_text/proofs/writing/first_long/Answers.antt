@@ -3,8 +3,8 @@ use Rattle.std.specs.Prelude.{◌||◌}
 use Rattle.std.proofs.lemmas.List.{drop_all}
 use Rattle.ra_labels.specs.declared.command.Command.{Command}
 use Rattle.ra_history_text.specs.Accepted.{accepted_in, is_no}
-use Rattle.ra_history_text.specs.Spelling.{line_of}
-use Rattle.ra_history_text.specs.Writing.{AreShort, IsFirstLong, records_in_order}
+use Rattle.ra_lines.specs.Spelling.{line_of, AreShort}
+use Rattle.ra_history_text.specs.Writing.{IsFirstLong, records_in_order}
 use Rattle.ra_history_text.proofs.Entries.{measured_accepted, measured_other, measured_all, measured_long, cut_entry, told_before, told_here}
 use Rattle.ra_history_text.proofs.WholeTexts.{in_order}
 use Rattle.ra_history_text.proofs.writing.first_long.Goals as goal

@@ -3,8 +3,8 @@ use Rattle.std.specs.List.{AllByRecursion}
 use Rattle.ra_labels.specs.declared.kind.Kind.{Kind}
 use Rattle.ra_monitor.specs.Monitor.{MonitorEntry}
 use Rattle.ra_history_text.specs.Accepted.{accepted_in}
-use Rattle.ra_history_text.specs.Grammar.{bytes_of, first_line}
-use Rattle.ra_history_text.specs.Spelling.{names_line, AreSmall}
+use Rattle.ra_lines.specs.Grammar.{bytes_of, first_line}
+use Rattle.ra_lines.specs.Spelling.{names_line, AreSmall}
 use Rattle.ra_history_text.proofs.Entries.{lines_of}
 use Rattle.ra_history_text.proofs.WholeTexts.{says_history}
 use Rattle.ra_history_text.proofs.writing.spelled.Goals as goal

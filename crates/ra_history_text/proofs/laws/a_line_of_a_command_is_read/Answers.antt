@@ -1,6 +1,0 @@
-use Rattle.ra_history_text.specs.Grammar.{fields_of}
-use Rattle.ra_history_text.proofs.Commands.{command_found, command_only}
-use Rattle.ra_history_text.proofs.laws.a_line_of_a_command_is_read.Goals as goal
-
-pub returns : goal.returns
-returns c = λ kind names line command. (command_found kind names (fields_of line) command, command_only kind names (fields_of line) command)

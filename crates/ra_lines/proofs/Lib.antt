@@ -1,0 +1,14 @@
+pub mod Cuts
+pub mod SameKind
+pub mod Numbers
+pub mod Lists
+pub mod Operations
+pub mod Commands
+pub mod Heads
+pub mod NameLists
+pub mod Spelled
+pub mod Putting
+pub mod Sizes
+pub mod WrittenLines
+pub mod EndLines
+pub mod TheLaws

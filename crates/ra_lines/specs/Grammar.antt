@@ -1,0 +1,231 @@
+-- The text of a history, RAH 1: which bytes are its first two lines, and which command a further line spells.
+use Rattle.std.specs.Prelude.{◌≡◌, ℕ, ◌+◌, ◌^◌, ◌<◌, ◌≤◌, ◌==◌, nat_lt, Bool, true, false, not, ◌&&◌, ◌||◌, List, [], ◌∷◌, ◌++◌, length, map, Option, Some, None, IfSome, All, ◌≢◌, codes, decimal, bytes_eq, FitsSigned, if◌then◌else◌}
+use Rattle.std.specs.Char.{is_ascii_lowercase, is_ascii_digit}
+use Rattle.std.specs.Fmt.{signed_decimal}
+use Rattle.std.specs.Int.{w32}
+use Rattle.std.specs.List.{list_all, slice_split, join_with_byte, flat_map, IsDistinct, AllByRecursion}
+use Rattle.ra_lines.specs.declared.limits.TheConstants.{LONGEST_LINE, LONGEST_NAME, MOST_COMMANDS, MOST_NAMES}
+use Rattle.ra_labels.specs.declared.kind.Kind.{Kind}
+use Rattle.ra_labels.specs.declared.kind.Kind.TheVariants.{Counter, Register, LwwSet, OrSet, Rga}
+use Rattle.ra_labels.specs.declared.operation.Op.{Op}
+use Rattle.ra_labels.specs.declared.operation.Op.TheVariants.{Inc, Dec, Count, Write, Last, LwwAdd, LwwRemove, LwwRead, OrAdd, OrRemove, OrRead, After, RgaRemove, RgaRead}
+use Rattle.ra_labels.specs.declared.command.Command.{Command}
+use Rattle.ra_labels.specs.declared.command.Command.TheVariants.{Operate, Deliver, Verdict}
+use Rattle.ra_labels.specs.Answer.{is_kind}
+
+-- ---- lines
+
+-- A line has no line feed, which is the byte 10, and no more bytes than the longest.
+pub record IsLine (line : List ℕ) : Type 0 where
+  pub one : All (λ byte. byte ≢ 10) line
+  pub short : length line ≤ LONGEST_LINE
+
+-- lines as bytes: a line feed after each
+abbrev pub bytes_of : List (List ℕ) → List ℕ
+bytes_of lines = flat_map (λ line. line ++ 10 ∷ []) lines
+
+-- the fields of a line: what stands before, between and behind its spaces
+abbrev pub fields_of : List ℕ → List (List ℕ)
+fields_of line = slice_split (λ byte. byte == 32) line
+
+-- ---- names
+
+-- a letter or digit of a name
+abbrev pub may_follow : ℕ → Bool
+may_follow byte = is_ascii_lowercase byte || is_ascii_digit byte
+
+-- a letter from a to z, and then letters or digits, within the longest name
+abbrev pub has_form_of_name : List ℕ → Bool
+has_form_of_name [] = false
+has_form_of_name (first ∷ more) =
+    is_ascii_lowercase first && nat_lt (length more) LONGEST_NAME && list_all may_follow more
+
+-- words of the format, which name no replica
+abbrev pub is_reserved : List ℕ → Bool
+is_reserved word = bytes_eq word (codes "verdict") || bytes_eq word (codes "join")
+
+abbrev pub is_name : List ℕ → Bool
+is_name word = has_form_of_name word && not (is_reserved word)
+
+-- the names of a history: from one to the most, each of them a name, and no two the same
+pub record AreNames (names : List (List ℕ)) : Type 0 where
+  pub some : 0 < length names
+  pub few : length names ≤ MOST_NAMES
+  pub each : list_all is_name names ≡ true
+  pub distinct : IsDistinct bytes_eq names
+
+-- the replica that a name stands for: its place among the names, from 0; the number of names where it is not there
+abbrev pub place_of : List (List ℕ) → List ℕ → ℕ
+place_of [] name = 0
+place_of (first ∷ others) name = if bytes_eq name first then 0 else place_of others name + 1
+
+-- ---- the two lines before the commands
+
+abbrev pub kind_word : Kind → List ℕ
+kind_word Counter = codes "counter"
+kind_word Register = codes "register"
+kind_word LwwSet = codes "lwwset"
+kind_word OrSet = codes "orset"
+kind_word Rga = codes "rga"
+
+abbrev pub first_line : Kind → List ℕ
+first_line kind = codes "RAH 1 " ++ kind_word kind
+
+-- the second line holds these names
+abbrev pub ListsNames : List ℕ → List (List ℕ) → Type 0
+ListsNames line names = AreNames names × (fields_of line ≡ codes "replicas" ∷ names)
+
+-- ---- numbers and lists
+
+-- a number of 32 bits
+abbrev pub IsSmall : ℕ → Type 0
+IsSmall n = n < 2 ^ 32
+
+-- the empty list is a minus, which is the byte 45; in others the numbers are joined by commas, which are the byte 44
+abbrev pub list_word : List ℕ → List ℕ
+list_word [] = 45 ∷ []
+list_word (x ∷ xs) = join_with_byte 44 (map decimal (x ∷ xs))
+
+-- the value of a register
+abbrev pub value_word : Option ℕ → List ℕ
+value_word None = codes "none"
+value_word (Some value) = decimal value
+
+-- behind a number sign, which is the byte 35
+abbrev pub marked : List ℕ → List ℕ
+marked word = 35 ∷ word
+
+-- ---- commands
+
+-- Is the operation one that a history of this kind has words for? A `read` is always the kind's own, and so is the
+-- removal of an element without identifiers. All else has words in every kind.
+abbrev pub has_words : Op → Kind → Bool
+has_words Inc kind = true
+has_words Dec kind = true
+has_words (Count value) kind = is_kind kind Counter
+has_words (Write value) kind = true
+has_words (Last value) kind = is_kind kind Register
+has_words (LwwAdd x) kind = true
+has_words (LwwRemove x) kind = not (is_kind kind Rga)
+has_words (LwwRead list) kind = is_kind kind LwwSet
+has_words (OrAdd x id) kind = true
+has_words (OrRemove x ids) kind = true
+has_words (OrRead list) kind = is_kind kind OrSet
+has_words (After anchor x) kind = true
+has_words (RgaRemove x) kind = is_kind kind Rga
+has_words (RgaRead list) kind = is_kind kind Rga
+
+-- the fields of an operation, with its return value
+abbrev pub operation_fields : Op → List (List ℕ)
+operation_fields Inc = codes "inc" ∷ []
+operation_fields Dec = codes "dec" ∷ []
+operation_fields (Count value) = codes "read" ∷ signed_decimal value ∷ []
+operation_fields (Write value) = codes "write" ∷ decimal value ∷ []
+operation_fields (Last value) = codes "read" ∷ value_word value ∷ []
+operation_fields (LwwAdd x) = codes "add" ∷ decimal x ∷ []
+operation_fields (LwwRemove x) = codes "remove" ∷ decimal x ∷ []
+operation_fields (LwwRead list) = codes "read" ∷ list_word list ∷ []
+operation_fields (OrAdd x id) = codes "add" ∷ decimal x ∷ marked (decimal id) ∷ []
+operation_fields (OrRemove x ids) = codes "remove" ∷ decimal x ∷ marked (list_word ids) ∷ []
+operation_fields (OrRead list) = codes "read" ∷ list_word list ∷ []
+operation_fields (After anchor x) = codes "after" ∷ decimal anchor ∷ decimal x ∷ []
+operation_fields (RgaRemove x) = codes "remove" ∷ decimal x ∷ []
+operation_fields (RgaRead list) = codes "read" ∷ list_word list ∷ []
+
+-- the field of a clock: a commercial at, which is the byte 64, and the number
+abbrev pub clock_fields : Option ℕ → List (List ℕ)
+clock_fields None = []
+clock_fields (Some clock) = (64 ∷ decimal clock) ∷ []
+
+-- the numbers of an operation are of 32 bits
+abbrev pub HasSmallNumbers : Op → Type 0
+HasSmallNumbers Inc = Unit {0}
+HasSmallNumbers Dec = Unit {0}
+HasSmallNumbers (Count value) = FitsSigned w32 value
+HasSmallNumbers (Write value) = IsSmall value
+HasSmallNumbers (Last value) = IfSome value IsSmall
+HasSmallNumbers (LwwAdd x) = IsSmall x
+HasSmallNumbers (LwwRemove x) = IsSmall x
+HasSmallNumbers (LwwRead list) = AllByRecursion IsSmall list
+HasSmallNumbers (OrAdd x id) = IsSmall x × IsSmall id
+HasSmallNumbers (OrRemove x ids) = IsSmall x × AllByRecursion IsSmall ids
+HasSmallNumbers (OrRead list) = AllByRecursion IsSmall list
+HasSmallNumbers (After anchor x) = IsSmall anchor × IsSmall x
+HasSmallNumbers (RgaRemove x) = IsSmall x
+HasSmallNumbers (RgaRead list) = AllByRecursion IsSmall list
+
+-- the name stands for the replica
+pub record NamesReplica (names : List (List ℕ)) (name : List ℕ) (replica : ℕ) : Type 0 where
+  pub form : is_name name ≡ true
+  pub place : replica ≡ place_of names name
+
+-- a line with these fields delivers the label to the replica
+pub record SpellsDelivery (names : List (List ℕ)) (fields : List (List ℕ)) (replica label : ℕ) : Type 0 where
+  pub name : List ℕ
+  pub who : NamesReplica names name replica
+  pub small : IsSmall label
+  pub words : fields ≡ name ∷ codes "got" ∷ decimal label ∷ []
+
+-- in a history of this kind, these fields are the operation, and the clock behind it where there is one
+pub record AreFieldsOfOperation (kind : Kind) (fields : List (List ℕ)) (op : Op) (clock : Option ℕ) : Type 0 where
+  pub own : has_words op kind ≡ true
+  pub small : HasSmallNumbers op
+  pub small_clock : IfSome clock IsSmall
+  pub words : fields ≡ operation_fields op ++ clock_fields clock
+
+-- a line with these fields is the operation at the replica, with this clock
+pub record SpellsOperation (kind : Kind) (names fields : List (List ℕ)) (replica : ℕ) (op : Op)
+    (clock : Option ℕ) : Type 0 where
+  pub name : List ℕ
+  pub who : NamesReplica names name replica
+  pub body : List (List ℕ)
+  pub is_body : AreFieldsOfOperation kind body op clock
+  pub words : fields ≡ name ∷ body
+
+-- in a history of this kind with these names, a line with these fields is the command
+abbrev pub AreFieldsOf : Kind → List (List ℕ) → List (List ℕ) → Command → Type 0
+AreFieldsOf kind names fields Verdict = fields ≡ codes "verdict" ∷ []
+AreFieldsOf kind names fields (Deliver replica label) = SpellsDelivery names fields replica label
+AreFieldsOf kind names fields (Operate replica op clock) = SpellsOperation kind names fields replica op clock
+
+-- in a history of this kind with these names, the line spells the command
+abbrev pub Spells : Kind → List (List ℕ) → List ℕ → Command → Type 0
+Spells kind names line command = AreFieldsOf kind names (fields_of line) command
+
+-- the names behind a command: those before it, since no command brings a name yet
+abbrev pub names_behind : List (List ℕ) → Command → List (List ℕ)
+names_behind names command = names
+
+-- each of the lines spells the command in its place
+abbrev pub SpellEach : Kind → List (List ℕ) → List (List ℕ) → List Command → Type 0
+SpellEach kind names [] [] = Unit {0}
+SpellEach kind names (line ∷ lines) (command ∷ commands) =
+    Spells kind names line command × SpellEach kind (names_behind names command) lines commands
+SpellEach kind names _ _ = ⊥
+
+-- the command names one of the replicas, where it names any
+abbrev pub IsAtReplica : List (List ℕ) → Command → Type 0
+IsAtReplica names Verdict = Unit {0}
+IsAtReplica names (Deliver replica label) = replica < length names
+IsAtReplica names (Operate replica op clock) = replica < length names
+
+-- does the operation carry a list, for which a reader takes memory?
+abbrev pub has_list : Op → Bool
+has_list (LwwRead list) = true
+has_list (OrRemove x ids) = true
+has_list (OrRead list) = true
+has_list (RgaRead list) = true
+has_list _ = false
+
+-- ---- the text
+
+-- the text is a first line, a line of names and lines of commands, no more than the most, and ends behind the last
+-- one's line feed
+pub record Says (text : List ℕ) (kind : Kind) (names : List (List ℕ)) (commands : List Command) : Type 0 where
+  pub second : List ℕ
+  pub lines : List (List ℕ)
+  pub whole : text ≡ bytes_of (first_line kind ∷ second ∷ lines)
+  pub are_lines : AllByRecursion IsLine (first_line kind ∷ second ∷ lines)
+  pub lists : ListsNames second names
+  pub spell : SpellEach kind names lines commands
+  pub few : length commands ≤ MOST_COMMANDS

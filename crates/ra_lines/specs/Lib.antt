@@ -1,0 +1,8 @@
+pub mod Grammar
+pub mod Fields
+pub mod Names
+pub mod NamesKept
+pub mod Reading
+pub mod Lines
+pub mod Spelling
+pub mod Replies

@@ -1,0 +1,243 @@
+-- How a line is read, field by field. What is read so is just what is spelled: laws say so, in the words of Grammar
+-- alone.
+use Rattle.std.specs.Prelude.{◌≡◌, ℕ, ◌+◌, ◌-◌, ◌*◌, ◌^◌, ◌==◌, nat_lt, nat_le, Bool, true, false, not, ◌&&◌, List, [], ◌∷◌, length, Option, Some, None, option_map, option_and_then, codes, bytes_eq, zero, suc, ℤ, pos, negsuc, if◌then◌else◌}
+use Rattle.std.specs.Char.{is_ascii_digit}
+use Rattle.ra_labels.specs.declared.kind.Kind.{Kind}
+use Rattle.ra_labels.specs.declared.kind.Kind.TheVariants.{Counter, Register, LwwSet, OrSet, Rga}
+use Rattle.ra_labels.specs.declared.operation.Op.{Op}
+use Rattle.ra_labels.specs.declared.operation.Op.TheVariants.{Inc, Dec, Count, Write, Last, LwwAdd, LwwRemove, LwwRead, OrAdd, OrRemove, OrRead, After, RgaRemove, RgaRead}
+use Rattle.ra_labels.specs.declared.command.Command.{Command}
+use Rattle.ra_labels.specs.declared.command.Command.TheVariants.{Operate, Deliver, Verdict}
+use Rattle.std.specs.List.{list_all, list_any}
+use Rattle.ra_lines.specs.declared.limits.TheConstants.{MOST_NAMES}
+use Rattle.ra_lines.specs.Grammar.{is_name, place_of, first_line, fields_of}
+use Rattle.ra_lines.specs.Fields.{pieces_at}
+
+-- ---- the two lines before the commands
+
+-- the kind that a first line names
+abbrev pub kind_read : List ℕ → Option Kind
+kind_read line =
+    if bytes_eq line (first_line Counter) then Some Counter
+    else if bytes_eq line (first_line Register) then Some Register
+    else if bytes_eq line (first_line LwwSet) then Some LwwSet
+    else if bytes_eq line (first_line OrSet) then Some OrSet
+    else if bytes_eq line (first_line Rga) then Some Rga
+    else None
+
+-- is none of the words one of those behind it?
+abbrev pub are_distinct : List (List ℕ) → Bool
+are_distinct [] = true
+are_distinct (word ∷ words) = not (list_any (bytes_eq word) words) && are_distinct words
+
+-- are they the names of a history?
+abbrev pub are_names : List (List ℕ) → Bool
+are_names words =
+    nat_lt 0 (length words) && nat_le (length words) MOST_NAMES && list_all is_name words && are_distinct words
+
+-- the names behind the word that a second line begins with
+abbrev pub names_listed : List (List ℕ) → Option (List (List ℕ))
+names_listed [] = None
+names_listed (word ∷ words) = if bytes_eq word (codes "replicas") && are_names words then Some words else None
+
+-- the names that a second line lists
+abbrev pub names_read : List ℕ → Option (List (List ℕ))
+names_read line = names_listed (fields_of line)
+
+-- ---- numbers and lists
+
+-- the number that a digit spells behind those that spelled n, where it is of 32 bits
+abbrev pub digit_read : ℕ → ℕ → Option ℕ
+digit_read n byte =
+    if is_ascii_digit byte && nat_lt (n * 10 + (byte - 48)) (2 ^ 32) then Some (n * 10 + (byte - 48)) else None
+
+-- and the number that all of these digits spell behind them
+abbrev pub digits_read : ℕ → List ℕ → Option ℕ
+digits_read n [] = Some n
+digits_read n (byte ∷ bytes) = option_and_then (λ m. digits_read m bytes) (digit_read n byte)
+
+-- does it begin with a digit that is no zero, or is it a zero alone?
+abbrev pub begins_as_number : List ℕ → Bool
+begins_as_number [] = false
+begins_as_number (first ∷ more) = if first == 48 then length more == 0 else is_ascii_digit first
+
+-- the number that a field spells
+unfoldable pub number_read : List ℕ → Option ℕ
+number_read field = if begins_as_number field then digits_read 0 field else None
+
+-- a number, and one behind a minus
+abbrev pub above_zero : ℕ → Option ℤ
+above_zero n = if nat_lt n (2 ^ 31) then Some (pos n) else None
+
+abbrev pub below_zero : ℕ → Option ℤ
+below_zero zero = None
+below_zero (suc n) = if nat_lt n (2 ^ 31) then Some (negsuc n) else None
+
+-- the number that a field spells, with its sign
+abbrev pub signed_read : List ℕ → Option ℤ
+signed_read [] = None
+signed_read (first ∷ more) =
+    if first == 45 then option_and_then below_zero (number_read more)
+    else option_and_then above_zero (number_read (first ∷ more))
+
+-- the numbers that the pieces of a list spell
+abbrev pub numbers_read : List (List ℕ) → Option (List ℕ)
+numbers_read [] = Some []
+numbers_read (piece ∷ pieces) =
+    option_and_then (λ n. option_map (λ ns. n ∷ ns) (numbers_read pieces)) (number_read piece)
+
+-- the list that a field spells
+abbrev pub list_read : List ℕ → Option (List ℕ)
+list_read field = if bytes_eq field (codes "-") then Some [] else numbers_read (pieces_at 44 field)
+
+-- the value of a register that a field spells
+abbrev pub value_read : List ℕ → Option (Option ℕ)
+value_read field = if bytes_eq field (codes "none") then Some None else option_map (λ n. Some n) (number_read field)
+
+-- ---- operations, each with the fields behind it
+
+abbrev pub Rest : Type 0 → Type 0
+Rest V = V × List (List ℕ)
+
+-- what was read of fields, with the fields behind it
+abbrev pub Reads : {V : Type 0} → Option (Rest V) → Option V → List (List ℕ) → Type 0
+Reads read None rest = read ≡ None
+Reads read (Some value) rest = read ≡ Some (value, rest)
+
+-- a number
+abbrev pub number_first : List (List ℕ) → Option (Rest ℕ)
+number_first [] = None
+number_first (field ∷ fields) = option_map (λ n. (n, fields)) (number_read field)
+
+-- a field behind a number sign, if one comes
+abbrev pub mark_of : List ℕ → Option (List ℕ)
+mark_of [] = None
+mark_of (mark ∷ word) = if mark == 35 then Some word else None
+
+abbrev pub mark_first : List (List ℕ) → Option (List ℕ)
+mark_first [] = None
+mark_first (field ∷ fields) = mark_of field
+
+abbrev pub behind_first : List (List ℕ) → List (List ℕ)
+behind_first [] = []
+behind_first (field ∷ fields) = fields
+
+-- a kind's own read, by its return value
+abbrev pub query_read : Kind → List ℕ → Option Op
+query_read Counter field = option_map (λ value. Count value) (signed_read field)
+query_read Register field = option_map (λ value. Last value) (value_read field)
+query_read LwwSet field = option_map (λ list. LwwRead list) (list_read field)
+query_read OrSet field = option_map (λ list. OrRead list) (list_read field)
+query_read Rga field = option_map (λ list. RgaRead list) (list_read field)
+
+abbrev pub read_first : Kind → List (List ℕ) → Option (Rest Op)
+read_first kind [] = None
+read_first kind (field ∷ fields) = option_map (λ op. (op, fields)) (query_read kind field)
+
+abbrev pub write_first : List (List ℕ) → Option (Rest Op)
+write_first fields = option_map (λ n. (Write n.0, n.1)) (number_first fields)
+
+-- an addition of x, with an identifier where one comes
+abbrev pub addition_read : ℕ → List (List ℕ) → Option (List ℕ) → Option (Rest Op)
+addition_read x fields None = Some (LwwAdd x, fields)
+addition_read x fields (Some word) = option_map (λ id. (OrAdd x id, behind_first fields)) (number_read word)
+
+abbrev pub add_first : List (List ℕ) → Option (Rest Op)
+add_first fields = option_and_then (λ n. addition_read n.0 n.1 (mark_first n.1)) (number_first fields)
+
+-- a removal of x by its element alone
+abbrev pub plain_removal : Kind → ℕ → Op
+plain_removal Rga x = RgaRemove x
+plain_removal Counter x = LwwRemove x
+plain_removal Register x = LwwRemove x
+plain_removal LwwSet x = LwwRemove x
+plain_removal OrSet x = LwwRemove x
+
+-- a removal of x, with identifiers where they come
+abbrev pub removal_read : Kind → ℕ → List (List ℕ) → Option (List ℕ) → Option (Rest Op)
+removal_read kind x fields None = Some (plain_removal kind x, fields)
+removal_read kind x fields (Some word) = option_map (λ ids. (OrRemove x ids, behind_first fields)) (list_read word)
+
+abbrev pub remove_first : Kind → List (List ℕ) → Option (Rest Op)
+remove_first kind fields = option_and_then (λ n. removal_read kind n.0 n.1 (mark_first n.1)) (number_first fields)
+
+abbrev pub after_first : List (List ℕ) → Option (Rest Op)
+after_first fields =
+    option_and_then (λ n. option_map (λ m. (After n.0 m.0, m.1)) (number_first n.1)) (number_first fields)
+
+-- an operation, by its first word
+abbrev pub word_first : Kind → List ℕ → List (List ℕ) → Option (Rest Op)
+word_first kind word fields =
+    if bytes_eq word (codes "inc") then Some (Inc, fields)
+    else if bytes_eq word (codes "dec") then Some (Dec, fields)
+    else if bytes_eq word (codes "read") then read_first kind fields
+    else if bytes_eq word (codes "write") then write_first fields
+    else if bytes_eq word (codes "add") then add_first fields
+    else if bytes_eq word (codes "remove") then remove_first kind fields
+    else if bytes_eq word (codes "after") then after_first fields
+    else None
+
+-- ---- commands
+
+-- the clock that a field spells
+abbrev pub clock_read : List ℕ → Option ℕ
+clock_read [] = None
+clock_read (mark ∷ digits) = if mark == 64 then number_read digits else None
+
+-- the clock behind an operation, or that none is there
+abbrev pub clock_last : List (List ℕ) → Option (Option ℕ)
+clock_last [] = Some None
+clock_last (field ∷ []) = option_map (λ clock. Some clock) (clock_read field)
+clock_last (field ∷ another ∷ more) = None
+
+-- a delivery, with the fields behind `got`
+abbrev pub delivery_read : ℕ → List (List ℕ) → Option Command
+delivery_read replica [] = None
+delivery_read replica (field ∷ []) = option_map (λ label. Deliver replica label) (number_read field)
+delivery_read replica (field ∷ another ∷ more) = None
+
+-- an operation, by its first word, with the clock behind it
+abbrev pub operation_read : Kind → ℕ → List ℕ → List (List ℕ) → Option Command
+operation_read kind replica word fields =
+    option_and_then (λ op. option_map (λ clock. Operate replica op.0 clock) (clock_last op.1))
+    (word_first kind word fields)
+
+-- the command of a replica, by the word behind its name
+abbrev pub replica_command_read : Kind → ℕ → List ℕ → List (List ℕ) → Option Command
+replica_command_read kind replica word fields =
+    if bytes_eq word (codes "got") then delivery_read replica fields else operation_read kind replica word fields
+
+-- the command of a line that has one field
+abbrev pub lone_read : List ℕ → Option Command
+lone_read word = if bytes_eq word (codes "verdict") then Some Verdict else None
+
+-- the replica that a word stands for
+abbrev pub replica_read : List (List ℕ) → List ℕ → Option ℕ
+replica_read names word = if is_name word then Some (place_of names word) else None
+
+-- a command, by the fields of its line
+abbrev pub command_read : Kind → List (List ℕ) → List (List ℕ) → Option Command
+command_read kind names [] = None
+command_read kind names (word ∷ []) = lone_read word
+command_read kind names (name ∷ word ∷ fields) =
+    if is_name name then replica_command_read kind (place_of names name) word fields else None
+
+-- ---- memory
+
+-- does a read of this kind return a list?
+abbrev pub reads_list : Kind → Bool
+reads_list Counter = false
+reads_list Register = false
+reads_list LwwSet = true
+reads_list OrSet = true
+reads_list Rga = true
+
+-- is it the first word of an operation that may carry a list, for which a reader takes memory?
+abbrev pub asks_for_list : Kind → List ℕ → Bool
+asks_for_list kind word = if bytes_eq word (codes "read") then reads_list kind else bytes_eq word (codes "remove")
+
+-- does it stand in its place among the fields of a line?
+abbrev pub may_have_list : Kind → List (List ℕ) → Bool
+may_have_list kind [] = false
+may_have_list kind (word ∷ []) = false
+may_have_list kind (name ∷ word ∷ fields) = asks_for_list kind word

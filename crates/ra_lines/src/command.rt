@@ -1,0 +1,132 @@
+//! The commands that lines spell.
+ghost use Rattle.std.specs.Prelude.{◌≡◌, true, IfOk, IfSome, OnErr, Some};
+ghost use Rattle.ra_labels.specs.declared.command.Command.{Command};
+ghost use Rattle.ra_lines.specs.Grammar.{Spells, fields_of};
+ghost use Rattle.ra_lines.specs.Reading.{command_read, replica_command_read, operation_read, delivery_read, clock_read, clock_last, lone_read, asks_for_list, may_have_list};
+
+use crate::fields::Fields;
+use crate::name::Names;
+use crate::number::number;
+use crate::operation::operation;
+use ra_labels::{Command, Kind, NoMemory};
+use std::alloc::Global;
+
+/// The command that the line spells in a history of this kind with these names. `None` where it spells none. Costs as
+/// much as the line is long; it takes memory for a list alone.
+pub fn command(
+    alloc: Global,
+    kind: Kind,
+    names: &Names,
+    line: &[u8],
+) -> Result<Option<Command>, NoMemory>
+    ensures read { IfOk result (λ found. found ≡ command_read kind names.now (fields_of line.now)) }
+    ensures found { IfOk result (λ found. IfSome found (λ command. Spells kind names.now line.now command)) }
+    ensures only { IfOk result (λ found. (command : Command) → Spells kind names.now line.now command →
+        found ≡ Some command) }
+    ensures memory { OnErr result (may_have_list kind (fields_of line.now) ≡ true) }
+{
+    command_in(alloc, kind, names, Fields::of(line))
+}
+
+fn command_in(
+    alloc: Global,
+    kind: Kind,
+    names: &Names,
+    mut fields: Fields<'_>,
+) -> Result<Option<Command>, NoMemory>
+    ensures read { IfOk result (λ command. command ≡ command_read kind names.now fields.entry) }
+    ensures memory { OnErr result (may_have_list kind fields.entry ≡ true) }
+{
+    let Some(first) = fields.take() else {
+        return Ok(None);
+    };
+    let Some(word) = fields.take() else {
+        return Ok(lone(first));
+    };
+    match names.replica(first) {
+        Some(replica) => replica_command(alloc, kind, replica, word, fields),
+        None => Ok(None),
+    }
+}
+
+// The command of a line that has one field.
+fn lone(word: &[u8]) -> Option<Command>
+    ensures { result ≡ lone_read word.now }
+{
+    if word == b"verdict".as_slice() {
+        Some(Command::Verdict)
+    } else {
+        None
+    }
+}
+
+// The command of a replica, by the word behind its name.
+fn replica_command(
+    alloc: Global,
+    kind: Kind,
+    replica: u8,
+    word: &[u8],
+    fields: Fields<'_>,
+) -> Result<Option<Command>, NoMemory>
+    ensures read { IfOk result (λ command. command ≡ replica_command_read kind replica word.now fields.entry) }
+    ensures memory { OnErr result (asks_for_list kind word.now ≡ true) }
+{
+    if word == b"got".as_slice() {
+        Ok(delivery(replica, fields))
+    } else {
+        operation_at(alloc, kind, replica, word, fields)
+    }
+}
+
+fn delivery(replica: u8, mut fields: Fields<'_>) -> Option<Command>
+    ensures { result ≡ delivery_read replica fields.entry }
+{
+    let field = fields.take()?;
+    match fields.take() {
+        None => number(field).map(|label| Command::Deliver { replica, label }),
+        Some(_) => None,
+    }
+}
+
+// The operation, with the clock that stands behind it, if one does.
+fn operation_at(
+    alloc: Global,
+    kind: Kind,
+    replica: u8,
+    word: &[u8],
+    mut fields: Fields<'_>,
+) -> Result<Option<Command>, NoMemory>
+    ensures read { IfOk result (λ command. command ≡ operation_read kind replica word.now fields.entry) }
+    ensures memory { OnErr result (asks_for_list kind word.now ≡ true) }
+{
+    let Some(op) = operation(alloc, kind, word, &mut fields)? else {
+        return Ok(None);
+    };
+    match last_clock(fields) {
+        Some(stamp) => Ok(Some(Command::Operate { replica, op, stamp })),
+        None => Ok(None),
+    }
+}
+
+// The clock in the last field, or that none is there. `None` where something else is.
+fn last_clock(mut fields: Fields<'_>) -> Option<Option<u32>>
+    ensures { result ≡ clock_last fields.entry }
+{
+    let Some(field) = fields.take() else {
+        return Some(None);
+    };
+    let clock = clock(field)?;
+    match fields.take() {
+        None => Some(Some(clock)),
+        Some(_) => None,
+    }
+}
+
+fn clock(field: &[u8]) -> Option<u32>
+    ensures { result ≡ clock_read field.now }
+{
+    match field {
+        [b'@', digits @ ..] => number(digits),
+        _ => None,
+    }
+}

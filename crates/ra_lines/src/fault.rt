@@ -1,0 +1,60 @@
+//! Why a line or a list of names is not taken.
+ghost use Rattle.ra_lines.specs.declared.fault.LineFault.TheVariants as line_fault;
+ghost use Rattle.ra_lines.specs.declared.fault.NamesFault.TheVariants as names_fault;
+ghost use Rattle.std.specs.Prelude.{◌≡◌};
+
+use ra_labels::NoMemory;
+use std::alloc::{AllocError, AllocFailed};
+
+/// Why a line is not read.
+#[derive(Clone, Copy, Debug, PartialEq, Eq)]
+pub enum LineFault {
+    /// It is not a line of the text's grammar.
+    Syntax,
+    /// A growth was refused for want of memory.
+    NoMemory,
+}
+
+impl From<AllocError> for LineFault {
+    ghost from_gives = { λ _ fault. fault ≡ line_fault.NoMemory };
+
+    fn from(_refused: AllocError) -> LineFault {
+        LineFault::NoMemory
+    }
+}
+
+impl<T: Drop> From<AllocFailed<T>> for LineFault {
+    ghost from_gives = { λ _ fault. fault ≡ line_fault.NoMemory };
+
+    fn from(_refused: AllocFailed<T>) -> LineFault {
+        LineFault::NoMemory
+    }
+}
+
+impl From<NoMemory> for LineFault {
+    ghost from_gives = { λ _ fault. fault ≡ line_fault.NoMemory };
+
+    fn from(_refused: NoMemory) -> LineFault {
+        LineFault::NoMemory
+    }
+}
+
+/// Why names are not those of a history.
+#[derive(Clone, Copy, Debug, PartialEq, Eq)]
+pub enum NamesFault {
+    /// There are none, or more than 16.
+    BadCount,
+    /// The least place, from 0, whose name has another form than names have, is a word of the format's own, or repeats
+    /// an earlier one.
+    BadName(u32),
+    /// A growth was refused for want of memory.
+    NoMemory,
+}
+
+impl From<NoMemory> for NamesFault {
+    ghost from_gives = { λ _ fault. fault ≡ names_fault.NoMemory };
+
+    fn from(_refused: NoMemory) -> NamesFault {
+        NamesFault::NoMemory
+    }
+}

@@ -1,0 +1,60 @@
+//! Laws above the definitions of lines, each the clause of a function that does nothing.
+ghost use Rattle.std.specs.Prelude.{◌≡◌, ◌↔◌, ◌≤◌, ℕ, List, Option, Some, length};
+ghost use Rattle.std.specs.List.{AllByRecursion};
+ghost use Rattle.ra_labels.specs.declared.kind.Kind.{Kind};
+ghost use Rattle.ra_labels.specs.declared.command.Command.{Command};
+ghost use Rattle.ra_labels.specs.declared.reply.Fault.{Fault};
+ghost use Rattle.ra_labels.specs.declared.reply.Reply.{Reply};
+ghost use Rattle.ra_lines.specs.Grammar.{AreNames, first_line, fields_of, ListsNames, Spells, IsAtReplica, Says};
+ghost use Rattle.ra_lines.specs.Reading.{kind_read, names_read, command_read};
+ghost use Rattle.ra_lines.specs.Replies.{reply_line, end_line};
+ghost use Rattle.ra_lines.specs.Spelling.{AreSmall, AreShort, HasLine, line_of, text_of};
+ghost use Rattle.ra_lines.specs.declared.limits.TheConstants.{MOST_COMMANDS};
+
+/// The kind that is read of a first line is the one whose first line it is.
+pub fn a_first_line_is_read()
+    ensures { (kind : Kind) (line : List ℕ) → (kind_read line ≡ Some kind) ↔ (line ≡ first_line kind) }
+{}
+
+/// The names that are read of a second line are those that it lists.
+pub fn a_line_of_names_is_read()
+    ensures { (names : List (List ℕ)) (line : List ℕ) → (names_read line ≡ Some names) ↔ ListsNames line names }
+{}
+
+/// The command that is read of a further line is the one that it spells.
+pub fn a_line_of_a_command_is_read()
+    ensures { (kind : Kind) (names : List (List ℕ)) (line : List ℕ) (command : Command) →
+        (command_read kind names (fields_of line) ≡ Some command) ↔ Spells kind names line command }
+{}
+
+/// In a history of one kind with the same names, a line spells at most one command.
+pub fn a_line_spells_one_command()
+    ensures { (kind : Kind) (names : List (List ℕ)) (line : List ℕ) (one other : Command) →
+        Spells kind names line one → Spells kind names line other → one ≡ other }
+{}
+
+/// In a history of one kind with the same names, a command at a replica that has one of the names is spelled by at most
+/// one line. (A name that is not one of them stands for a replica that is not there, as many others do.)
+pub fn a_command_has_one_spelling()
+    ensures { (kind : Kind) (names : List (List ℕ)) (line other : List ℕ) (command : Command) →
+        IsAtReplica names command → Spells kind names line command → Spells kind names other command → line ≡ other }
+{}
+
+/// The line that is written of a command spells it, where its replica has a name, the kind has words for it and its
+/// numbers are of 32 bits.
+pub fn a_written_line_spells_its_command()
+    ensures { (kind : Kind) (names : List (List ℕ)) (command : Command) → AreNames names → HasLine kind names command →
+        AreSmall command → Spells kind names (line_of names command) command }
+{}
+
+/// A text that is written of a history, with lines that spell its commands and are not too long, says that history.
+pub fn a_written_text_says_its_history()
+    ensures { (kind : Kind) (names : List (List ℕ)) (commands : List Command) (text : List ℕ) → AreNames names →
+        AllByRecursion (HasLine kind names) commands → AreShort names commands → AllByRecursion AreSmall commands →
+        length commands ≤ MOST_COMMANDS → text ≡ text_of kind names commands → Says text kind names commands }
+{}
+
+/// No reply line is an `end` line.
+pub fn no_reply_line_is_an_end_line()
+    ensures { (reply : Reply) (labels : ℕ) (fault : Option Fault) → reply_line reply ≡ end_line labels fault → ⊥ }
+{}

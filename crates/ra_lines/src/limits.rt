@@ -1,0 +1,13 @@
+//! The limits of lines.
+
+/// The most bytes of a line, its line feed left out.
+pub const LONGEST_LINE: usize = 1_048_576;
+
+/// The most commands of a text.
+pub const MOST_COMMANDS: u32 = 1_048_576;
+
+/// The most replicas that a history may have.
+pub const MOST_NAMES: usize = 16;
+
+/// The most bytes of a name.
+pub const LONGEST_NAME: usize = 16;

@@ -1,0 +1,32 @@
+//! Lists of a line.
+ghost use Rattle.std.specs.Prelude.{◌≡◌, IfOk};
+ghost use Rattle.ra_lines.specs.Reading.{list_read};
+
+use crate::fields::cut_at;
+use crate::number::number;
+use ra_labels::{Elements, NoMemory};
+use std::alloc::Global;
+
+/// The list that the field spells: a minus for the empty one, else numbers joined by single commas. `None` where it
+/// spells none. Costs as much as the field is long, and takes memory for the list.
+pub fn list(alloc: Global, field: &[u8]) -> Result<Option<Elements>, NoMemory>
+    ensures { IfOk result (λ list. list ≡ list_read field.now) }
+{
+    let mut items = Vec::new(alloc);
+    if field == b"-".as_slice() {
+        return Ok(Some(Elements::new(items)));
+    }
+    let mut rest = field;
+    while let Some((front, behind)) = cut_at(b',', rest) {
+        let Some(item) = number(front) else {
+            return Ok(None);
+        };
+        items.push(item)?;
+        rest = behind;
+    }
+    let Some(last) = number(rest) else {
+        return Ok(None);
+    };
+    items.push(last)?;
+    Ok(Some(Elements::new(items)))
+}

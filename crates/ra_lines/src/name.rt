@@ -1,0 +1,226 @@
+//! Names of replicas.
+ghost use Rattle.std.specs.Prelude.{◌≡◌, ◌≤◌, ℕ, ◌++◌, ◌∷◌, ◌||◌, [], List, IfOk, IfErr, IfSome, IsNone, OnOk, OnErr, IsErrOf, length, map, bytes_eq, option_copied, slice_get};
+ghost use Rattle.std.specs.List.{list_all, list_any};
+ghost use Rattle.ra_lines.specs.Grammar as grammar;
+ghost use Rattle.ra_lines.specs.Grammar.{has_form_of_name, is_reserved, place_of, ListsNames, AreNames};
+ghost use Rattle.ra_lines.specs.Reading.{replica_read};
+ghost use Rattle.ra_lines.specs.Names.{AreNamesSoFar, MayJoin, bytes_of_each, texts_of, is_bad_behind, AreDistinctNames, IsFirstBad, IsFaultOf};
+ghost use Rattle.ra_lines.specs.declared.fault.LineFault.TheVariants.{Syntax};
+
+use crate::fault::{LineFault, NamesFault};
+use crate::fields::Fields;
+use crate::limits::{LONGEST_NAME, MOST_NAMES};
+use indexmap::IndexSet;
+use ra_labels::NoMemory;
+use std::alloc::Global;
+use std::marker::Model;
+
+/// Has the word the form of a name, and is it none of the format's own words?
+pub fn is_name(word: &[u8]) -> bool
+    ensures { result ≡ grammar.is_name word.now }
+{
+    has_form(word) && word != b"verdict".as_slice() && word != b"join".as_slice()
+}
+
+fn has_form(word: &[u8]) -> bool
+    ensures { result ≡ has_form_of_name word.now }
+{
+    match word {
+        [] => false,
+        [first, more @ ..] => {
+            first.is_ascii_lowercase() && more.len() < LONGEST_NAME && may_follow(more)
+        }
+    }
+}
+
+fn may_follow(bytes: &[u8]) -> bool
+    ensures { result ≡ list_all grammar.may_follow bytes.now }
+{
+    bytes
+        .iter()
+        .all(|byte| byte.is_ascii_lowercase() || byte.is_ascii_digit())
+}
+
+/// The names of a history's replicas, whose places are the replicas' numbers. Contracts see the list of the names.
+#[derive(Drop)]
+pub struct Names {
+    set: IndexSet<Vec<u8>>,
+}
+
+impl Model for Names {
+    ghost use Rattle.std.specs.Prelude.{List, ℕ};
+
+    ghost Value = { List (List ℕ) };
+
+    ghost use Rattle.ra_lines.specs.Names.{bytes_of_each};
+
+    ghost view = { λ n. bytes_of_each n.set.keys };
+
+    ghost use Rattle.ra_lines.specs.NamesKept.{NamesKept};
+
+    ghost invariant = { λ n. NamesKept n.set.keys };
+}
+
+impl Names {
+    /// These names, in this order. `BadCount` where there are none or more than 16; else `BadName` with the least place
+    /// whose name has another form than names have, is reserved or repeats an earlier one; memory is asked for only
+    /// where there is none. Costs as much as the names are long; each of them is compared with those before it.
+    pub fn new(alloc: Global, names: &[&str]) -> Result<Names, NamesFault>
+        ensures names { IfOk result (λ list. list ≡ texts_of names.now) }
+        ensures good { OnOk result (AreNames (texts_of names.now)) }
+        ensures fault { IfErr result (IsFaultOf (texts_of names.now)) }
+    {
+        if names.is_empty() || names.len() > MOST_NAMES {
+            return Err(NamesFault::BadCount);
+        }
+        if let Some(place) = first_bad(names) {
+            return Err(NamesFault::BadName(place as u32));
+        }
+        Ok(Names::of(alloc, names)?)
+    }
+
+    // These words, which are names.
+    fn of(alloc: Global, names: &[&str]) -> Result<Names, NoMemory>
+        requires { AreNames (texts_of names.now) }
+        ensures { IfOk result (λ list. list ≡ texts_of names.now) }
+    {
+        let mut list = Names::none(alloc);
+        for name in names {
+            list.push(name.as_bytes())?;
+        }
+        Ok(list)
+    }
+
+    /// The names that a text's second line lists.
+    pub fn read(alloc: Global, line: &[u8]) -> Result<Names, LineFault>
+        ensures found { IfOk result (λ names. ListsNames line.now names) }
+        ensures syntax { IsErrOf result Syntax → (names : List (List ℕ)) → ListsNames line.now names → ⊥ }
+    {
+        let mut fields = Fields::of(line);
+        match fields.take() {
+            Some(word) if word == b"replicas".as_slice() => {}
+            _ => return Err(LineFault::Syntax),
+        }
+        let mut names = Names::none(alloc);
+        while let Some(name) = fields.take() {
+            names.add(name)?;
+        }
+        if names.count() == 0 {
+            return Err(LineFault::Syntax);
+        }
+        Ok(names)
+    }
+
+    fn none(alloc: Global) -> Names
+        ensures { result ≡ [] }
+    {
+        Names {
+            set: IndexSet::new(alloc),
+        }
+    }
+
+    /// How many names there are.
+    pub fn count(&self) -> u8
+        ensures { result ≡ length self.now }
+    {
+        self.set.len() as u8
+    }
+
+    /// The name of the replica with this number. `None` where there is none.
+    pub fn name(&self, replica: u8) -> Option<&[u8]>
+        ensures { option_copied result ≡ slice_get self.now replica }
+    {
+        match self.set.get_index(replica as usize) {
+            Some(name) => Some(name.as_slice()),
+            None => None,
+        }
+    }
+
+    // What is kept of them.
+    pub fn are_names(&self)
+        ensures { AreNamesSoFar self.now }
+    {
+        let _ = &self.set;
+    }
+
+    /// The number of the replica that the word stands for; the number of names where it is a name that no replica has,
+    /// and `None` where it is no name. It is looked up, and the names are not walked through: costs as much as the word
+    /// is long.
+    pub fn replica(&self, word: &[u8]) -> Option<u8>
+        ensures { result ≡ replica_read self.now word.now }
+    {
+        let place = place_in(&self.set, word);
+        // What was listed is a name.
+        if place < self.set.len() || is_name(word) {
+            Some(place as u8)
+        } else {
+            None
+        }
+    }
+
+    // Adds a name at the end. An `Err` changes nothing.
+    fn add(&mut self, name: &[u8]) -> Result<(), LineFault>
+        ensures ok { OnOk result (self.new ≡ self.old ++ name.now ∷ []) }
+        ensures may { OnOk result (MayJoin self.old name.now) }
+        ensures syntax { IsErrOf result Syntax → MayJoin self.old name.now → ⊥ }
+        ensures err { OnErr result (self.new ≡ self.old) }
+    {
+        let is_full = self.set.len() == MOST_NAMES;
+        if is_full || !is_name(name) || place_in(&self.set, name) < self.set.len() {
+            return Err(LineFault::Syntax);
+        }
+        self.push(name)?;
+        Ok(())
+    }
+
+    // The same of a name that may stand there.
+    fn push(&mut self, name: &[u8]) -> Result<(), NoMemory>
+        requires { MayJoin self.old name.now }
+        ensures ok { OnOk result (self.new ≡ self.old ++ name.now ∷ []) }
+        ensures err { OnErr result (self.new ≡ self.old) }
+    {
+        let own = Vec::from_slice(*self.set.allocator(), name)?;
+        self.set.insert(own)?;
+        Ok(())
+    }
+}
+
+fn place_in(set: &IndexSet<Vec<u8>>, name: &[u8]) -> usize
+    ensures place { result ≡ place_of (bytes_of_each set.now.keys) name.now }
+    ensures bound { result ≤ length set.now.keys }
+{
+    match set.get_index_of(name) {
+        Some(place) => place,
+        None => set.len(),
+    }
+}
+
+// The first place whose word is no name or repeats an earlier one.
+fn first_bad(words: &[&str]) -> Option<usize>
+    ensures bad { IfSome result (IsFirstBad (texts_of words.now)) }
+    ensures good { IsNone result → AreDistinctNames (texts_of words.now) }
+{
+    for (place, word) in words.iter().enumerate() {
+        if is_bad_behind(&words[..place], word) {
+            return Some(place);
+        }
+    }
+    None
+}
+
+fn is_bad_behind(before: &[&str], word: &str) -> bool
+    ensures { result ≡ is_bad_behind (texts_of before.now) word.now }
+{
+    !is_name(word.as_bytes()) || is_among(word, before)
+}
+
+fn is_among(word: &str, words: &[&str]) -> bool
+    ensures { result ≡ list_any (bytes_eq word.now) (texts_of words.now) }
+{
+    for other in words {
+        if word == *other {
+            return true;
+        }
+    }
+    false
+}

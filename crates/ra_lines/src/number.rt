@@ -1,0 +1,77 @@
+//! Numbers of a line, in digits with no zero in front.
+ghost use Rattle.std.specs.Prelude.{◌≡◌};
+ghost use Rattle.ra_lines.specs.Reading.{begins_as_number, digit_read, digits_read, number_read, signed_read, above_zero, below_zero};
+
+/// The number that the field spells, which is at most 4,294,967,295. Each digit is looked at once.
+#[tactic(auto, unfolding(crate::specs::Reading::number_read))]
+pub fn number(field: &[u8]) -> Option<u32>
+    ensures { result ≡ number_read field.now }
+{
+    if begins_as_number(field) {
+        digits(field)
+    } else {
+        None
+    }
+}
+
+/// The number with its sign that the field spells, from -2,147,483,648 to 2,147,483,647.
+pub fn signed_number(field: &[u8]) -> Option<i32>
+    ensures { result ≡ signed_read field.now }
+{
+    match field {
+        [] => None,
+        [b'-', digits @ ..] => below_zero(number(digits)?),
+        _ => above_zero(number(field)?),
+    }
+}
+
+fn begins_as_number(field: &[u8]) -> bool
+    ensures { result ≡ begins_as_number field.now }
+{
+    match field {
+        [] => false,
+        [b'0', more @ ..] => more.is_empty(),
+        [first, ..] => first.is_ascii_digit(),
+    }
+}
+
+fn digits(field: &[u8]) -> Option<u32>
+    ensures { result ≡ digits_read 0 field.now }
+{
+    let mut value: u32 = 0;
+    for byte in field {
+        value = with_digit(value, *byte)?;
+    }
+    Some(value)
+}
+
+// The number that the digit spells behind those of `value`, where it is of 32 bits.
+fn with_digit(value: u32, byte: u8) -> Option<u32>
+    ensures { result ≡ digit_read value byte }
+{
+    if !byte.is_ascii_digit() {
+        return None;
+    }
+    let next = value as u64 * 10 + (byte - b'0') as u64;
+    if next <= u32::MAX as u64 {
+        Some(next as u32)
+    } else {
+        None
+    }
+}
+
+fn above_zero(size: u32) -> Option<i32>
+    ensures { result ≡ above_zero size }
+{
+    0i32.checked_add_unsigned(size)
+}
+
+fn below_zero(size: u32) -> Option<i32>
+    ensures { result ≡ below_zero size }
+{
+    if size == 0 {
+        None
+    } else {
+        0i32.checked_sub_unsigned(size)
+    }
+}

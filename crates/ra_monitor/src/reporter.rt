@@ -1,0 +1,92 @@
+//! A monitor with its tickets, for programs that prove nothing of tickets themselves.
+ghost use Rattle.std.specs.Prelude.{◌≡◌, ◌++◌, ◌∷◌, ◌↔◌, [], length, IsTrue, IfOk, IfErr, OnErr, IsErrOf};
+ghost use Rattle.ra_labels.specs.Answer.{answer_of};
+ghost use Rattle.ra_monitor.specs.Limits.{AreReplicas, IsLimit};
+ghost use Rattle.ra_monitor.specs.Replies.{is_yes};
+ghost use Rattle.ra_ticket.specs.Log.{unstepped};
+
+use crate::faults::NewFault;
+use crate::monitor::Monitor;
+use ra_labels::{Command, Kind, Reply};
+use ra_ticket::{Journal, StepFault};
+use std::alloc::Global;
+use std::marker::Model;
+
+/// A monitor that one thread tells of each command in turn. It has the monitor's tickets with it: that of an entry is
+/// the number of entries before it.
+#[derive(Drop)]
+pub struct Reporter {
+    monitor: Monitor,
+}
+
+impl Model for Reporter {
+    ghost use Rattle.ra_monitor.specs.Monitor as model;
+
+    ghost Value = { model.Monitor };
+
+    ghost use Rattle.ra_monitor.specs.Reporter.{reported_to, ReporterKept};
+
+    ghost view = { λ r. reported_to r };
+
+    ghost invariant = { λ r. ReporterKept r };
+}
+
+impl Reporter {
+    ghost use Rattle.ra_monitor.specs.Monitor.{records_of, IsLegalLog, IsRaLinearizable, IsNoAtFault};
+
+    /// A reporter with a monitor of a history of this kind, at this many replicas, whose log may have `room` entries.
+    pub fn new(alloc: Global, kind: Kind, replicas: u8, room: u32) -> Result<Reporter, NewFault>
+        ensures log { IfOk result (λ reporter. reporter.log ≡ []) }
+        ensures kind { IfOk result (λ reporter. reporter.setup.kind ≡ kind) }
+        ensures replicas { IfOk result (λ reporter. reporter.setup.replicas ≡ replicas) }
+        ensures limit { IfOk result (λ reporter. reporter.setup.limit ≡ room) }
+        ensures bad_replicas { IsErrOf result NewFault.BadReplicas ↔ (AreReplicas replicas → ⊥) }
+        ensures bad_limit { IsErrOf result NewFault.BadLimit ↔ (AreReplicas replicas × (IsLimit room → ⊥)) }
+    {
+        let monitor = Monitor::new(alloc, kind, replicas, room)?;
+        Ok(Reporter { monitor })
+    }
+
+    /// Tells the monitor of a command and answers its reply, which is logged under pass 0.
+    ///
+    /// `Full` comes exactly where the log has as many entries as its room, and is tested first; `NoMemory` where a
+    /// growth was refused. After both nothing changed, and the command is handed back. It costs what `Monitor::step`
+    /// does.
+    pub fn tell(&mut self, command: Command) -> Result<Reply, StepFault<Command>>
+        // The reply is the one-thread monitor's, and is logged.
+        ensures reply { IfOk result (λ reply.
+            reply ≡ answer_of self.old.setup.kind self.old.setup.replicas
+            (records_of self.old.setup self.old.log) command) }
+        ensures logged { IfOk result (λ reply. self.new.log ≡ self.old.log
+            ++ record { pass = 0; ticket = length self.old.log; command = command; reply = reply } ∷ []) }
+        ensures same_setup { self.new.setup ≡ self.old.setup }
+        ensures legal { IsLegalLog self.new.setup self.new.log }
+
+        // A yes is evidence, and a no comes exactly where the fault is.
+        ensures yes { IfOk result (λ reply. IsTrue (is_yes reply) → IsRaLinearizable self.new.setup self.new.log) }
+        ensures no { IfOk result (λ reply. IsNoAtFault self.new.setup self.new.log reply) }
+
+        // After a fault nothing changed.
+        ensures full { (result ≡ Err (StepFault.Full command)) ↔ (length self.old.log ≡ self.old.setup.limit) }
+        ensures unchanged { OnErr result (self.new.log ≡ self.old.log) }
+        ensures handed_back { IfErr result (λ fault. unstepped fault ≡ command) }
+    {
+        let ticket = u64::from(self.monitor.calls());
+        self.monitor.step(0, ticket, command)
+    }
+
+    /// The monitor, to look at: its log, its sequence, its report.
+    pub fn monitor(&self) -> &Monitor
+        ensures { result.now ≡ self.now }
+    {
+        &self.monitor
+    }
+
+    /// Gives the monitor up to the caller.
+    pub fn into_monitor(self) -> Monitor
+        ensures { result ≡ self }
+    {
+        let Reporter { monitor } = self;
+        monitor
+    }
+}

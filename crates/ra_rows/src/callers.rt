@@ -1,0 +1,97 @@
+//! Reporters, which own a monitor or a pass of a desk.
+
+use crate::commands::{counter_of, got, increment, read};
+use ra_labels::{Cause, Command, Kind, Refusal, Reply};
+use ra_monitor::{DeskReporter, Reporter};
+use ra_ticket::{CallFault, Caller, CloseFault, Glance, StepFault};
+use std::alloc::Global;
+use std::process::Abort;
+use std::sync::Wait;
+use std::test::Fail;
+use std::thread;
+
+// Two reporters of one desk, the one with pass 0 first.
+fn two_reporters(rt: &impl Abort, alloc: Global, room: u32) -> (DeskReporter, DeskReporter) {
+    let Ok(mut reporters) = Caller::open(alloc, counter_of(rt, alloc, 3, room), 2) else {
+        panic!(rt; "no desk");
+    };
+    let (Some(second), Some(first)) = (reporters.pop(), reporters.pop()) else {
+        panic!(rt; "no reporters");
+    };
+    (first, second)
+}
+
+// How many of so many increments are accepted.
+fn accepted<R: Wait>(rt: &R, reporter: &mut DeskReporter, replica: u8, count: u32) -> u32 {
+    let mut accepted = 0u32;
+    for _ in 0..count {
+        if matches!(reporter.submit(rt, increment(replica)), Ok(Reply::Ok(_))) {
+            accepted = accepted.saturating_add(1);
+        }
+    }
+    accepted
+}
+
+#[test]
+fn a_reporter_is_answered_as_the_monitor(rt: HostRuntime) -> Result<(), Fail> {
+    let Ok(mut reporter) = Reporter::new(rt.alloc(), Kind::Counter, 3, 6) else {
+        panic!(rt; "no monitor");
+    };
+    assert_eq!(rt; reporter.tell(increment(0)), Ok(Reply::Ok(0)));
+    assert_eq!(rt; reporter.tell(got(1, 0)), Ok(Reply::Got(0)));
+    let again = Ok(Reply::Refused(Refusal::AlreadySeen));
+    assert_eq!(rt; reporter.tell(got(1, 0)), again);
+    assert_eq!(rt; reporter.tell(read(1, 1)), Ok(Reply::Ok(1)));
+    assert_eq!(rt; reporter.tell(Command::Verdict), Ok(Reply::Yes(2)));
+    let no = Reply::No {
+        label: 2,
+        cause: Cause::Query,
+    };
+    assert_eq!(rt; reporter.tell(read(2, 1)), Ok(no));
+    let full = Err(StepFault::Full(Command::Verdict));
+    assert_eq!(rt; reporter.tell(Command::Verdict), full);
+    assert_eq!(rt; reporter.monitor().report().refused, 1);
+    for (place, entry) in reporter.into_monitor().log().iter().enumerate() {
+        assert_eq!(rt; (entry.pass, entry.ticket), (0, place as u64));
+    }
+    Ok(())
+}
+
+#[test]
+fn two_threads_report_to_one_desk(rt: HostRuntime) -> Result<(), Fail> {
+    let (mut first, mut second) = two_reporters(&rt, rt.alloc(), 2_000);
+    let taken = thread::join(
+        &rt,
+        || accepted(&rt, &mut first, 0, 1_000),
+        || accepted(&rt, &mut second, 1, 1_000),
+    );
+    assert_eq!(rt; taken, (1_000, 1_000));
+    let all = Glance {
+        calls: 2_000,
+        fault: None,
+    };
+    assert_eq!(rt; (first.glance(), second.glance()), (all, all));
+    Ok(())
+}
+
+#[test]
+fn a_closed_desk_has_its_log(rt: HostRuntime) -> Result<(), Fail> {
+    let (mut first, mut second) = two_reporters(&rt, rt.alloc(), 2);
+    assert_eq!(rt; first.try_submit(increment(0)), Ok(Reply::Ok(0)));
+    assert_eq!(rt; second.submit(&rt, got(1, 0)), Ok(Reply::Got(0)));
+    let full = Err(CallFault::Full(Command::Verdict));
+    assert_eq!(rt; second.try_submit(Command::Verdict), full);
+    let Err(CloseFault::Shared(second)) = second.close() else {
+        panic!(rt; "closed with another reporter left");
+    };
+    assert_eq!(rt; (first.number(), second.number()), (0, 1));
+    drop(first);
+    let Ok(monitor) = second.close() else {
+        panic!(rt; "not closed");
+    };
+    assert_eq!(rt; monitor.log().len(), 2);
+    for (place, entry) in monitor.log().iter().enumerate() {
+        assert_eq!(rt; (usize::from(entry.pass), entry.ticket), (place, place as u64));
+    }
+    Ok(())
+}

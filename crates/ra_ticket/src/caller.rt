@@ -1,0 +1,177 @@
+//! A pass together with its lock, for programs that prove nothing of passes themselves.
+ghost use Rattle.std.specs.Arc.{arc_value};
+ghost use Rattle.ra_ticket.specs.Passes.{IsPassOf};
+
+use crate::close::Unsettled;
+use crate::fault::{CallFault, OpenFault};
+use crate::glance::Glance;
+use crate::journal::Journal;
+use crate::lock::TicketLock;
+use crate::pass::Pass;
+use std::alloc::{AllocError, Global};
+use std::sync::{Arc, Wait};
+
+/// A pass with its lock, which it shares with the other callers. It may go to another thread, and one that is dropped
+/// between calls harms nobody: the journal goes with the last of them.
+#[derive(Drop)]
+pub struct Caller<M: Journal> {
+    pub(crate) lock: Arc<TicketLock<M>, Global>,
+    pub(crate) pass: Pass<M>,
+    ghost own: { IsPassOf (arc_value lock) pass },
+}
+
+/// Why the journal did not come back.
+#[derive(Drop)]
+pub enum CloseFault<M: Journal> {
+    /// Other callers of the lock are left. This one comes back as it was.
+    Shared(Caller<M>),
+    /// A ticket was drawn and not served. The journal is given up.
+    Unsettled(Unsettled),
+}
+
+impl<M: Journal> Caller<M> {
+    ghost use Rattle.std.specs.Prelude.{◌≡◌, ◌≢◌, ◌+◌, ◌<◌, ◌≤◌, ◌⊎◌, [], length, map, All};
+    ghost use Rattle.std.specs.Prelude.{IfOk, IfErr, IfSome, IsOkUnless, Some};
+    ghost use Rattle.std.specs.List.{range_with_len};
+    ghost use Rattle.ra_ticket.specs.Log.{BeginsWith, IsLegal, entries_of};
+    ghost use Rattle.ra_ticket.specs.Faults.{unserved, IsWorn, IsFull, IsNoMemory, IsBusy};
+    ghost use Rattle.ra_ticket.specs.Passes.{IsPassOf, IsSamePass, IsLogged, KnowsLegal, IsMineAndThen};
+    ghost use Rattle.ra_ticket.specs.Passes.{number_of, next_reached, serving_reached, pass_setup, seen, mine, IsFoundBusy};
+    ghost use Rattle.ra_ticket.specs.declared.draw.TheConstants.{GREATEST_TICKET};
+    ghost use Rattle.ra_ticket.specs.declared.open.TheConstants.{MOST_PASSES};
+    ghost use Rattle.ra_ticket.specs.Callers.{pass_of, passes_of, AreOfOneLock, HandsBack, TellsUnsettled};
+
+    /// Makes a lock over a journal with an empty log, and 1 to `MOST_PASSES` callers of it, numbered from 0 in the
+    /// list's order. The first ticket is 0. Its cost is linear in the number of callers.
+    pub fn open(alloc: Global, state: M, callers: u8) -> Result<Vec<Caller<M>>, OpenFault<M>>
+        requires { M.log state ≡ [] }
+        ensures numbers { IfOk result (λ v. map number_of (passes_of v.items) ≡ range_with_len 0 callers) }
+        ensures one_lock { IfOk result (λ v. AreOfOneLock (passes_of v.items)) }
+        ensures next { IfOk result (λ v. All (λ p. next_reached p ≡ 0) (passes_of v.items)) }
+        ensures serving { IfOk result (λ v. All (λ p. serving_reached p ≡ 0) (passes_of v.items)) }
+        ensures setup { IfOk result (λ v. All (λ p. pass_setup p ≡ Some (M.setup state)) (passes_of v.items)) }
+        ensures seen { IfOk result (λ v. All (λ p. seen p ≡ []) (passes_of v.items)) }
+        ensures bad_passes { (callers ≡ 0) ⊎ (MOST_PASSES < callers) → result ≡ Err (OpenFault.BadPasses state) }
+        ensures else_no_memory { 0 < callers → callers ≤ MOST_PASSES → IsOkUnless result OpenFault.NoMemory }
+    {
+        let (lock, passes) = TicketLock::open(alloc, state, callers, 0)?;
+        let Ok(lock) = Arc::new(alloc, lock) else {
+            return Err(OpenFault::NoMemory);
+        };
+        Ok(Caller::share(alloc, &lock, passes)?)
+    }
+
+    // Gives each of the passes its lock.
+    fn share(
+        alloc: Global,
+        lock: &Arc<TicketLock<M>, Global>,
+        passes: Vec<Pass<M>>,
+    ) -> Result<Vec<Caller<M>>, AllocError>
+        requires { All (IsPassOf (arc_value lock.now)) passes.items }
+        ensures { IfOk result (λ v. passes_of v.items ≡ passes.items) }
+    {
+        let mut callers = Vec::with_capacity(alloc, passes.len())?;
+        for pass in passes {
+            let lock = Arc::try_clone(lock)?;
+            callers.push(Caller { lock, pass })?;
+        }
+        Ok(callers)
+    }
+
+    /// The place of its pass in the list that `open` gave, from 0.
+    pub fn number(&self) -> u8
+        ensures { result ≡ number_of (pass_of self.now) }
+    {
+        self.pass.number()
+    }
+
+    /// As `TicketLock::submit` by its pass, at the same cost.
+    pub fn submit<R: Wait>(
+        &mut self,
+        rt: &R,
+        command: M::Command,
+    ) -> Result<M::Reply, CallFault<M::Command>>
+        ensures pass { IsSamePass (pass_of self.old) (pass_of self.new) }
+        ensures legal { IfOk result (λ _. KnowsLegal M.reply_of (pass_of self.new)) }
+        ensures legal_still { KnowsLegal M.reply_of (pass_of self.old) → KnowsLegal M.reply_of (pass_of self.new) }
+        ensures logged { IfOk result (λ r. IsLogged (pass_of self.old) (pass_of self.new) command r) }
+        ensures mine { IfOk result (λ r. IsMineAndThen (pass_of self.old) (pass_of self.new) command r) }
+        ensures mine_still { IfErr result (λ _. mine (pass_of self.new) ≡ mine (pass_of self.old)) }
+        ensures handed_back { IfErr result (λ f. unserved f ≡ command) }
+        ensures worn_at_the_end { IfErr result (λ f. IsWorn f
+            → next_reached (pass_of self.new) ≡ GREATEST_TICKET + 1) }
+        ensures worn_unchanged { IfErr result (λ f. IsWorn f → seen (pass_of self.new) ≡ seen (pass_of self.old)) }
+        ensures full_at_the_limit { IfErr result (λ f. IsFull f → IfSome (pass_setup (pass_of self.new))
+            (λ s. length (seen (pass_of self.new)) ≡ M.limit_of s)) }
+        // After these two the ticket that was drawn is served.
+        ensures served { IfErr result (λ f. IsFull f ⊎ IsNoMemory f
+            → serving_reached (pass_of self.old) < serving_reached (pass_of self.new)) }
+        ensures no_memory_below_the_limit { IfErr result (λ f. IsNoMemory f → IfSome (pass_setup (pass_of self.new))
+            (λ s. length (seen (pass_of self.new)) ≢ M.limit_of s)) }
+        ensures never_busy { IfErr result (λ f. ¬ (IsBusy f)) }
+    {
+        self.lock.submit(rt, &mut self.pass, command)
+    }
+
+    /// As `TicketLock::try_submit` by its pass, at the same cost: it waits for nobody.
+    pub fn try_submit(&mut self, command: M::Command) -> Result<M::Reply, CallFault<M::Command>>
+        ensures pass { IsSamePass (pass_of self.old) (pass_of self.new) }
+        ensures legal { IfOk result (λ _. KnowsLegal M.reply_of (pass_of self.new)) }
+        ensures legal_still { KnowsLegal M.reply_of (pass_of self.old) → KnowsLegal M.reply_of (pass_of self.new) }
+        ensures logged { IfOk result (λ r. IsLogged (pass_of self.old) (pass_of self.new) command r) }
+        ensures mine { IfOk result (λ r. IsMineAndThen (pass_of self.old) (pass_of self.new) command r) }
+        ensures mine_still { IfErr result (λ _. mine (pass_of self.new) ≡ mine (pass_of self.old)) }
+        ensures handed_back { IfErr result (λ f. unserved f ≡ command) }
+        ensures worn_at_the_end { IfErr result (λ f. IsWorn f
+            → next_reached (pass_of self.new) ≡ GREATEST_TICKET + 1) }
+        ensures full_at_the_limit { IfErr result (λ f. IsFull f → IfSome (pass_setup (pass_of self.new))
+            (λ s. length (seen (pass_of self.new)) ≡ M.limit_of s)) }
+        // After these two the ticket that was drawn is served.
+        ensures served { IfErr result (λ f. IsFull f ⊎ IsNoMemory f
+            → serving_reached (pass_of self.old) < serving_reached (pass_of self.new)) }
+        ensures no_memory_below_the_limit { IfErr result (λ f. IsNoMemory f → IfSome (pass_setup (pass_of self.new))
+            (λ s. length (seen (pass_of self.new)) ≢ M.limit_of s)) }
+        ensures busy_found { IfErr result (λ f. IsBusy f → IsFoundBusy (pass_of self.new) f) }
+        ensures busy_below_the_end { IfErr result (λ f. IsBusy f
+            → next_reached (pass_of self.new) ≤ GREATEST_TICKET) }
+        ensures not_drawn_unchanged { IfErr result (λ f. IsWorn f ⊎ IsBusy f
+            → seen (pass_of self.new) ≡ seen (pass_of self.old)) }
+    {
+        self.lock.try_submit(&mut self.pass, command)
+    }
+
+    /// As `TicketLock::glance` by its pass, at the same cost: it waits for nobody and always answers.
+    pub fn glance(&mut self) -> Glance
+        ensures pass { IsSamePass (pass_of self.old) (pass_of self.new) }
+        ensures legal { KnowsLegal M.reply_of (pass_of self.new) }
+        ensures mine { mine (pass_of self.new) ≡ mine (pass_of self.old) }
+        // It draws no ticket.
+        ensures draws_none { (next_reached (pass_of self.new) ≡ next_reached (pass_of self.old))
+            × (serving_reached (pass_of self.new) ≡ serving_reached (pass_of self.old)) }
+        ensures calls { result.calls ≡ length (seen (pass_of self.new)) }
+        ensures fault { IfSome (pass_setup (pass_of self.new))
+            (λ s. result.fault ≡ M.fault_of s (seen (pass_of self.new))) }
+    {
+        self.lock.glance(&mut self.pass)
+    }
+
+    /// Takes the journal out of the lock, as `TicketLock::close` by its pass, where no other caller of the lock is
+    /// left; else `Shared` hands this one back. It waits for nobody and needs no memory.
+    pub fn close(self) -> Result<M, CloseFault<M>>
+        ensures setup { IfOk result (λ m. pass_setup (pass_of self) ≡ Some (M.setup m)) }
+        ensures legal { IfOk result (λ m. IsLegal (M.reply_of (M.setup m)) (M.log m)) }
+        ensures begins { IfOk result (λ m. BeginsWith (M.log m) (seen (pass_of self))) }
+        ensures mine { IfOk result (λ m. entries_of (number_of (pass_of self)) (M.log m) ≡ mine (pass_of self)) }
+        ensures handed_back { IfErr result (λ f. HandsBack f self) }
+        ensures unsettled { IfErr result (λ f. TellsUnsettled f (pass_of self)) }
+    {
+        let Caller { lock, pass } = self;
+        match Arc::try_unwrap(lock) {
+            Ok(lock) => match lock.close(pass) {
+                Ok(state) => Ok(state),
+                Err(unsettled) => Err(CloseFault::Unsettled(unsettled)),
+            },
+            Err(lock) => Err(CloseFault::Shared(Caller { lock, pass })),
+        }
+    }
+}

@@ -1,0 +1,39 @@
+//! One thread tells a monitor what two replicas of a counter did, and prints each reply.
+
+use anyhow::{Result, bail};
+use ra_labels::{Command, Kind, Op};
+use ra_monitor::Reporter;
+
+// What a replica did, with the answer that it got.
+fn did(replica: u8, op: Op) -> Command {
+    Command::Operate {
+        replica,
+        op,
+        stamp: None,
+    }
+}
+
+/// Replica 1 reads its counter twice: it has one increment both times, and answers 5 the second time.
+pub fn tell(rt: &HostRuntime) -> Result<()> {
+    let Ok(mut reporter) = Reporter::new(rt.alloc(), Kind::Counter, 2, 100) else {
+        bail!("no monitor");
+    };
+    let got = Command::Deliver {
+        replica: 1,
+        label: 0,
+    };
+    let commands = [
+        did(0, Op::Inc),
+        got,
+        did(1, Op::Count(1)),
+        Command::Verdict,
+        did(1, Op::Count(5)),
+    ];
+    for command in commands {
+        match reporter.tell(command) {
+            Ok(reply) => println!(rt; "{reply:?}")?,
+            Err(fault) => bail!("{fault:?}"),
+        }
+    }
+    Ok(())
+}

@@ -1,0 +1,183 @@
+"""A small house of crates, with the tools of this one and a tool beside them that only pretends to prove."""
+import os
+import shutil
+import subprocess
+import tempfile
+import time
+from pathlib import Path
+
+TOP = Path(__file__).resolve().parent.parent
+PROGRAM = "ra_monitor_cli"
+CRATES = f"""\
+# NAME: what it stands on
+low:
+left: low
+right: low
+{PROGRAM}: left right
+other: low
+"""
+KIT = "kit of one name"
+ALL = ["left", "low", PROGRAM, "right"]
+# A run that has not ended by then is stuck.
+SECONDS = 60
+# A user without any rights, where the tests have all of them.
+NOBODY = ["setpriv", "--reuid=65534", "--regid=65534", "--clear-groups"]
+
+
+class House:
+    """The house in a folder of its own, with its tool in another one."""
+
+    def __init__(self, folder, name="house"):
+        self.folder, self.top, self.kit = Path(folder), Path(folder) / name, Path(folder) / "kit"
+        self.told = self.folder / "told"
+        self.top.mkdir()
+        shutil.copytree(TOP / "tools", self.top / "tools", ignore=shutil.ignore_patterns("__pycache__"))
+        shutil.copy2(TOP / "ra_monitor", self.top / "ra_monitor")
+        (self.top / "HANDLES").write_text("Handles allowed: none.\n")
+        (self.top / "crates.txt").write_text(CRATES)
+        (self.top / "tools" / "seconds").write_text("low 20 # of one job\nleft 30\n")
+        (self.top / ".gitignore").write_text("out/\n")
+        for name in ("low", "left", "right", "other"):
+            self.write(f"crates/{name}/src/lib.rt", f"//! The crate {name}.\n")
+        self.write("crates/low/proofs/Laws.antt", "a law\n")
+        self.write(f"crates/{PROGRAM}/src/main.rt", "first text")
+        self.git("init", "-q")
+        self.commit("a house")
+        self.make_kit()
+
+    def make_kit(self):
+        (self.kit / "bin").mkdir(parents=True)
+        shutil.copy2(TOP / "tests" / "stub_rt", self.kit / "bin" / "rt")
+        (self.kit / "KIT-ID").write_text(f"{KIT}\n")
+        (self.folder / "bin").mkdir()
+        (self.folder / "bin" / "rt").symlink_to(self.kit / "bin" / "rt")
+
+    def write(self, path, text):
+        (self.top / path).parent.mkdir(parents=True, exist_ok=True)
+        (self.top / path).write_text(text)
+
+    def git(self, *words):
+        who = ["-c", "user.name=nobody", "-c", "user.email=nobody@example.org"]
+        run = subprocess.run(["git", "-C", self.top, *who, *words], capture_output=True, text=True)
+        assert run.returncode == 0, run.stderr
+        return run.stdout
+
+    def commit(self, text):
+        self.git("add", "-A")
+        self.git("commit", "-q", "-m", text)
+
+    def environment(self, **more):
+        """What each run is given: a path that begins with this house's tool."""
+        whole = {**os.environ, "PATH": f"{self.folder / 'bin'}:{os.environ['PATH']}", "RT_TOLD": str(self.told), **more}
+        return {key: value for key, value in whole.items() if value is not None}
+
+    def start(self, *words, at="ra_monitor", env=None, **how):
+        """Starts a program of the house; without words, the first command."""
+        pipes = {"stdin": subprocess.PIPE, "stdout": subprocess.PIPE, "stderr": subprocess.PIPE, "text": True}
+        whole = [*how.pop("before", []), self.top / at, *words]
+        return subprocess.Popen(whole, env=env or self.environment(), **{"cwd": self.folder, **pipes, **how})
+
+    def run(self, *words, given="given\n", **how):
+        """What it wrote, what it said, and its status."""
+        run = self.start(*words, **how)
+        try:
+            wrote, said = run.communicate(given, timeout=SECONDS)
+        finally:
+            run.kill()
+        return Ran(wrote, said, run.returncode)
+
+    def slow(self, seconds):
+        """How long each proof takes from now on."""
+        Path(f"{self.told}.seconds").write_text(str(seconds))
+
+    def runs(self):
+        """What the tool worked on since this was last asked: for each proof the words that it told, begun and ended."""
+        lines = self.told.read_text().splitlines() if self.told.exists() else []
+        self.told.write_text("")
+        self.told.chmod(0o666)
+        return [it.split() for it in lines]
+
+    def proved(self):
+        """The crates that were worked on since this was last asked."""
+        return [it[1] for it in self.runs() if it[0] == "begin"]
+
+    def left_behind(self):
+        """What is left of rooms."""
+        return [it for it in (self.top / ".git" / "rooms", self.top / "out" / "rooms") if it.exists()]
+
+
+class Ran:
+    """How a run ended."""
+
+    def __init__(self, wrote, said, status):
+        self.wrote, self.said, self.status = wrote, said, status
+
+    def answers(self, text, words="check"):
+        """Did the program run, made of this text, and was it given these words and its input?"""
+        return (self.wrote, self.status) == (f"{text}, told {words}\ngiven\n", 3)
+
+    def refuses(self, *words):
+        """Was this a refusal in a few sentences that have these words, with status 2?"""
+        plain = "Traceback" not in self.said and "File \"" not in self.said
+        return self.status == 2 and not self.wrote and plain and all(it in self.said for it in words)
+
+    def __repr__(self):
+        return f"status {self.status}, wrote {self.wrote!r}, said {self.said!r}"
+
+
+def unprivileged():
+    """The words that take all rights from a command, which writes everywhere otherwise."""
+    return NOBODY if os.geteuid() == 0 else []
+
+
+def wait_until(is_so):
+    """Waits until this is so."""
+    late = time.monotonic() + SECONDS
+    while not is_so():
+        assert time.monotonic() < late, "it never comes"
+        time.sleep(0.01)
+
+
+CHECKS = []
+
+
+def check(it):
+    """Has a function be one of the checks, in a house of its own."""
+    CHECKS.append(it)
+    return it
+
+
+def built(house, text="first text"):
+    """Has the program built."""
+    ran = house.run("check")
+    assert ran.answers(text), ran
+    return house.proved()
+
+
+def is_built_again(house, crates, text="first text"):
+    """Is just this proved again, and is the program made anew, of this text? And is all left alone from then on?"""
+    ran = house.run("check")
+    assert ran.answers(text), ran
+    proved = sorted(house.proved())
+    assert proved == sorted(crates), proved
+    assert house.run("check").answers(text)
+    assert house.proved() == []
+
+
+def is_left_alone(house):
+    is_built_again(house, [])
+
+
+def run_checks(name, wanted):
+    """Runs all checks, or those that are wanted, and tells how many passed."""
+    checks, failed = [it for it in CHECKS if not wanted or it.__name__ in wanted], 0
+    for check in checks:
+        with tempfile.TemporaryDirectory(prefix="house ") as folder:
+            os.chmod(folder, 0o755)
+            try:
+                check(House(folder))
+            except (AssertionError, OSError, subprocess.TimeoutExpired) as why:
+                failed += 1
+                print(f"{check.__name__}: {type(why).__name__} {why}")
+    print(f"{name}: {len(checks) - failed} passed, {failed} failed")
+    return 0 if checks and not failed else 1

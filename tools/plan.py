@@ -1,0 +1,75 @@
+"""Which crate is proved next and by how many jobs, and how long all will take."""
+# A second job on a proof takes so much more of the processors in all, and so does each further one.
+COST_OF_A_JOB = 0.3
+# More jobs than this gain next to nothing.
+MOST_JOBS = 4
+# A crate is urgent where its chain is at least so long, of the longest one that is left.
+URGENT = 0.85
+
+
+class Plan:
+    """Which crates are proved, which of them begins next and by how many jobs, and how long all will take.
+
+    All work is to be small, since there are few processors, and then the longest chain short. More jobs on a proof cost
+    more work, so only the crates of the longest chain that is left get more than one.
+    """
+
+    def __init__(self, crates, names, processors):
+        self.crates, self.left, self.processors = crates, list(names), processors
+        self.seconds = crates.seconds()
+        self.proved, self.running, self.took, self.wanted = [], {}, 0.0, 0.0
+        # The chain from each crate on, itself and what stands on it, in seconds.
+        self.chain = {}
+        for name in reversed(self.left):
+            above = [self.chain[it] for it in self.chain if name in crates.stands_on[it]]
+            self.chain[name] = self.seconds[name] + max(above, default=0.0)
+
+    def next(self, now):
+        """The crate that begins now, its jobs, and whether it is urgent; or None where none can begin."""
+        idle = self.processors - sum(jobs for _, jobs in self.running.values())
+        ready = [it for it in self.left if all(below in self.proved for below in self.crates.stands_on[it])]
+        if idle <= 0 or not ready:
+            return None
+        name = max(ready, key=self.chain.get)
+        urgent = self.chain[name] >= URGENT * self.longest(now)
+        jobs = min(max(idle - len(ready) + 1, 1), MOST_JOBS) if urgent else 1
+        self.left.remove(name)
+        self.running[name] = now, jobs
+        return name, jobs, urgent
+
+    def end(self, name, now):
+        """Takes note that the crate is proved, and returns how many seconds it took."""
+        began, jobs = self.running.pop(name)
+        self.proved.append(name)
+        self.took += now - began
+        self.wanted += self.wait_for(name, jobs)
+        return now - began
+
+    def wait_for(self, name, jobs):
+        """How long this machine would be expected to take for the crate."""
+        return self.seconds[name] * (1 + COST_OF_A_JOB * (jobs - 1)) / jobs
+
+    def scale(self):
+        """How many times what is expected the proofs took so far."""
+        return self.took / self.wanted if self.wanted else 1.0
+
+    def rest(self, name, now):
+        """How long a running proof is expected to go on, in seconds."""
+        began, jobs = self.running[name]
+        whole = self.scale() * self.wait_for(name, jobs)
+        return max(whole - (now - began), whole / 10)
+
+    def longest(self, now):
+        """The longest chain that is left, in seconds."""
+        above = {it: self.rest(it, now) + self.scale() * (self.chain[it] - self.seconds[it]) for it in self.running}
+        return max([*above.values(), *(self.scale() * self.chain[it] for it in self.left)], default=0.0)
+
+    def time_left(self, now):
+        """How long all that is left will take, in words."""
+        work = sum(self.rest(it, now) * jobs for it, (_, jobs) in self.running.items())
+        work += sum(self.scale() * self.seconds[it] for it in self.left)
+        seconds = max(self.longest(now), work / self.processors)
+        minutes = round(seconds / 60)
+        if minutes < 1:
+            return "less than a minute"
+        return f"about {minutes} minute{'s' * (minutes > 1)}"
