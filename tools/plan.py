@@ -31,7 +31,7 @@ class Plan:
         if idle <= 0 or not ready:
             return None
         name = max(ready, key=self.chain.get)
-        urgent = self.chain[name] >= URGENT * self.longest(now)
+        urgent = self.scale() * self.chain[name] >= URGENT * self.longest(now)
         jobs = min(max(idle - len(ready) + 1, 1), MOST_JOBS) if urgent else 1
         self.left.remove(name)
         self.running[name] = now, jobs

@@ -60,36 +60,34 @@ fn labels_of_its_own_lead_to_a_state(rt: HostRuntime) {
     assert!(rt; issued(rt.alloc(), 2000) == Ok(true));
 }
 
-// Two replicas, of which the second issues labels on an element that it has not: they wait there.
-fn waiting(alloc: Global) -> Result<bool, NoMemory> {
-    let mut first = ReplicaList::new(alloc)?;
-    let mut second = ReplicaList::new(alloc)?;
-    let mut all = ElementList::new(alloc)?;
-    let stamp = Stamp {
-        clock: 1,
-        replica: 0,
-    };
+// A replica issues labels on the second element of all, which it has not: they wait there.
+fn waits(list: &mut ReplicaList, all: &mut ElementList) -> Result<bool, NoMemory> {
     let later = Stamp {
         clock: 2,
         replica: 1,
     };
-    let put_first = put(&mut first, &mut all, 0, 10, stamp, ROOT)?;
-    let is_lowest = second.greatest() == LOWEST && shows(&second, Vec::new(alloc));
-    let put_second = put(&mut second, &mut all, 1, 20, later, 1)?;
+    let put_steps = put(list, all, 1, 20, later, 1)?;
     if all.len() != 3 {
         return Ok(false);
     }
-    let removed = second.remove_own(&all, 2, 1)?;
-    let has_none = second.state().is_none() && second.greatest() == later;
+    let removed_steps = list.remove_own(all, 2, 1)?;
+    Ok(put_steps == Some(0) && removed_steps == 0 && list.greatest() == later)
+}
+
+// Two replicas, of which the second has nothing of what the first one issued.
+fn waiting(alloc: Global) -> Result<bool, NoMemory> {
+    let mut first = ReplicaList::new(alloc)?;
+    let mut second = ReplicaList::new(alloc)?;
+    let mut all = ElementList::new(alloc)?;
+    let is_lowest = second.greatest() == LOWEST && shows(&second, Vec::new(alloc));
+    let stamp = Stamp {
+        clock: 1,
+        replica: 0,
+    };
+    let is_put = put(&mut first, &mut all, 0, 10, stamp, ROOT)? == Some(1);
+    let is_waiting = waits(&mut second, &mut all)? && second.state().is_none();
     let shown = vec![in alloc; 10]?;
-    Ok(
-        put_first == Some(1)
-            && is_lowest
-            && put_second == Some(0)
-            && removed == 0
-            && has_none
-            && shows(&first, shown),
-    )
+    Ok(is_lowest && is_put && is_waiting && shows(&first, shown))
 }
 
 #[test]

@@ -35,6 +35,9 @@ pub fn report<R: Threads + Wait + Sync>(rt: &R, alloc: Global) -> Result<Glance>
     let (Some(mut one), Some(mut two)) = (reporters.pop(), reporters.pop()) else {
         bail!("no reporters");
     };
-    thread::join(rt, || add(rt, &mut one, 0), || add(rt, &mut two, 1));
+    let added = thread::join(rt, || add(rt, &mut one, 0), || add(rt, &mut two, 1));
+    if !added.0 || !added.1 {
+        bail!("a report was not taken");
+    }
     Ok(one.glance())
 }
