@@ -21,7 +21,7 @@ use Rattle.ra_labels.specs.Fault.{fault_of}
 use Rattle.ra_labels.specs.Answer.{when, is_kind, kind_of, misfit_of, no_at, refusal_of, answer_to_accepted, with_accepted, answer_of, records_after, records_after_all}
 use Rattle.ra_monitor.specs.declared.setup.Setup.{Setup}
 use Rattle.ra_monitor.specs.Monitor.{MonitorEntry, commands_of, records_of, answer_after}
-use Rattle.ra_ticket.specs.Log.{IsLegalAfter}
+use Rattle.ra_journal.specs.Log.{IsLegalAfter}
 use Rattle.ra_lines.specs.Grammar.{has_words}
 use Rattle.ra_lines.specs.Spelling.{HasLine}
 use Rattle.ra_history_text.specs.Accepted.{is_no, tells_accepted, accepted_one, accepted_in}

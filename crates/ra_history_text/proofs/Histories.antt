@@ -5,9 +5,9 @@ use Rattle.std.proofs.lemmas.Bool.{cases_eq, and_parts, and_from, ltb-true, lt-l
 use Rattle.std.proofs.lemmas.List.{length_push, map_push}
 use Rattle.ra_labels.specs.declared.command.Command.{Command}
 use Rattle.ra_labels.specs.Answer.{answer_of, records_after_all}
-use Rattle.ra_ticket.specs.Log.{IsAboveLast, unstepped}
-use Rattle.ra_ticket.specs.declared.journal.StepFault.{StepFault}
-use Rattle.ra_ticket.specs.declared.journal.StepFault.TheVariants as handed
+use Rattle.ra_journal.specs.Log.{IsAboveLast, unstepped}
+use Rattle.ra_journal.specs.declared.journal.StepFault.{StepFault}
+use Rattle.ra_journal.specs.declared.journal.StepFault.TheVariants as handed
 use Rattle.ra_monitor.specs.Monitor.{Monitor, MonitorEntry, commands_of, records_of}
 use Rattle.ra_history_text.specs.declared.history.History.TheInside.{Inside}
 use Rattle.ra_lines.specs.declared.limits.TheConstants.{MOST_COMMANDS}

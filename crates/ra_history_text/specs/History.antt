@@ -4,8 +4,8 @@ use Rattle.ra_labels.specs.declared.kind.Kind.{Kind}
 use Rattle.ra_labels.specs.declared.command.Command.{Command}
 use Rattle.ra_labels.specs.declared.reply.Reply.{Reply}
 use Rattle.ra_labels.specs.Answer.{answer_of}
-use Rattle.ra_ticket.specs.declared.journal.StepFault.{StepFault}
-use Rattle.ra_ticket.specs.declared.journal.StepFault.TheVariants as handed
+use Rattle.ra_journal.specs.declared.journal.StepFault.{StepFault}
+use Rattle.ra_journal.specs.declared.journal.StepFault.TheVariants as handed
 use Rattle.ra_history_text.specs.declared.fault.CheckFault.{CheckFault}
 use Rattle.ra_history_text.specs.declared.fault.CheckFault.TheVariants.{NoMemory, Full}
 use Rattle.ra_lines.specs.declared.limits.TheConstants.{MOST_COMMANDS}

@@ -7,10 +7,10 @@ ghost use Rattle.ra_history_text.specs.History.{RecordsCommand, StopsAnswering, 
 
 use crate::fault::CheckFault;
 use crate::limits::MOST_COMMANDS;
+use ra_journal::{Journal, StepFault};
 use ra_labels::{Command, Kind, NoMemory, Reply};
 use ra_lines::Names;
 use ra_monitor::{Monitor, Report};
-use ra_ticket::{Journal, StepFault};
 use std::alloc::Global;
 use std::marker::Model;
 

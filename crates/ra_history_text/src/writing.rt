@@ -10,13 +10,13 @@ ghost use Rattle.ra_history_text.specs.Writing.{TellsFirstLong, AreAsMany, recor
 use crate::fault::WriteFault;
 use crate::limits::LONGEST_LINE;
 use crate::write::write_out;
+use ra_journal::Entry;
 use ra_labels::{Command, Kind, NoMemory, Reply};
 use ra_lines::Names;
 use ra_lines::kind_line::kind_word;
 use ra_lines::size::line_size;
 use ra_lines::spelling::{put_command, put_names};
 use ra_monitor::Monitor;
-use ra_ticket::Entry;
 use std::alloc::Global;
 use std::io::Write;
 

@@ -1,6 +1,6 @@
 //! A journal that answers each command with the number of those before it.
 ghost use Rattle.std.specs.Prelude.{◌≡◌, ◌≤◌, [], length, None};
-ghost use Rattle.ra_ticket.specs.declared.journal.TheConstants.{MOST_ENTRIES};
+ghost use Rattle.ra_journal.specs.declared.journal.TheConstants.{MOST_ENTRIES};
 
 use ra_ticket::{Entry, Journal, MOST_ENTRIES, StepFault};
 use std::alloc::Global;

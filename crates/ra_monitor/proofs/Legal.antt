@@ -14,7 +14,7 @@ use Rattle.ra_labels.specs.Laws.{ReplySays}
 use Rattle.ra_labels.proofs.TheLaws.{no_fault_holds}
 use Rattle.ra_labels.proofs.TheLaws.{what_a_reply_says, no_exactly_at_a_fault, answers_in_turn-records}
 use Rattle.ra_monitor.specs.declared.setup.Setup.{Setup}
-use Rattle.ra_ticket.specs.Log.{MayFollow, IsLegalAfter}
+use Rattle.ra_journal.specs.Log.{MayFollow, IsLegalAfter}
 use Rattle.ra_monitor.specs.Replies.{is_yes, is_refused}
 use Rattle.ra_monitor.specs.Monitor.{MonitorEntry, commands_of, records_of, refused_count, IsRaLinearizable, IsNoAtFault}
 

@@ -4,7 +4,7 @@ use Rattle.std.proofs.lemmas.List.{append-nil}
 use Rattle.std.specs.Prelude.{option_map, slice_get}
 use Rattle.std.specs.Option.{ForSome}
 use Rattle.ra_monitor.specs.declared.setup.Setup.{Setup}
-use Rattle.ra_ticket.specs.Log.{last_ticket_of, MayFollow, IsLegalAfter}
+use Rattle.ra_journal.specs.Log.{last_ticket_of, MayFollow, IsLegalAfter}
 use Rattle.ra_labels.specs.declared.command.Command.{Command}
 use Rattle.ra_labels.specs.declared.reply.Reply.{Reply}
 use Rattle.ra_monitor.specs.Replies.{is_yes}

@@ -1,6 +1,6 @@
 -- How many replicas and entries there may be.
 use Rattle.std.specs.Prelude.{ℕ, ◌≤◌}
-use Rattle.ra_ticket.specs.declared.journal.TheConstants.{MOST_ENTRIES}
+use Rattle.ra_journal.specs.declared.journal.TheConstants.{MOST_ENTRIES}
 use Rattle.ra_monitor.specs.declared.limits.TheConstants.{MOST_REPLICAS}
 
 abbrev pub AreReplicas : ℕ → Type 0

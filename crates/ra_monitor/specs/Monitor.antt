@@ -1,7 +1,7 @@
 -- What contracts see of a monitor: its setup and its log, and nothing else.
 use Rattle.std.specs.Prelude.{◌≡◌, ℕ, List, [], map, count_by, Option, Some, option_map, ◌↔◌}
-use Rattle.ra_ticket.specs.declared.entry.Entry.{Entry}
-use Rattle.ra_ticket.specs.Log.{IsLegal, IsAboveLast}
+use Rattle.ra_journal.specs.declared.entry.Entry.{Entry}
+use Rattle.ra_journal.specs.Log.{IsLegal, IsAboveLast}
 use Rattle.ra_labels.specs.declared.command.Command.{Command}
 use Rattle.ra_labels.specs.declared.reply.Reply.{Reply}
 use Rattle.ra_labels.specs.declared.reply.Reply.TheVariants.{No}

@@ -1,7 +1,7 @@
 //! Laws of a log, each the clause of a function that does nothing.
 ghost use Rattle.std.specs.Prelude.{◌≡◌, ◌<◌, List, [], ◌∷◌, ◌++◌, IsTrue};
 ghost use Rattle.ra_labels.specs.Answer.{answer_of};
-ghost use Rattle.ra_ticket.specs.Log.{MayFollow, IsLegal};
+ghost use Rattle.ra_journal.specs.Log.{MayFollow, IsLegal};
 ghost use Rattle.ra_monitor.specs.contracts.monitor.MonitorJournal.TheImpl as journal;
 ghost use Rattle.ra_monitor.specs.Replies.{is_yes};
 ghost use Rattle.ra_monitor.specs.Monitor.{MonitorEntry, answer_after, records_of, IsLegalLog, IsRaLinearizable, IsNoAtFault};

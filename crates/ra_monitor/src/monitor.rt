@@ -5,7 +5,7 @@ ghost use Rattle.ra_labels.specs.Linearization.{IsRaLinearization};
 ghost use Rattle.ra_labels.specs.NamedOrder.{named_sequence};
 ghost use Rattle.ra_labels.specs.Answer.{answer_of};
 ghost use Rattle.ra_monitor.specs.Limits.{AreReplicas, IsLimit};
-ghost use Rattle.ra_ticket.specs.Log.{last_ticket_of, unstepped};
+ghost use Rattle.ra_journal.specs.Log.{last_ticket_of, unstepped};
 ghost use Rattle.ra_witness.specs.Sequence.{ref_of};
 ghost use Rattle.ra_monitor.specs.Replies.{is_yes, is_refused};
 
@@ -17,8 +17,8 @@ use crate::history::History;
 use crate::limits::MOST_REPLICAS;
 use crate::report::Report;
 use crate::setup::Setup;
+use ra_journal::{Entry, Journal, MOST_ENTRIES, StepFault};
 use ra_labels::{Command, Kind, NoMemory, Reply};
-use ra_ticket::{Entry, Journal, MOST_ENTRIES, StepFault};
 use ra_witness::PartRef;
 use std::alloc::Global;
 use std::marker::Model;

@@ -3,12 +3,12 @@ ghost use Rattle.std.specs.Prelude.{◌≡◌, ◌++◌, ◌∷◌, ◌↔◌, [
 ghost use Rattle.ra_labels.specs.Answer.{answer_of};
 ghost use Rattle.ra_monitor.specs.Limits.{AreReplicas, IsLimit};
 ghost use Rattle.ra_monitor.specs.Replies.{is_yes};
-ghost use Rattle.ra_ticket.specs.Log.{unstepped};
+ghost use Rattle.ra_journal.specs.Log.{unstepped};
 
 use crate::faults::NewFault;
 use crate::monitor::Monitor;
+use ra_journal::{Journal, StepFault};
 use ra_labels::{Command, Kind, Reply};
-use ra_ticket::{Journal, StepFault};
 use std::alloc::Global;
 use std::marker::Model;
 

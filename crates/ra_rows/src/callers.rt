@@ -1,8 +1,9 @@
 //! Reporters, which own a monitor or a pass of a desk.
 
 use crate::commands::{counter_of, got, increment, read};
+use ra_desk::DeskReporter;
 use ra_labels::{Cause, Command, Kind, Refusal, Reply};
-use ra_monitor::{DeskReporter, Reporter};
+use ra_monitor::Reporter;
 use ra_ticket::{CallFault, Caller, CloseFault, Glance, StepFault};
 use std::alloc::Global;
 use std::process::Abort;
@@ -91,7 +92,10 @@ fn a_closed_desk_has_its_log(rt: HostRuntime) -> Result<(), Fail> {
     };
     assert_eq!(rt; monitor.log().len(), 2);
     for (place, entry) in monitor.log().iter().enumerate() {
-        assert_eq!(rt; (usize::from(entry.pass), entry.ticket), (place, place as u64));
+        assert_eq!(rt;
+            (usize::from(entry.pass), entry.ticket),
+            (place, place as u64)
+        );
     }
     Ok(())
 }

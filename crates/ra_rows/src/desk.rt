@@ -4,8 +4,9 @@ ghost use Rattle.ra_ticket.specs.Passes.{IsPassOf};
 
 use crate::commands::{counter_of, got, increment, read};
 use crate::lock::threads::last_pass;
+use ra_desk::Desk;
 use ra_labels::{Cause, Command, Reply};
-use ra_monitor::{Desk, Monitor};
+use ra_monitor::Monitor;
 use ra_ticket::{CallFault, GREATEST_TICKET, Glance, Pass, TicketLock};
 use std::process::Abort;
 use std::sync::Wait;

@@ -2,7 +2,7 @@
 
 use anyhow::Result;
 use ra_labels::{Command, Reply};
-use ra_ticket::Entry;
+use ra_journal::Entry;
 use std::alloc::Global;
 use std::io::Read;
 

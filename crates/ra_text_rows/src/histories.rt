@@ -6,7 +6,7 @@ use super::writers::Trickle;
 use ra_history_text::{Item, Names, Reading, WriteFault, check, status, write_history};
 use ra_labels::{Cause, Command, Elements, Op, Reply};
 use ra_monitor::Monitor;
-use ra_ticket::Journal;
+use ra_journal::Journal;
 use std::alloc::{AllocError, Global};
 use std::process::Abort;
 use std::test::Fail;

@@ -5,13 +5,13 @@ use mathlib.Core.Option as maybe
 use lib.ListN.{get_elem?}
 use Rattle.atomic_table.specs.Table.{State}
 use Rattle.atomic_table.proofs.Lists.{at_set}
-use Rattle.ra_ticket.specs.declared.entry.Entry.{Entry}
+use Rattle.ra_journal.specs.declared.entry.Entry.{Entry}
 use Rattle.ra_ticket.specs.declared.board.View.{View}
 use Rattle.ra_ticket.specs.declared.board.View.TheVariants.{Spent, Knows, Met}
 use Rattle.ra_ticket.specs.declared.board.Known.{Known}
 use Rattle.ra_ticket.specs.declared.board.Stage.{Stage}
 use Rattle.ra_ticket.specs.declared.board.Stage.TheVariants.{Idle, Waiting, Holding}
-use Rattle.ra_ticket.specs.Log.{Readings, AllBelow, BeginsWith, IsLegal}
+use Rattle.ra_journal.specs.Log.{Readings, AllBelow, BeginsWith, IsLegal}
 use Rattle.ra_ticket.specs.Mark.{IsMarkOf}
 use Rattle.ra_ticket.specs.Views.{numbers_of, next_of, serving_of, ticket_at, ticket_of, held_at, held_of, seen_of, HasBegun, HasOwn, IsSetUp}
 use Rattle.ra_ticket.specs.Rule.{At, SitsAt, NobodyHolds, TurnsKept}

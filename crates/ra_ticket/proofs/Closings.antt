@@ -3,11 +3,11 @@ use Rattle.std.proofs.Common.{◌≡◌, ℕ, List, ◌∷◌, Option, Some, sym
 use mathlib.Core.Option.{some, some-injective}
 use lib.ListN.{get_elem?}
 use Rattle.atomic_table.specs.Table.{Final, Seen}
-use Rattle.ra_ticket.specs.declared.entry.Entry.{Entry}
+use Rattle.ra_journal.specs.declared.entry.Entry.{Entry}
 use Rattle.ra_ticket.specs.declared.board.View.{View}
 use Rattle.ra_ticket.specs.declared.board.View.TheVariants.{Spent, Knows, Met}
 use Rattle.ra_ticket.specs.declared.board.Stage.TheVariants.{Idle}
-use Rattle.ra_ticket.specs.Log.{Readings, BeginsWith, IsLegal}
+use Rattle.ra_journal.specs.Log.{Readings, BeginsWith, IsLegal}
 use Rattle.ra_ticket.specs.Views.{stage_of, setup_of, seen_of, HasBegun, HasOwn, IsSetUp}
 use Rattle.ra_ticket.specs.Rule.{TurnsKept}
 use Rattle.ra_ticket.specs.Steps.{IsLeft}

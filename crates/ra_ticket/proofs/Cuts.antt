@@ -7,12 +7,12 @@ use lib.ListN.{get_elem?}
 use Rattle.atomic_table.specs.Table.{State, opening, Splits}
 use Rattle.atomic_table.proofs.Lists.{at_set, at_longer, set_else}
 use Rattle.std.specs.List.{range_with_len}
-use Rattle.ra_ticket.specs.declared.entry.Entry.{Entry}
+use Rattle.ra_journal.specs.declared.entry.Entry.{Entry}
 use Rattle.ra_ticket.specs.declared.board.View.{View}
 use Rattle.ra_ticket.specs.declared.board.View.TheVariants.{Spent, Knows, Met}
 use Rattle.ra_ticket.specs.declared.board.Known.{Known}
 use Rattle.ra_ticket.specs.declared.board.Stage.TheVariants.{Idle}
-use Rattle.ra_ticket.specs.Log.{Readings, AllBelow}
+use Rattle.ra_journal.specs.Log.{Readings, AllBelow}
 use Rattle.ra_ticket.specs.Mark.{IsMarkOf}
 use Rattle.ra_ticket.specs.Views.{stage_of, numbers_of, next_of, serving_of, ticket_at, ticket_of, held_at, held_of, setup_of, seen_of, HasBegun, HasOwn, IsSetUp, starting, first_only, others_only, first_pass, other_passes}
 use Rattle.ra_ticket.specs.Rule.{At, SitsAt, TurnsKept}

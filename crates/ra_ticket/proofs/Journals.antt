@@ -1,6 +1,6 @@
 -- What the lock reads off a journal, in proofs that have the journal's bound.
-use Rattle.ra_ticket.specs.declared.journal.Journal.{Ghosts}
-use Rattle.ra_ticket.specs.Log.{Readings, readings}
+use Rattle.ra_journal.specs.declared.journal.Journal.{Ghosts}
+use Rattle.ra_journal.specs.Log.{Readings, readings}
 
 abbrev pub of_journal : {M C R S : Type 0} → Ghosts M C R S → Readings M C R S
 of_journal g = readings g.setup g.log g.reply_of g.fault_of

@@ -1,10 +1,10 @@
 -- Legal logs, and what a log begins with.
 use Rattle.std.proofs.Common.{◌≡◌, ℕ, List, [], ◌∷◌, ◌++◌, Option, Some, None, IfSome, refl, sym, ap, ◌∙◌, subst}
 use Rattle.std.proofs.lemmas.List.{append-nil, append_assoc}
-use Rattle.ra_ticket.specs.declared.entry.Entry.{Entry}
+use Rattle.ra_journal.specs.declared.entry.Entry.{Entry}
 use Rattle.ra_ticket.specs.declared.board.View.{View}
 use Rattle.ra_ticket.specs.declared.board.View.TheVariants.{Spent, Knows, Met}
-use Rattle.ra_ticket.specs.Log.{Readings, entry, BeginsWith, MayFollow, IsLegalAfter, IsLegal}
+use Rattle.ra_journal.specs.Log.{Readings, entry, BeginsWith, MayFollow, IsLegalAfter, IsLegal}
 use Rattle.ra_ticket.specs.Steps.{HasEntered, IsAhead}
 use Rattle.ra_ticket.specs.Views.{numbers_of, seen_of, HasBegun}
 use Rattle.ra_ticket.proofs.Tickets.{above_last}

@@ -3,7 +3,7 @@ use Rattle.std.proofs.Common.{◌≡◌, ℕ, ◌^◌, ◌<◌, length, Option, 
 use Rattle.ra_ticket.specs.declared.board.View.{View}
 use Rattle.ra_ticket.specs.declared.board.View.TheVariants.{Spent, Knows, Met}
 use Rattle.ra_ticket.specs.declared.board.Stage.TheVariants.{Idle}
-use Rattle.ra_ticket.specs.Log.{Readings}
+use Rattle.ra_journal.specs.Log.{Readings}
 use Rattle.ra_ticket.specs.Mark.{mark_of, IsNumbered}
 use Rattle.ra_ticket.specs.Steps.{IsTold}
 use Rattle.ra_ticket.specs.Views.{stage_of, setup_of, seen_of}

@@ -7,13 +7,13 @@ use native.Mathlib.Decide.{ℕ_discrete}
 use prog.Atomic.{either}
 use Rattle.atomic_table.specs.Table.{Step, Act, keeps, takes, gives, Valid, homes_after, carried_after, Allows}
 use Rattle.atomic_table.proofs.Lists.{exchanged}
-use Rattle.ra_ticket.specs.declared.entry.Entry.{Entry}
+use Rattle.ra_journal.specs.declared.entry.Entry.{Entry}
 use Rattle.ra_ticket.specs.declared.board.View.{View}
 use Rattle.ra_ticket.specs.declared.board.View.TheVariants.{Spent, Knows, Met}
 use Rattle.ra_ticket.specs.declared.board.Known.{Known}
 use Rattle.ra_ticket.specs.declared.board.Stage.{Stage}
 use Rattle.ra_ticket.specs.declared.board.Stage.TheVariants.{Idle, Waiting, Holding}
-use Rattle.ra_ticket.specs.Log.{Readings, AllBelow, IsLegal}
+use Rattle.ra_journal.specs.Log.{Readings, AllBelow, IsLegal}
 use Rattle.ra_ticket.specs.Mark.{IsMarkOf}
 use Rattle.ra_ticket.specs.Views.{stage_of, ticket_at, ticket_of, held_at, held_of, serving_of, setup_of, HasOwn}
 use Rattle.ra_ticket.specs.Rule.{At, NobodyHolds}

@@ -5,13 +5,13 @@ use lib.ListN.{get_elem?}
 use Rattle.std.proofs.lemmas.List.{append-nil}
 use Rattle.std.proofs.lemmas.List.Elements.{filter-append}
 use Rattle.std.proofs.lemmas.Bool.{eq-eqb, ne_eqb}
-use Rattle.ra_ticket.specs.declared.entry.Entry.{Entry}
+use Rattle.ra_journal.specs.declared.entry.Entry.{Entry}
 use Rattle.atomic_table.proofs.Lists.{at_longer}
 use Rattle.ra_ticket.specs.declared.board.Known.{Known}
 use Rattle.ra_ticket.specs.declared.board.Stage.{Stage}
 use Rattle.ra_ticket.specs.declared.board.View.{View}
 use Rattle.ra_ticket.specs.declared.board.View.TheVariants.{Spent, Knows, Met}
-use Rattle.ra_ticket.specs.Log.{entry, entries_of}
+use Rattle.ra_journal.specs.Log.{entry, entries_of}
 use Rattle.ra_ticket.specs.Views.{stage_of, numbers_of, seen_of, HasOwn, SeesOwn}
 
 module _ {C R : Type 0} where

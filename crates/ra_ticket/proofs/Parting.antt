@@ -5,7 +5,7 @@ use Rattle.ra_ticket.specs.declared.board.View.{View}
 use Rattle.ra_ticket.specs.declared.board.View.TheVariants.{Spent, Knows, Met}
 use Rattle.ra_ticket.specs.declared.board.Known.{Known}
 use Rattle.ra_ticket.specs.declared.board.Stage.TheVariants.{Idle}
-use Rattle.ra_ticket.specs.Log.{Readings}
+use Rattle.ra_journal.specs.Log.{Readings}
 use Rattle.ra_ticket.specs.Views.{stage_of, numbers_of, next_of, serving_of, seen_of, first_only, others_only, first_pass, other_passes, met}
 use Rattle.ra_ticket.specs.Steps.{IsTold, KnowsNoLess, GoesOn}
 

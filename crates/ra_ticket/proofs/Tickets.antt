@@ -1,7 +1,7 @@
 -- The tickets in a log, before and after a step.
 use Rattle.std.proofs.Common.{◌≡◌, ℕ, zero, suc, ◌+◌, ◌<◌, List, [], ◌∷◌, ◌++◌, Some, Result, Ok, Err, IfOk, OnErr, option_map, slice_get, length, ◌-◌, sym, subst, arith}
-use Rattle.ra_ticket.specs.declared.entry.Entry.{Entry}
-use Rattle.ra_ticket.specs.Log.{entry, AllBelow, IsAboveLast}
+use Rattle.ra_journal.specs.declared.entry.Entry.{Entry}
+use Rattle.ra_journal.specs.Log.{entry, AllBelow, IsAboveLast}
 use Rattle.std.proofs.lemmas.List.Elements.{All-push}
 
 module _ {C R : Type 0} where

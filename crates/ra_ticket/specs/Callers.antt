@@ -1,7 +1,7 @@
 -- What callers see of a pass that has its lock with it.
 use Rattle.std.specs.Prelude.{◌≡◌, ◌<◌, ◌≤◌, List, map, All}
 use Rattle.std.specs.Arc.{arc_value}
-use Rattle.ra_ticket.specs.declared.journal.Journal.{Ghosts}
+use Rattle.ra_journal.specs.declared.journal.Journal.{Ghosts}
 use Rattle.ra_ticket.specs.declared.caller.Caller.{Caller}
 use Rattle.ra_ticket.specs.declared.caller.CloseFault.{CloseFault}
 use Rattle.ra_ticket.specs.declared.caller.CloseFault.TheVariants.{Shared, Unsettled}

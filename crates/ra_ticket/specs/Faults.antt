@@ -1,6 +1,6 @@
 -- What a call that failed tells.
-use Rattle.ra_ticket.specs.declared.journal.StepFault as step
-use Rattle.ra_ticket.specs.declared.journal.StepFault.TheVariants as step_is
+use Rattle.ra_journal.specs.declared.journal.StepFault as step
+use Rattle.ra_journal.specs.declared.journal.StepFault.TheVariants as step_is
 use Rattle.ra_ticket.specs.declared.fault.CallFault.{CallFault}
 use Rattle.ra_ticket.specs.declared.fault.CallFault.TheVariants.{Worn, Full, NoMemory, Busy}
 

@@ -1,4 +1,3 @@
-pub mod Log
 pub mod Mark
 pub mod Faults
 pub mod Views

@@ -1,7 +1,7 @@
 -- The word `mark`: how many calls a log has, and the number of its fault, in one word.
 use Rattle.std.specs.Prelude.{◌≡◌, ℕ, ◌+◌, ◌*◌, ◌^◌, ◌<◌, List, length, Option, Some, None, IfSome}
-use Rattle.ra_ticket.specs.declared.entry.Entry.{Entry}
-use Rattle.ra_ticket.specs.Log.{Readings}
+use Rattle.ra_journal.specs.declared.entry.Entry.{Entry}
+use Rattle.ra_journal.specs.Log.{Readings}
 
 -- one more than the number of the fault, or 0 for none
 abbrev pub fault_part : Option ℕ → ℕ

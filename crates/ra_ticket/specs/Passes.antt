@@ -1,13 +1,13 @@
 -- What callers see of a lock and its passes.
 use Rattle.std.specs.Prelude.{◌≡◌, ℕ, ◌+◌, ◌<◌, ◌≤◌, List, [], ◌∷◌, ◌++◌, Option, IfSome}
-use Rattle.ra_ticket.specs.declared.entry.Entry.{Entry}
+use Rattle.ra_journal.specs.declared.entry.Entry.{Entry}
 use Rattle.ra_ticket.specs.declared.fault.CallFault.{CallFault}
 use Rattle.ra_ticket.specs.declared.fault.CallFault.TheVariants.{Busy}
-use Rattle.ra_ticket.specs.declared.journal.Journal.{Ghosts}
+use Rattle.ra_journal.specs.declared.journal.Journal.{Ghosts}
 use Rattle.ra_ticket.specs.declared.lock.TicketLock.{TicketLock}
 use Rattle.ra_ticket.specs.declared.pass.Pass.{Pass}
 use Rattle.ra_ticket.specs.Views.{next_of, serving_of, setup_of, seen_of}
-use Rattle.ra_ticket.specs.Log.{entry, entries_of, BeginsWith, IsLegal}
+use Rattle.ra_journal.specs.Log.{entry, entries_of, BeginsWith, IsLegal}
 
 module _ {M C R S : Type 0} {g : Ghosts M C R S} where
   abbrev pub number_of : Pass M C R S g → ℕ

@@ -3,9 +3,9 @@ use Rattle.std.specs.Prelude.{◌≡◌, ℕ, ◌+◌, ◌^◌, ◌<◌, ◌≤�
 use mathlib.Core.Option.{some, none}
 use lib.ListN.{get_elem?}
 use Rattle.atomic_table.specs.Table.{State}
-use Rattle.ra_ticket.specs.declared.entry.Entry.{Entry}
+use Rattle.ra_journal.specs.declared.entry.Entry.{Entry}
 use Rattle.ra_ticket.specs.declared.board.View.{View}
-use Rattle.ra_ticket.specs.Log.{Readings, AllBelow, IsLegal}
+use Rattle.ra_journal.specs.Log.{Readings, AllBelow, IsLegal}
 use Rattle.ra_ticket.specs.Mark.{IsMarkOf}
 use Rattle.ra_ticket.specs.Views.{numbers_of, next_of, serving_of, ticket_of, held_of, seen_of, HasBegun, HasOwn, IsSetUp}
 

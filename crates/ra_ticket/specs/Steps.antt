@@ -3,12 +3,12 @@ use Rattle.std.specs.Prelude.{◌≡◌, ◌≢◌, max, ℕ, ◌+◌, ◌<◌, 
 use Rattle.atomic_table.specs.Table.{Me, Step, rest}
 use Rattle.atomic_table.specs.Seated.{TableId}
 use Rattle.atomic_table.specs.declared.shared.Seat.{Seat}
-use Rattle.ra_ticket.specs.declared.entry.Entry.{Entry}
+use Rattle.ra_journal.specs.declared.entry.Entry.{Entry}
 use Rattle.ra_ticket.specs.declared.board.Known.{Known}
 use Rattle.ra_ticket.specs.declared.board.View.{View}
 use Rattle.ra_ticket.specs.declared.board.View.TheVariants.{Met}
 use Rattle.ra_ticket.specs.declared.board.Stage.TheVariants.{Idle, Waiting, Holding}
-use Rattle.ra_ticket.specs.Log.{Readings, AllBelow, entries_of, BeginsWith, MayFollow, IsLegal}
+use Rattle.ra_journal.specs.Log.{Readings, AllBelow, entries_of, BeginsWith, MayFollow, IsLegal}
 use Rattle.ra_ticket.specs.Mark.{IsMarkOf}
 use Rattle.ra_ticket.specs.Views.{stage_of, numbers_of, next_of, serving_of, setup_of, seen_of, HasOwn, SeesOwn}
 

@@ -3,8 +3,8 @@ use Rattle.std.specs.Prelude.{◌≡◌, ℕ, List, [], ◌∷◌, ◌++◌, max
 use Rattle.std.specs.List.{range_with_len}
 use mathlib.Core.Option.{some}
 use lib.ListN.{get_elem?}
-use Rattle.ra_ticket.specs.Log.{entries_of, BeginsWith}
-use Rattle.ra_ticket.specs.declared.entry.Entry.{Entry}
+use Rattle.ra_journal.specs.Log.{entries_of, BeginsWith}
+use Rattle.ra_journal.specs.declared.entry.Entry.{Entry}
 use Rattle.ra_ticket.specs.declared.board.Stage.{Stage}
 use Rattle.ra_ticket.specs.declared.board.Stage.TheVariants.{Idle, Waiting, Holding}
 use Rattle.ra_ticket.specs.declared.board.Known.{Known}

@@ -1,6 +1,6 @@
 //! How a pass enters with a ticket that is served at once.
 ghost use Rattle.std.specs.Prelude.{◌≡◌, ◌≢◌, ◌≤◌, ◌<◌, [], Some, IfSome, IfNone, IfOk, IfErr};
-ghost use Rattle.ra_ticket.specs.Log.{readings, BeginsWith};
+ghost use Rattle.ra_journal.specs.Log.{readings, BeginsWith};
 ghost use Rattle.ra_ticket.specs.Steps.{IsSeated, IsSameSeat, Carries, HasTaken, KeepsOwn};
 ghost use Rattle.ra_ticket.specs.Views.{stage_of, next_of, serving_of, seen_of};
 ghost use Rattle.ra_ticket.specs.declared.board.Stage.TheVariants.{Idle, Holding};
@@ -9,8 +9,8 @@ use crate::backoff::Backoff;
 use crate::board::{Board, LockSeat, NEXT, SERVING};
 use crate::draw::{GREATEST_TICKET, learn_next};
 use crate::enter::take_out;
-use crate::journal::Journal;
 use crate::plays::{DrawServed, LearnServing};
+use ra_journal::Journal;
 
 // How often a call tries for a ticket that is served at once, before it draws one to wait with.
 const TRIES_AT_ONCE: u32 = 64;

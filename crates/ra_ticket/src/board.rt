@@ -2,9 +2,8 @@
 //! Word 0 is `next`, the next ticket to be drawn, word 1 is `serving`, the ticket that may enter, and word 2 is `mark`,
 //! how many calls the log has and the number of its fault.
 //! Slot 0 holds the journal. It is out only with the seat whose ticket is served.
-use crate::entry::Entry;
-use crate::journal::Journal;
 use atomic_table::{Seat, Shared, Table, TableRule};
+use ra_journal::{Entry, Journal};
 use std::alloc::Global;
 use std::collections::LinkedList;
 use std::marker::PhantomData;
@@ -75,7 +74,7 @@ pub struct Turns<M> {
 }
 
 impl<M: Journal> TableRule<Option<M>, JournalView<M>, About<M>> for Turns<M> {
-    ghost use Rattle.ra_ticket.specs.Log.{readings};
+    ghost use Rattle.ra_journal.specs.Log.{readings};
     ghost use Rattle.ra_ticket.specs.Views.{starting};
     ghost use Rattle.ra_ticket.specs.Rule.{TurnsKept};
 

@@ -5,9 +5,9 @@ ghost use Rattle.ra_ticket.specs.Passes.{IsPassOf};
 use crate::close::Unsettled;
 use crate::fault::{CallFault, OpenFault};
 use crate::glance::Glance;
-use crate::journal::Journal;
 use crate::lock::TicketLock;
 use crate::pass::Pass;
+use ra_journal::Journal;
 use std::alloc::{AllocError, Global};
 use std::sync::{Arc, Wait};
 
@@ -33,7 +33,7 @@ impl<M: Journal> Caller<M> {
     ghost use Rattle.std.specs.Prelude.{◌≡◌, ◌≢◌, ◌+◌, ◌<◌, ◌≤◌, ◌⊎◌, [], length, map, All};
     ghost use Rattle.std.specs.Prelude.{IfOk, IfErr, IfSome, IsOkUnless, Some};
     ghost use Rattle.std.specs.List.{range_with_len};
-    ghost use Rattle.ra_ticket.specs.Log.{BeginsWith, IsLegal, entries_of};
+    ghost use Rattle.ra_journal.specs.Log.{BeginsWith, IsLegal, entries_of};
     ghost use Rattle.ra_ticket.specs.Faults.{unserved, IsWorn, IsFull, IsNoMemory, IsBusy};
     ghost use Rattle.ra_ticket.specs.Passes.{IsPassOf, IsSamePass, IsLogged, KnowsLegal, IsMineAndThen};
     ghost use Rattle.ra_ticket.specs.Passes.{number_of, next_reached, serving_reached, pass_setup, seen, mine, IsFoundBusy};

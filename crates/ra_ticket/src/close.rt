@@ -1,14 +1,14 @@
 //! How a lock is closed.
 ghost use Rattle.std.specs.Prelude.{◌≡◌, Some, Option};
-ghost use Rattle.ra_ticket.specs.Log.{readings};
+ghost use Rattle.ra_journal.specs.Log.{readings};
 ghost use Rattle.ra_ticket.specs.Steps.{IsLeft};
 ghost use Rattle.ra_ticket.specs.Views.{stage_of};
 ghost use Rattle.ra_ticket.specs.declared.board.Stage.TheVariants.{Idle};
 
 use crate::board::{JOURNAL, LockSeat, LockTable, NEXT, SERVING};
-use crate::journal::Journal;
 use crate::lock::TicketLock;
 use crate::pass::Pass;
+use ra_journal::Journal;
 
 /// A ticket was drawn and not served when the lock was closed. The journal is given up. No public call leaves one so.
 #[derive(Debug, PartialEq, Eq, Clone, Copy)]
@@ -36,7 +36,7 @@ fn take_apart<M: Journal>(table: LockTable<M>, seat: LockSeat<M>) -> (u64, u64, 
 
 impl<M: Journal> TicketLock<M> {
     ghost use Rattle.std.specs.Prelude.{◌≡◌, ◌<◌, ◌≤◌, Some, IfOk, IfErr};
-    ghost use Rattle.ra_ticket.specs.Log.{BeginsWith, IsLegal, entries_of};
+    ghost use Rattle.ra_journal.specs.Log.{BeginsWith, IsLegal, entries_of};
     ghost use Rattle.ra_ticket.specs.Passes.{IsPassOf, number_of, next_reached, serving_reached, pass_setup, seen, mine};
 
     /// Takes the journal out of the lock, where each ticket that was drawn is served. Its log begins with all that the

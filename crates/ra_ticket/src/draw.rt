@@ -5,8 +5,8 @@ ghost use Rattle.ra_ticket.specs.Views.{stage_of, next_of, serving_of, seen_of};
 ghost use Rattle.ra_ticket.specs.declared.board.Stage.TheVariants.{Idle, Waiting};
 
 use crate::board::{Board, LockSeat, NEXT};
-use crate::journal::Journal;
 use crate::plays::{Draw, Learn};
+use ra_journal::Journal;
 use std::sync::Wait;
 
 /// The last ticket that can be drawn. After that all are, and `next` stays one above it.

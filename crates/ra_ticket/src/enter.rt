@@ -1,6 +1,6 @@
 //! How a pass waits for its turn and takes the journal.
 ghost use Rattle.std.specs.Prelude.{◌≡◌, ◌+◌, [], ◌∷◌, Some, None, IfSome, IfNone, MatchBool};
-ghost use Rattle.ra_ticket.specs.Log.{readings, BeginsWith};
+ghost use Rattle.ra_journal.specs.Log.{readings, BeginsWith};
 ghost use Rattle.ra_ticket.specs.Steps.{IsSeated, IsSameSeat, Carries, HasTaken, KeepsOwn};
 ghost use Rattle.ra_ticket.specs.Views.{stage_of, next_of, seen_of};
 ghost use Rattle.ra_ticket.specs.declared.board.Stage.TheVariants.{Idle, Waiting, Holding};
@@ -9,8 +9,8 @@ use crate::at_once::enter_at_once;
 use crate::backoff::Backoff;
 use crate::board::{Board, JOURNAL, LockSeat, SERVING};
 use crate::draw::{GREATEST_TICKET, draw_ticket};
-use crate::journal::Journal;
 use crate::plays::Look;
+use ra_journal::Journal;
 use std::sync::Wait;
 
 // A load of `serving`: whether the ticket is served. Then the seat has the slot with the journal.

@@ -1,5 +1,5 @@
 //! Why a lock was not opened, and why a call was not served.
-use crate::journal::StepFault;
+use ra_journal::StepFault;
 use std::alloc::AllocError;
 
 /// Why a lock was not opened.

@@ -1,16 +1,16 @@
 //! How a pass looks at the log without a call.
 ghost use Rattle.std.specs.Prelude.{◌≡◌, Some};
-ghost use Rattle.ra_ticket.specs.Log.{readings, BeginsWith};
+ghost use Rattle.ra_journal.specs.Log.{readings, BeginsWith};
 ghost use Rattle.ra_ticket.specs.Steps.{IsSeated, IsSameSeat, IsTold};
 ghost use Rattle.ra_ticket.specs.Views.{stage_of, next_of, serving_of, seen_of, HasOwn};
 ghost use Rattle.ra_ticket.specs.declared.board.Stage.TheVariants.{Idle};
 
 use crate::board::{Board, LockSeat, MARK};
-use crate::journal::Journal;
 use crate::lock::TicketLock;
 use crate::mark::read;
 use crate::pass::Pass;
 use crate::plays::LookAtMark;
+use ra_journal::Journal;
 
 /// What the log of a lock came to, at one point.
 #[derive(Debug, PartialEq, Eq, Clone, Copy)]

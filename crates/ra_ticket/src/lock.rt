@@ -6,9 +6,9 @@ use crate::board::LockTable;
 use crate::draw::{GREATEST_TICKET, learn_next};
 use crate::enter::take_turn;
 use crate::fault::CallFault;
-use crate::journal::Journal;
 use crate::pass::Pass;
 use crate::serve::serve;
+use ra_journal::Journal;
 use std::sync::Wait;
 
 /// A journal that passes take turns at, in the order of the tickets that they draw.

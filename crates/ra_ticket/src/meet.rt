@@ -1,6 +1,6 @@
 //! How two passes tell each other what they know.
 ghost use Rattle.std.specs.Prelude.{◌≡◌, ℕ, max, [], ◌∷◌, ◌++◌, Some};
-ghost use Rattle.ra_ticket.specs.Log.{readings};
+ghost use Rattle.ra_journal.specs.Log.{readings};
 ghost use Rattle.ra_ticket.specs.Steps.{IsSeated, IsTold, KnowsNoLess, GoesOn};
 ghost use Rattle.ra_ticket.specs.Views.{stage_of, numbers_of, next_of, serving_of, seen_of, met};
 ghost use Rattle.ra_ticket.specs.declared.board.Known.{Known};
@@ -8,12 +8,12 @@ ghost use Rattle.ra_ticket.specs.declared.board.Stage.TheVariants.{Idle};
 ghost use Rattle.ra_ticket.specs.declared.board.View.TheVariants.{Met};
 
 use crate::board::{Board, LockSeat, MARK};
-use crate::journal::Journal;
 use crate::lock::TicketLock;
 use crate::mark::read;
 use crate::open::split_first;
 use crate::pass::Pass;
 use crate::plays::{LookTogether, Meet};
+use ra_journal::Journal;
 
 // Joins two seats of one pass each: the first takes in the second.
 fn join<M: Journal>(board: &Board<M>, seat: &mut LockSeat<M>, other: LockSeat<M>)

@@ -9,12 +9,12 @@ ghost use Rattle.ra_ticket.specs.declared.board.Stage.TheVariants.{Idle};
 
 use crate::board::{About, Board, LockSeat, LockTable};
 use crate::fault::OpenFault;
-use crate::journal::Journal;
 use crate::lock::TicketLock;
 use crate::mark::pack;
 use crate::pass::Pass;
 use crate::plays::CutFirst;
 use atomic_table::Table;
+use ra_journal::Journal;
 use std::alloc::{AllocError, Global};
 use std::snapshot::Snapshot;
 

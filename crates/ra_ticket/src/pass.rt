@@ -4,7 +4,7 @@ ghost use Rattle.ra_ticket.specs.Views.{stage_of, numbers_of};
 ghost use Rattle.ra_ticket.specs.declared.board.Stage.TheVariants.{Idle};
 
 use crate::board::LockSeat;
-use crate::journal::Journal;
+use ra_journal::Journal;
 
 /// The right to make calls on one lock, one after another. It may go to another thread, and one that is dropped between
 /// calls harms nobody.

@@ -1,13 +1,13 @@
 //! What each step on the table tells.
-ghost use Rattle.ra_ticket.specs.Log.{readings};
+ghost use Rattle.ra_journal.specs.Log.{readings};
 ghost use Rattle.ra_ticket.specs.Steps.{learned, learned_serving, glanced, looked_together, drew};
 ghost use Rattle.ra_ticket.specs.Steps.{drew_served, looked, published, released};
 ghost use Rattle.ra_ticket.specs.Views.{first_pass, other_passes, met};
 ghost use Rattle.ra_ticket.specs.declared.board.View.TheVariants.{Spent};
 
 use crate::board::{JournalView, View};
-use crate::journal::Journal;
 use atomic_table::{Join, Play, Split};
+use ra_journal::Journal;
 use std::marker::PhantomData;
 
 /// A load of `next`.

@@ -1,14 +1,14 @@
 //! How a pass publishes its entry and gives the journal back.
 ghost use Rattle.std.specs.Prelude.{◌≡◌, ℕ, ◌+◌, ◌≤◌, [], ◌∷◌, Some, None};
-ghost use Rattle.ra_ticket.specs.Log.{readings, IsLegal};
+ghost use Rattle.ra_journal.specs.Log.{readings, IsLegal};
 ghost use Rattle.ra_ticket.specs.Steps.{IsSeated, IsSameSeat, HoldsPublished, HoldsAhead, MayPublish};
 ghost use Rattle.ra_ticket.specs.Views.{stage_of, serving_of, seen_of};
 ghost use Rattle.ra_ticket.specs.declared.board.Stage.TheVariants.{Idle, Holding};
 
 use crate::board::{Board, JOURNAL, LockSeat, MARK, SERVING};
-use crate::journal::Journal;
 use crate::mark::pack;
 use crate::plays::{Publish, Release};
+use ra_journal::Journal;
 
 /// Puts the journal back into the slot that the seat has.
 pub(crate) fn put_back<M: Journal>(board: &Board<M>, seat: &mut LockSeat<M>, journal: M)

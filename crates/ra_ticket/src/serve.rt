@@ -1,15 +1,15 @@
 //! What a pass does while it has the journal.
 ghost use Rattle.std.specs.Prelude.{◌≡◌, ◌≢◌, ◌+◌, ◌≤◌, [], ◌∷◌, ◌++◌, length, Some, None, IfOk, IfErr, IfSome};
 ghost use Rattle.ra_ticket.specs.Faults.{unserved, IsWorn, IsFull, IsNoMemory, IsBusy};
-ghost use Rattle.ra_ticket.specs.Log.{readings, entry, IsLegal};
+ghost use Rattle.ra_journal.specs.Log.{readings, entry, IsLegal};
 ghost use Rattle.ra_ticket.specs.Steps.{IsSeated, IsSameSeat, HasEntered};
 ghost use Rattle.ra_ticket.specs.Views.{stage_of, numbers_of, serving_of, setup_of, seen_of};
 ghost use Rattle.ra_ticket.specs.declared.board.Stage.TheVariants.{Idle, Holding};
 
 use crate::board::{Board, LockSeat};
 use crate::fault::CallFault;
-use crate::journal::Journal;
 use crate::release::{publish, put_back, release};
+use ra_journal::Journal;
 
 /// Lets the journal, which the seat has taken with this ticket, answer the command, publishes the answer and gives the
 /// journal back.

@@ -1,8 +1,9 @@
 //! Two threads report to one desk, each by a reporter of its own.
 
 use anyhow::{Result, bail};
+use ra_desk::DeskReporter;
 use ra_labels::{Command, Kind, Op};
-use ra_monitor::{DeskReporter, Monitor};
+use ra_monitor::Monitor;
 use ra_ticket::{Caller, Glance};
 use std::alloc::Global;
 use std::sync::Wait;

@@ -1,8 +1,8 @@
 //! What deliveries cost, read on the witness of a monitor, and how wide the log's entries are.
 
 use crate::monitor::Monitor;
+use ra_journal::{Entry, Journal, StepFault};
 use ra_labels::{Command, Kind, Op, Reply};
-use ra_ticket::{Entry, Journal, StepFault};
 use std::alloc::Global;
 use std::mem::size_of;
 use std::process::Abort;

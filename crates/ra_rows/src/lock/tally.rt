@@ -1,6 +1,6 @@
 //! A journal that adds each number to a wrapping total and replies the total, and counts how often it is dropped.
 ghost use Rattle.std.specs.Prelude.{◌≡◌, ◌<◌, ◌≤◌, ◌+◌, ◌%◌, ◌^◌, [], length, sum_by, None};
-ghost use Rattle.ra_ticket.specs.declared.journal.TheConstants.{MOST_ENTRIES};
+ghost use Rattle.ra_journal.specs.declared.journal.TheConstants.{MOST_ENTRIES};
 
 use super::gate::Gate;
 use ra_ticket::{Entry, Journal, MOST_ENTRIES, StepFault};

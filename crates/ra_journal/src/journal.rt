@@ -1,6 +1,6 @@
 //! The object that the lock guards.
 ghost use Rattle.std.specs.Prelude.{◌≡◌, ℕ, ◌<◌, ◌≤◌, ◌↔◌, ◌++◌, ◌∷◌, [], List, length, Option, IfSome, IfOk, IfErr, OnErr};
-ghost use Rattle.ra_ticket.specs.Log.{entry, last_ticket_of, IsAboveLast, unstepped};
+ghost use Rattle.ra_journal.specs.Log.{entry, last_ticket_of, IsAboveLast, unstepped};
 
 /// The most entries that a log may have.
 pub const MOST_ENTRIES: u32 = 1_048_576;
@@ -17,7 +17,7 @@ pub enum StepFault<C> {
 /// An object that answers commands one after another and logs each answer. A step is a function of the setup, of the
 /// log so far and of the command. Each call but `step` costs a constant.
 pub trait Journal: Drop + Send {
-    ghost use Rattle.ra_ticket.specs.declared.entry.Entry.{Entry};
+    ghost use Rattle.ra_journal.specs.declared.entry.Entry.{Entry};
 
     /// What it is asked.
     type Command;

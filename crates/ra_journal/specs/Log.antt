@@ -2,9 +2,9 @@
 use Rattle.std.specs.Prelude.{◌≡◌, ℕ, ◌-◌, ◌<◌, List, [], ◌∷◌, ◌++◌, length, All, Option, option_map, slice_get, eqb}
 use Rattle.std.specs.Option.{ForSome}
 use Rattle.std.specs.List.{filter}
-use Rattle.ra_ticket.specs.declared.entry.Entry.{Entry}
-use Rattle.ra_ticket.specs.declared.journal.StepFault.{StepFault}
-use Rattle.ra_ticket.specs.declared.journal.StepFault.TheVariants.{Full, NoMemory}
+use Rattle.ra_journal.specs.declared.entry.Entry.{Entry}
+use Rattle.ra_journal.specs.declared.journal.StepFault.{StepFault}
+use Rattle.ra_journal.specs.declared.journal.StepFault.TheVariants.{Full, NoMemory}
 
 -- what the lock reads off a journal: its setup and log, and what a log under a setup makes of a command and of the
 -- fault
