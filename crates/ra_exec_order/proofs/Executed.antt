@@ -11,7 +11,7 @@ use Rattle.ra_labels.specs.declared.label.Label.{Label}
 use Rattle.ra_labels.specs.declared.command.Command.TheVariants.{Operate, Deliver, Verdict}
 use Rattle.ra_labels.specs.Records.{Records, label_count, labels_of, next_label}
 use Rattle.ra_labels.specs.NamedOrder.{named_labels}
-use Rattle.ra_labels.proofs.TheLaws.{named_in_order_of_execution-labels}
+use Rattle.ra_laws.proofs.TheLaws.{named_in_order_of_execution-labels}
 use Rattle.ra_visibility.specs.declared.order.Place.{Place}
 use Rattle.ra_visibility.specs.Order.{IsByExecution, IsPlaceOf, must_stand_before}
 

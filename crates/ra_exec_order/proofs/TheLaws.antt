@@ -6,7 +6,7 @@ use Rattle.ra_labels.specs.declared.kind.Kind.TheVariants.{Counter, OrSet}
 use Rattle.ra_labels.specs.Records.{Records}
 use Rattle.ra_labels.specs.Linearization.{extends_visibility}
 use Rattle.ra_labels.specs.NamedOrder.{named_sequence}
-use Rattle.ra_labels.proofs.TheLaws.{the_order_of_execution_extends_visibility-labels}
+use Rattle.ra_laws.proofs.TheLaws.{the_order_of_execution_extends_visibility-labels}
 use Rattle.ra_visibility.specs.Order.{IsByExecution}
 
 pub kinds_by_execution-counter : IsByExecution Counter

@@ -7,7 +7,7 @@ use Rattle.ra_labels.specs.declared.kind.Kind.{Kind}
 use Rattle.ra_labels.specs.declared.label.Label.{Label}
 use Rattle.ra_labels.specs.Records.{Records, label_count, labels_of}
 use Rattle.ra_labels.specs.Laws.{numbers_below}
-use Rattle.ra_labels.proofs.TheLaws.{labels_are_numbered_in_turn, named_in_order_of_execution-labels}
+use Rattle.ra_laws.proofs.TheLaws.{labels_are_numbered_in_turn, named_in_order_of_execution-labels}
 use Rattle.ra_visibility.specs.Order.{IsByExecution, numbers_in}
 
 -- 0, 1, .., n - 1

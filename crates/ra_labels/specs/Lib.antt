@@ -8,10 +8,6 @@ pub mod Linearization
 pub mod NamedOrder
 pub mod Fault
 pub mod Answer
-pub mod Worked
-pub mod WorkedTimestamps
-pub mod WorkedOrSets
-pub mod WorkedRgas
 pub mod Laws
 pub mod Insertion
 pub mod Commuting

@@ -7,20 +7,17 @@
 //! "Replication-Aware Linearizability" (PLDI 2019).
 //!
 //! The one contract for the layers above: `fits` answers the first refusal that an operation's own form
-//! deserves. The laws of the definitions are the clauses of the functions of `laws`, and worked histories
-//! are computed in `worked`.
+//! deserves. The laws of the definitions, and worked histories, are in `ra_laws`.
 #![tactic(auto)]
 
 mod command;
 mod elements;
 mod kind;
 mod label;
-pub mod laws;
 mod memory;
 mod operation;
 mod refusal;
 mod reply;
-pub mod worked;
 
 pub use command::Command;
 pub use elements::Elements;

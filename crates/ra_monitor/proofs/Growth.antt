@@ -13,7 +13,7 @@ use Rattle.ra_labels.specs.Records.{Records, label_count, next_label}
 use Rattle.ra_labels.specs.Visibility.{IsCausal}
 use Rattle.ra_labels.specs.Fault.{fault_of, fault_at, cause_of, records_before_fault}
 use Rattle.ra_labels.specs.Answer.{no_at, misfit_of, refusal_of, answer_to_accepted}
-use Rattle.ra_labels.proofs.TheLaws.{records_before_fault_have_none-all}
+use Rattle.ra_laws.proofs.TheLaws.{records_before_fault_have_none-all}
 use Rattle.ra_visibility.specs.Seen.{Seen}
 use Rattle.ra_visibility.specs.Tracked.{IsVisibilityOf, seen_in}
 use Rattle.ra_visibility.proofs.TheLaws.{what_a_label_sees}

@@ -11,8 +11,8 @@ use Rattle.ra_labels.specs.NamedOrder.{named_sequence}
 use Rattle.ra_labels.specs.Fault.{fault_of, fault_at}
 use Rattle.ra_labels.specs.Answer.{answer_of, records_after, records_after_all}
 use Rattle.ra_labels.specs.Laws.{ReplySays}
-use Rattle.ra_labels.proofs.TheLaws.{no_fault_holds}
-use Rattle.ra_labels.proofs.TheLaws.{what_a_reply_says, no_exactly_at_a_fault, answers_in_turn-records}
+use Rattle.ra_laws.proofs.TheLaws.{no_fault_holds}
+use Rattle.ra_laws.proofs.TheLaws.{what_a_reply_says, no_exactly_at_a_fault, answers_in_turn-records}
 use Rattle.ra_monitor.specs.declared.setup.Setup.{Setup}
 use Rattle.ra_journal.specs.Log.{MayFollow, IsLegalAfter}
 use Rattle.ra_monitor.specs.Replies.{is_yes, is_refused}

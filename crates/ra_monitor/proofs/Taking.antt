@@ -9,7 +9,7 @@ use Rattle.ra_labels.specs.declared.label.Stamp.{Stamp}
 use Rattle.ra_labels.specs.declared.command.Command.TheVariants.{Operate}
 use Rattle.ra_labels.specs.Records.{Records, next_label}
 use Rattle.ra_labels.specs.Answer.{misfit_of, carries_stamp, has_stamp, is_taken, identifier_of, is_identifier_taken}
-use Rattle.ra_labels.proofs.TheLaws.{forms_that_deserve_no_refusal}
+use Rattle.ra_laws.proofs.TheLaws.{forms_that_deserve_no_refusal}
 use Rattle.ra_monitor.specs.declared.taken.Taken.{Taken}
 use Rattle.ra_monitor.specs.Taken.{HasRoom, CanKeep, is_stamp_in, is_identifier_in, brought_with, brought_by, has_brought, gives_brought, IsTakenIn}
 

@@ -9,7 +9,7 @@ use Rattle.ra_labels.specs.Records.{Records}
 use Rattle.ra_labels.specs.Specification.{State, state_after}
 use Rattle.ra_labels.specs.Laws.{NoneTwice}
 use Rattle.ra_labels.specs.Waiting.{is_there}
-use Rattle.ra_labels.proofs.TheLaws.{settled_labels_stay_settled-delivery, settled_labels_stay_settled-alike, a_later_command_leaves_the_updates_that_pass-delivery}
+use Rattle.ra_laws.proofs.TheLaws.{settled_labels_stay_settled-delivery, settled_labels_stay_settled-alike, a_later_command_leaves_the_updates_that_pass-delivery}
 use Rattle.ra_element_list.specs.ElementList.{Arrival}
 use Rattle.ra_replica_list.specs.declared.deed.Deed.{Deed}
 use Rattle.ra_replica_list.specs.Waiting.{labels_under}

@@ -12,7 +12,7 @@ use Rattle.ra_labels.specs.Linearization.{updates_admitted}
 use Rattle.ra_labels.specs.NamedOrder.{named_sequence}
 use Rattle.ra_labels.specs.Insertion.{updates_passing, or_label}
 use Rattle.ra_labels.specs.Waiting.{puts_in, is_there, needed_by}
-use Rattle.ra_labels.proofs.TheLaws.{each_number_has_its_label-found, an_element_is_put_in_by_one_label-one, an_element_is_put_in_by_one_label-other, an_element_is_there_where_its_label_passes-label, updates_admitted_where_they_lead_to_a_state, one_more_label_puts_its_update_in-there}
+use Rattle.ra_laws.proofs.TheLaws.{each_number_has_its_label-found, an_element_is_put_in_by_one_label-one, an_element_is_put_in_by_one_label-other, an_element_is_there_where_its_label_passes-label, updates_admitted_where_they_lead_to_a_state, one_more_label_puts_its_update_in-there}
 use Rattle.ra_element_list.specs.ElementList.{Arrival, ElementList, arrival_at, is_marked}
 use Rattle.ra_replica_list.specs.declared.deed.Deed.{Deed}
 use Rattle.ra_replica_list.specs.declared.deed.Deed.TheVariants.{PutsIn, Removes}

@@ -23,7 +23,7 @@ use Rattle.ra_labels.specs.NamedOrder.{named_labels}
 use Rattle.ra_labels.specs.Laws.{NoneTwice}
 use Rattle.ra_labels.specs.Insertion.{updates_among, updates_passing, or_label}
 use Rattle.ra_labels.specs.Waiting.{is_there, needed_by}
-use Rattle.ra_labels.proofs.TheLaws.{what_is_settled_does_not_wait, named_labels_are_sorted-same}
+use Rattle.ra_laws.proofs.TheLaws.{what_is_settled_does_not_wait, named_labels_are_sorted-same}
 use Rattle.ra_element_list.specs.ElementList.{ElementList, is_marked}
 use Rattle.ra_replica_list.specs.declared.deed.Deed.{Deed}
 use Rattle.ra_replica_list.specs.declared.deed.Deed.TheVariants.{PutsIn, Removes}

@@ -11,7 +11,7 @@ use Rattle.ra_labels.specs.Specification.{State, state_after}
 use Rattle.ra_labels.specs.Laws.{NoneTwice}
 use Rattle.ra_labels.specs.Insertion.{updates_passing, or_label}
 use Rattle.ra_labels.specs.Waiting.{NoneWaits, OthersWait}
-use Rattle.ra_labels.proofs.TheLaws.{what_is_settled_does_not_wait, one_more_label_puts_its_update_in-count}
+use Rattle.ra_laws.proofs.TheLaws.{what_is_settled_does_not_wait, one_more_label_puts_its_update_in-count}
 use Rattle.ra_element_list.specs.ElementList.{Arrival, is_marked}
 use Rattle.ra_replica_list.specs.declared.deed.Deed.{Deed}
 use Rattle.ra_replica_list.specs.declared.deed.Deed.TheVariants.{PutsIn, Removes}

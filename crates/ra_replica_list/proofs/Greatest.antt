@@ -11,7 +11,7 @@ use Rattle.ra_labels.specs.Records.{Records, labels_of}
 use Rattle.ra_labels.specs.NamedOrder.{stamp_cmp, greater_of}
 use Rattle.ra_labels.specs.Laws.{IsStampBelow}
 use Rattle.ra_labels.specs.Insertion.{or_label}
-use Rattle.ra_labels.proofs.TheLaws.{stamps_by_clock_and_then_by_replica-less}
+use Rattle.ra_laws.proofs.TheLaws.{stamps_by_clock_and_then_by_replica-less}
 use Rattle.ra_replica_list.specs.ReplicaList.{IsGreatestOf}
 use Rattle.ra_replica_list.proofs.Places.{it_passes, still_passes, passes_or_is}
 use Rattle.ra_replica_list.proofs.Deeds.{same_label}

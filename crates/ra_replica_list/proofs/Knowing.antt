@@ -13,7 +13,7 @@ use Rattle.ra_labels.specs.Visibility.{is_update, is_update_at, had}
 use Rattle.ra_labels.specs.Specification.{State, state_after}
 use Rattle.ra_labels.specs.Insertion.{updates_passing}
 use Rattle.ra_labels.specs.Waiting.{is_there}
-use Rattle.ra_labels.proofs.TheLaws.{had_updates-updates, had_updates-there, settled_labels_stay_settled-operation, a_later_command_leaves_the_updates_that_pass-operation}
+use Rattle.ra_laws.proofs.TheLaws.{had_updates-updates, had_updates-there, settled_labels_stay_settled-operation, a_later_command_leaves_the_updates_that_pass-operation}
 use Rattle.ra_element_list.specs.ElementList.{Arrival}
 use Rattle.ra_replica_list.specs.declared.deed.Deed.{Deed}
 use Rattle.ra_replica_list.specs.Waiting.{labels_under}

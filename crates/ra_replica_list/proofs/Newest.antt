@@ -19,7 +19,7 @@ use Rattle.ra_labels.specs.Rewriting.{Part, Half, Act, Does, acts_of, part_of, p
 use Rattle.ra_labels.specs.Linearization.{must_precede, is_earlier_there, is_query_half_of, is_visible_to, extends, extends_visibility}
 use Rattle.ra_labels.specs.NamedOrder.{named_labels, named_sequence}
 use Rattle.ra_labels.specs.Insertion.{Makes}
-use Rattle.ra_labels.proofs.TheLaws.{a_new_label_leaves_the_order_of_the_others, had_updates-updates, each_number_has_its_label-found, an_operation_makes_one_update-exactly}
+use Rattle.ra_laws.proofs.TheLaws.{a_new_label_leaves_the_order_of_the_others, had_updates-updates, each_number_has_its_label-found, an_operation_makes_one_update-exactly}
 use Rattle.ra_replica_list.proofs.Places.{head_or_behind, at_head, behind_head, none_there, not_both}
 use Rattle.ra_replica_list.proofs.Ranks.{sees_had}
 use Rattle.ra_replica_list.proofs.Delivering.{in_named}

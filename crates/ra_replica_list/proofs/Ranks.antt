@@ -10,7 +10,7 @@ use Rattle.ra_labels.specs.Records.{Records, label_count, labels_of, next_label}
 use Rattle.ra_labels.specs.Visibility.{had, sees}
 use Rattle.ra_labels.specs.NamedOrder.{lowest_rank, timestamp_of}
 use Rattle.ra_labels.specs.Laws.{IsStampBelow, SeesStamp}
-use Rattle.ra_labels.proofs.TheLaws.{a_timestamp_is_the_greatest_seen-seen, a_timestamp_is_the_greatest_seen-greatest}
+use Rattle.ra_laws.proofs.TheLaws.{a_timestamp_is_the_greatest_seen-seen, a_timestamp_is_the_greatest_seen-greatest}
 use Rattle.ra_element_list.specs.ElementList.{Arrival}
 use Rattle.ra_replica_list.specs.declared.deed.Deed.{Deed}
 use Rattle.ra_replica_list.specs.ReplicaList.{ReplicaList, IsListOf}

@@ -13,7 +13,7 @@ use Rattle.ra_labels.specs.NamedOrder.{named_sequence}
 use Rattle.ra_labels.specs.Commuting.{then_step}
 use Rattle.ra_labels.specs.Insertion.{updates_passing, or_label}
 use Rattle.ra_labels.specs.Waiting.{is_there, NoneWaits}
-use Rattle.ra_labels.proofs.TheLaws.{updates_are_admitted_where_none_waits-exactly, one_more_update_is_one_step-none_waits, one_more_update_is_one_step-insertion, one_more_update_is_one_step-removal}
+use Rattle.ra_laws.proofs.TheLaws.{updates_are_admitted_where_none_waits-exactly, one_more_update_is_one_step-none_waits, one_more_update_is_one_step-insertion, one_more_update_is_one_step-removal}
 use Rattle.ra_seqspec.specs.Range.{IsInRange}
 use Rattle.ra_element_list.specs.ElementList.{Arrival, ElementList, arrival_at, is_marked, IsNearestBefore}
 use Rattle.ra_replica_list.specs.declared.deed.Deed.{Deed}

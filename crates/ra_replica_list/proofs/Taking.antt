@@ -10,7 +10,7 @@ use Rattle.ra_labels.specs.Specification.{State, Listed, step_of, state_after}
 use Rattle.ra_labels.specs.NamedOrder.{named_sequence}
 use Rattle.ra_labels.specs.Insertion.{updates_passing}
 use Rattle.ra_labels.specs.Waiting.{is_there}
-use Rattle.ra_labels.proofs.TheLaws.{what_is_settled_does_not_wait}
+use Rattle.ra_laws.proofs.TheLaws.{what_is_settled_does_not_wait}
 use Rattle.ra_element_list.specs.ElementList.{Arrival, ElementList, arrival_at, is_marked, IsNearestBefore}
 use Rattle.ra_replica_list.specs.declared.deed.Deed.{Deed}
 use Rattle.ra_replica_list.specs.declared.deed.Deed.TheVariants.{PutsIn, Removes}

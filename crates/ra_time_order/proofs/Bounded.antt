@@ -10,7 +10,7 @@ use Rattle.ra_labels.specs.declared.command.Command.TheVariants.{Operate, Delive
 use Rattle.ra_labels.specs.NamedOrder.{greatest_stamp, timestamp_of}
 use Rattle.ra_labels.specs.Records.{Records, label_count, labels_of, next_label}
 use Rattle.ra_labels.specs.Visibility.{had, sees, is_update, is_update_at, IsCausal}
-use Rattle.ra_labels.proofs.TheLaws.{causal_records_leave_nothing_out-had}
+use Rattle.ra_laws.proofs.TheLaws.{causal_records_leave_nothing_out-had}
 use Rattle.ra_visibility.specs.Order.{must_stand_before}
 use Rattle.ra_time_order.specs.Stamps.{AtMost}
 use Rattle.ra_time_order.proofs.Ranks.{lowest_at_most, head_or_behind, behind, IsGreatestOf, greatest_of}

@@ -24,7 +24,7 @@ use Rattle.ra_labels.specs.declared.command.Command.TheVariants.{Operate}
 use Rattle.ra_labels.specs.NamedOrder.{lowest_rank, stamp_cmp, timestamp_of, rank_of, named_labels}
 use Rattle.ra_labels.specs.Records.{Records, label_count, labels_of, next_label}
 use Rattle.ra_labels.specs.Visibility.{sees}
-use Rattle.ra_labels.proofs.TheLaws.{named_labels_are_sorted-sorted, named_labels_are_sorted-same, a_timestamp_is_kept}
+use Rattle.ra_laws.proofs.TheLaws.{named_labels_are_sorted-sorted, named_labels_are_sorted-same, a_timestamp_is_kept}
 use Rattle.ra_visibility.specs.declared.order.Place.{Place}
 use Rattle.ra_visibility.specs.Seen.{Seen, count_in}
 use Rattle.ra_visibility.specs.Order.{ComesNext, IsPlaceOf, must_stand_before}

@@ -16,7 +16,7 @@ use Rattle.ra_labels.specs.Answer.{carries_stamp}
 use Rattle.ra_labels.specs.NamedOrder.{named_labels}
 use Rattle.ra_labels.specs.Records.{Records, label_count, labels_of, next_label}
 use Rattle.ra_labels.specs.Visibility.{is_update}
-use Rattle.ra_labels.proofs.TheLaws.{forms_that_deserve_no_refusal}
+use Rattle.ra_laws.proofs.TheLaws.{forms_that_deserve_no_refusal}
 use Rattle.ra_visibility.specs.Seen.{Seen, count_in}
 use Rattle.ra_visibility.specs.Order.{ComesNext}
 use Rattle.ra_time_order.specs.declared.entry.Entry.{Entry}

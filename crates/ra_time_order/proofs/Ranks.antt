@@ -9,7 +9,7 @@ use Rattle.ra_labels.specs.declared.label.Stamp.{Stamp}
 use Rattle.ra_labels.specs.declared.label.Label.{Label}
 use Rattle.ra_labels.specs.NamedOrder.{lowest_rank, stamp_cmp, greater_of, greatest_stamp}
 use Rattle.ra_labels.specs.Laws.{IsStampBelow}
-use Rattle.ra_labels.proofs.TheLaws.{stamps_by_clock_and_then_by_replica-less}
+use Rattle.ra_laws.proofs.TheLaws.{stamps_by_clock_and_then_by_replica-less}
 use Rattle.ra_time_order.specs.Stamps.{AtMost}
 
 less_from : (o : Ordering) → is_lt o ≡ true → o ≡ Less

@@ -12,7 +12,7 @@ use Rattle.ra_labels.specs.NamedOrder.{lowest_rank, greater_of, greatest_stamp}
 use Rattle.ra_labels.specs.Places.{place_of}
 use Rattle.ra_labels.specs.Records.{Records, label_count, label_at, labels_of, next_label}
 use Rattle.ra_labels.specs.Visibility.{sees, is_update}
-use Rattle.ra_labels.proofs.TheLaws.{each_number_has_its_label-found, sees_earlier_updates-earlier}
+use Rattle.ra_laws.proofs.TheLaws.{each_number_has_its_label-found, sees_earlier_updates-earlier}
 use Rattle.ra_visibility.specs.Seen.{Seen, count_in}
 use Rattle.ra_visibility.specs.Order.{IsSeenBy}
 use Rattle.ra_time_order.specs.Greatest.{greatest_among}

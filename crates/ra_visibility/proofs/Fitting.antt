@@ -12,7 +12,7 @@ use Rattle.ra_labels.specs.Records.{Records, label_count, labels_of}
 use Rattle.ra_labels.specs.Visibility.{sees, is_update, is_update_at}
 use Rattle.ra_labels.specs.Rewriting.{Part, Half, Act, acts_of, part_of, parts_of, update_of}
 use Rattle.ra_labels.specs.Linearization.{must_precede, is_visible_to, is_earlier_there, is_query_half_of, extends}
-use Rattle.ra_labels.proofs.TheLaws.{must_precede_in_three_cases-cases, sees_the_same_later, sees_earlier_updates-earlier, sees_earlier_updates-updates, each_number_has_its_label-found, update_where_a_part_is_one}
+use Rattle.ra_laws.proofs.TheLaws.{must_precede_in_three_cases-cases, sees_the_same_later, sees_earlier_updates-earlier, sees_earlier_updates-updates, each_number_has_its_label-found, update_where_a_part_is_one}
 use Rattle.ra_visibility.specs.Order.{must_stand_before}
 use Rattle.ra_visibility.proofs.Extending.{list_any_at, mapped_from, mapped_to}
 

@@ -14,7 +14,7 @@ use Rattle.ra_labels.specs.Records.{Records, label_count, labels_of, next_label}
 use Rattle.ra_labels.specs.Rewriting.{Part, parts_of}
 use Rattle.ra_labels.specs.Linearization.{must_precede, extends, extends_visibility}
 use Rattle.ra_labels.specs.NamedOrder.{named_labels, named_sequence}
-use Rattle.ra_labels.proofs.TheLaws.{named_labels_are_sorted-same}
+use Rattle.ra_laws.proofs.TheLaws.{named_labels_are_sorted-same}
 use Rattle.ra_visibility.specs.declared.order.Place.{Place}
 use Rattle.ra_visibility.specs.Order.{must_stand_before, IsPlaceOf, EachFitted}
 use Rattle.ra_visibility.proofs.Inserting.{named_below_count, order_delivered, order_after_verdict, at_its_place}

@@ -19,7 +19,7 @@ use Rattle.ra_labels.specs.declared.command.Command.{Command}
 use Rattle.ra_labels.specs.declared.command.Command.TheVariants.{Operate, Deliver, Verdict}
 use Rattle.ra_labels.specs.Records.{Records, label_count, labels_of, next_label}
 use Rattle.ra_labels.specs.NamedOrder.{timestamp_of, rank_of, stamp_cmp, label_cmp, insert_by, sort_by, named_labels}
-use Rattle.ra_labels.proofs.TheLaws.{named_labels_are_sorted-same, a_timestamp_is_kept}
+use Rattle.ra_laws.proofs.TheLaws.{named_labels_are_sorted-same, a_timestamp_is_kept}
 use Rattle.ra_visibility.specs.declared.order.Place.{Place}
 use Rattle.ra_visibility.specs.Order.{IsPlaceOf}
 

@@ -19,7 +19,7 @@ use Rattle.ra_labels.specs.NamedOrder.{named_sequence, stamp_cmp, lowest_rank, l
 use Rattle.ra_labels.specs.Linearization.{updates_admitted}
 use Rattle.ra_labels.specs.Insertion.{Makes}
 use Rattle.ra_labels.specs.Waiting.{is_there}
-use Rattle.ra_labels.proofs.TheLaws.{a_new_update_is_admitted_where_a_label_below_it_put_in_what_it_needs-insertion, a_new_update_is_admitted_where_a_label_below_it_put_in_what_it_needs-removal, labels_with_stamps_stand_in_their_order, stamps_by_clock_and_then_by_replica-less, a_timestamp_is_the_greatest_seen-own}
+use Rattle.ra_laws.proofs.TheLaws.{a_new_update_is_admitted_where_a_label_below_it_put_in_what_it_needs-insertion, a_new_update_is_admitted_where_a_label_below_it_put_in_what_it_needs-removal, labels_with_stamps_stand_in_their_order, stamps_by_clock_and_then_by_replica-less, a_timestamp_is_the_greatest_seen-own}
 use Rattle.ra_element_list.specs.ElementList.{Arrival, ElementList, arrival_at}
 use Rattle.ra_replica_list.specs.declared.deed.Deed.{Deed}
 use Rattle.ra_replica_list.specs.Deeds.{element_at, AreElementsOf}

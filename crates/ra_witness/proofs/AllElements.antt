@@ -12,7 +12,7 @@ use Rattle.ra_labels.specs.Rewriting.{updates_of}
 use Rattle.ra_labels.specs.NamedOrder.{named_labels, named_sequence}
 use Rattle.ra_labels.specs.Insertion.{Makes}
 use Rattle.ra_labels.specs.Waiting.{is_there}
-use Rattle.ra_labels.proofs.TheLaws.{named_labels_are_sorted-same, what_is_there_a_label_put_in-all}
+use Rattle.ra_laws.proofs.TheLaws.{named_labels_are_sorted-same, what_is_there_a_label_put_in-all}
 use Rattle.ra_element_list.specs.ElementList.{Arrival, ElementList, root, arrival_at}
 use Rattle.ra_replica_list.specs.declared.deed.Deed.{Deed}
 use Rattle.ra_replica_list.specs.declared.deed.Deed.TheVariants.{PutsIn, Removes}

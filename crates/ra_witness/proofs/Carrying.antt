@@ -12,7 +12,7 @@ use Rattle.ra_labels.specs.Records.{Records, label_count, stamp_at}
 use Rattle.ra_labels.specs.Rewriting.{Half, Act, acts_of}
 use Rattle.ra_labels.specs.Specification.{State}
 use Rattle.ra_labels.specs.Fault.{Holds, cause_of}
-use Rattle.ra_labels.proofs.TheLaws.{had_updates-there}
+use Rattle.ra_laws.proofs.TheLaws.{had_updates-there}
 use Rattle.ra_witness.specs.declared.commuting.Commuting as commuting
 use Rattle.ra_witness.specs.declared.overriding.Overriding as overriding
 use Rattle.ra_witness.specs.declared.rga.Rga as rga

@@ -25,7 +25,7 @@ use Rattle.ra_labels.specs.Fault.{Holds, cause_of}
 use Rattle.ra_labels.specs.Answer.{kind_of, is_kind}
 use Rattle.ra_labels.specs.Laws.{IsAnsweredAfter, kind_of_update, kind_of_act}
 use Rattle.ra_labels.specs.Insertion.{updates_had, IsAnsweredItself}
-use Rattle.ra_labels.proofs.TheLaws.{a_new_label_alone_decides-query, a_new_label_leaves_what_the_others_see-own, a_new_label_leaves_the_order_of_the_others, updates_of_the_kind_are_admitted-only, updates_of_the_kind_are_admitted-exactly, parts_are_of_their_kind}
+use Rattle.ra_laws.proofs.TheLaws.{a_new_label_alone_decides-query, a_new_label_leaves_what_the_others_see-own, a_new_label_leaves_the_order_of_the_others, updates_of_the_kind_are_admitted-only, updates_of_the_kind_are_admitted-exactly, parts_are_of_their_kind}
 use Rattle.ra_witness.specs.Labels.{queries_in, answers_in, cause_in}
 use Rattle.ra_witness.proofs.Places.{head_or_behind, at_head, behind_head, reached, from_where, pass_together}
 

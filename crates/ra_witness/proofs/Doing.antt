@@ -21,7 +21,7 @@ use Rattle.ra_labels.specs.Fault.{Holds}
 use Rattle.ra_labels.specs.Answer.{is_kind}
 use Rattle.ra_labels.specs.Laws.{kind_of_update}
 use Rattle.ra_labels.specs.Insertion.{Makes}
-use Rattle.ra_labels.proofs.TheLaws.{each_number_has_its_label-found, had_updates-updates, named_labels_are_sorted-same, updates_of_the_kind_are_admitted-only}
+use Rattle.ra_laws.proofs.TheLaws.{each_number_has_its_label-found, had_updates-updates, named_labels_are_sorted-same, updates_of_the_kind_are_admitted-only}
 use Rattle.ra_witness.specs.declared.written.Written.{Written}
 use Rattle.ra_witness.specs.Labels.{updates_in, first_of, update_in, updates_by_number}
 use Rattle.ra_witness.specs.States.{update_at, steps_of}

@@ -15,7 +15,7 @@ use Rattle.ra_labels.specs.Rewriting.{acts_of}
 use Rattle.ra_labels.specs.Lists.{rises}
 use Rattle.ra_labels.specs.Answer.{kind_of, is_kind, has_rising_list, carries_stamp}
 use Rattle.ra_labels.specs.Laws.{HasItsClock}
-use Rattle.ra_labels.proofs.TheLaws.{forms_that_deserve_no_refusal}
+use Rattle.ra_laws.proofs.TheLaws.{forms_that_deserve_no_refusal}
 use Rattle.ra_seqspec.specs.Asked.{asks_rising}
 use Rattle.ra_witness.specs.Labels.{queries_in, update_in}
 use Rattle.ra_witness.specs.Offered.{IsOffered}

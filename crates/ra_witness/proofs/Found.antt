@@ -19,7 +19,7 @@ use Rattle.ra_labels.specs.Visibility.{is_update, is_update_at}
 use Rattle.ra_labels.specs.Rewriting.{Half, Act, Does, Asks, acts_of, update_of}
 use Rattle.ra_labels.specs.NamedOrder.{named_labels}
 use Rattle.ra_labels.specs.Insertion.{Makes}
-use Rattle.ra_labels.proofs.TheLaws.{had_updates-there, update_where_a_part_is_one, named_labels_are_sorted-same}
+use Rattle.ra_laws.proofs.TheLaws.{had_updates-there, update_where_a_part_is_one, named_labels_are_sorted-same}
 use Rattle.ra_witness.specs.Labels.{updates_in, first_of, update_in, updates_by_number}
 use Rattle.ra_witness.specs.States.{update_at}
 use Rattle.ra_witness.proofs.Places.{at_head, behind_head}

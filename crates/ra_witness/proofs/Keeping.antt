@@ -24,7 +24,7 @@ use Rattle.ra_labels.specs.Answer.{kind_of, is_kind}
 use Rattle.ra_labels.specs.Laws.{kind_of_state, kind_of_update, kind_of_act, IdentifiersAreOneLabels}
 use Rattle.ra_labels.specs.Insertion.{updates_had, Makes}
 use Rattle.ra_labels.specs.Commuting.{then_step}
-use Rattle.ra_labels.proofs.TheLaws.{states_are_of_their_kind, parts_are_of_their_kind, an_operation_puts_its_update_in-query, an_operation_puts_its_update_in-others, a_delivery_puts_its_update_in-own, a_delivery_puts_its_update_in-others, updates_of_the_kind_are_admitted-only, a_delivery_is_one_step-counter, a_delivery_is_one_step-or_set}
+use Rattle.ra_laws.proofs.TheLaws.{states_are_of_their_kind, parts_are_of_their_kind, an_operation_puts_its_update_in-query, an_operation_puts_its_update_in-others, a_delivery_puts_its_update_in-own, a_delivery_puts_its_update_in-others, updates_of_the_kind_are_admitted-only, a_delivery_is_one_step-counter, a_delivery_is_one_step-or_set}
 use Rattle.ra_witness.specs.Labels.{update_in}
 use Rattle.ra_witness.specs.States.{state_at, update_at, after_step, states_after}
 use Rattle.ra_witness.specs.Standing.{IsKeptOf}

@@ -17,7 +17,7 @@ use Rattle.ra_labels.specs.Linearization.{updates_admitted}
 use Rattle.ra_labels.specs.Laws.{elements_in, StampsAreOneLabels}
 use Rattle.ra_labels.specs.Late.{put_after}
 use Rattle.ra_labels.specs.Insertion.{Makes}
-use Rattle.ra_labels.proofs.TheLaws.{an_operation_makes_one_update-one, a_new_label_in_the_list_of_all-insertion, labels_with_stamps_stand_in_their_order}
+use Rattle.ra_laws.proofs.TheLaws.{an_operation_makes_one_update-one, a_new_label_in_the_list_of_all-insertion, labels_with_stamps_stand_in_their_order}
 use Rattle.ra_element_list.specs.ElementList.{Arrival, ElementList, root, arrival_at, IsBelowByStamp}
 use Rattle.ra_replica_list.specs.declared.deed.Deed.{Deed}
 use Rattle.ra_replica_list.specs.declared.deed.Deed.TheVariants.{PutsIn}

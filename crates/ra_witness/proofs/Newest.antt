@@ -19,7 +19,7 @@ use Rattle.ra_labels.specs.Linearization.{must_precede, extends, extends_visibil
 use Rattle.ra_labels.specs.NamedOrder.{named_sequence}
 use Rattle.ra_labels.specs.Insertion.{updates_had_of, updates_had, Makes}
 use Rattle.ra_labels.specs.Commuting.{then_step}
-use Rattle.ra_labels.proofs.TheLaws.{an_operation_puts_its_update_in-own, one_more_update_is_one_more_step}
+use Rattle.ra_laws.proofs.TheLaws.{an_operation_puts_its_update_in-own, one_more_update_is_one_more_step}
 
 first_fails : (a b c : Bool) → not (a || b || c) ≡ true → a ≡ false
 first_fails false b c passes = refl

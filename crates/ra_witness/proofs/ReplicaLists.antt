@@ -13,7 +13,7 @@ use Rattle.ra_labels.specs.Records.{Records}
 use Rattle.ra_labels.specs.Visibility.{is_update_at}
 use Rattle.ra_labels.specs.Rewriting.{parts_of, updates_of}
 use Rattle.ra_labels.specs.Specification.{state_after}
-use Rattle.ra_labels.proofs.TheLaws.{a_delivery_puts_its_update_in-order}
+use Rattle.ra_laws.proofs.TheLaws.{a_delivery_puts_its_update_in-order}
 use Rattle.ra_element_list.specs.ElementList.{Arrival, ElementList}
 use Rattle.ra_replica_list.specs.declared.deed.Deed.{Deed}
 use Rattle.ra_replica_list.specs.Deeds.{deed_at, AreElementsOf}

@@ -16,7 +16,7 @@ use Rattle.ra_labels.specs.Linearization.{updates_admitted}
 use Rattle.ra_labels.specs.Fault.{cause_of}
 use Rattle.ra_labels.specs.Answer.{kind_of}
 use Rattle.ra_labels.specs.Insertion.{updates_had}
-use Rattle.ra_labels.proofs.TheLaws.{an_operation_puts_its_update_among_all-query}
+use Rattle.ra_laws.proofs.TheLaws.{an_operation_puts_its_update_among_all-query}
 use Rattle.ra_witness.specs.Labels.{cause_in}
 use Rattle.ra_witness.specs.Offered.{IsOffered}
 use Rattle.ra_witness.proofs.Places.{pass_together}

@@ -7,7 +7,7 @@ use Rattle.std.proofs.lemmas.Bool.{true≢false, cases_eq}
 use Rattle.ra_labels.specs.declared.label.Stamp.{Stamp}
 use Rattle.ra_labels.specs.NamedOrder.{stamp_cmp}
 use Rattle.ra_labels.specs.Laws.{IsStampBelow}
-use Rattle.ra_labels.proofs.TheLaws.{stamps_by_clock_and_then_by_replica-less}
+use Rattle.ra_laws.proofs.TheLaws.{stamps_by_clock_and_then_by_replica-less}
 
 is_less : (o : Ordering) → is_lt o ≡ true → o ≡ Less
 is_less Less is = refl

@@ -14,7 +14,7 @@ use Rattle.ra_labels.specs.Visibility.{is_update, had, sees}
 use Rattle.ra_labels.specs.Linearization.{extends_visibility}
 use Rattle.ra_labels.specs.NamedOrder.{rank_of, named_sequence}
 use Rattle.ra_labels.specs.Laws.{IsStampBelow, StampsAreOneLabels}
-use Rattle.ra_labels.proofs.TheLaws.{each_number_has_its_label-found, each_number_has_its_label-none, visibility_is_extended_where_ranks_say_so, a_timestamp_is_the_greatest_seen-own, had_updates-updates, had_updates-there}
+use Rattle.ra_laws.proofs.TheLaws.{each_number_has_its_label-found, each_number_has_its_label-none, visibility_is_extended_where_ranks_say_so, a_timestamp_is_the_greatest_seen-own, had_updates-updates, had_updates-there}
 use Rattle.ra_visibility.specs.Order.{IsByTimestamp}
 use Rattle.ra_witness.specs.declared.written.Written.{Written}
 use Rattle.ra_witness.specs.Labels.{updates_by_number}

@@ -3,7 +3,7 @@ use Rattle.std.specs.Prelude.{IfOk, OnOk, Result}
 use Rattle.ra_labels.specs.Records.{Records}
 use Rattle.ra_labels.specs.NamedOrder.{named_sequence}
 use Rattle.ra_labels.specs.Fault.{records_before_fault}
-use Rattle.ra_labels.proofs.TheLaws.{no_fault_holds, records_before_fault_have_none-none}
+use Rattle.ra_laws.proofs.TheLaws.{no_fault_holds, records_before_fault_have_none-none}
 use Rattle.ra_witness.specs.declared.part_ref.PartRef.{PartRef}
 use Rattle.ra_witness.specs.Sequence.{ref_of}
 use Rattle.ra_monitor.specs.Monitor.{Monitor, records_of}

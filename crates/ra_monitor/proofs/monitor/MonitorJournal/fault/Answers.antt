@@ -1,6 +1,6 @@
 use Rattle.std.proofs.Common.{◌≡◌, ◌<◌, length, Some, sym, ◌∙◌, subst, arith}
 use Rattle.ra_labels.specs.Fault.{fault_of}
-use Rattle.ra_labels.proofs.TheLaws.{fault_is_the_least}
+use Rattle.ra_laws.proofs.TheLaws.{fault_is_the_least}
 use Rattle.ra_monitor.specs.Monitor.{Monitor, records_of}
 use Rattle.ra_monitor.proofs.monitor.MonitorJournal.fault.Goals as goal
 

@@ -12,7 +12,7 @@ use Rattle.ra_witness.proofs.Lasts.{on_ok, on_err, on_err_any, if_some_at}
 use Rattle.ra_witness.proofs.Carrying.{is_commuting, is_overriding, is_rga, told_there, can_tell, commuting_told, if_some_use}
 use Rattle.ra_witness.proofs.Doing.{told_step}
 use Rattle.ra_witness.proofs.Writing.{writes_counted, told_write, can_bring, overriding_told, overriding_same}
-use Rattle.ra_labels.proofs.TheLaws.{had_updates-there}
+use Rattle.ra_laws.proofs.TheLaws.{had_updates-there}
 use Rattle.ra_witness.proofs.kept.Kept.deliver.Goals as goal
 
 pub deliver-requires-clause-label : goal.deliver-requires-clause-label

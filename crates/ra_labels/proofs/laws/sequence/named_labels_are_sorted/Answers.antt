@@ -1,8 +1,0 @@
-use Rattle.ra_labels.proofs.TheLaws.{named_labels_are_sorted-same, named_labels_are_sorted-sorted}
-use Rattle.ra_labels.proofs.laws.sequence.named_labels_are_sorted.Goals as goal
-
-pub returns-clause-same : goal.returns-clause-same
-returns-clause-same c = named_labels_are_sorted-same
-
-pub returns-clause-sorted : goal.returns-clause-sorted
-returns-clause-sorted c = named_labels_are_sorted-sorted

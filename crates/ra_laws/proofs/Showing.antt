@@ -1,0 +1,147 @@
+-- What a read of an RGA shows.
+use Rattle.std.proofs.Common.{◌≡◌, ℕ, Bool, true, false, List, [], ◌∷◌, ◌++◌, filter, Some, sym, ap, ◌∙◌, subst, inl, inr, arith}
+use Rattle.std.specs.Prelude.{◌↔◌, ◌⊎◌, ◌==◌, not, Contains}
+use Rattle.std.proofs.lemmas.Bool.{false≢true, eqb-true, eq-eqb, not-true, not_from_false, false_from_ne_true}
+use Rattle.std.proofs.lemmas.List.Elements.{Contains-append_left, Contains-append_right, Contains-append_cases}
+use Rattle.ra_labels.specs.declared.kind.Kind.TheVariants.{Rga}
+use Rattle.ra_labels.specs.declared.operation.Update.{Update}
+use Rattle.ra_labels.specs.declared.operation.Update.TheVariants.{After, RgaRemove}
+use Rattle.ra_labels.specs.Lists.{shown}
+use Rattle.ra_labels.specs.Specification.{Listed, state_after}
+use Rattle.ra_labels.specs.Laws.{elements_in, WasPutIn}
+use Rattle.ra_laws.proofs.Places.{Contains-cons_cases, at_head, behind_head, kept-there, there-kept}
+use Rattle.ra_laws.proofs.Stepping.{state_from}
+use Rattle.ra_laws.proofs.Rgas.{put_behind, shown-append, hide-shown, Steps, first_step, there-step, step_puts, comes_in}
+
+-- what is shown stays so until it is removed
+shows-step : (y : ℕ) (ls next : List (ℕ × Bool)) (update : Update) → Steps ls update next → Contains (shown next) y ↔ ((Contains (shown ls) y ⊎ ((anchor : ℕ) × (update ≡ After anchor y))) × ¬ (update ≡ RgaRemove y))
+shows-step y ls next update (inl (anchor, x, which, there, out, same)) =
+    let no_removal : ¬ (update ≡ RgaRemove y) = λ is. let this : After anchor x ≡ RgaRemove y = sym which ∙ is in absurd (cc (this)) in
+    let (before, behind, is_shown, was, now) = put_behind anchor x ls there in
+    let old : shown ls ≡ shown before ++ shown ((anchor, is_shown) ∷ behind) = ap shown was ∙ shown-append before ((anchor, is_shown) ∷ behind) in
+    let new : shown next ≡ shown before ++ shown ((anchor, is_shown) ∷ (x, true) ∷ behind) = ap shown (sym same ∙ now) ∙ shown-append before ((anchor, is_shown) ∷ (x, true) ∷ behind) in (
+      (λ found. (
+        elim (Contains-append_cases (shown before) (shown ((anchor, is_shown) ∷ (x, true) ∷ behind)) y (subst (λ xs. Contains xs y) new found)) [
+          | inl early ↦ inl (subst (λ xs. Contains xs y) (sym old) (Contains-append_left (shown before) (shown ((anchor, is_shown) ∷ behind)) y early))
+          | inr late ↦ elim (without_next anchor x y is_shown behind late) [
+            | inl this ↦ inr (anchor, which ∙ ap (After anchor) this)
+            | inr other ↦ inl (subst (λ xs. Contains xs y) (sym old) (Contains-append_right (shown before) (shown ((anchor, is_shown) ∷ behind)) y other))
+          ]
+        ],
+        no_removal,
+      )),
+      (λ known. elim known.0 [
+        | inl early ↦ subst (λ xs. Contains xs y) (sym new) (elim (Contains-append_cases (shown before) (shown ((anchor, is_shown) ∷ behind)) y (subst (λ xs. Contains xs y) old early)) [
+          | inl first ↦ Contains-append_left (shown before) (shown ((anchor, is_shown) ∷ (x, true) ∷ behind)) y first
+          | inr late ↦ Contains-append_right (shown before) (shown ((anchor, is_shown) ∷ (x, true) ∷ behind)) y (with_next anchor x y is_shown behind late)
+        ])
+        | inr (a, is) ↦ (step_puts ls next update a y (inl (anchor, x, which, there, out, same)) is).0
+      ]),
+    )
+  where
+    without_next : (anchor x y : ℕ) (is_shown : Bool) (behind : List (ℕ × Bool)) → Contains (shown ((anchor, is_shown) ∷ (x, true) ∷ behind)) y → (x ≡ y) ⊎ Contains (shown ((anchor, is_shown) ∷ behind)) y
+    without_next anchor x y true behind found = elim (Contains-cons_cases anchor (x ∷ shown behind) y found) [
+      | inl here ↦ inr (at_head anchor (shown behind) y here)
+      | inr late ↦ elim (Contains-cons_cases x (shown behind) y late) [
+        | inl this ↦ inl this
+        | inr further ↦ inr (behind_head anchor (shown behind) y further)
+      ]
+    ]
+    without_next anchor x y false behind found = Contains-cons_cases x (shown behind) y found
+
+    with_next : (anchor x y : ℕ) (is_shown : Bool) (behind : List (ℕ × Bool)) → Contains (shown ((anchor, is_shown) ∷ behind)) y → Contains (shown ((anchor, is_shown) ∷ (x, true) ∷ behind)) y
+    with_next anchor x y true behind found = elim (Contains-cons_cases anchor (shown behind) y found) [
+      | inl here ↦ at_head anchor (x ∷ shown behind) y here
+      | inr late ↦ behind_head anchor (x ∷ shown behind) y (behind_head x (shown behind) y late)
+    ]
+    with_next anchor x y false behind found = behind_head x (shown behind) y found
+shows-step y ls next update (inr (x, which, there, same)) =
+    let shows : shown next ≡ filter (λ z. not (x == z)) (shown ls) = ap shown (sym same) ∙ hide-shown x ls in (
+      (λ found.
+          let kept_one = there-kept (λ z. not (x == z)) (shown ls) y (subst (λ xs. Contains xs y) shows found) in (
+            inl kept_one.0,
+            (λ is.
+                let this : RgaRemove x ≡ RgaRemove y = sym which ∙ is in
+                let element : x ≡ y = cc (this) in
+                false≢true (sym (not-true (x == y) kept_one.1) ∙ eq-eqb x y element)),
+          )),
+      (λ known. elim known.0 [
+        | inl early ↦
+            let other : (x == y) ≡ false = false_from_ne_true (x == y) (λ is. known.1 (which ∙ ap RgaRemove (eqb-true x y is))) in
+            subst (λ xs. Contains xs y) (sym shows) (kept-there (λ z. not (x == z)) (shown ls) y early (not_from_false (x == y) other))
+        | inr (a, is) ↦ let this : RgaRemove x ≡ After a y = sym which ∙ is in absurd (cc (this))
+      ]),
+    )
+
+-- what was put in is removed only later, since it is in the list from then on
+shows : (ls : List (ℕ × Bool)) (us : List Update) (qs : List (ℕ × Bool)) (y : ℕ) → (Contains (shown ls) y → Contains (elements_in ls) y) → state_from (Some (Listed ls)) us ≡ Some (Listed qs)
+    → Contains (shown qs) y ↔ ((Contains (shown ls) y ⊎ WasPutIn y us) × ¬ Contains us (RgaRemove y))
+shows ls [] qs y listed is =
+    let same : ls ≡ qs = cc (is) in (
+      (λ found. (inl (subst (λ es. Contains (shown es) y) (sym same) found), (λ there. absurd (omega (arith, there.1))))),
+      (λ known. elim known.0 [
+        | inl old ↦ subst (λ es. Contains (shown es) y) same old
+        | inr (a, put) ↦ absurd (omega (arith, put.1))
+      ]),
+    )
+shows ls (update ∷ us) qs y listed is =
+    let leads = first_step ls update us qs is in
+    let step = shows-step y ls leads.0 update leads.1 in
+    let rest = shows leads.0 us qs y (λ found. there_after ls leads.0 update y listed leads.1 (step.0 found).0) leads.2 in (
+      (λ found.
+          let later = rest.0 found in
+          elim later.0 [
+            | inl now ↦
+                let before = step.0 now in (
+                  elim before.0 [
+                    | inl old ↦ inl old
+                    | inr (a, which) ↦ inr (a, at_head update us (After a y) which)
+                  ],
+                  not_removed before.1 later.1,
+                )
+            | inr (a, put) ↦ (inr (a, behind_head update us (After a y) put), not_removed (λ which. never_before ls leads.0 update us qs a y leads.1 leads.2 put which) later.1)
+          ]),
+      (λ known.
+          let never_now : ¬ (update ≡ RgaRemove y) = λ which. known.1 (at_head update us (RgaRemove y) which) in
+          let never_later : ¬ Contains us (RgaRemove y) = λ there. known.1 (behind_head update us (RgaRemove y) there) in
+          rest.1 (
+            elim known.0 [
+              | inl old ↦ inl (step.1 (inl old, never_now))
+              | inr (a, put) ↦ elim (Contains-cons_cases update us (After a y) put) [
+                | inl here ↦ inl (step.1 (inr (a, here), never_now))
+                | inr further ↦ inr (a, further)
+              ]
+            ],
+            never_later,
+          )),
+    )
+  where
+    not_removed : ¬ (update ≡ RgaRemove y) → ¬ Contains us (RgaRemove y) → ¬ Contains (update ∷ us) (RgaRemove y)
+    not_removed now later there = elim (Contains-cons_cases update us (RgaRemove y) there) [
+      | inl here ↦ now here
+      | inr further ↦ later further
+    ]
+
+    there_after : (ls next : List (ℕ × Bool)) (update : Update) (y : ℕ) → (Contains (shown ls) y → Contains (elements_in ls) y) → Steps ls update next → Contains (shown ls) y ⊎ ((anchor : ℕ) × (update ≡ After anchor y)) → Contains (elements_in next) y
+    there_after ls next update y listed steps (inl old) = there-step y ls next update steps (listed old)
+    there_after ls next update y listed steps (inr (a, which)) = (step_puts ls next update a y steps which).2
+
+    never_before : (ls next : List (ℕ × Bool)) (update : Update) (us : List Update) (qs : List (ℕ × Bool)) (a y : ℕ) → Steps ls update next → state_from (Some (Listed next)) us ≡ Some (Listed qs) → Contains us (After a y) → update ≡ RgaRemove y → ⊥
+    never_before ls next update us qs a y (inl (anchor, x, put_now, there, out, same)) goes put which = let this : After anchor x ≡ RgaRemove y = sym put_now ∙ which in absurd (cc (this))
+    never_before ls next update us qs a y (inr (x, removes, there, same)) goes put which =
+        let this : RgaRemove x ≡ RgaRemove y = sym removes ∙ which in
+        let element : x ≡ y = cc (this) in
+        (comes_in next us qs a y goes put).1 (there-step y ls next update (inr (x, removes, there, same)) (subst (Contains (elements_in ls)) element there))
+
+pub list-shown : (updates : List Update) (list : List (ℕ × Bool)) (x : ℕ) → state_after Rga updates ≡ Some (Listed list) → Contains (shown list) x ↔ (WasPutIn x updates × ¬ Contains updates (RgaRemove x))
+list-shown updates list x is =
+    let both = shows ((0, false) ∷ []) updates list x (λ there. absurd (omega (arith, there.1))) is in (
+      (λ found. let known = both.0 found in (
+        elim known.0 [
+          | inl old ↦ absurd (omega (arith, old.1))
+          | inr put ↦ put
+        ],
+        known.1,
+      )),
+      (λ known. both.1 (inr known.0, known.1)),
+    )

@@ -1,0 +1,11 @@
+use Rattle.ra_laws.proofs.TheLaws.{the_order_of_execution_extends_visibility-labels, the_order_of_execution_extends_visibility-counter, the_order_of_execution_extends_visibility-or_set}
+use Rattle.ra_laws.proofs.laws.sequence.the_order_of_execution_extends_visibility.Goals as goal
+
+pub returns-clause-labels : goal.returns-clause-labels
+returns-clause-labels c = the_order_of_execution_extends_visibility-labels
+
+pub returns-clause-counter : goal.returns-clause-counter
+returns-clause-counter c = the_order_of_execution_extends_visibility-counter
+
+pub returns-clause-or_set : goal.returns-clause-or_set
+returns-clause-or_set c = the_order_of_execution_extends_visibility-or_set

@@ -1,0 +1,14 @@
+use Rattle.ra_laws.proofs.TheLaws.{settled_labels_stay_settled-waiting, settled_labels_stay_settled-delivery, settled_labels_stay_settled-operation, settled_labels_stay_settled-alike}
+use Rattle.ra_laws.proofs.laws.settled.settled_labels_stay_settled.Goals as goal
+
+pub returns-clause-waiting : goal.returns-clause-waiting
+returns-clause-waiting c = settled_labels_stay_settled-waiting
+
+pub returns-clause-delivery : goal.returns-clause-delivery
+returns-clause-delivery c = settled_labels_stay_settled-delivery
+
+pub returns-clause-operation : goal.returns-clause-operation
+returns-clause-operation c = settled_labels_stay_settled-operation
+
+pub returns-clause-alike : goal.returns-clause-alike
+returns-clause-alike c = settled_labels_stay_settled-alike

@@ -1,0 +1,8 @@
+use Rattle.ra_laws.proofs.TheLaws.{sees_earlier_updates-earlier, sees_earlier_updates-updates}
+use Rattle.ra_laws.proofs.laws.visibility.sees_earlier_updates.Goals as goal
+
+pub returns-clause-earlier : goal.returns-clause-earlier
+returns-clause-earlier c = sees_earlier_updates-earlier
+
+pub returns-clause-updates : goal.returns-clause-updates
+returns-clause-updates c = sees_earlier_updates-updates

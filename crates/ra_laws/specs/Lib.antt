@@ -1,0 +1,4 @@
+pub mod Worked
+pub mod WorkedTimestamps
+pub mod WorkedOrSets
+pub mod WorkedRgas
