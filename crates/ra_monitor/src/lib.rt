@@ -3,9 +3,9 @@
 //!
 //! The one contract for the layers above: `Monitor::step` answers as the definition of the one-thread monitor
 //! says (`ra_labels/specs/Answer`), after the records of its log, and appends that entry. Every monitor's log is
-//! legal, and a yes in it implies an RA-linearization of the records up to there. A monitor is a journal, so it can stand
-//! behind the ticket lock (`ra_desk`), and `laws` says what its replies are there. A `Reporter` has the tickets with
-//! it, so a loop that reports needs no proof.
+//! legal, and a yes in it implies an RA-linearization of the records up to there. A monitor is a journal, so it can
+//! stand behind the ticket lock (`ra_desk`), and `laws` says what its replies are there. A `Reporter` has the tickets
+//! with it, so a loop that reports needs no proof.
 //!
 //! Its history is taken apart as the definitions are: what replicas had and labels see is a `Tracker`'s to say
 //! (`ra_visibility`), where labels stand the order's that the kind names (`order`), and whether the records still hold
