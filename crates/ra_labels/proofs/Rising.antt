@@ -1,6 +1,6 @@
 -- Lists that rise.
 use Rattle.std.proofs.Common.{◌≡◌, ℕ, zero, suc, ◌+◌, ◌<◌, Bool, true, false, List, [], ◌∷◌, length, get_or, refl, sym, ◌∙◌, subst, arith, add-one}
-use Rattle.std.specs.Prelude.{◌↔◌, nat_lt}
+use Rattle.std.specs.Prelude.{nat_lt}
 use Rattle.std.specs.List.{list_all, IsAllAdjacentAnswer}
 use Rattle.std.proofs.lemmas.Bool.{false≢true, lt-ltb, ltb-true, and_parts, and_from, false_from_ne_true}
 use Rattle.ra_labels.specs.Lists.{rises}
@@ -35,9 +35,6 @@ rises-steps (x ∷ y ∷ ys) steps =
     let lower = and_parts (list_all (λ z. nat_lt y z) ys) (rises ys) rest in
     and_from (list_all (λ z. nat_lt x z) (y ∷ ys)) (rises (y ∷ ys))
     (and_from (nat_lt x y) (list_all (λ z. nat_lt x z) ys) (lt-ltb x y first) (all_lower x y ys first lower.0)) rest
-
-pub rises-exactly : (xs : List ℕ) → (rises xs ≡ true) ↔ ((i j : ℕ) → i < j → j < length xs → get_or xs i 0 < get_or xs j 0)
-rises-exactly xs = (rises-index xs, (λ less. rises-steps xs (λ k below. less k (suc k) (omega arith) below)))
 
 -- what `is_sorted_by` answers
 pub rises_answered : (xs : List ℕ) (r : Bool) → IsAllAdjacentAnswer (λ x y b. b ≡ nat_lt x y) xs r → r ≡ rises xs

@@ -14,7 +14,7 @@ use Rattle.std.proofs.lemmas.Map.Views.{list_any-from_Contains, Contains-from_an
 use Rattle.std.proofs.lemmas.List.Kept.{IsStrictlySortedBy-filter}
 use Rattle.std.proofs.lemmas.Map.Lookups.{btree_set_from_contains, exact_unsigned}
 use Rattle.ra_labels.specs.Lists.{is_among, have_same, rises}
-use Rattle.ra_labels.proofs.Rising.{rises-index, rises-steps, rises-exactly, all_lower}
+use Rattle.ra_labels.proofs.Rising.{rises-index, rises-steps, all_lower}
 use Rattle.ra_laws.proofs.Places.{list_all-contains}
 use Rattle.ra_laws.proofs.Standing.{list_all-from_contains}
 
@@ -38,6 +38,10 @@ same-exactly xs ys = (
 
 pub same-itself : (xs : List ℕ) → have_same xs xs ≡ true
 same-itself xs = (same-exactly xs xs).1 (λ x. ((λ there. there), (λ there. there)))
+
+-- a list rises where each element is below those behind it
+pub rises-exactly : (xs : List ℕ) → (rises xs ≡ true) ↔ ((i j : ℕ) → i < j → j < length xs → get_or xs i 0 < get_or xs j 0)
+rises-exactly xs = (rises-index xs, (λ less. rises-steps xs (λ k below. less k (suc k) (omega arith) below)))
 
 -- the order of numbers by cases
 tie : (x y : ℕ) → nat_cmp x y ≡ Equal → x ≡ y
