@@ -1,8 +1,8 @@
 //! A plain loop over lines and fields.
 
 use anyhow::Result;
-use ra_labels::{Command, Reply};
 use ra_journal::Entry;
+use ra_labels::{Command, Reply};
 use std::alloc::Global;
 use std::io::Read;
 
