@@ -1,6 +1,6 @@
 """Which crate is proved next and by how many jobs, and how long all will take."""
-# A second job on a proof takes so much more of the processors in all, and so does each further one.
-COST_OF_A_JOB = 0.3
+# So much of each job beyond the first is lost, in work that is done twice and in waits for one another.
+COST_OF_A_JOB = 0.5
 # More jobs than this gain next to nothing.
 MOST_JOBS = 4
 # A crate is urgent where its chain is at least so long, of the longest one that is left.
