@@ -8,7 +8,7 @@ counters, inboxes = {"ann": 0, "bob": 0}, {"ann": queue.Queue(), "bob": queue.Qu
 def tell(line):
     print(line, file=monitor.stdin, flush=True)  # unflushed, the line stays here and no reply comes
     reply = monitor.stdout.readline().split()
-    if not reply or reply[0] in ("no", "refused"):  # an end of the replies: standard error says why
+    if not reply or reply[0] in ("no", "refused"):  # no reply: the monitor ended, and standard error says why
         print(line, "is answered", *reply or ["nothing: look at standard error"], flush=True)
         os._exit(1)  # sys.exit would end this thread alone
     return reply[1]
