@@ -14,7 +14,7 @@ pub enum StepFault<C> {
     NoMemory(C),
 }
 
-/// An object that answers commands one after another and logs each answer. A step is a function of the setup, of the
+/// An object that answers commands one after another and logs each answer. A reply is a function of the setup, of the
 /// log so far and of the command. Each call but `step` costs a constant.
 pub trait Journal: Drop + Send {
     ghost use Rattle.ra_journal.specs.declared.entry.Entry.{Entry};
@@ -58,7 +58,8 @@ pub trait Journal: Drop + Send {
     fn last_ticket(&self) -> Option<u64>
         ensures { result ≡ last_ticket_of (log self.now) };
 
-    /// Answers a command and logs the answer. `Full` is tested first, and after either fault nothing has changed.
+    /// Answers a command and logs the answer. `Full` comes whether or not a growth would be refused, and after either
+    /// fault setup and log are as before.
     fn step(
         &mut self,
         pass: u8,

@@ -4,7 +4,7 @@ use crate::commands::{counter_of, got, increment, read};
 use ra_desk::DeskReporter;
 use ra_labels::{Cause, Command, Kind, Refusal, Reply};
 use ra_monitor::Reporter;
-use ra_ticket::{CallFault, Caller, CloseFault, Glance, StepFault};
+use ra_ticket::{CallFault, Caller, CloseFault, Glance, MOST_PASSES, StepFault};
 use std::alloc::Global;
 use std::process::Abort;
 use std::sync::Wait;
@@ -78,10 +78,10 @@ fn two_threads_report_to_one_desk(rt: HostRuntime) -> Result<(), Fail> {
 #[test]
 fn a_closed_desk_has_its_log(rt: HostRuntime) -> Result<(), Fail> {
     let (mut first, mut second) = two_reporters(&rt, rt.alloc(), 2);
-    assert_eq!(rt; first.try_submit(increment(0)), Ok(Reply::Ok(0)));
-    assert_eq!(rt; second.submit(&rt, got(1, 0)), Ok(Reply::Got(0)));
+    assert_eq!(rt; first.submit(&rt, increment(0)), Ok(Reply::Ok(0)));
+    assert_eq!(rt; second.try_submit(got(1, 0)), Ok(Reply::Got(0)));
     let full = Err(CallFault::Full(Command::Verdict));
-    assert_eq!(rt; second.try_submit(Command::Verdict), full);
+    assert_eq!(rt; first.submit(&rt, Command::Verdict), full);
     let Err(CloseFault::Shared(second)) = second.close() else {
         panic!(rt; "closed with another reporter left");
     };
@@ -96,6 +96,28 @@ fn a_closed_desk_has_its_log(rt: HostRuntime) -> Result<(), Fail> {
             (usize::from(entry.pass), entry.ticket),
             (place, place as u64)
         );
+    }
+    Ok(())
+}
+
+#[test]
+fn as_many_report_as_there_are_passes(rt: HostRuntime) -> Result<(), Fail> {
+    for count in [1, MOST_PASSES] {
+        let monitor = counter_of(&rt, rt.alloc(), 3, 100);
+        let Ok(mut reporters) = Caller::open(rt.alloc(), monitor, count) else {
+            panic!(rt; "no desk");
+        };
+        for number in (0..count).rev() {
+            let Some(mut reporter) = reporters.pop() else {
+                panic!(rt; "too few reporters");
+            };
+            assert_eq!(rt; reporter.number(), number);
+            assert!(rt; matches!(reporter.submit(&rt, increment(0)), Ok(Reply::Ok(_))));
+            // The others are dropped here.
+            if number == 0 {
+                assert!(rt; reporter.close().is_ok());
+            }
+        }
     }
     Ok(())
 }

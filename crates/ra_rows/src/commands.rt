@@ -3,7 +3,7 @@
 ghost use Rattle.std.specs.Prelude.{◌≡◌, []};
 
 use ra_labels::{Command, Elements, Kind, Op, Reply};
-use ra_monitor::{Monitor, PartRef};
+use ra_monitor::{Monitor, PartRef, Reporter};
 use ra_ticket::{Journal, StepFault};
 use std::alloc::Global;
 use std::process::Abort;
@@ -49,16 +49,23 @@ const ATTEMPTS: u32 = 2;
 pub fn counter_of(rt: &impl Abort, alloc: Global, replicas: u8, limit: u32) -> Monitor
     ensures { result.log ≡ [] }
 {
-    monitor_of(rt, alloc, Kind::Counter, replicas, limit)
+    let Ok(monitor) = Monitor::new(alloc, Kind::Counter, replicas, limit) else {
+        panic!(rt; "no monitor");
+    };
+    monitor
 }
 
-/// A monitor of this kind at this many replicas, whose log may have this many entries.
-pub fn monitor_of(rt: &impl Abort, alloc: Global, kind: Kind, replicas: u8, limit: u32) -> Monitor
-    ensures { result.log ≡ [] }
-{
+/// A reporter to a monitor of this kind at this many replicas, whose log may have this many entries.
+pub fn reporter_of(
+    rt: &impl Abort,
+    alloc: Global,
+    kind: Kind,
+    replicas: u8,
+    limit: u32,
+) -> Reporter {
     for _attempt in 0..ATTEMPTS {
-        if let Ok(monitor) = Monitor::new(alloc, kind, replicas, limit) {
-            return monitor;
+        if let Ok(reporter) = Reporter::new(alloc, kind, replicas, limit) {
+            return reporter;
         }
     }
     panic!(rt; "no monitor")
@@ -81,12 +88,11 @@ pub fn step_by(
     }
 }
 
-/// The reply to one command of pass 0, with the number of commands before it as its ticket.
-pub fn reply_to(rt: &impl Abort, monitor: &mut Monitor, command: Command) -> Reply {
-    let ticket = monitor.log().len() as u64;
+/// The reply to one command.
+pub fn reply_to(rt: &impl Abort, reporter: &mut Reporter, command: Command) -> Reply {
     let mut command = command;
     for _attempt in 0..ATTEMPTS {
-        match step_by(rt, monitor, 0, ticket, command) {
+        match reporter.tell(command) {
             Ok(reply) => return reply,
             Err(StepFault::Full(_)) => panic!(rt; "full"),
             Err(StepFault::NoMemory(back)) => command = back,

@@ -1,7 +1,7 @@
 //! Worked histories of any kind, as rows of a table: what is said, and what is answered.
 
 use crate::commands::{
-    bare, elements_of, got, increment, monitor_of, read, reply_to, sequence_of, stamped,
+    bare, elements_of, got, increment, read, reply_to, reporter_of, sequence_of, stamped,
 };
 use ra_labels::{Command, Fault, Kind, Op, Reply};
 use ra_monitor::{Half, PartRef, Report};
@@ -99,10 +99,10 @@ pub struct Row {
 /// Each row is answered as it says.
 pub fn are_answered(rt: &impl Abort, alloc: Global, rows: &[Row]) {
     for row in rows {
-        let mut monitor = monitor_of(rt, alloc, row.kind, 3, 100);
+        let mut reporter = reporter_of(rt, alloc, row.kind, 3, 100);
         for (say, want) in row.steps {
             let command = command_of(rt, alloc, *say);
-            let reply = reply_to(rt, &mut monitor, command);
+            let reply = reply_to(rt, &mut reporter, command);
             assert_eq!(rt; reply, *want, "{}, at {say:?}", row.name);
         }
         let Ok(calls) = u32::try_from(row.steps.len()) else {
@@ -115,8 +115,8 @@ pub fn are_answered(rt: &impl Abort, alloc: Global, rows: &[Row]) {
             refused: row.refused,
             fault: row.fault,
         };
-        assert_eq!(rt; monitor.report(), report, "{}", row.name);
-        let sequence = sequence_of(rt, &monitor);
+        assert_eq!(rt; reporter.monitor().report(), report, "{}", row.name);
+        let sequence = sequence_of(rt, reporter.monitor());
         assert!(rt;
             are_parts(sequence.as_slice(), row.sequence),
             "{}",

@@ -3,7 +3,7 @@
 ghost use Rattle.std.specs.Prelude.{◌≡◌, ◌+◌, ◌<◌, ◌≤◌, length};
 ghost use Rattle.ra_visibility.specs.Tracked.{labels_in, replicas_in};
 
-use crate::commands::{bare, monitor_of, reply_to, sequence_of, stamped};
+use crate::commands::{bare, reply_to, reporter_of, sequence_of, stamped};
 use ra_labels::{Elements, Kind, Label, Op, Query, Refusal, Reply, Stamp, Update};
 use ra_seqspec::State;
 use ra_time_order::TimeOrder;
@@ -84,13 +84,13 @@ fn stand(rt: &impl Abort, tracker: &mut Tracker, order: &mut TimeOrder, stamp: S
 
 #[test]
 fn thousands_of_elements_are_put_in(rt: HostRuntime) -> Result<(), Fail> {
-    let mut monitor = monitor_of(&rt, rt.alloc(), Kind::LwwSet, 3, 1_048_576);
+    let mut reporter = reporter_of(&rt, rt.alloc(), Kind::LwwSet, 3, 1_048_576);
     let mut all = Vec::new(rt.alloc());
     for number in 0..4_200u32 {
         let replica = (number / 2_100) as u8;
         let clock = 2 * (number % 2_100) + 2 - replica as u32;
         let add = stamped(replica, Op::LwwAdd(number ^ 1), clock);
-        let reply = reply_to(&rt, &mut monitor, add);
+        let reply = reply_to(&rt, &mut reporter, add);
         assert_eq!(rt; reply, Reply::Ok(number));
         if number < 2_100 && all.push(number).is_err() && all.push(number).is_err() {
             panic!(rt; "no memory");
@@ -98,13 +98,13 @@ fn thousands_of_elements_are_put_in(rt: HostRuntime) -> Result<(), Fail> {
     }
     for (replica, clock) in [(0, 2), (0, 4_200), (1, 1), (1, 4_199)] {
         let add = stamped(replica, Op::LwwAdd(0), clock);
-        let reply = reply_to(&rt, &mut monitor, add);
+        let reply = reply_to(&rt, &mut reporter, add);
         assert_eq!(rt; reply, Reply::Refused(Refusal::StampTaken));
     }
     let read = bare(0, Op::LwwRead(Elements::new(all)));
-    let reply = reply_to(&rt, &mut monitor, read);
+    let reply = reply_to(&rt, &mut reporter, read);
     assert_eq!(rt; reply, Reply::Ok(4_200));
-    let sequence = sequence_of(&rt, &monitor);
+    let sequence = sequence_of(&rt, reporter.monitor());
     assert_eq!(rt; sequence.len(), 4_201);
     for (at, part) in sequence.iter().enumerate() {
         let first = if at % 2 == 0 { 2_100 } else { 0 };

@@ -23,12 +23,12 @@ module _ {M C R S : Type 0} {g : Ghosts M C R S} where
   abbrev pub AreOfOneLock : List (Pass M C R S g) → Type 0
   AreOfOneLock passes = (lock : TicketLock M C R S) × All (IsPassOf lock) passes
 
-  -- where other callers are left, this caller comes back
+  -- the caller that `Shared` hands back is this one
   abbrev pub HandsBack : CloseFault M C R S g → Caller M C R S g → Type 0
   HandsBack (Shared c) caller = (pass_of c ≡ pass_of caller) × (lock_of c ≡ lock_of caller)
   HandsBack (Unsettled u) caller = Unit {0}
 
-  -- where a ticket is not served, the two words are told, which are no less than what the pass knew of them
+  -- `Unsettled` tells two numbers, the first below the second, which are no less than what the pass knew
   abbrev pub TellsUnsettled : CloseFault M C R S g → Pass M C R S g → Type 0
   TellsUnsettled (Shared c) p = Unit {0}
   TellsUnsettled (Unsettled u) p =

@@ -63,7 +63,7 @@ module _ {M C R S : Type 0} {g : Ghosts M C R S} where
   abbrev pub IsMineAndThen : Pass M C R S g → Pass M C R S g → C → R → Type 0
   IsMineAndThen p q command reply = (ticket : ℕ) × (mine q ≡ mine p ++ entry (number_of p) ticket command reply ∷ [])
 
-  -- what a call found busy: `serving` was at one number and `next`, above it, at the other
+  -- what a call found busy: what its pass has learned of `serving` and, above it, of `next`
   abbrev pub IsFoundBusy : Pass M C R S g → CallFault C → Type 0
   IsFoundBusy q (Busy at found command) =
       (at < found) × (serving_reached q ≡ at) × (next_reached q ≡ found)

@@ -11,8 +11,8 @@ use ra_journal::Journal;
 use std::alloc::{AllocError, Global};
 use std::sync::{Arc, Wait};
 
-/// A pass with its lock, which it shares with the other callers. It may go to another thread, and one that is dropped
-/// between calls harms nobody: the journal goes with the last of them.
+/// A pass with its lock, which it shares with the other callers. It may go to another thread. It may be dropped between
+/// calls, and the journal goes with the last of them.
 #[derive(Drop)]
 pub struct Caller<M: Journal> {
     pub(crate) lock: Arc<TicketLock<M>, Global>,
@@ -23,7 +23,7 @@ pub struct Caller<M: Journal> {
 /// Why the journal did not come back.
 #[derive(Drop)]
 pub enum CloseFault<M: Journal> {
-    /// Other callers of the lock are left. This one comes back as it was.
+    /// Other callers of the lock are left. This one comes back with its lock and pass.
     Shared(Caller<M>),
     /// A ticket was drawn and not served. The journal is given up.
     Unsettled(Unsettled),
