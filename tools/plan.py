@@ -1,4 +1,6 @@
 """Which crate is proved next and by how many jobs, and how long all will take."""
+import copy
+
 # So much of each job beyond the first is lost, in work that is done twice and in waits for one another.
 COST_OF_A_JOB = 0.5
 # More jobs than this gain next to nothing.
@@ -66,10 +68,23 @@ class Plan:
 
     def time_left(self, now):
         """How long all that is left will take, in words."""
-        work = sum(self.rest(it, now) * jobs for it, (_, jobs) in self.running.items())
-        work += sum(self.scale() * self.seconds[it] for it in self.left)
-        seconds = max(self.longest(now), work / self.processors)
-        minutes = round(seconds / 60)
+        minutes = round((self.end_of_all(now) - now) / 60)
         if minutes < 1:
             return "less than a minute"
         return f"about {minutes} minute{'s' * (minutes > 1)}"
+
+    def end_of_all(self, now):
+        """When all will be proved, if each proof takes as long as is expected: the rest of the plan, played through."""
+        rest, scale = copy.copy(self), self.scale()
+        rest.left, rest.proved, rest.running = list(self.left), list(self.proved), dict(self.running)
+        ends = {it: now + self.rest(it, now) for it in self.running}
+        while rest.left or ends:
+            begun = rest.next(now)
+            if begun:
+                name, jobs, _ = begun
+                ends[name] = now + scale * self.wait_for(name, jobs)
+                continue
+            name = min(ends, key=ends.get)
+            now = ends.pop(name)
+            rest.end(name, now)
+        return now
