@@ -7,7 +7,7 @@ ghost use Rattle.std.specs.Prelude.{◌≡◌, Some};
 use crate::write::Unwritten;
 use ra_labels::NoMemory;
 use ra_lines::LineFault;
-use std::alloc::{AllocError, AllocFailed};
+use std::alloc::AllocError;
 use std::fmt;
 use thiserror::Error;
 
@@ -102,14 +102,6 @@ impl From<NoMemory> for WriteFault {
     ghost from_gives = { λ _ fault. fault ≡ write_fault.NoMemory };
 
     fn from(_refused: NoMemory) -> WriteFault {
-        WriteFault::NoMemory
-    }
-}
-
-impl<T: Drop> From<AllocFailed<T>> for WriteFault {
-    ghost from_gives = { λ _ fault. fault ≡ write_fault.NoMemory };
-
-    fn from(_refused: AllocFailed<T>) -> WriteFault {
         WriteFault::NoMemory
     }
 }

@@ -7,13 +7,15 @@
 //! "Replication-Aware Linearizability" (PLDI 2019).
 //!
 //! The one contract for the layers above: `fits` answers the first refusal that an operation's own form
-//! deserves. The laws of the definitions, and worked histories, are in `ra_laws`.
+//! deserves. The laws of the definitions, and worked histories, are in `ra_laws`; those of lists are here, in
+//! `lists`.
 #![tactic(auto)]
 
 mod command;
 mod elements;
 mod kind;
 mod label;
+pub mod lists;
 mod memory;
 mod operation;
 mod refusal;

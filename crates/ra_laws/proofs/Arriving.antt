@@ -25,7 +25,7 @@ use Rattle.ra_labels.specs.Insertion.{updates_among, Makes}
 use Rattle.ra_labels.specs.Late.{put_after}
 use Rattle.ra_labels.specs.Waiting.{is_there, OnePutsIn}
 use Rattle.ra_laws.proofs.Places.{Contains-cons_cases, at_head, behind_head, split_at, reached}
-use Rattle.ra_laws.proofs.Standing.{list_all-from_contains}
+use Rattle.ra_labels.proofs.InLists.{list_all-from_contains}
 use Rattle.ra_laws.proofs.Order.{stamp_same, label_cmp-total, IsSorted-named_labels}
 use Rattle.ra_laws.proofs.Timestamps.{timestamp-own}
 use Rattle.ra_laws.proofs.Unique.{head_least, neither_below, same_label}

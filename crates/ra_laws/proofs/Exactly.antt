@@ -21,7 +21,7 @@ use Rattle.ra_labels.specs.Rewriting.{Half, Whole, QueryHalf, UpdateHalf, Act, D
 use Rattle.ra_labels.specs.Linearization.{are_halves, is_visible_to, is_earlier_there, is_query_half_of, must_precede, visible_updates, updates_admitted, is_query_admitted, queries_admitted}
 use Rattle.ra_labels.specs.Laws.{WasIssuedAt, WasDeliveredTo, WasIssuedHaving, IsUpdateSeenBy, IsEarlierAtReplica, AreHalvesOfOneLabel, EachQueryIsAnswered}
 use Rattle.ra_laws.proofs.Seen.{had-append, sees-append}
-use Rattle.ra_laws.proofs.Standing.{list_all-from_contains}
+use Rattle.ra_labels.proofs.InLists.{list_all-from_contains}
 
 -- a counter's query is answered exactly where its number is the state's
 pub answers-count : (number asked : ℤ) → Decides (answers (Number number) (Count asked)) (asked ≡ number)

@@ -12,7 +12,8 @@ use Rattle.ra_labels.specs.Records.{Records}
 use Rattle.ra_labels.specs.Visibility.{sees}
 use Rattle.ra_labels.specs.Rewriting.{QueryHalf, UpdateHalf, Act, Does, Asks, acts_of, part_of, update_of}
 use Rattle.ra_labels.specs.Linearization.{extends, must_precede}
-use Rattle.ra_laws.proofs.Standing.{list_all-from_contains, sees_not_itself}
+use Rattle.ra_labels.proofs.InLists.{list_all-from_contains}
+use Rattle.ra_laws.proofs.Standing.{sees_not_itself}
 
 -- one list behind another
 all-append : {A : Type 0} (p : A → Bool) (xs ys : List A) → list_all p xs ≡ true → list_all p ys ≡ true → list_all p (xs ++ ys) ≡ true

@@ -12,7 +12,7 @@ use Rattle.std.proofs.lemmas.List.Elements.{All-contains, All-contains_itself, A
 use Rattle.std.proofs.lemmas.Map.Views.{All-insert_key, btree_set_contains_iff}
 use Rattle.std.proofs.lemmas.Map.Lookups.{CmpEqualImpliesEq, btree_set_from_contains}
 use Rattle.ra_laws.proofs.Places.{Contains-cons_cases, at_head, behind_head}
-use Rattle.ra_laws.proofs.Lists.{bool_same}
+use Rattle.ra_labels.proofs.InLists.{bool_same}
 
 module _ {K : Type 0} (cmp : K → K → Ordering) where
   -- what is there after it

@@ -1,4 +1,4 @@
-pub mod Lists
+pub mod Putting
 pub mod Sorting
 pub mod Numbers
 pub mod Seen

@@ -25,7 +25,8 @@ use Rattle.ra_labels.specs.Commuting.{then_step}
 use Rattle.ra_labels.specs.Late.{put_after, kept_entries}
 use Rattle.ra_labels.specs.Waiting.{puts_in, is_there, needed_by, NoneWaits}
 use Rattle.ra_laws.proofs.Places.{Contains-cons_cases, at_head, behind_head, reached}
-use Rattle.ra_laws.proofs.Standing.{list_all-from_contains, is_update-acts}
+use Rattle.ra_labels.proofs.InLists.{list_all-from_contains}
+use Rattle.ra_laws.proofs.Standing.{is_update-acts}
 use Rattle.ra_laws.proofs.Unique.{label_found}
 use Rattle.ra_laws.proofs.Stepping.{state_from, stuck, state-of_kind}
 use Rattle.ra_laws.proofs.Having.{filter_same, makes_one, makes_update}

@@ -31,8 +31,7 @@ use Rattle.ra_labels.specs.Insertion.{updates_had_of, updates_had, Makes}
 use Rattle.ra_labels.specs.Commuting.{then_step, clash, AddsWhatIsTakenOut, NoneClashes, last_written, last_on}
 use Rattle.ra_laws.proofs.Places.{Contains-cons_cases, at_head, behind_head, there-kept, from_where, reached}
 use Rattle.ra_laws.proofs.Seen.{had_closed, sees_earlier}
-use Rattle.ra_laws.proofs.Standing.{list_all-from_contains}
-use Rattle.ra_laws.proofs.Lists.{among-exactly}
+use Rattle.ra_labels.proofs.InLists.{list_all-from_contains, among-exactly}
 use Rattle.ra_laws.proofs.Order.{label_cmp-total, label_below, IsSorted-named_labels, IsPermutation-named_labels}
 use Rattle.ra_laws.proofs.Unique.{head_least, sorted_behind}
 use Rattle.ra_laws.proofs.Exactly.{queries-exactly}

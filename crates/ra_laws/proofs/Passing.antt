@@ -23,9 +23,8 @@ use Rattle.ra_labels.specs.Laws.{kind_of_update, elements_in}
 use Rattle.ra_labels.specs.Insertion.{updates_among, updates_passing, or_label, Makes}
 use Rattle.ra_labels.specs.Late.{kept_entries}
 use Rattle.ra_labels.specs.Waiting.{is_there, shown_by, needed_by, NoneWaits}
-use Rattle.ra_laws.proofs.Places.{Contains-cons_cases, list_all-contains, at_head, behind_head, split_at, there-kept, reached}
-use Rattle.ra_laws.proofs.Standing.{list_all-from_contains}
-use Rattle.ra_laws.proofs.Lists.{bool_same}
+use Rattle.ra_labels.proofs.InLists.{list_all-contains, list_all-from_contains, bool_same}
+use Rattle.ra_laws.proofs.Places.{Contains-cons_cases, at_head, behind_head, split_at, there-kept, reached}
 use Rattle.ra_laws.proofs.Order.{IsPermutation-named_labels}
 use Rattle.ra_laws.proofs.Exactly.{some-exactly}
 use Rattle.ra_laws.proofs.Stepping.{state-of_kind, admitted-only, admitted-of_kind}

@@ -1,10 +1,7 @@
 -- Where an element stands in a list.
 use Rattle.std.proofs.Common.{◌≡◌, zero, suc, Bool, true, List, [], ◌∷◌, ◌++◌, filter, refl, sym, ap, ◌∙◌, subst, inl, inr, arith}
 use Rattle.std.specs.Prelude.{◌⊎◌, Contains, map}
-use Rattle.std.specs.List.{list_all}
 use Rattle.std.proofs.lemmas.Bool.{false≢true, cases_Bool, cond-true, cond-false}
-use Rattle.std.proofs.lemmas.List.Elements.{All-contains}
-use Rattle.std.proofs.lemmas.List.Sums.{AllPass-from_list_all}
 
 -- an element of a list is its head, or stands behind it
 pub Contains-cons_cases : {A : Type 0} (x : A) (xs : List A) (y : A) → Contains (x ∷ xs) y → (x ≡ y) ⊎ Contains xs y
@@ -18,10 +15,6 @@ split_at (x ∷ xs) y found = elim (Contains-cons_cases x xs y found) [
   | inl here ↦ ([], xs, ap (λ z. z ∷ xs) here)
   | inr further ↦ let rest = split_at xs y further in (x ∷ rest.0, rest.1, ap (λ zs. x ∷ zs) rest.2)
 ]
-
--- an element passes a test that all pass
-pub list_all-contains : {A : Type 0} (p : A → Bool) (xs : List A) (y : A) → list_all p xs ≡ true → Contains xs y → p y ≡ true
-list_all-contains p xs y pass found = All-contains (λ x. p x ≡ true) xs y (AllPass-from_list_all p xs pass) found
 
 -- an element at the head, and one behind it
 pub at_head : {A : Type 0} (x : A) (xs : List A) (y : A) → x ≡ y → Contains (x ∷ xs) y

@@ -22,9 +22,10 @@ use Rattle.ra_labels.specs.Rewriting.{Part, Half, Act, acts_of, part_of, parts_o
 use Rattle.ra_labels.specs.Linearization.{must_precede, extends, extends_visibility}
 use Rattle.ra_labels.specs.NamedOrder.{lowest_rank, rank_of, stamp_cmp, label_cmp, named_labels, named_sequence}
 use Rattle.ra_labels.specs.Laws.{IsStampBelow, MustStandBefore}
-use Rattle.ra_laws.proofs.Places.{Contains-cons_cases, list_all-contains, at_head, behind_head, reached, from_where}
+use Rattle.ra_labels.proofs.InLists.{list_all-contains, list_all-from_contains}
+use Rattle.ra_laws.proofs.Places.{Contains-cons_cases, at_head, behind_head, reached, from_where}
 use Rattle.ra_laws.proofs.Seen.{sees_earlier}
-use Rattle.ra_laws.proofs.Standing.{is_update-acts, list_all-from_contains}
+use Rattle.ra_laws.proofs.Standing.{is_update-acts}
 use Rattle.ra_laws.proofs.Order.{label_cmp-total, IsSorted-named_labels, IsPermutation-named_labels, stamp_cmp-total, stamp_below, stamp_same, label_below, numbers_below_count}
 use Rattle.ra_laws.proofs.Unique.{head_least, sorted_behind, label_found}
 use Rattle.ra_laws.proofs.Extending.{extends-append, own_parts}

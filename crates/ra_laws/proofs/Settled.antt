@@ -19,7 +19,7 @@ use Rattle.ra_labels.specs.NamedOrder.{named_labels, named_sequence}
 use Rattle.ra_labels.specs.Insertion.{updates_among, updates_passing, or_label, Makes}
 use Rattle.ra_labels.specs.Waiting.{is_there, needed_by, OnePutsIn, NoneWaits, OthersWait, AllSettled, IsSettled}
 use Rattle.ra_laws.proofs.Places.{Contains-cons_cases, at_head, behind_head}
-use Rattle.ra_laws.proofs.Lists.{bool_same}
+use Rattle.ra_labels.proofs.InLists.{bool_same}
 use Rattle.ra_laws.proofs.Ranking.{named_differ, have_one_number}
 use Rattle.ra_laws.proofs.Having.{differ_round, among-append, among-one, among-not}
 use Rattle.ra_laws.proofs.Rgas.{list-exactly}

@@ -3,8 +3,7 @@ use Rattle.std.proofs.Common.{◌≡◌, ℕ, suc, Bool, true, false, List, [], 
 use Rattle.std.specs.Prelude.{◌==◌, ◌||◌, nat_lt, not, is_some, Contains}
 use Rattle.std.specs.List.{list_all, list_any}
 use Rattle.std.proofs.lemmas.Bool.{true≢false, not-true, not_from_false, and_parts, and_from, and_right, le-ltb, false_from_ne_true, or_from}
-use Rattle.std.proofs.lemmas.List.Elements.{Contains-append_right, All-weaker, All-contains_itself}
-use Rattle.std.proofs.lemmas.List.Sums.{list_all-from_AllPass}
+use Rattle.std.proofs.lemmas.List.Elements.{Contains-append_right}
 use Rattle.std.proofs.lemmas.List.Sorted.{Contains-permutation}
 use Rattle.ra_labels.specs.declared.kind.Kind.{Kind}
 use Rattle.ra_labels.specs.declared.operation.Op.{Op}
@@ -14,7 +13,8 @@ use Rattle.ra_labels.specs.Visibility.{is_update, sees}
 use Rattle.ra_labels.specs.Rewriting.{Half, Whole, QueryHalf, UpdateHalf, Part, acts_of, update_of}
 use Rattle.ra_labels.specs.Linearization.{parts_in, extends, must_precede, are_halves, is_visible_to, is_earlier_there, is_query_half_of, IsRaLinearizationBy, IsRaLinearization}
 use Rattle.ra_labels.specs.Laws.{StandsBefore, AllStandBefore, NoneTwice}
-use Rattle.ra_laws.proofs.Places.{Contains-cons_cases, split_at, list_all-contains}
+use Rattle.ra_labels.proofs.InLists.{list_all-contains, list_all-from_contains}
+use Rattle.ra_laws.proofs.Places.{Contains-cons_cases, split_at}
 use Rattle.ra_laws.proofs.Seen.{sees_earlier}
 
 -- in a sequence that extends an order, each element stands where it must
@@ -54,10 +54,6 @@ head_again x xs p ([], between, after, is) =
 head_again x xs p (y ∷ before, between, after, is) =
     let behind : before ++ p ∷ between ++ x ∷ after ≡ xs = cc is in
     subst (λ ys. Contains ys x) behind (Contains-append_right (before ++ p ∷ between) (x ∷ after) x (0, omega arith, refl))
-
--- a test is passed by all where each element passes it
-pub list_all-from_contains : {A : Type 0} (p : A → Bool) (xs : List A) → ((y : A) → Contains xs y → p y ≡ true) → list_all p xs ≡ true
-list_all-from_contains p xs pass = list_all-from_AllPass p xs (All-weaker (Contains xs) (λ y. p y ≡ true) pass xs (All-contains_itself xs))
 
 -- and the other way round, where no element stands twice
 pub stands-extends : {A : Type 0} (precedes : A → A → Bool) (xs : List A) → NoneTwice xs → AllStandBefore precedes xs → extends precedes xs ≡ true

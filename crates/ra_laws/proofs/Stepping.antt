@@ -18,7 +18,8 @@ use Rattle.ra_labels.specs.Lists.{is_among, rises}
 use Rattle.ra_labels.specs.Specification.{State, Number, Written, Members, Pairs, Listed, start_of, step_of, answers, state_after, is_admitted}
 use Rattle.ra_labels.specs.Answer.{is_kind}
 use Rattle.ra_labels.specs.Laws.{kind_of_state, kind_of_update, acts_on, NoneActsOn}
-use Rattle.ra_laws.proofs.Lists.{among-exactly, among-insert, among-remove, same-exactly, bool_same, rises-insert, rises-remove}
+use Rattle.ra_labels.proofs.InLists.{among-exactly, same-exactly, bool_same}
+use Rattle.ra_laws.proofs.Putting.{among-insert, among-remove, rises-insert, rises-remove}
 use Rattle.ra_laws.proofs.OfKind.{same_kinds, start_kind, StepKnown, step-known, step-kind}
 
 -- the state that updates lead to from another

@@ -61,8 +61,6 @@ pub use Rattle.ra_laws.proofs.Settled.{needed-before as what_an_update_needs_was
 pub use Rattle.ra_laws.proofs.Arriving.{stands-before as a_label_stands_before_those_that_it_is_below-before, stands-behind as a_label_stands_before_those_that_it_is_below-behind, one-place as a_label_stands_before_those_that_it_is_below-place, own-stamps as labels_with_stamps_stand_in_their_order, all-with as an_operation_puts_its_update_among_all-update, all-without as an_operation_puts_its_update_among_all-query, there-all as what_is_there_a_label_put_in-all, there-among as what_is_there_a_label_put_in-passing, insertion-all as a_new_label_in_the_list_of_all-insertion, removal-all as a_new_label_in_the_list_of_all-removal}
 pub use Rattle.ra_laws.proofs.Offering.{offered-insertion as a_new_update_is_admitted_where_a_label_below_it_put_in_what_it_needs-insertion, offered-removal as a_new_update_is_admitted_where_a_label_below_it_put_in_what_it_needs-removal}
 pub use Rattle.ra_laws.proofs.Between.{between-later as between_an_anchor_and_its_element_stand_later_ones}
--- laws::lists
-pub use Rattle.ra_laws.proofs.Lists.{rises-exactly as a_list_rises_where_each_is_below_the_later-places, rises-sorted as a_list_rises_where_each_is_below_the_later-sorted, same-exactly as lists_have_the_same_elements-elements, rising-same as lists_have_the_same_elements-rising}
 -- laws::records
 pub use Rattle.ra_laws.proofs.Numbers.{label_at-operation as an_operation_is_found_as_its_label-found, records_to-operation as records_to_a_label_end_with_it-there, records_to-none as records_to_a_label_end_with_it-none}
 -- laws::visibility

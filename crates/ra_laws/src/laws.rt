@@ -9,7 +9,6 @@ pub mod identifiers;
 pub mod insertion;
 pub mod late;
 pub mod linearization;
-pub mod lists;
 pub mod one_step;
 pub mod or_set;
 pub mod overriding;

@@ -4,7 +4,6 @@ ghost use Rattle.ra_lines.specs.declared.fault.NamesFault.TheVariants as names_f
 ghost use Rattle.std.specs.Prelude.{◌≡◌};
 
 use ra_labels::NoMemory;
-use std::alloc::{AllocError, AllocFailed};
 
 /// Why a line is not read.
 #[derive(Clone, Copy, Debug, PartialEq, Eq)]
@@ -13,22 +12,6 @@ pub enum LineFault {
     Syntax,
     /// A growth was refused for want of memory.
     NoMemory,
-}
-
-impl From<AllocError> for LineFault {
-    ghost from_gives = { λ _ fault. fault ≡ line_fault.NoMemory };
-
-    fn from(_refused: AllocError) -> LineFault {
-        LineFault::NoMemory
-    }
-}
-
-impl<T: Drop> From<AllocFailed<T>> for LineFault {
-    ghost from_gives = { λ _ fault. fault ≡ line_fault.NoMemory };
-
-    fn from(_refused: AllocFailed<T>) -> LineFault {
-        LineFault::NoMemory
-    }
 }
 
 impl From<NoMemory> for LineFault {

@@ -13,7 +13,7 @@ use Rattle.ra_labels.specs.declared.operation.Query.{Query}
 use Rattle.ra_labels.specs.declared.operation.Query.TheVariants.{LwwRead}
 use Rattle.ra_labels.specs.Lists.{rises}
 use Rattle.ra_labels.specs.Specification.{State, Members, answers}
-use Rattle.ra_laws.proofs.TheLaws.{a_list_rises_where_each_is_below_the_later-sorted}
+use Rattle.ra_labels.proofs.TheLaws.{a_list_rises_where_each_is_below_the_later-sorted}
 use Rattle.ra_seqspec.specs.declared.state.Form.{Form}
 use Rattle.ra_seqspec.specs.declared.state.Form.TheVariants.{LwwSet}
 use Rattle.ra_seqspec.specs.Form.{state_of, StateKept}

@@ -5,7 +5,7 @@ use Rattle.std.specs.Cmp.{nat_eq_equiv}
 use Rattle.std.proofs.lemmas.Bool.{eqb-true}
 use Rattle.std.proofs.lemmas.Map.Views.{list_any-from_Contains, Contains-from_any}
 use Rattle.ra_labels.specs.Lists.{is_among, have_same, rises}
-use Rattle.ra_laws.proofs.TheLaws.{lists_have_the_same_elements-rising, lists_have_the_same_elements-elements}
+use Rattle.ra_labels.proofs.TheLaws.{lists_have_the_same_elements-rising, lists_have_the_same_elements-elements}
 
 -- what is in a list
 among_contains : (xs : List ℕ) (x : ℕ) → (is_among x xs ≡ true) ↔ Contains xs x

@@ -1,22 +1,28 @@
 -- Lists that rise, what is in them, and lists with the same elements.
-use Rattle.std.proofs.Common.{◌≡◌, ℕ, suc, ◌<◌, Bool, true, false, List, [], ◌∷◌, length, filter, get_or, refl, sym, ap, ◌∙◌, subst, arith, Ordering}
-use Rattle.std.specs.Prelude.{◌↔◌, ◌==◌, ◌&&◌, ◌||◌, not, nat_lt, Contains}
+use Rattle.std.proofs.Common.{◌≡◌, ℕ, suc, ◌<◌, Bool, true, false, List, [], ◌∷◌, length, get_or, refl, sym, ap, ◌∙◌, subst, arith, Ordering}
+use Rattle.std.specs.Prelude.{◌↔◌, ◌==◌, ◌||◌, nat_lt, Contains}
 use Rattle.std.specs.List.{list_all, list_any, AllByRecursion}
 use Rattle.std.specs.List.Sorted.{IsStrictlySortedBy}
-use Rattle.std.specs.Ordering.{MatchOrdering, nat_cmp, is_eq, match_ordering}
+use Rattle.std.specs.Ordering.{MatchOrdering, nat_cmp, is_eq}
 use Rattle.std.specs.declared.cmp.Ordering.TheVariants.{Less, Equal, Greater}
 use Rattle.std.specs.BTreeMap.{is_at}
-use Rattle.std.specs.BTreeSet.{BTreeSet, insert_key}
+use Rattle.std.specs.BTreeSet.{BTreeSet}
 use Rattle.std.specs.Cmp.{nat_eq_equiv, nat_cmp_is}
 use Rattle.std.proofs.lemmas.Bool.{eqb-true, eq-eqb, ne_eqb, lt-ltb, ltb-true, and_parts, and_from}
 use Rattle.std.proofs.lemmas.Cmp.{ranked, nat_cmp_total}
-use Rattle.std.proofs.lemmas.Map.Views.{list_any-from_Contains, Contains-from_any, any-filter_same}
-use Rattle.std.proofs.lemmas.List.Kept.{IsStrictlySortedBy-filter}
+use Rattle.std.proofs.lemmas.List.Elements.{All-contains, All-weaker, All-contains_itself}
+use Rattle.std.proofs.lemmas.List.Sums.{AllPass-from_list_all, list_all-from_AllPass}
+use Rattle.std.proofs.lemmas.Map.Views.{list_any-from_Contains, Contains-from_any}
 use Rattle.std.proofs.lemmas.Map.Lookups.{btree_set_from_contains, exact_unsigned}
 use Rattle.ra_labels.specs.Lists.{is_among, have_same, rises}
-use Rattle.ra_labels.proofs.Rising.{rises-index, rises-steps, all_lower}
-use Rattle.ra_laws.proofs.Places.{list_all-contains}
-use Rattle.ra_laws.proofs.Standing.{list_all-from_contains}
+use Rattle.ra_labels.proofs.Rising.{rises-index, rises-steps}
+
+-- an element passes a test that all pass, and all pass where each element does
+pub list_all-contains : {A : Type 0} (p : A → Bool) (xs : List A) (y : A) → list_all p xs ≡ true → Contains xs y → p y ≡ true
+list_all-contains p xs y pass found = All-contains (λ x. p x ≡ true) xs y (AllPass-from_list_all p xs pass) found
+
+pub list_all-from_contains : {A : Type 0} (p : A → Bool) (xs : List A) → ((y : A) → Contains xs y → p y ≡ true) → list_all p xs ≡ true
+list_all-from_contains p xs pass = list_all-from_AllPass p xs (All-weaker (Contains xs) (λ y. p y ≡ true) pass xs (All-contains_itself xs))
 
 -- what is in a list
 pub among-exactly : (x : ℕ) (xs : List ℕ) → (is_among x xs ≡ true) ↔ Contains xs x
@@ -80,14 +86,14 @@ less_below x [] all = refl
 less_below x (y ∷ ys) all =
     and_from (nat_lt x y) (list_all (λ z. nat_lt x z) ys) (lt-ltb x y (cmp_less x y (nat_cmp x y) (ranked x y _ refl) all.0)) (less_below x ys all.1)
 
-rises-to_sorted : (xs : List ℕ) → rises xs ≡ true → IsStrictlySortedBy nat_cmp xs
+pub rises-to_sorted : (xs : List ℕ) → rises xs ≡ true → IsStrictlySortedBy nat_cmp xs
 unfolding IsStrictlySortedBy
 rises-to_sorted [] up = tt
 rises-to_sorted (x ∷ xs) up =
     let parts = and_parts (list_all (λ y. nat_lt x y) xs) (rises xs) up in
     (below_less x xs parts.0, rises-to_sorted xs parts.1)
 
-sorted-to_rises : (xs : List ℕ) → IsStrictlySortedBy nat_cmp xs → rises xs ≡ true
+pub sorted-to_rises : (xs : List ℕ) → IsStrictlySortedBy nat_cmp xs → rises xs ≡ true
 unfolding IsStrictlySortedBy
 sorted-to_rises [] sorted = refl
 sorted-to_rises (x ∷ xs) sorted =
@@ -116,57 +122,3 @@ rising_same xs ys up also same =
 
 pub rising-same : (xs ys : List ℕ) → rises xs ≡ true → rises ys ≡ true → (have_same xs ys ≡ true) ↔ (xs ≡ ys)
 rising-same xs ys up also = (rising_same xs ys up also, (λ same. subst (λ zs. have_same xs zs ≡ true) same (same-itself xs)))
-
--- what is in a list with one more element
-or_swap : (a b c : Bool) → (a || (b || c)) ≡ (b || (a || c))
-or_swap true true c = refl
-or_swap true false c = refl
-or_swap false b c = refl
-
-or_once : (a b c : Bool) → (a ≡ true → b ≡ true) → (a || (b || c)) ≡ (b || c)
-or_once true b c to = sym (ap (λ d. d || c) (to refl))
-or_once false b c to = refl
-
-inserted : (y x z : ℕ) (zs rest : List ℕ) (o : Ordering) → MatchOrdering o (x < z) (x ≡ z) (z < x) → is_among y rest ≡ (y == x || is_among y zs)
-    → is_among y (match_ordering o (x ∷ z ∷ zs) (z ∷ zs) (z ∷ rest)) ≡ (y == x || (y == z || is_among y zs))
-inserted y x z zs rest Less known is = refl
-inserted y x z zs rest Equal known is = sym (or_once (y == x) (y == z) (is_among y zs) (λ same. eq-eqb y z (eqb-true y x same ∙ known)))
-inserted y x z zs rest Greater known is = ap (λ b. y == z || b) is ∙ or_swap (y == z) (y == x) (is_among y zs)
-
-pub among-insert : (y x : ℕ) (xs : List ℕ) → is_among y (insert_key nat_cmp xs x) ≡ (y == x || is_among y xs)
-among-insert y x [] = refl
-among-insert y x (z ∷ zs) = inserted y x z zs (insert_key nat_cmp zs x) (nat_cmp x z) (ranked x z _ refl) (among-insert y x zs)
-
--- and without one
-pub among-remove : (y x : ℕ) (xs : List ℕ) → is_among y (filter (λ z. not (x == z)) xs) ≡ (not (x == y) && is_among y xs)
-among-remove y x xs = any-filter_same (λ z. y == z) (λ z. not (x == z)) (not (x == y)) (λ z same. ap (λ w. not (x == w)) (sym (eqb-true y z same))) xs
-
--- both still rise
-all_put : (p : ℕ → Bool) (x z : ℕ) (zs rest : List ℕ) (o : Ordering) → p x ≡ true → list_all p (z ∷ zs) ≡ true → list_all p rest ≡ true → list_all p (match_ordering o (x ∷ z ∷ zs) (z ∷ zs) (z ∷ rest)) ≡ true
-all_put p x z zs rest Less here all also = and_from (p x) (list_all p (z ∷ zs)) here all
-all_put p x z zs rest Equal here all also = all
-all_put p x z zs rest Greater here all also = and_from (p z) (list_all p rest) (and_parts (p z) (list_all p zs) all).0 also
-
-all-insert : (p : ℕ → Bool) (x : ℕ) (xs : List ℕ) → p x ≡ true → list_all p xs ≡ true → list_all p (insert_key nat_cmp xs x) ≡ true
-all-insert p x [] here all = and_from (p x) true here refl
-all-insert p x (z ∷ zs) here all = all_put p x z zs (insert_key nat_cmp zs x) (nat_cmp x z) here all (all-insert p x zs here (and_parts (p z) (list_all p zs) all).1)
-
-put_up : (x z : ℕ) (zs rest : List ℕ) (o : Ordering) → MatchOrdering o (x < z) (x ≡ z) (z < x) → rises (z ∷ zs) ≡ true → (z < x → list_all (λ y. nat_lt z y) rest ≡ true) → rises rest ≡ true
-    → rises (match_ordering o (x ∷ z ∷ zs) (z ∷ zs) (z ∷ rest)) ≡ true
-put_up x z zs rest Less known up lower rest_up =
-    let parts = and_parts (list_all (λ y. nat_lt z y) zs) (rises zs) up in
-    and_from (list_all (λ y. nat_lt x y) (z ∷ zs)) (rises (z ∷ zs))
-    (and_from (nat_lt x z) (list_all (λ y. nat_lt x y) zs) (lt-ltb x z known) (all_lower x z zs known parts.0)) up
-put_up x z zs rest Equal known up lower rest_up = up
-put_up x z zs rest Greater known up lower rest_up = and_from (list_all (λ y. nat_lt z y) rest) (rises rest) (lower known) rest_up
-
-pub rises-insert : (x : ℕ) (xs : List ℕ) → rises xs ≡ true → rises (insert_key nat_cmp xs x) ≡ true
-rises-insert x [] up = refl
-rises-insert x (z ∷ zs) up =
-    let parts = and_parts (list_all (λ y. nat_lt z y) zs) (rises zs) up in
-    put_up x z zs (insert_key nat_cmp zs x) (nat_cmp x z) (ranked x z _ refl) up
-    (λ lower. all-insert (λ y. nat_lt z y) x zs (lt-ltb z x lower) parts.0)
-    (rises-insert x zs parts.1)
-
-pub rises-remove : (x : ℕ) (xs : List ℕ) → rises xs ≡ true → rises (filter (λ y. not (x == y)) xs) ≡ true
-rises-remove x xs up = sorted-to_rises (filter (λ y. not (x == y)) xs) (IsStrictlySortedBy-filter nat_cmp (λ y. not (x == y)) xs (rises-to_sorted xs up))

@@ -1,5 +1,5 @@
-use Rattle.ra_laws.proofs.TheLaws.{a_list_rises_where_each_is_below_the_later-places, a_list_rises_where_each_is_below_the_later-sorted}
-use Rattle.ra_laws.proofs.laws.lists.a_list_rises_where_each_is_below_the_later.Goals as goal
+use Rattle.ra_labels.proofs.TheLaws.{a_list_rises_where_each_is_below_the_later-places, a_list_rises_where_each_is_below_the_later-sorted}
+use Rattle.ra_labels.proofs.lists.a_list_rises_where_each_is_below_the_later.Goals as goal
 
 pub returns-clause-places : goal.returns-clause-places
 returns-clause-places c = a_list_rises_where_each_is_below_the_later-places

@@ -1,5 +1,5 @@
-use Rattle.ra_laws.proofs.TheLaws.{lists_have_the_same_elements-elements, lists_have_the_same_elements-rising}
-use Rattle.ra_laws.proofs.laws.lists.lists_have_the_same_elements.Goals as goal
+use Rattle.ra_labels.proofs.TheLaws.{lists_have_the_same_elements-elements, lists_have_the_same_elements-rising}
+use Rattle.ra_labels.proofs.lists.lists_have_the_same_elements.Goals as goal
 
 pub returns-clause-elements : goal.returns-clause-elements
 returns-clause-elements c = lists_have_the_same_elements-elements
