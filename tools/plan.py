@@ -28,13 +28,21 @@ class Plan:
 
     def next(self, now):
         """The crate that begins now, its jobs, and whether it is urgent; or None where none can begin."""
-        idle = self.processors - sum(jobs for _, jobs in self.running.values())
         ready = [it for it in self.left if all(below in self.proved for below in self.crates.stands_on[it])]
-        if idle <= 0 or not ready:
+        if not ready:
             return None
         name = max(ready, key=self.chain.get)
-        urgent = self.scale() * self.chain[name] >= URGENT * self.longest(now)
-        jobs = min(max(idle - len(ready) + 1, 1), MOST_JOBS) if urgent else 1
+        idle = self.processors - sum(jobs for _, jobs in self.running.values())
+        # What cannot wait for half of its time wants processors too.
+        without = self.needs(name, now) - self.scale() * self.seconds[name] / 2
+        rivals = [it for it in [*ready, *self.running] if it != name and self.needs(it, now) > without]
+        # Where all that is left waits for it alone, what still runs will soon leave its processors to it.
+        alone = not rivals and all(name in self.crates.up_to(it) for it in self.left if it not in ready)
+        if idle <= 0 and not alone:
+            return None
+        urgent = alone or self.needs(name, now) >= URGENT * self.longest(now)
+        share = max(idle - sum(it in ready for it in rivals), self.processors - 1 if alone else 1, 1)
+        jobs = min(share, MOST_JOBS) if urgent else 1
         self.left.remove(name)
         self.running[name] = now, jobs
         return name, jobs, urgent
@@ -61,10 +69,15 @@ class Plan:
         whole = self.scale() * self.wait_for(name, jobs)
         return max(whole - (now - began), whole / 10)
 
+    def needs(self, name, now):
+        """How long the crate and what stands on it will take from now on, in seconds: the chain that it begins."""
+        if name in self.running:
+            return self.rest(name, now) + self.scale() * (self.chain[name] - self.seconds[name])
+        return self.scale() * self.chain[name]
+
     def longest(self, now):
         """The longest chain that is left, in seconds."""
-        above = {it: self.rest(it, now) + self.scale() * (self.chain[it] - self.seconds[it]) for it in self.running}
-        return max([*above.values(), *(self.scale() * self.chain[it] for it in self.left)], default=0.0)
+        return max((self.needs(it, now) for it in [*self.running, *self.left]), default=0.0)
 
     def time_left(self, now):
         """How long all that is left will take, in words."""
