@@ -1,10 +1,11 @@
-"""Has `rt` prove crates side by side, each in a room of its own.
+"""Has crates proved side by side, each in a room of its own.
 
 `rt` keeps all others out of a crate's folder, and out of those of the crates below, for as long as it works. So crates
 that stand on one crate would wait for one another. Each is therefore proved in a room: a folder with the sources of
 this crate and of those below it, as they were when all began, and with the libraries that were built of these. The
 files of sources and libraries are the same ones everywhere (hard links), since `rt` puts new ones in place of those
-that it changes.
+that it changes. Libraries hold statements alone (tools/statements). For the next build they are kept in the crates'
+`out/`, beside those of `rt`: that one may build over a library only what was built with it.
 """
 import fcntl
 import os
@@ -16,8 +17,10 @@ from pathlib import Path
 
 from crates import PARTS, Crates
 
-# What rt keeps in a crate's out/: the library with its stamp, and what further proofs of the crate begin from.
-LIBRARY, KEPT = "rlib", "incremental"
+# Where rt looks in a crate's out/ for the library with its stamp, and where it is kept for the next build.
+LIBRARY, KEPT = "rlib", "statements"
+# What proves a library.
+STATEMENTS = Path(__file__).resolve().parent / "statements"
 # What would change how rt builds.
 NOT_PASSED_ON = ("RT_ALLOW_C", "RT_BACKEND", "RT_SECONDS", "RT_JOBS")
 # How much later the proofs of crates come to their turn that none waits for.
@@ -37,15 +40,6 @@ def put(source, to):
     shutil.rmtree(to, ignore_errors=True)
     if source.is_dir():
         shutil.copytree(source, to, copy_function=link)
-
-
-def move(source, to):
-    """Moves a file or a folder, and does nothing where there is none."""
-    if source.is_dir():
-        shutil.rmtree(to, ignore_errors=True)
-    if source.exists():
-        to.parent.mkdir(parents=True, exist_ok=True)
-        shutil.move(str(source), str(to))
 
 
 @contextmanager
@@ -116,13 +110,12 @@ class Rooms:
         own = self.top / "crates" / name
         with kept_from_others(own) as alone:
             if alone:
-                put(own / "out" / LIBRARY, self.crate(name) / "out" / LIBRARY)
-                move(own / "out" / KEPT, self.crate(name) / "out" / KEPT)
+                put(own / "out" / KEPT, self.crate(name) / "out" / LIBRARY)
 
     def begin(self, name, verb, jobs, urgent):
-        """Has rt prove the crate in its room, and returns at once."""
+        """Has the crate proved in its room, and returns at once."""
         self.furnish(name)
-        words = ["rt", verb, "--jobs", str(jobs)]
+        words = [STATEMENTS, str(jobs)] if verb == "lib" else ["rt", verb, "--jobs", str(jobs)]
         words = words if urgent else ["nice", "-n", str(NICE), *words]
         passed_on = {key: value for key, value in os.environ.items() if key not in NOT_PASSED_ON}
         how = {"cwd": self.crate(name), "env": passed_on, "stdin": subprocess.DEVNULL, "start_new_session": True}
@@ -142,14 +135,13 @@ class Rooms:
         return None, 0
 
     def give_back(self, name):
-        """Gives the crate what its room has, unless another rt is at work in the crate: that one then makes its own."""
-        own, made = self.top / "crates" / name, self.crate(name)
-        with kept_from_others(own) as alone:
-            if alone and made.is_dir():
-                # rt writes the stamp last: without it a library is a half.
-                if (made / "out" / LIBRARY / "stamp").is_file():
-                    put(made / "out" / LIBRARY, own / "out" / LIBRARY)
-                move(made / "out" / KEPT, own / "out" / KEPT)
+        """Keeps the library that its room has with the crate, unless an rt is at work there."""
+        own, made = self.top / "crates" / name, self.crate(name) / "out" / LIBRARY
+        # The stamp is written last: without it a library is a half.
+        if (made / "stamp").is_file():
+            with kept_from_others(own) as alone:
+                if alone:
+                    put(made, own / "out" / KEPT)
 
     def give_program(self):
         """Puts the program where it belongs, with the stamp by which rt knows it."""
