@@ -41,7 +41,9 @@ class Plan:
         if idle <= 0 and not alone:
             return None
         urgent = alone or self.needs(name, now) >= URGENT * self.longest(now)
-        share = max(idle - sum(it in ready for it in rivals), self.processors - 1 if alone else 1, 1)
+        # One processor is left to the others in any case, or they would hold all up at the end.
+        left = max(sum(it in ready for it in rivals), int(len(ready) > 1))
+        share = max(idle - left, self.processors - 1 if alone else 1, 1)
         jobs = min(share, MOST_JOBS) if urgent else 1
         self.left.remove(name)
         self.running[name] = now, jobs

@@ -97,6 +97,12 @@ one_byte : (byte : ℕ) → byte ≢ 10 → All (λ b. b ≢ 10) (byte ∷ [])
 one_byte byte none zero d below = none
 one_byte byte none (suc k) d below = absurd (omega (arith, below))
 
+-- a line and its line feed in front of other lines, with what stands behind these
+line_in_front : (line lines behind bytes : List ℕ) (byte : ℕ) → byte ≡ 10 → bytes ≡ lines ++ behind → line ++ byte ∷ bytes ≡ ((line ++ 10 ∷ []) ++ lines) ++ behind
+line_in_front line lines behind bytes byte feed parts =
+    ap (λ (b : ℕ). line ++ b ∷ bytes) feed ∙ ap (λ (bs : List ℕ). line ++ 10 ∷ bs) parts
+    ∙ sym (append_assoc line (10 ∷ []) (lines ++ behind)) ∙ sym (append_assoc (line ++ 10 ∷ []) lines behind)
+
 -- what went on
 pub going_on : (r : Result Progress Stop) (q : Progress) (f : Progress → Result Progress Stop) → unless_stopped r f ≡ Ok q → (p : Progress) × (r ≡ Ok p) × (f p ≡ Ok q)
 going_on (Ok p) q f e = (p, refl, e)
@@ -122,10 +128,7 @@ byte_found p q byte bytes is e later =
             lines = p.partial ∷ rest.lines;
             are_lines = (is, rest.are_lines);
             leads = (made.0, made.1, made.2, rest.leads);
-            parts =
-                ap (λ (b : ℕ). p.partial ++ b ∷ bytes) is_feed ∙ ap (λ (bs : List ℕ). p.partial ++ 10 ∷ bs) rest.parts
-                ∙ sym (append_assoc p.partial (10 ∷ []) (bytes_of rest.lines ++ q.partial))
-                ∙ sym (append_assoc (p.partial ++ 10 ∷ []) (bytes_of rest.lines) q.partial);
+            parts = line_in_front p.partial (bytes_of rest.lines) q.partial bytes byte is_feed rest.parts;
           }
       | inr other ↦ elim (cases_Bool (ltb (length p.partial) 1048576)) [
         | inl room ↦

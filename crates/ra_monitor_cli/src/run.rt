@@ -1,7 +1,8 @@
 //! The program, over the words of its command line, a reader and two writers.
-ghost use Rattle.std.specs.Prelude.{◌≡◌, ◌≢◌, Bool, None, Some, codes};
+ghost use Rattle.std.specs.Prelude.{◌≡◌, ◌≢◌, Bool, None, Ok, Some, codes};
 ghost use Rattle.ra_history_text.specs.Faults.{check_fault_words};
-ghost use Rattle.ra_monitor_cli.specs.Program.{asked_by, stop_words, ends_with, StopsProgram, ReportsOutcome, EndsAnswered, ChecksText};
+ghost use Rattle.ra_history_text.specs.Output.{status_of};
+ghost use Rattle.ra_monitor_cli.specs.Program.{asked_by, stop_words, StopsProgram, ReportsOutcome, EndsAnswered, ChecksText};
 ghost use Rattle.ra_monitor_cli.specs.declared.words.Run.TheVariants.{Check};
 
 use crate::words::{Run, WordsFault, run_of_kept};
@@ -64,8 +65,10 @@ fn run_check<R: Read, W: Write, E: Write>(
         (W.contents out.old) (W.contents out.new) (E.contents err.old) (E.contents err.new) }
     ensures silent { result.status ≢ 2 → err.new ≡ err.old }
 {
-    match check(alloc, reader, out) {
-        Ok(outcome) => end_answered(alloc, report, outcome, out, err),
+    let answer = check(alloc, reader, out);
+    let status = status(&answer);
+    match answer {
+        Ok(outcome) => end_answered(alloc, report, outcome, status, out, err),
         Err(fault) => stop(err, fault),
     }
 }
@@ -75,27 +78,19 @@ fn end_answered<W: Write, E: Write>(
     alloc: Global,
     report: bool,
     outcome: Outcome,
+    status: u8,
     out: &mut W,
     err: &mut E,
 ) -> Ending
+    requires { status ≡ status_of (Ok outcome) }
     ensures ended { EndsAnswered report outcome result (W.contents out.old) (W.contents out.new)
         (E.contents err.old) (E.contents err.new) }
     ensures silent { result.status ≢ 2 → err.new ≡ err.old }
 {
     if report {
-        end_with_report(alloc, outcome, out, err)
+        end_with_report(alloc, outcome, status, out, err)
     } else {
-        end(outcome)
-    }
-}
-
-// With nothing to tell.
-fn end(outcome: Outcome) -> Ending
-    ensures { result ≡ ends_with outcome }
-{
-    Ending {
-        status: status(&Ok(outcome)),
-        told: true,
+        Ending { status, told: true }
     }
 }
 
@@ -103,15 +98,17 @@ fn end(outcome: Outcome) -> Ending
 fn end_with_report<W: Write, E: Write>(
     alloc: Global,
     outcome: Outcome,
+    status: u8,
     out: &mut W,
     err: &mut E,
 ) -> Ending
+    requires { status ≡ status_of (Ok outcome) }
     ensures ended { ReportsOutcome outcome result (W.contents out.old) (W.contents out.new)
         (E.contents err.old) (E.contents err.new) }
     ensures silent { result.status ≢ 2 → err.new ≡ err.old }
 {
     match write_report(alloc, &outcome.report, out) {
-        Ok(()) => end(outcome),
+        Ok(()) => Ending { status, told: true },
         Err(fault) => stop(err, fault),
     }
 }
