@@ -1,6 +1,6 @@
 //! Reporters, which own a monitor or a pass of a desk.
 
-use crate::commands::{counter_of, got, increment, read};
+use crate::commands::{counter_of, got, increment, read, reply_to, reporter_of};
 use ra_desk::DeskReporter;
 use ra_labels::{Cause, Command, Kind, Refusal, Reply};
 use ra_monitor::Reporter;
@@ -8,7 +8,6 @@ use ra_ticket::{CallFault, Caller, CloseFault, Glance, MOST_PASSES, StepFault};
 use std::alloc::Global;
 use std::process::Abort;
 use std::sync::Wait;
-use std::test::Fail;
 use std::thread;
 
 // Two reporters of one desk, the one with pass 0 first.
@@ -26,40 +25,67 @@ fn two_reporters(rt: &impl Abort, alloc: Global, room: u32) -> (DeskReporter, De
 fn accepted<R: Wait>(rt: &R, reporter: &mut DeskReporter, replica: u8, count: u32) -> u32 {
     let mut accepted = 0u32;
     for _ in 0..count {
-        if matches!(reporter.submit(rt, increment(replica)), Ok(Reply::Ok(_))) {
+        if matches!(
+            submitted(rt, reporter, increment(replica)),
+            Some(Reply::Ok(_))
+        ) {
             accepted = accepted.saturating_add(1);
         }
     }
     accepted
 }
 
+// Answers and commands that are handed back are let go by calls: a proof goes through their parts once, and not at each
+// comparison.
+
+// The reply of the desk; none where the command is handed back.
+fn submitted<R: Wait>(rt: &R, reporter: &mut DeskReporter, command: Command) -> Option<Reply> {
+    reporter.submit(rt, command).ok()
+}
+
+// The same of one attempt.
+fn attempted(reporter: &mut DeskReporter, command: Command) -> Option<Reply> {
+    reporter.try_submit(command).ok()
+}
+
+// Is the command handed back, since the log is full?
+fn is_full<R: Wait>(rt: &R, reporter: &mut DeskReporter) -> bool {
+    let answer = reporter.submit(rt, Command::Verdict);
+    matches!(&answer, Err(CallFault::Full(Command::Verdict)))
+}
+
+// The same of a monitor.
+fn is_monitor_full(reporter: &mut Reporter) -> bool {
+    let answer = reporter.tell(Command::Verdict);
+    matches!(&answer, Err(StepFault::Full(Command::Verdict)))
+}
+
 #[test]
-fn a_reporter_is_answered_as_the_monitor(rt: HostRuntime) -> Result<(), Fail> {
-    let Ok(mut reporter) = Reporter::new(rt.alloc(), Kind::Counter, 3, 6) else {
-        panic!(rt; "no monitor");
-    };
-    assert_eq!(rt; reporter.tell(increment(0)), Ok(Reply::Ok(0)));
-    assert_eq!(rt; reporter.tell(got(1, 0)), Ok(Reply::Got(0)));
-    let again = Ok(Reply::Refused(Refusal::AlreadySeen));
-    assert_eq!(rt; reporter.tell(got(1, 0)), again);
-    assert_eq!(rt; reporter.tell(read(1, 1)), Ok(Reply::Ok(1)));
-    assert_eq!(rt; reporter.tell(Command::Verdict), Ok(Reply::Yes(2)));
+fn a_reporter_is_answered_as_the_monitor(rt: HostRuntime) {
+    let mut reporter = reporter_of(&rt, rt.alloc(), Kind::Counter, 3, 6);
+    assert_eq!(rt; reply_to(&rt, &mut reporter, increment(0)), Reply::Ok(0));
+    assert_eq!(rt; reply_to(&rt, &mut reporter, got(1, 0)), Reply::Got(0));
+    let again = Reply::Refused(Refusal::AlreadySeen);
+    assert_eq!(rt; reply_to(&rt, &mut reporter, got(1, 0)), again);
+    assert_eq!(rt; reply_to(&rt, &mut reporter, read(1, 1)), Reply::Ok(1));
+    assert_eq!(rt;
+        reply_to(&rt, &mut reporter, Command::Verdict),
+        Reply::Yes(2)
+    );
     let no = Reply::No {
         label: 2,
         cause: Cause::Query,
     };
-    assert_eq!(rt; reporter.tell(read(2, 1)), Ok(no));
-    let full = Err(StepFault::Full(Command::Verdict));
-    assert_eq!(rt; reporter.tell(Command::Verdict), full);
+    assert_eq!(rt; reply_to(&rt, &mut reporter, read(2, 1)), no);
+    assert!(rt; is_monitor_full(&mut reporter));
     assert_eq!(rt; reporter.monitor().report().refused, 1);
     for (place, entry) in reporter.into_monitor().log().iter().enumerate() {
         assert_eq!(rt; (entry.pass, entry.ticket), (0, place as u64));
     }
-    Ok(())
 }
 
 #[test]
-fn two_threads_report_to_one_desk(rt: HostRuntime) -> Result<(), Fail> {
+fn two_threads_report_to_one_desk(rt: HostRuntime) {
     let (mut first, mut second) = two_reporters(&rt, rt.alloc(), 2_000);
     let taken = thread::join(
         &rt,
@@ -72,16 +98,17 @@ fn two_threads_report_to_one_desk(rt: HostRuntime) -> Result<(), Fail> {
         fault: None,
     };
     assert_eq!(rt; (first.glance(), second.glance()), (all, all));
-    Ok(())
 }
 
 #[test]
-fn a_closed_desk_has_its_log(rt: HostRuntime) -> Result<(), Fail> {
+fn a_closed_desk_has_its_log(rt: HostRuntime) {
     let (mut first, mut second) = two_reporters(&rt, rt.alloc(), 2);
-    assert_eq!(rt; first.submit(&rt, increment(0)), Ok(Reply::Ok(0)));
-    assert_eq!(rt; second.try_submit(got(1, 0)), Ok(Reply::Got(0)));
-    let full = Err(CallFault::Full(Command::Verdict));
-    assert_eq!(rt; first.submit(&rt, Command::Verdict), full);
+    assert_eq!(rt;
+        submitted(&rt, &mut first, increment(0)),
+        Some(Reply::Ok(0))
+    );
+    assert_eq!(rt; attempted(&mut second, got(1, 0)), Some(Reply::Got(0)));
+    assert!(rt; is_full(&rt, &mut first));
     let Err(CloseFault::Shared(second)) = second.close() else {
         panic!(rt; "closed with another reporter left");
     };
@@ -97,11 +124,10 @@ fn a_closed_desk_has_its_log(rt: HostRuntime) -> Result<(), Fail> {
             (place, place as u64)
         );
     }
-    Ok(())
 }
 
 #[test]
-fn as_many_report_as_there_are_passes(rt: HostRuntime) -> Result<(), Fail> {
+fn as_many_report_as_there_are_passes(rt: HostRuntime) {
     for count in [1, MOST_PASSES] {
         let monitor = counter_of(&rt, rt.alloc(), 3, 100);
         let Ok(mut reporters) = Caller::open(rt.alloc(), monitor, count) else {
@@ -112,12 +138,16 @@ fn as_many_report_as_there_are_passes(rt: HostRuntime) -> Result<(), Fail> {
                 panic!(rt; "too few reporters");
             };
             assert_eq!(rt; reporter.number(), number);
-            assert!(rt; matches!(reporter.submit(&rt, increment(0)), Ok(Reply::Ok(_))));
+            assert!(rt;
+                matches!(
+                    submitted(&rt, &mut reporter, increment(0)),
+                    Some(Reply::Ok(_))
+                )
+            );
             // The others are dropped here.
             if number == 0 {
                 assert!(rt; reporter.close().is_ok());
             }
         }
     }
-    Ok(())
 }
