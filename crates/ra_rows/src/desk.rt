@@ -95,12 +95,9 @@ fn one_pass_fills_a_desk_at_once(rt: HostRuntime) {
     let Some(mut pass) = last_pass(&desk, &mut passes) else {
         panic!(rt; "no pass");
     };
-    for _ in 0..2 {
-        assert_eq!(rt;
-            attempted(&desk, &mut pass, Command::Verdict),
-            Some(Reply::Yes(0))
-        );
-    }
+    let first = attempted(&desk, &mut pass, Command::Verdict);
+    let second = attempted(&desk, &mut pass, Command::Verdict);
+    assert_eq!(rt; (first, second), (Some(Reply::Yes(0)), Some(Reply::Yes(0))));
     assert!(rt; is_full_at_once(&desk, &mut pass));
 }
 
