@@ -18,7 +18,5 @@ mod link;
 mod room;
 mod split;
 mod spot;
-#[cfg(test)]
-mod tests;
 
 pub use element_list::{ElementList, LOWEST, ROOT};

@@ -132,6 +132,3 @@ fn stop<E: Write>(err: &mut E, fault: CheckFault) -> Ending
         told: writeln!(err, "{fault}").is_ok(),
     }
 }
-
-#[cfg(test)]
-mod tests;

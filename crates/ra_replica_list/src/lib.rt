@@ -14,8 +14,6 @@ pub mod laws;
 mod marks;
 mod put;
 mod replica_list;
-#[cfg(test)]
-mod tests;
 mod waiting;
 
 pub use deed::Deed;

@@ -133,21 +133,19 @@ fn as_many_report_as_there_are_passes(rt: HostRuntime) {
         let Ok(mut reporters) = Caller::open(rt.alloc(), monitor, count) else {
             panic!(rt; "no desk");
         };
-        for number in (0..count).rev() {
-            let Some(mut reporter) = reporters.pop() else {
-                panic!(rt; "too few reporters");
-            };
-            assert_eq!(rt; reporter.number(), number);
-            assert!(rt;
-                matches!(
-                    submitted(&rt, &mut reporter, increment(0)),
-                    Some(Reply::Ok(_))
-                )
-            );
-            // The others are dropped here.
-            if number == 0 {
-                assert!(rt; reporter.close().is_ok());
-            }
+        for number in (1..count).rev() {
+            drop(report_as(&rt, reporters.pop(), number));
         }
+        assert!(rt; report_as(&rt, reporters.pop(), 0).close().is_ok());
     }
+}
+
+// The reporter with this number has an increment accepted.
+fn report_as<R: Abort + Wait>(rt: &R, reporter: Option<DeskReporter>, number: u8) -> DeskReporter {
+    let Some(mut reporter) = reporter else {
+        panic!(rt; "too few reporters");
+    };
+    assert_eq!(rt; reporter.number(), number);
+    assert_eq!(rt; accepted(rt, &mut reporter, 0, 1), 1);
+    reporter
 }

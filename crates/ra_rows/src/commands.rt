@@ -88,6 +88,17 @@ pub fn step_by(
     }
 }
 
+/// The reply to the same; none where the command is handed back.
+pub fn stepped(
+    rt: &impl Abort,
+    monitor: &mut Monitor,
+    pass: u8,
+    ticket: u64,
+    command: Command,
+) -> Option<Reply> {
+    step_by(rt, monitor, pass, ticket, command).ok()
+}
+
 /// The reply to one command.
 pub fn reply_to(rt: &impl Abort, reporter: &mut Reporter, command: Command) -> Reply {
     let mut command = command;

@@ -115,23 +115,8 @@ fn passes_that_meet_see_what_neither_had_seen(rt: HostRuntime) {
     ) else {
         panic!(rt; "too few passes");
     };
-    assert_eq!(rt;
-        submitted(&rt, &desk, &mut first, increment(0)),
-        Some(Reply::Ok(0))
-    );
-    let one = Glance {
-        calls: 1,
-        fault: None,
-    };
-    assert_eq!(rt; desk.glance(&mut first), one);
-    assert_eq!(rt;
-        attempted(&desk, &mut second, got(1, 0)),
-        Some(Reply::Got(0))
-    );
-    assert_eq!(rt;
-        attempted(&desk, &mut second, read(1, 1)),
-        Some(Reply::Ok(1))
-    );
+    one_call_and_a_glance(&rt, &desk, &mut first);
+    two_attempts(&rt, &desk, &mut second);
     let (first, third, calls) = desk.meet(first, third);
     assert_eq!(rt; calls, 3);
     assert_eq!(rt; (first.number(), third.number()), (0, 2));
@@ -139,6 +124,26 @@ fn passes_that_meet_see_what_neither_had_seen(rt: HostRuntime) {
         panic!(rt; "not settled");
     };
     assert_eq!(rt; monitor.log().len(), 3);
+}
+
+fn one_call_and_a_glance<R: Abort + Wait>(rt: &R, desk: &Desk, pass: &mut Pass<Monitor>)
+    requires { IsPassOf desk.now pass.old }
+    ensures { IsPassOf desk.now pass.new }
+{
+    assert_eq!(rt; submitted(rt, desk, pass, increment(0)), Some(Reply::Ok(0)));
+    let one = Glance {
+        calls: 1,
+        fault: None,
+    };
+    assert_eq!(rt; desk.glance(pass), one);
+}
+
+fn two_attempts(rt: &impl Abort, desk: &Desk, pass: &mut Pass<Monitor>)
+    requires { IsPassOf desk.now pass.old }
+{
+    let first = attempted(desk, pass, got(1, 0));
+    let second = attempted(desk, pass, read(1, 1));
+    assert_eq!(rt; (first, second), (Some(Reply::Got(0)), Some(Reply::Ok(1))));
 }
 
 #[test]

@@ -1,6 +1,6 @@
 //! Each public call of the libraries once, with ample memory.
 
-use crate::commands::{bare, stamped};
+use crate::commands::{bare, got, increment, read, stamped, stepped};
 use ra_labels::{Command, Elements, Kind, NoMemory, Op, Query, Refusal, Reply, Update, fits};
 use ra_monitor::Monitor;
 use ra_seqspec::State;
@@ -29,7 +29,7 @@ fn a_counter_counts(rt: HostRuntime) -> Result<(), Fail> {
 }
 
 #[test]
-fn a_register_and_a_set_are_copied(rt: HostRuntime) -> Result<(), Fail> {
+fn a_register_and_a_set_are_copied(rt: HostRuntime) {
     let (Ok(mut register), Ok(mut set)) = (
         State::new(rt.alloc(), Kind::Register),
         State::new(rt.alloc(), Kind::LwwSet),
@@ -52,35 +52,19 @@ fn a_register_and_a_set_are_copied(rt: HostRuntime) -> Result<(), Fail> {
     assert!(rt; same_register.admits(&Query::Last(Some(7))));
     assert!(rt; same_set.admits(&four));
     assert!(rt; !set.admits(&four));
-    Ok(())
 }
 
 #[test]
-fn a_monitor_is_told_three_things(rt: HostRuntime) -> Result<(), Fail> {
+fn a_monitor_is_told_three_things(rt: HostRuntime) {
     let Ok(mut monitor) = Monitor::new(rt.alloc(), Kind::Counter, 2, 1_000) else {
         panic!(rt; "no monitor");
     };
-    let made = Command::Operate {
-        replica: 0,
-        op: Op::Inc,
-        stamp: None,
-    };
-    let came = Command::Deliver {
-        replica: 1,
-        label: 0,
-    };
-    let read = Command::Operate {
-        replica: 1,
-        op: Op::Count(1),
-        stamp: None,
-    };
-    let made = monitor.step(0, 0, made);
-    assert_eq!(rt; made, Ok(Reply::Ok(0)));
-    let came = monitor.step(0, 1, came);
-    assert_eq!(rt; came, Ok(Reply::Got(0)));
-    let read = monitor.step(0, 2, read);
-    assert_eq!(rt; read, Ok(Reply::Ok(1)));
-    Ok(())
+    let made = stepped(&rt, &mut monitor, 0, 0, increment(0));
+    let came = stepped(&rt, &mut monitor, 0, 1, got(1, 0));
+    let told = stepped(&rt, &mut monitor, 0, 2, read(1, 1));
+    assert_eq!(rt; made, Some(Reply::Ok(0)));
+    assert_eq!(rt; came, Some(Reply::Got(0)));
+    assert_eq!(rt; told, Some(Reply::Ok(1)));
 }
 
 #[test]

@@ -5,9 +5,11 @@ ghost use Rattle.ra_visibility.specs.Tracked.{labels_in, replicas_in};
 
 use crate::commands::{bare, reply_to, reporter_of, sequence_of, stamped};
 use ra_labels::{Elements, Kind, Label, Op, Query, Refusal, Reply, Stamp, Update};
+use ra_monitor::{Monitor, Reporter};
 use ra_seqspec::State;
 use ra_time_order::TimeOrder;
 use ra_visibility::{MOST_LABELS, NamedOrder, Tracker};
+use std::alloc::Global;
 use std::process::Abort;
 use std::test::Fail;
 
@@ -83,19 +85,9 @@ fn stand(rt: &impl Abort, tracker: &mut Tracker, order: &mut TimeOrder, stamp: S
 }
 
 #[test]
-fn thousands_of_elements_are_put_in(rt: HostRuntime) -> Result<(), Fail> {
+fn thousands_of_elements_are_put_in(rt: HostRuntime) {
     let mut reporter = reporter_of(&rt, rt.alloc(), Kind::LwwSet, 3, 1_048_576);
-    let mut all = Vec::new(rt.alloc());
-    for number in 0..4_200u32 {
-        let replica = (number / 2_100) as u8;
-        let clock = 2 * (number % 2_100) + 2 - replica as u32;
-        let add = stamped(replica, Op::LwwAdd(number ^ 1), clock);
-        let reply = reply_to(&rt, &mut reporter, add);
-        assert_eq!(rt; reply, Reply::Ok(number));
-        if number < 2_100 && all.push(number).is_err() && all.push(number).is_err() {
-            panic!(rt; "no memory");
-        }
-    }
+    let all = put_in(&rt, rt.alloc(), &mut reporter);
     for (replica, clock) in [(0, 2), (0, 4_200), (1, 1), (1, 4_199)] {
         let add = stamped(replica, Op::LwwAdd(0), clock);
         let reply = reply_to(&rt, &mut reporter, add);
@@ -104,13 +96,34 @@ fn thousands_of_elements_are_put_in(rt: HostRuntime) -> Result<(), Fail> {
     let read = bare(0, Op::LwwRead(Elements::new(all)));
     let reply = reply_to(&rt, &mut reporter, read);
     assert_eq!(rt; reply, Reply::Ok(4_200));
-    let sequence = sequence_of(&rt, reporter.monitor());
+    stand_by_turns(&rt, reporter.monitor());
+}
+
+// The first replica adds 2,100 elements at even clocks, and then the second one 2,100 more at odd clocks. Gives what
+// the first one added.
+fn put_in(rt: &impl Abort, alloc: Global, reporter: &mut Reporter) -> Vec<u32> {
+    let mut all = Vec::new(alloc);
+    for number in 0..4_200u32 {
+        let replica = (number / 2_100) as u8;
+        let clock = 2 * (number % 2_100) + 2 - replica as u32;
+        let add = stamped(replica, Op::LwwAdd(number ^ 1), clock);
+        let reply = reply_to(rt, reporter, add);
+        assert_eq!(rt; reply, Reply::Ok(number));
+        if number < 2_100 && all.push(number).is_err() && all.push(number).is_err() {
+            panic!(rt; "no memory");
+        }
+    }
+    all
+}
+
+// An element of the second replica and one of the first, and so on.
+fn stand_by_turns(rt: &impl Abort, monitor: &Monitor) {
+    let sequence = sequence_of(rt, monitor);
     assert_eq!(rt; sequence.len(), 4_201);
     for (at, part) in sequence.iter().enumerate() {
         let first = if at % 2 == 0 { 2_100 } else { 0 };
         assert_eq!(rt; part.label as usize, first + at / 2);
     }
-    Ok(())
 }
 
 #[test]

@@ -9,7 +9,6 @@ use ra_labels::{Cause, Command, Elements, Op, Reply};
 use ra_monitor::Monitor;
 use std::alloc::{AllocError, Global};
 use std::process::Abort;
-use std::test::Fail;
 
 // What is accepted of the sets: all but the delivery that comes too early.
 const ACCEPTED: &str = "RAH 1 orset
@@ -26,7 +25,7 @@ c read 4
 
 // A text that is written of a monitor amounts to what the monitor does, and nothing in it is refused.
 #[test]
-fn histories_are_written_and_checked_again(rt: HostRuntime) -> Result<(), Fail> {
+fn histories_are_written_and_checked_again(rt: HostRuntime) {
     let names = names_of(&rt, rt.alloc(), &["a", "b", "c"]);
     for row in &TEXTS {
         let monitor = monitor_of(&rt, rt.alloc(), row.text);
@@ -42,12 +41,11 @@ fn histories_are_written_and_checked_again(rt: HostRuntime) -> Result<(), Fail> 
         assert_eq!(rt; outcome.report.fault, report.fault, "{}", row.name);
         assert_eq!(rt; outcome.report.refused, 0, "{}", row.name);
     }
-    Ok(())
 }
 
 // What is refused is left out, and so is all behind a no.
 #[test]
-fn only_what_was_accepted_is_written(rt: HostRuntime) -> Result<(), Fail> {
+fn only_what_was_accepted_is_written(rt: HostRuntime) {
     let names = names_of(&rt, rt.alloc(), &["a", "b", "c"]);
     for (commands, wanted) in [
         (SETS, ACCEPTED),
@@ -62,12 +60,11 @@ fn only_what_was_accepted_is_written(rt: HostRuntime) -> Result<(), Fail> {
         assert_eq!(rt; wrote, Ok(()));
         assert_eq!(rt; text.as_slice(), wanted.as_bytes());
     }
-    Ok(())
 }
 
 // A writer that fails, or takes no byte, has the bytes before, and is not asked again.
 #[test]
-fn histories_are_written_byte_by_byte(rt: HostRuntime) -> Result<(), Fail> {
+fn histories_are_written_byte_by_byte(rt: HostRuntime) {
     let names = names_of(&rt, rt.alloc(), &["a", "b", "c"]);
     let monitor = monitor_of(&rt, rt.alloc(), SETS);
     let whole = ACCEPTED.as_bytes();
@@ -88,12 +85,11 @@ fn histories_are_written_byte_by_byte(rt: HostRuntime) -> Result<(), Fail> {
             );
         }
     }
-    Ok(())
 }
 
 // One too few, and one too many.
 #[test]
-fn names_are_as_many_as_the_replicas(rt: HostRuntime) -> Result<(), Fail> {
+fn names_are_as_many_as_the_replicas(rt: HostRuntime) {
     let monitor = monitor_of(&rt, rt.alloc(), SETS);
     for words in [["a", "b"].as_slice(), &["a", "b", "c", "d"]] {
         let names = names_of(&rt, rt.alloc(), words);
@@ -102,7 +98,6 @@ fn names_are_as_many_as_the_replicas(rt: HostRuntime) -> Result<(), Fail> {
         assert_eq!(rt; wrote, Err(WriteFault::BadNames));
         assert!(rt; text.is_empty());
     }
-    Ok(())
 }
 
 // Two of its commands are accepted, so the next one that is stands at place 2.
@@ -111,33 +106,45 @@ const SET: &str = "RAH 1 lwwset\nreplicas a b c\na add 4 @1\na add 4 @1\nverdict
 // A read whose line has 1,048,576 bytes, or one more: behind `a read ` a number of one digit or of two, and 131,071
 // times a comma and seven digits. The lines before have 13, 15, 11 and 8 bytes with their line feeds.
 #[test]
-fn the_longest_line_is_written(rt: HostRuntime) -> Result<(), Fail> {
+fn the_longest_line_is_written(rt: HostRuntime) {
     let names = names_of(&rt, rt.alloc(), &["a", "b", "c"]);
     for (least, wanted, bytes, ends) in [
         (1, Ok(()), 1_048_624, 1),
         (11, Err(WriteFault::LineTooLong(2)), 0, 2),
     ] {
-        let mut monitor = monitor_of(&rt, rt.alloc(), SET);
-        let read = Op::LwwRead(elements_from(rt.alloc(), least)?);
-        let no = Reply::No {
-            label: 1,
-            cause: Cause::Query,
-        };
-        let command = Command::Operate {
-            replica: 0,
-            op: read,
-            stamp: None,
-        };
-        assert_eq!(rt; reply_to(&rt, &mut monitor, command), no);
+        let monitor = with_a_read_from(&rt, rt.alloc(), least);
         let mut text = Vec::new(rt.alloc());
         let wrote = write_history(rt.alloc(), &monitor, &names, &mut text);
         assert_eq!(rt; wrote, wanted);
         assert_eq!(rt; text.len(), bytes);
-        let mut written = Vec::new(rt.alloc());
-        let answer = check(rt.alloc(), &mut text.as_slice(), &mut written);
-        assert_eq!(rt; status(&answer), ends);
+        assert_eq!(rt; status_of(rt.alloc(), text.as_slice()), ends);
     }
-    Ok(())
+}
+
+// The status of a check of the text.
+fn status_of(alloc: Global, text: &[u8]) -> u8 {
+    let mut text = text;
+    let mut written = Vec::new(alloc);
+    status(&check(alloc, &mut text, &mut written))
+}
+
+// The monitor of the set, with a wrong read of this element and more.
+fn with_a_read_from(rt: &impl Abort, alloc: Global, least: u32) -> Monitor {
+    let mut monitor = monitor_of(rt, alloc, SET);
+    let Ok(elements) = elements_from(alloc, least) else {
+        panic!(rt; "no memory");
+    };
+    let command = Command::Operate {
+        replica: 0,
+        op: Op::LwwRead(elements),
+        stamp: None,
+    };
+    let no = Reply::No {
+        label: 1,
+        cause: Cause::Query,
+    };
+    assert_eq!(rt; reply_to(rt, &mut monitor, command), no);
+    monitor
 }
 
 // This element, and 131,071 of seven digits.

@@ -1,5 +1,6 @@
-//! What no clause says: that the calls succeed with ample memory, also in lists of many chunks.
-use crate::{ElementList, LOWEST, ROOT};
+//! The list of all elements, also where it has many chunks.
+
+use ra_element_list::{ElementList, LOWEST, ROOT};
 use ra_labels::{NoMemory, Stamp};
 use std::alloc::Global;
 
@@ -37,8 +38,8 @@ fn put(list: &mut Vec<Plain>, new: Plain, anchor: u32) -> Result<(), NoMemory> {
     Ok(())
 }
 
-// A new element, unless its name or its anchor forbids it.
-fn insert(
+/// A new element, unless its name or its anchor forbids it.
+pub fn insert(
     list: &mut ElementList,
     element: u32,
     stamp: Stamp,
