@@ -1,5 +1,5 @@
 -- The place of a new label in the order of execution.
-use Rattle.std.proofs.Common.{◌≡◌, ℕ, true, List, ◌∷◌, [], ◌++◌, Option, Some, refl, sym, ap, ◌∙◌, arith}
+use Rattle.std.proofs.Common.{◌≡◌, ℕ, true, List, ◌∷◌, [], ◌++◌, Option, Some, refl, sym, ap, ◌∙◌}
 use Rattle.std.specs.Prelude.{reverse, drop, length, not}
 use Rattle.std.specs.List.{list_all, slice_get}
 use mathlib.Core.List.{reverse-cons}
@@ -8,18 +8,13 @@ use Rattle.std.proofs.lemmas.List.{length-reverse}
 use Rattle.ra_labels.specs.declared.kind.Kind.{Kind}
 use Rattle.ra_labels.specs.declared.operation.Op.{Op}
 use Rattle.ra_labels.specs.declared.label.Label.{Label}
-use Rattle.ra_labels.specs.declared.command.Command.TheVariants.{Operate, Deliver, Verdict}
+use Rattle.ra_labels.specs.declared.command.Command.TheVariants.{Operate}
 use Rattle.ra_labels.specs.Records.{Records, label_count, labels_of, next_label}
 use Rattle.ra_labels.specs.NamedOrder.{named_labels}
+use Rattle.ra_labels.proofs.Counted.{labels_counted}
 use Rattle.ra_laws.proofs.TheLaws.{named_in_order_of_execution-labels}
 use Rattle.ra_visibility.specs.declared.order.Place.{Place}
 use Rattle.ra_visibility.specs.Order.{IsByExecution, IsPlaceOf, must_stand_before}
-
-labels_counted : (records : Records) → length (labels_of records) ≡ label_count records
-labels_counted [] = refl
-labels_counted (Operate by op clock ∷ before) = omega (arith, labels_counted before)
-labels_counted (Deliver to label ∷ before) = labels_counted before
-labels_counted (Verdict ∷ before) = labels_counted before
 
 get_at_seam : (xs : List Label) (y : Label) → slice_get (xs ++ y ∷ []) (length xs) ≡ Some y
 get_at_seam [] y = refl

@@ -1,20 +1,21 @@
 -- Lists that rise, what is in them, and lists with the same elements.
-use Rattle.std.proofs.Common.{◌≡◌, ℕ, suc, ◌<◌, Bool, true, false, List, [], ◌∷◌, length, get_or, refl, sym, ap, ◌∙◌, subst, arith, Ordering}
+use Rattle.std.proofs.Common.{◌≡◌, ℕ, suc, ◌<◌, Bool, true, false, List, [], ◌∷◌, length, get_or, refl, sym, ap, ◌∙◌, subst, arith}
 use Rattle.std.specs.Prelude.{◌↔◌, ◌==◌, ◌||◌, nat_lt, Contains}
 use Rattle.std.specs.List.{list_all, list_any, AllByRecursion}
 use Rattle.std.specs.List.Sorted.{IsStrictlySortedBy}
-use Rattle.std.specs.Ordering.{MatchOrdering, nat_cmp, is_eq}
-use Rattle.std.specs.declared.cmp.Ordering.TheVariants.{Less, Equal, Greater}
+use Rattle.std.specs.Ordering.{nat_cmp}
+use Rattle.std.specs.declared.cmp.Ordering.TheVariants.{Less}
 use Rattle.std.specs.BTreeMap.{is_at}
 use Rattle.std.specs.BTreeSet.{BTreeSet}
-use Rattle.std.specs.Cmp.{nat_eq_equiv, nat_cmp_is}
-use Rattle.std.proofs.lemmas.Bool.{eqb-true, eq-eqb, ne_eqb, lt-ltb, ltb-true, and_parts, and_from}
+use Rattle.std.specs.Cmp.{nat_eq_equiv}
+use Rattle.std.proofs.lemmas.Bool.{eqb-true, lt-ltb, ltb-true, and_parts, and_from}
 use Rattle.std.proofs.lemmas.Cmp.{ranked, nat_cmp_total}
 use Rattle.std.proofs.lemmas.List.Elements.{All-contains, All-weaker, All-contains_itself}
 use Rattle.std.proofs.lemmas.List.Sums.{AllPass-from_list_all, list_all-from_AllPass}
 use Rattle.std.proofs.lemmas.Map.Views.{list_any-from_Contains, Contains-from_any}
 use Rattle.std.proofs.lemmas.Map.Lookups.{btree_set_from_contains, exact_unsigned}
 use Rattle.ra_labels.specs.Lists.{is_among, have_same, rises}
+use Rattle.ra_labels.proofs.Comparisons.{less_cmp, cmp_less, is_at-eqb}
 use Rattle.ra_labels.proofs.Rising.{rises-index, rises-steps}
 
 -- an element passes a test that all pass, and all pass where each element does
@@ -48,27 +49,6 @@ same-itself xs = (same-exactly xs xs).1 (λ x. ((λ there. there), (λ there. th
 -- a list rises where each element is below those behind it
 pub rises-exactly : (xs : List ℕ) → (rises xs ≡ true) ↔ ((i j : ℕ) → i < j → j < length xs → get_or xs i 0 < get_or xs j 0)
 rises-exactly xs = (rises-index xs, (λ less. rises-steps xs (λ k below. less k (suc k) (omega arith) below)))
-
--- the order of numbers by cases
-tie : (x y : ℕ) → nat_cmp x y ≡ Equal → x ≡ y
-tie x y is = exact_unsigned x y is
-
-less_cmp : (x y : ℕ) → x < y → nat_cmp x y ≡ Less
-less_cmp x y less = sym (nat_cmp_is x y Less less)
-
-cmp_less : (x y : ℕ) (o : Ordering) → MatchOrdering o (x < y) (x ≡ y) (y < x) → o ≡ Less → x < y
-cmp_less x y Less known is = known
-cmp_less x y Equal known is = absurd (cc is)
-cmp_less x y Greater known is = absurd (cc is)
-
-cmp_tests : (x y : ℕ) (o : Ordering) → MatchOrdering o (x < y) (x ≡ y) (y < x) → is_eq o ≡ (x == y)
-cmp_tests x y Less known = sym (ne_eqb x y (λ same. absurd (omega arith)))
-cmp_tests x y Equal known = sym (eq-eqb x y known)
-cmp_tests x y Greater known = sym (ne_eqb x y (λ same. absurd (omega arith)))
-
--- a key is found where it is the number
-pub is_at-eqb : (x y : ℕ) → is_at (nat_cmp x) y ≡ (x == y)
-is_at-eqb x y = cmp_tests x y (nat_cmp x y) (ranked x y _ refl)
 
 any_same : (p q : ℕ → Bool) (xs : List ℕ) → ((x : ℕ) → p x ≡ q x) → list_any p xs ≡ list_any q xs
 any_same p q [] same = refl

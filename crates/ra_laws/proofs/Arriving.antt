@@ -24,9 +24,10 @@ use Rattle.ra_labels.specs.NamedOrder.{stamp_cmp, timestamp_of, rank_of, label_c
 use Rattle.ra_labels.specs.Insertion.{updates_among, Makes}
 use Rattle.ra_labels.specs.Late.{put_after}
 use Rattle.ra_labels.specs.Waiting.{is_there, OnePutsIn}
-use Rattle.ra_laws.proofs.Places.{Contains-cons_cases, at_head, behind_head, split_at, reached}
 use Rattle.ra_labels.proofs.InLists.{list_all-from_contains}
-use Rattle.ra_laws.proofs.Order.{stamp_same, label_cmp-total, IsSorted-named_labels}
+use Rattle.ra_labels.proofs.Members.{head_or_behind, at_head, behind_head, split_at, reached}
+use Rattle.ra_labels.proofs.StampOrder.{stamp_same, is_less}
+use Rattle.ra_laws.proofs.Order.{label_cmp-total, IsSorted-named_labels}
 use Rattle.ra_laws.proofs.Timestamps.{timestamp-own}
 use Rattle.ra_laws.proofs.Unique.{head_least, neither_below, same_label}
 use Rattle.ra_laws.proofs.Ranking.{named_differ, have_one_number}
@@ -39,12 +40,6 @@ use Rattle.ra_laws.proofs.Kept.{there-exactly}
 use Rattle.ra_laws.proofs.Passing.{in-named, in-labels, each, each_passes, among-from}
 use Rattle.ra_laws.proofs.OneMore.{split-led, inserted_fits}
 use Rattle.ra_laws.proofs.Last.{among-does}
-
--- a label is below each that stands behind it
-is_less : (o : Ordering) → is_lt o ≡ true → o ≡ Less
-is_less Less is = refl
-is_less Equal is = absurd (true≢false (sym is))
-is_less Greater is = absurd (true≢false (sym is))
 
 below_behind : (kind : Kind) (records : Records) (first later : List Label) (label other : Label) → named_labels kind records ≡ first ++ label ∷ later → Contains later other → label_cmp kind records label other ≡ Less
 below_behind kind records first later label other is there =
@@ -78,7 +73,7 @@ not_both kind records l m less also =
 stands_where : (kind : Kind) (records : Records) (first later : List Label) (label other : Label) → named_labels kind records ≡ first ++ label ∷ later → Contains (labels_of records) other → Contains first other ⊎ ((label ≡ other) ⊎ Contains later other)
 stands_where kind records first later label other is there = elim (Contains-append_cases first (label ∷ later) other (subst (λ ls. Contains ls other) is (in-named kind records other there))) [
   | inl early ↦ inl early
-  | inr rest ↦ inr (Contains-cons_cases label later other rest)
+  | inr rest ↦ inr (head_or_behind label later other rest)
 ]
 
 pub stands-before : (kind : Kind) (records : Records) (first later : List Label) (label other : Label) → named_labels kind records ≡ first ++ label ∷ later → Contains (labels_of records) other → Contains first other ↔ (label_cmp kind records other label ≡ Less)
@@ -222,7 +217,7 @@ all-without kind records by operation clock query =
     let (before, behind, was, is) = order-inserted kind records by operation clock in
     let none : updates_among each (label ∷ []) ≡ [] = no_update (updates_among each (label ∷ [])) (λ u found.
     let (m, m_there, it, makes) = among-from each (label ∷ []) u found in
-    elim (Contains-cons_cases label [] m m_there) [
+    elim (head_or_behind label [] m m_there) [
       | inl here ↦ true≢false (sym (makes_update operation u (subst (λ (l : Label). Makes l.op u) (sym here) makes)) ∙ query)
       | inr nothing ↦ omega (arith, nothing.1)
     ]) in

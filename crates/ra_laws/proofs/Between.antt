@@ -15,7 +15,7 @@ use Rattle.ra_labels.specs.Linearization.{updates_admitted}
 use Rattle.ra_labels.specs.NamedOrder.{label_cmp, named_labels, named_sequence}
 use Rattle.ra_labels.specs.Laws.{elements_in, NoneTwice, WasPutIn}
 use Rattle.ra_labels.specs.Insertion.{updates_among, Makes}
-use Rattle.ra_laws.proofs.Places.{Contains-cons_cases, at_head, behind_head, split_at}
+use Rattle.ra_labels.proofs.Members.{head_or_behind, at_head, behind_head, split_at}
 use Rattle.ra_laws.proofs.Stepping.{state_from}
 use Rattle.ra_laws.proofs.Having.{among-append, among-one}
 use Rattle.ra_laws.proofs.Rgas.{after-puts, hide-places, list-once}
@@ -48,9 +48,9 @@ ends_on x b y P (z ∷ between) behind it all =
         z ∷ y ∷ between,
         behind,
         cond-true (b == z) (z ∷ y ∷ rest) (z ∷ insert_in b y rest) here,
-        (λ w found. elim (Contains-cons_cases z (y ∷ between) w found) [
+        (λ w found. elim (head_or_behind z (y ∷ between) w found) [
           | inl is ↦ subst P is first
-          | inr later ↦ elim (Contains-cons_cases y between w later) [
+          | inr later ↦ elim (head_or_behind y between w later) [
             | inl new ↦ subst P new it
             | inr old ↦ all w (behind_head z between w old)
           ]
@@ -61,7 +61,7 @@ ends_on x b y P (z ∷ between) behind it all =
             z ∷ more,
             others,
             cond-false (b == z) (z ∷ y ∷ rest) (z ∷ insert_in b y rest) on ∙ ap (λ ws. z ∷ ws) is,
-            (λ w found. elim (Contains-cons_cases z more w found) [
+            (λ w found. elim (head_or_behind z more w found) [
               | inl same ↦ subst P same first
               | inr later ↦ known w later
             ]),
@@ -77,7 +77,7 @@ between_on anchor x b y P [] between behind it all =
         y ∷ between,
         behind,
         cond-true (b == anchor) (anchor ∷ y ∷ rest) (anchor ∷ insert_in b y rest) here,
-        (λ w found. elim (Contains-cons_cases y between w found) [
+        (λ w found. elim (head_or_behind y between w found) [
           | inl new ↦ subst P new it
           | inr old ↦ all w old
         ]),

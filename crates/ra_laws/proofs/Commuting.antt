@@ -16,7 +16,7 @@ use Rattle.ra_labels.specs.Lists.{is_among, pair_cmp, without_pairs}
 use Rattle.ra_labels.specs.Specification.{State, Number, Pairs, start_of, step_of, state_after}
 use Rattle.ra_labels.specs.Commuting.{then_step, clash, NoneClashes}
 use Rattle.ra_labels.proofs.InLists.{list_all-contains}
-use Rattle.ra_laws.proofs.Places.{kept-there, there-kept, behind_head}
+use Rattle.ra_labels.proofs.Members.{kept-there, there-kept, behind_head}
 use Rattle.ra_laws.proofs.Keys.{inserted-sorted, sorted_same}
 use Rattle.ra_laws.proofs.OrSets.{pair_total, pair_same, put, nothing_sorted}
 use Rattle.ra_laws.proofs.Stepping.{state_from, stuck}

@@ -21,18 +21,20 @@ use Rattle.ra_labels.specs.Visibility.{is_update, is_update_at, had}
 use Rattle.ra_labels.specs.Rewriting.{Part, Half, QueryHalf, UpdateHalf, Act, Does, Asks, acts_of, part_of, parts_of, update_of, updates_of}
 use Rattle.ra_labels.specs.NamedOrder.{named_labels}
 use Rattle.ra_labels.specs.Insertion.{updates_among, updates_had_of, updates_had, Makes}
-use Rattle.ra_laws.proofs.Places.{Contains-cons_cases, at_head, behind_head, split_at}
+use Rattle.ra_labels.proofs.Members.{head_or_behind, at_head, behind_head, split_at, piece_of, everyone}
+use Rattle.ra_labels.proofs.Parts.{part_is_of}
+use Rattle.ra_labels.proofs.Counted.{numbers_below_count}
 use Rattle.ra_laws.proofs.Seen.{had_update, is_update_at-below}
 use Rattle.ra_laws.proofs.Standing.{is_update-acts}
-use Rattle.ra_laws.proofs.Order.{IsPermutation-named_labels, numbers_below_count}
+use Rattle.ra_laws.proofs.Order.{IsPermutation-named_labels}
 use Rattle.ra_laws.proofs.Unique.{label_found}
 use Rattle.ra_laws.proofs.Exactly.{updates_of-append}
-use Rattle.ra_laws.proofs.Ranking.{piece_of, part_is_of, named_differ, have_one_number, everyone}
+use Rattle.ra_laws.proofs.Ranking.{named_differ, have_one_number}
 use Rattle.ra_laws.proofs.Insertion.{order-inserted, order_later}
 
 -- an operation that does an update does just this one
 one_act : (label : Label) (half : Half) (act : Act) (which : Half) (u : Update) → Contains {X = Half × Act} ((half, act) ∷ []) (which, Does u) → updates_of (map (part_of label) ((half, act) ∷ [])) ≡ u ∷ []
-one_act label half act which u there = elim (Contains-cons_cases (half, act) [] (which, Does u) there) [
+one_act label half act which u there = elim (head_or_behind (half, act) [] (which, Does u) there) [
   | inl same ↦ ap (λ (a : Half × Act). updates_of (map (part_of label) ((half, a.1) ∷ []))) same
   | inr none ↦ absurd (omega (arith, none.1))
 ]
@@ -51,14 +53,14 @@ makes_one label (op.OrRead list) u (half, there) = one_act label _ _ half u ther
 makes_one label (op.After anchor x) u (half, there) = one_act label _ _ half u there
 makes_one label (op.RgaRemove x) u (half, there) = one_act label _ _ half u there
 makes_one label (op.RgaRead list) u (half, there) = one_act label _ _ half u there
-makes_one label (op.OrRemove x ids) u (half, there) = elim (Contains-cons_cases (QueryHalf, Asks (ReadIds x ids)) ((UpdateHalf, Does (TakeOut x ids)) ∷ []) (half, Does u) there) [
+makes_one label (op.OrRemove x ids) u (half, there) = elim (head_or_behind (QueryHalf, Asks (ReadIds x ids)) ((UpdateHalf, Does (TakeOut x ids)) ∷ []) (half, Does u) there) [
   | inl same ↦ let wrong : Asks (ReadIds x ids) ≡ Does u = ap (λ (a : Half × Act). a.1) same in absurd (cc wrong)
   | inr later ↦ one_act label UpdateHalf (Does (TakeOut x ids)) half u later
 ]
 
 pub any_at : {A : Type 0} (p : A → Bool) (xs : List A) (y : A) → Contains xs y → p y ≡ true → list_any p xs ≡ true
 any_at p [] y there is = absurd (omega (arith, there.1))
-any_at p (x ∷ xs) y there is = elim (Contains-cons_cases x xs y there) [
+any_at p (x ∷ xs) y there is = elim (head_or_behind x xs y there) [
   | inl here ↦ or_left (p x) (list_any p xs) (ap p here ∙ is)
   | inr further ↦ or_right (p x) (list_any p xs) (any_at p xs y further is)
 ]
@@ -111,7 +113,7 @@ among-none passes labels fail =
     ap (λ (m : Label). passes m.number) (part_is_of l p part) ∙ fail l found))
 
 pub among-not : (passes : ℕ → Bool) (label : Label) → passes label.number ≡ false → updates_among passes (label ∷ []) ≡ []
-among-not passes label fails = among-none passes (label ∷ []) (λ l found. elim (Contains-cons_cases label [] l found) [
+among-not passes label fails = among-none passes (label ∷ []) (λ l found. elim (head_or_behind label [] l found) [
   | inl here ↦ ap (λ (m : Label). passes m.number) (sym here) ∙ fails
   | inr none ↦ absurd (omega (arith, none.1))
 ])
@@ -125,7 +127,7 @@ differ_round [] behind x differ = (
 )
 differ_round (z ∷ before) behind x differ =
     let rest = differ_round before behind x differ.1 in (
-      (λ y there. elim (Contains-cons_cases z before y there) [
+      (λ y there. elim (head_or_behind z before y there) [
         | inl here ↦ λ same. true≢false (sym (eq-eqb z.number x.number (ap (λ (l : Label). l.number) here ∙ same)) ∙ everyone (λ l. have_one_number z l ≡ false) (before ++ x ∷ behind) x differ.0 (Contains-append_right before (x ∷ behind) x (at_head x behind x refl)))
         | inr further ↦ rest.0 y further
       ]),

@@ -13,7 +13,7 @@ use Rattle.ra_labels.specs.declared.command.Command.TheVariants.{Operate, Delive
 use Rattle.ra_labels.specs.Records.{Records, labels_of, next_label}
 use Rattle.ra_labels.specs.Answer.{identifier_of, has_identifier, is_identifier_taken, gives_taken, refusal_of, with_accepted, records_after, records_after_all}
 use Rattle.ra_labels.specs.Laws.{Gives, IsOwnIdentifier, IdentifiersAreOneLabels}
-use Rattle.ra_laws.proofs.Places.{Contains-cons_cases}
+use Rattle.ra_labels.proofs.Members.{head_or_behind}
 use Rattle.ra_laws.proofs.Stamps.{any_one, one_any, operated-exactly, kept_by_answers, kept_by_all}
 
 -- what gives an identifier
@@ -67,12 +67,12 @@ once_accepted kind replicas records (Operate by op clock) accepted once l m id l
     let next = next_label records by op clock in
     let new : (label : Label) → next ≡ label → Gives label.op id → Gives op id = λ label here is. (is.0, ap (λ (n : Label). n.op) here ∙ is.1) in
     let never : Gives op id → (other : Label) → Contains (labels_of records) other → Gives other.op id → ⊥ = λ own other there is. false≢true (sym free ∙ (gives-exactly records op).1 (id, own, (other, there, is))) in
-    elim (Contains-cons_cases next (labels_of records) l l_there) [
-      | inl l_here ↦ elim (Contains-cons_cases next (labels_of records) m m_there) [
+    elim (head_or_behind next (labels_of records) l l_there) [
+      | inl l_here ↦ elim (head_or_behind next (labels_of records) m m_there) [
         | inl m_here ↦ sym l_here ∙ m_here
         | inr m_further ↦ absurd (never (new l l_here l_gives) m m_further m_gives)
       ]
-      | inr l_further ↦ elim (Contains-cons_cases next (labels_of records) m m_there) [
+      | inr l_further ↦ elim (head_or_behind next (labels_of records) m m_there) [
         | inl m_here ↦ absurd (never (new m m_here m_gives) l l_further l_gives)
         | inr m_further ↦ once l m id l_further m_further l_gives m_gives
       ]

@@ -1,10 +1,10 @@
 -- One more label in the named order, and what it leaves as it was.
 use Rattle.std.proofs.Common.{◌≡◌, ℕ, ◌<◌, Bool, true, false, List, [], ◌∷◌, ◌++◌, filter, Option, refl, sym, ap, ◌∙◌, subst, inl, inr, arith, Ordering}
-use Rattle.std.specs.Prelude.{◌↔◌, ◌⊎◌, ◌==◌, All, Contains, IsSorted, cond, flat_map, map}
+use Rattle.std.specs.Prelude.{◌↔◌, ◌⊎◌, ◌==◌, Contains, IsSorted, flat_map, map}
 use Rattle.std.specs.Ordering.{is_lt, nat_cmp, ordering_then}
 use Rattle.std.proofs.lemmas.Bool.{true≢false, false_from_ne_true, cond_both, cond-true, cond-false, eq-eqb}
 use Rattle.std.proofs.lemmas.Grind.{flat_map-append}
-use Rattle.std.proofs.lemmas.List.Elements.{All-nil, All-cons, All-head, All-tail, All-weaker, All-contains, All-contains_itself, Contains-append_right, filter-append}
+use Rattle.std.proofs.lemmas.List.Elements.{All-contains, All-contains_itself, Contains-append_right, filter-append}
 use Rattle.std.proofs.lemmas.List.Sorted.{Contains-permutation, IsPermutation-sym}
 use Rattle.ra_labels.specs.declared.kind.Kind.{Kind}
 use Rattle.ra_labels.specs.declared.kind.Kind.TheVariants.{Counter, Register, LwwSet, OrSet, Rga}
@@ -21,42 +21,20 @@ use Rattle.ra_labels.specs.NamedOrder.{timestamp_of, rank_of, stamp_cmp, label_c
 use Rattle.ra_labels.specs.Fault.{Holds}
 use Rattle.ra_labels.specs.Laws.{IsStampBelow, MustStandBefore, StandsBefore, IsAnsweredAfter}
 use Rattle.ra_labels.specs.Insertion.{updates_had, StandsWhereItMust, IsAnsweredItself}
-use Rattle.ra_laws.proofs.Places.{Contains-cons_cases, at_head, behind_head}
+use Rattle.ra_labels.proofs.Members.{head_or_behind, at_head, behind_head, piece_of, in_piece}
+use Rattle.ra_labels.proofs.Sorting.{sort_by_same}
+use Rattle.ra_labels.proofs.Parts.{part_is_of, some_part}
+use Rattle.ra_labels.proofs.Counted.{numbers_below_count}
 use Rattle.ra_laws.proofs.Seen.{sees-append, sees_earlier}
 use Rattle.ra_laws.proofs.Standing.{extends-stands, must_precede-irreflexive, sees_not_itself}
 use Rattle.ra_laws.proofs.Holding.{IsPermutation-named_sequence}
-use Rattle.ra_laws.proofs.Order.{numbers_below_count, label_cmp-total, label_below, IsSorted-named_labels, IsPermutation-named_labels}
+use Rattle.ra_laws.proofs.Order.{label_cmp-total, label_below, IsSorted-named_labels, IsPermutation-named_labels}
 use Rattle.ra_laws.proofs.Unique.{head_least, sorted_behind}
 use Rattle.ra_laws.proofs.Timestamps.{timestamp-append}
 use Rattle.ra_laws.proofs.Exactly.{queries-exactly}
-use Rattle.ra_laws.proofs.Ranking.{ranks-extend, part_must, part_is_of, some_part, piece_of, in_piece, must_stand-earlier}
+use Rattle.ra_laws.proofs.Ranking.{ranks-extend, part_must, must_stand-earlier}
 
 module _ {A : Type 0} where
-  All-insert_by : (P : A → Type 0) (cmp : A → A → Ordering) (x : A) (ys : List A) → P x → All P ys → All P (insert_by cmp x ys)
-  All-insert_by P cmp x [] this all = All-cons P x [] this (All-nil P)
-  All-insert_by P cmp x (y ∷ ys) this all =
-      cond_both (is_lt (cmp x y)) (x ∷ y ∷ ys) (y ∷ insert_by cmp x ys) (All P)
-      (λ _. All-cons P x (y ∷ ys) this all)
-      (λ _. All-cons P y (insert_by cmp x ys) (All-head P y ys all) (All-insert_by P cmp x ys this (All-tail P y ys all)))
-
-  All-sort_by : (P : A → Type 0) (cmp : A → A → Ordering) (xs : List A) → All P xs → All P (sort_by cmp xs)
-  All-sort_by P cmp [] all = All-nil P
-  All-sort_by P cmp (x ∷ xs) all = All-insert_by P cmp x (sort_by cmp xs) (All-head P x xs all) (All-sort_by P cmp xs (All-tail P x xs all))
-
-  insert_by_same : (cmp other : A → A → Ordering) (x : A) (ys : List A) → All (λ y. cmp x y ≡ other x y) ys → insert_by cmp x ys ≡ insert_by other x ys
-  insert_by_same cmp other x [] same = refl
-  insert_by_same cmp other x (y ∷ ys) same =
-      ap (λ o. cond (is_lt o) (x ∷ y ∷ ys) (y ∷ insert_by cmp x ys)) (All-head (λ z. cmp x z ≡ other x z) y ys same)
-      ∙ ap (λ zs. cond (is_lt (other x y)) (x ∷ y ∷ ys) (y ∷ zs)) (insert_by_same cmp other x ys (All-tail (λ z. cmp x z ≡ other x z) y ys same))
-
-  -- comparisons that agree on the elements sort them alike
-  sort_by_same : (P : A → Type 0) (cmp other : A → A → Ordering) → ((x y : A) → P x → P y → cmp x y ≡ other x y) → (xs : List A) → All P xs → sort_by cmp xs ≡ sort_by other xs
-  sort_by_same P cmp other same [] all = refl
-  sort_by_same P cmp other same (x ∷ xs) all =
-      let rest = All-sort_by P other xs (All-tail P x xs all) in
-      ap (insert_by cmp x) (sort_by_same P cmp other same xs (All-tail P x xs all))
-      ∙ insert_by_same cmp other x (sort_by other xs) (All-weaker P (λ y. cmp x y ≡ other x y) (λ y known. same x y (All-head P x xs all) known) (sort_by other xs) rest)
-
   -- an insertion is one between two pieces
   abbrev pub IsPutBetween : A → List A → List A → Type 0
   IsPutBetween x ys zs = (before behind : List A) × (ys ≡ before ++ behind) × (zs ≡ before ++ x ∷ behind)
@@ -174,7 +152,7 @@ module _ (kind : Kind) (records : Records) (by : ℕ) (op : Op) (clock : Option 
 
   -- the labels are the new one and those before
   old_or_new : (l : Label) → Contains (labels_of now) l → (label ≡ l) ⊎ Contains (labels_of records) l
-  old_or_new l there = Contains-cons_cases label (labels_of records) l there
+  old_or_new l there = head_or_behind label (labels_of records) l there
 
   abbrev RanksAllow : Records → Label → Label → Type 0
   RanksAllow rs m n = ¬ IsStampBelow (rank_of kind rs n) (rank_of kind rs m)

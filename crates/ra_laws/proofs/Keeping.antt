@@ -8,7 +8,7 @@ use Rattle.std.proofs.lemmas.List.Elements.{filter-append, Contains-append_right
 use Rattle.ra_labels.specs.Lists.{insert_after, hide}
 use Rattle.ra_labels.specs.Laws.{elements_in, NoneTwice}
 use Rattle.ra_labels.specs.Late.{kept_entries}
-use Rattle.ra_laws.proofs.Places.{Contains-cons_cases, at_head, behind_head, from_where, there-kept, reached}
+use Rattle.ra_labels.proofs.Members.{head_or_behind, at_head, behind_head, from_where, there-kept, reached}
 use Rattle.ra_laws.proofs.Rgas.{insert_here, insert_on}
 
 keeps_it : (keep : ℕ → Bool) (entry : ℕ × Bool) (list : List (ℕ × Bool)) → keep entry.0 ≡ true → kept_entries keep (entry ∷ list) ≡ entry ∷ kept_entries keep list
@@ -86,7 +86,7 @@ once_round : (before behind : List (ℕ × Bool)) (x : ℕ) (is_shown : Bool) �
 once_round [] behind x is_shown once = ((λ there. absurd (omega (arith, there.1))), once.0)
 once_round (entry ∷ before) behind x is_shown once =
     let rest = once_round before behind x is_shown once.1 in (
-      (λ there. elim (Contains-cons_cases entry.0 (elements_in before) x there) [
+      (λ there. elim (head_or_behind entry.0 (elements_in before) x there) [
         | inl here ↦ once.0 (subst (λ els. Contains els entry.0) (sym (map-append (λ (e : ℕ × Bool). e.0) before ((x, is_shown) ∷ behind))) (Contains-append_right (elements_in before) (x ∷ elements_in behind) entry.0 (at_head x (elements_in behind) entry.0 (sym here))))
         | inr further ↦ rest.0 further
       ]),

@@ -12,9 +12,8 @@ use Rattle.ra_labels.specs.Specification.{Listed, step_of, state_after}
 use Rattle.ra_labels.specs.Laws.{kind_of_update, elements_in, WasPutIn}
 use Rattle.ra_labels.specs.Late.{kept_entries}
 use Rattle.ra_labels.specs.Waiting.{puts_in, is_there, needed_by}
-use Rattle.ra_laws.proofs.Places.{Contains-cons_cases, at_head, behind_head, from_where, there-kept, kept-there, reached}
+use Rattle.ra_labels.proofs.Members.{head_or_behind, at_head, behind_head, from_where, there-kept, kept-there, reached, what_passes}
 use Rattle.ra_laws.proofs.Stepping.{state_from}
-use Rattle.ra_laws.proofs.Ranking.{list_any_at}
 use Rattle.ra_laws.proofs.Having.{any_at}
 use Rattle.ra_laws.proofs.Rgas.{in-exactly, after_is, removed_is, insert_here, insert_on, hide-places, comes_in, list-exactly}
 use Rattle.ra_laws.proofs.Keeping.{kept-inserted, kept-dropped, kept-hidden}
@@ -33,7 +32,7 @@ put_by x (TakeOut y ids) us found puts = absurd (false≢true puts)
 put_by x (RgaRemove y) us found puts = absurd (false≢true puts)
 
 pub any-put : (x : ℕ) (us : List Update) → list_any (puts_in x) us ≡ true → WasPutIn x us
-any-put x us some = let (u, found, puts) = list_any_at (puts_in x) us some in put_by x u us found puts
+any-put x us some = let (u, found, puts) = what_passes (puts_in x) us some in put_by x u us found puts
 
 pub put-any : (x anchor : ℕ) (us : List Update) → Contains us (After anchor x) → list_any (puts_in x) us ≡ true
 put-any x anchor us found = any_at (puts_in x) us (After anchor x) found (eq-eqb x x refl)
@@ -103,7 +102,7 @@ pub needed-in : (ls qs : List (ℕ × Bool)) (us : List Update) (u : Update) →
 needed-in ls qs [] u is there = absurd (omega (arith, there.1))
 needed-in ls qs (v ∷ us) u is there =
     let (next, step, rest) = one_step ls v us qs is in
-    elim (Contains-cons_cases v us u there) [
+    elim (head_or_behind v us u there) [
       | inl here ↦
           subst (λ w. Contains (elements_in qs) (needed_by w)) here
           (stays_in (needed_by v) next us qs rest (stays_in (needed_by v) ls (v ∷ []) next step (needed-now ls next v step)))
@@ -157,7 +156,7 @@ marked_as kept u = (kept, u)
 
 kept_among : (marked : List (Bool × Update)) (u : Update) → Contains (kept_marked marked) u → Contains (all_marked marked) u
 kept_among [] u there = there
-kept_among ((true, v) ∷ marked) u there = elim (Contains-cons_cases v (kept_marked marked) u there) [
+kept_among ((true, v) ∷ marked) u there = elim (head_or_behind v (kept_marked marked) u there) [
   | inl here ↦ at_head v (all_marked marked) u here
   | inr further ↦ behind_head v (all_marked marked) u (kept_among marked u further)
 ]
@@ -165,7 +164,7 @@ kept_among ((false, v) ∷ marked) u there = behind_head v (all_marked marked) u
 
 mark_among : (marked : List (Bool × Update)) (kept : Bool) (u : Update) → Contains marked (kept, u) → Contains (all_marked marked) u
 mark_among [] kept u there = absurd (omega (arith, there.1))
-mark_among ((b, v) ∷ marked) kept u there = elim (Contains-cons_cases (b, v) marked (kept, u) there) [
+mark_among ((b, v) ∷ marked) kept u there = elim (head_or_behind (b, v) marked (kept, u) there) [
   | inl here ↦ at_head v (all_marked marked) u (ap (λ (m : Bool × Update). m.1) here)
   | inr further ↦ behind_head v (all_marked marked) u (mark_among marked kept u further)
 ]
@@ -186,7 +185,7 @@ marked-there ((b, u) ∷ marked) als bs all kept anchor x there =
     let others = list_any (puts_in x) (kept_marked marked) in
     let out : (a : ℕ) → Contains (all_marked marked) (After a x) → ¬ Contains (elements_in next) x = λ a found. (comes_in next (all_marked marked) bs a x rest found).1 in
     let put : (a : ℕ) → u ≡ After a x → Contains (elements_in next) x = λ a is. (comes_in als (u ∷ []) next a x step (at_head u [] (After a x) is)).0 in
-    elim (Contains-cons_cases (b, u) marked (kept, After anchor x) there) [
+    elim (head_or_behind (b, u) marked (kept, After anchor x) there) [
       | inl here ↦
           let is : u ≡ After anchor x = ap (λ (m : Bool × Update). m.1) here in
           let puts : puts_in x u ≡ true = ap (puts_in x) is ∙ eq-eqb x x refl in
@@ -197,7 +196,7 @@ marked-there ((b, u) ∷ marked) als bs all kept anchor x there =
       | inr further ↦
           let none : puts_in x u ≡ false = false_from_ne_true (puts_in x u) (λ puts.
           let (a, found) = put_by x u (u ∷ []) (at_head u [] u refl) puts in
-          elim (Contains-cons_cases u [] (After a x) found) [
+          elim (head_or_behind u [] (After a x) found) [
             | inl is ↦ out anchor (mark_among marked kept (After anchor x) further) (put a is)
             | inr nothing ↦ omega (arith, nothing.1)
           ]) in
@@ -261,11 +260,11 @@ marked-is_there marked bs all kept anchor x there =
 
 pub mark-kept : (marked : List (Bool × Update)) (u : Update) → Contains marked (true, u) → Contains (kept_marked marked) u
 mark-kept [] u there = absurd (omega (arith, there.1))
-mark-kept ((true, v) ∷ marked) u there = elim (Contains-cons_cases (true, v) marked (true, u) there) [
+mark-kept ((true, v) ∷ marked) u there = elim (head_or_behind (true, v) marked (true, u) there) [
   | inl here ↦ at_head v (kept_marked marked) u (ap (λ (m : Bool × Update). m.1) here)
   | inr further ↦ behind_head v (kept_marked marked) u (mark-kept marked u further)
 ]
-mark-kept ((false, v) ∷ marked) u there = elim (Contains-cons_cases (false, v) marked (true, u) there) [
+mark-kept ((false, v) ∷ marked) u there = elim (head_or_behind (false, v) marked (true, u) there) [
   | inl here ↦ absurd (false≢true (ap (λ (m : Bool × Update). m.0) here))
   | inr further ↦ mark-kept marked u further
 ]

@@ -11,8 +11,8 @@ use Rattle.std.specs.Cmp.{IsTotalOrder}
 use Rattle.std.proofs.lemmas.List.Elements.{All-contains, All-contains_itself, All-weaker, All-cons, All-from_recursion, recursion_from_All}
 use Rattle.std.proofs.lemmas.Map.Views.{All-insert_key, btree_set_contains_iff}
 use Rattle.std.proofs.lemmas.Map.Lookups.{CmpEqualImpliesEq, btree_set_from_contains}
-use Rattle.ra_laws.proofs.Places.{Contains-cons_cases, at_head, behind_head}
 use Rattle.ra_labels.proofs.InLists.{bool_same}
+use Rattle.ra_labels.proofs.Members.{head_or_behind, at_head, behind_head}
 
 module _ {K : Type 0} (cmp : K → K → Ordering) where
   -- what is there after it
@@ -36,7 +36,7 @@ module _ {K : Type 0} (cmp : K → K → Ordering) where
         by Equal is rest (inl same) = at_head x xs q (sym (exact k x is) ∙ sym same)
         by Equal is rest (inr there) = there
         by Greater is rest (inl same) = behind_head x (insert_key cmp xs k) q (rest (inl same))
-        by Greater is rest (inr there) = elim (Contains-cons_cases x xs q there) [
+        by Greater is rest (inr there) = elim (head_or_behind x xs q there) [
           | inl here ↦ at_head x (insert_key cmp xs k) q here
           | inr further ↦ behind_head x (insert_key cmp xs k) q (rest (inr further))
         ]

@@ -20,7 +20,7 @@ use Rattle.ra_labels.specs.NamedOrder.{named_labels}
 use Rattle.ra_labels.specs.Laws.{acts_on}
 use Rattle.ra_labels.specs.Insertion.{updates_among, updates_passing, or_label, updates_had, Makes}
 use Rattle.ra_labels.specs.Commuting.{then_step, last_of, written_by, last_written, last_on}
-use Rattle.ra_laws.proofs.Places.{Contains-cons_cases, at_head, behind_head, kept-there}
+use Rattle.ra_labels.proofs.Members.{head_or_behind, at_head, behind_head, kept-there}
 use Rattle.ra_laws.proofs.Order.{named_labels-by_number}
 use Rattle.ra_laws.proofs.Counting.{state_after-push}
 use Rattle.ra_laws.proofs.Commuting.{counter-late}
@@ -102,7 +102,7 @@ in_option (Some z) xs x there = behind_head z xs x there
 
 written_in : (us : List Update) (value : ℕ) → Contains us (Write value) → Contains (filter_map written_by us) value
 written_in [] value there = absurd (omega (arith, there.1))
-written_in (u ∷ us) value there = elim (Contains-cons_cases u us (Write value) there) [
+written_in (u ∷ us) value there = elim (head_or_behind u us (Write value) there) [
   | inl here ↦
       subst (λ v. Contains (cons_option (written_by v) (filter_map written_by us)) value) (sym here)
       (at_head value (filter_map written_by us) value refl)
@@ -114,7 +114,7 @@ pub among-does : (passes : ℕ → Bool) (labels : List Label) (label : Label) (
 among-does passes [] label u there makes it = absurd (omega (arith, there.1))
 among-does passes (l ∷ labels) label u there makes it =
     let split = among-append passes (l ∷ []) labels in
-    subst (λ us. Contains us u) (sym split) (elim (Contains-cons_cases l labels label there) [
+    subst (λ us. Contains us u) (sym split) (elim (head_or_behind l labels label there) [
       | inl here ↦
           let own = among-one passes l u (subst (λ (m : Label). Makes m.op u) (sym here) makes) (ap (λ (m : Label). passes m.number) here ∙ it) in
           subst (λ us. Contains (us ++ updates_among passes labels) u) (sym own) (at_head u (updates_among passes labels) u refl)

@@ -13,7 +13,7 @@ use Rattle.ra_labels.specs.Specification.{State, Listed, step_of, state_after}
 use Rattle.ra_labels.specs.Laws.{elements_in, NoneTwice}
 use Rattle.ra_labels.specs.Commuting.{then_step}
 use Rattle.ra_labels.specs.Late.{put_past, put_after}
-use Rattle.ra_laws.proofs.Places.{Contains-cons_cases, at_head, behind_head}
+use Rattle.ra_labels.proofs.Members.{head_or_behind, at_head, behind_head}
 use Rattle.ra_laws.proofs.OfKind.{StepKnown, step-known}
 use Rattle.ra_laws.proofs.Stepping.{state_from, stuck}
 use Rattle.ra_laws.proofs.Rgas.{in-exactly, not_in, not_root, after_is, removed_is, insert_here, insert_on, hide-places, kept, there-step, is_listed, comes_in}
@@ -161,29 +161,29 @@ hidden-hidden x y (entry ∷ list) =
 
 -- what a late insertion leaves there
 past-only : (below : ℕ → ℕ → Bool) (x z : ℕ) (list : List (ℕ × Bool)) → Contains (elements_in (put_past below x list)) z → (x ≡ z) ⊎ Contains (elements_in list) z
-past-only below x z [] there = Contains-cons_cases x [] z there
+past-only below x z [] there = head_or_behind x [] z there
 past-only below x z (entry ∷ list) there = elim (cases_Bool (below x entry.0)) [
-  | inl passes ↦ elim (Contains-cons_cases entry.0 (elements_in (put_past below x list)) z (subst (λ es. Contains (elements_in es) z) (past_on below x entry list passes) there)) [
+  | inl passes ↦ elim (head_or_behind entry.0 (elements_in (put_past below x list)) z (subst (λ es. Contains (elements_in es) z) (past_on below x entry list passes) there)) [
     | inl first ↦ inr (at_head entry.0 (elements_in list) z first)
     | inr later ↦ elim (past-only below x z list later) [
       | inl new ↦ inl new
       | inr old ↦ inr (behind_head entry.0 (elements_in list) z old)
     ]
   ]
-  | inr stops ↦ Contains-cons_cases x (entry.0 ∷ elements_in list) z (subst (λ es. Contains (elements_in es) z) (past_here below x entry list stops) there)
+  | inr stops ↦ head_or_behind x (entry.0 ∷ elements_in list) z (subst (λ es. Contains (elements_in es) z) (past_here below x entry list stops) there)
 ]
 
 put-only : (below : ℕ → ℕ → Bool) (anchor x z : ℕ) (list : List (ℕ × Bool)) → Contains (elements_in (put_after below anchor x list)) z → (x ≡ z) ⊎ Contains (elements_in list) z
 put-only below anchor x z [] there = inr there
 put-only below anchor x z (entry ∷ list) there = elim (cases_Bool (anchor == entry.0)) [
-  | inl at ↦ elim (Contains-cons_cases entry.0 (elements_in (put_past below x list)) z (subst (λ es. Contains (elements_in es) z) (put_here below anchor x entry list at) there)) [
+  | inl at ↦ elim (head_or_behind entry.0 (elements_in (put_past below x list)) z (subst (λ es. Contains (elements_in es) z) (put_here below anchor x entry list at) there)) [
     | inl first ↦ inr (at_head entry.0 (elements_in list) z first)
     | inr later ↦ elim (past-only below x z list later) [
       | inl new ↦ inl new
       | inr old ↦ inr (behind_head entry.0 (elements_in list) z old)
     ]
   ]
-  | inr further ↦ elim (Contains-cons_cases entry.0 (elements_in (put_after below anchor x list)) z (subst (λ es. Contains (elements_in es) z) (put_on below anchor x entry list further) there)) [
+  | inr further ↦ elim (head_or_behind entry.0 (elements_in (put_after below anchor x list)) z (subst (λ es. Contains (elements_in es) z) (put_on below anchor x entry list further) there)) [
     | inl first ↦ inr (at_head entry.0 (elements_in list) z first)
     | inr later ↦ elim (put-only below anchor x z list later) [
       | inl new ↦ inl new
@@ -195,7 +195,7 @@ put-only below anchor x z (entry ∷ list) there = elim (cases_Bool (anchor == e
 past-keeps : (below : ℕ → ℕ → Bool) (x z : ℕ) (list : List (ℕ × Bool)) → Contains (elements_in list) z → Contains (elements_in (put_past below x list)) z
 past-keeps below x z [] there = absurd (omega (arith, there.1))
 past-keeps below x z (entry ∷ list) there = elim (cases_Bool (below x entry.0)) [
-  | inl passes ↦ subst (λ es. Contains (elements_in es) z) (sym (past_on below x entry list passes)) (elim (Contains-cons_cases entry.0 (elements_in list) z there) [
+  | inl passes ↦ subst (λ es. Contains (elements_in es) z) (sym (past_on below x entry list passes)) (elim (head_or_behind entry.0 (elements_in list) z there) [
     | inl first ↦ at_head entry.0 (elements_in (put_past below x list)) z first
     | inr later ↦ behind_head entry.0 (elements_in (put_past below x list)) z (past-keeps below x z list later)
   ])
@@ -205,11 +205,11 @@ past-keeps below x z (entry ∷ list) there = elim (cases_Bool (below x entry.0)
 put-keeps : (below : ℕ → ℕ → Bool) (anchor x z : ℕ) (list : List (ℕ × Bool)) → Contains (elements_in list) z → Contains (elements_in (put_after below anchor x list)) z
 put-keeps below anchor x z [] there = there
 put-keeps below anchor x z (entry ∷ list) there = elim (cases_Bool (anchor == entry.0)) [
-  | inl at ↦ subst (λ es. Contains (elements_in es) z) (sym (put_here below anchor x entry list at)) (elim (Contains-cons_cases entry.0 (elements_in list) z there) [
+  | inl at ↦ subst (λ es. Contains (elements_in es) z) (sym (put_here below anchor x entry list at)) (elim (head_or_behind entry.0 (elements_in list) z there) [
     | inl first ↦ at_head entry.0 (elements_in (put_past below x list)) z first
     | inr later ↦ behind_head entry.0 (elements_in (put_past below x list)) z (past-keeps below x z list later)
   ])
-  | inr further ↦ subst (λ es. Contains (elements_in es) z) (sym (put_on below anchor x entry list further)) (elim (Contains-cons_cases entry.0 (elements_in list) z there) [
+  | inr further ↦ subst (λ es. Contains (elements_in es) z) (sym (put_on below anchor x entry list further)) (elim (head_or_behind entry.0 (elements_in list) z there) [
     | inl first ↦ at_head entry.0 (elements_in (put_after below anchor x list)) z first
     | inr later ↦ behind_head entry.0 (elements_in (put_after below anchor x list)) z (put-keeps below anchor x z list later)
   ])
@@ -313,7 +313,7 @@ pub late-one : (below : ℕ → ℕ → Bool) (anchor x : ℕ) (list : List (ℕ
 late-one below anchor x [] once there = absurd (omega (arith, there.1))
 late-one below anchor x (entry ∷ list) once there = elim (cases_Bool (anchor == entry.0)) [
   | inl at ↦ subst (IsOneStep x (entry ∷ list)) (sym (put_here below anchor x entry list at)) (past_one below x entry list once)
-  | inr further ↦ elim (Contains-cons_cases entry.0 (elements_in list) anchor there) [
+  | inr further ↦ elim (head_or_behind entry.0 (elements_in list) anchor there) [
     | inl first ↦ absurd (false≢true (sym further ∙ eq-eqb anchor entry.0 (sym first)))
     | inr later ↦ subst (IsOneStep x (entry ∷ list)) (sym (put_on below anchor x entry list further)) (behind_first x entry list (put_after below anchor x list) once (late-one below anchor x list once.1 later))
   ]

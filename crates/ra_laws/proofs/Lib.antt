@@ -6,7 +6,6 @@ pub mod Holding
 pub mod Standing
 pub mod Order
 pub mod Answering
-pub mod Places
 pub mod Unique
 pub mod OfKind
 pub mod Stepping

@@ -1,4 +1,4 @@
--- The kinds of states, updates and queries.
+-- The same_kind of states, updates and queries.
 use Rattle.std.proofs.Common.{◌≡◌, Bool, true, false, Option, Some, None, refl, sym, subst, inl, inr}
 use Rattle.std.specs.Prelude.{◌⊎◌, not, ◌==◌, ◌&&◌, if◌then◌else◌}
 use Rattle.std.specs.List.{list_all}
@@ -17,41 +17,7 @@ use Rattle.ra_labels.specs.Specification.{State, Number, Written, Members, Pairs
 use Rattle.ra_labels.specs.Rewriting.{acts_of}
 use Rattle.ra_labels.specs.Answer.{kind_of, is_kind}
 use Rattle.ra_labels.specs.Laws.{kind_of_state, kind_of_update, kind_of_query, kind_of_act}
-
--- the test of kinds
-pub kinds : (k l : Kind) → is_kind k l ≡ true → l ≡ k
-kinds Counter Counter is = refl
-kinds Counter Register is = absurd (false≢true is)
-kinds Counter LwwSet is = absurd (false≢true is)
-kinds Counter OrSet is = absurd (false≢true is)
-kinds Counter Rga is = absurd (false≢true is)
-kinds Register Counter is = absurd (false≢true is)
-kinds Register Register is = refl
-kinds Register LwwSet is = absurd (false≢true is)
-kinds Register OrSet is = absurd (false≢true is)
-kinds Register Rga is = absurd (false≢true is)
-kinds LwwSet Counter is = absurd (false≢true is)
-kinds LwwSet Register is = absurd (false≢true is)
-kinds LwwSet LwwSet is = refl
-kinds LwwSet OrSet is = absurd (false≢true is)
-kinds LwwSet Rga is = absurd (false≢true is)
-kinds OrSet Counter is = absurd (false≢true is)
-kinds OrSet Register is = absurd (false≢true is)
-kinds OrSet LwwSet is = absurd (false≢true is)
-kinds OrSet OrSet is = refl
-kinds OrSet Rga is = absurd (false≢true is)
-kinds Rga Counter is = absurd (false≢true is)
-kinds Rga Register is = absurd (false≢true is)
-kinds Rga LwwSet is = absurd (false≢true is)
-kinds Rga OrSet is = absurd (false≢true is)
-kinds Rga Rga is = refl
-
-pub same_kinds : (k : Kind) → is_kind k k ≡ true
-same_kinds Counter = refl
-same_kinds Register = refl
-same_kinds LwwSet = refl
-same_kinds OrSet = refl
-same_kinds Rga = refl
+use Rattle.ra_labels.proofs.SameKind.{same_kind}
 
 pub start_kind : (kind : Kind) → kind_of_state (start_of kind) ≡ kind
 start_kind Counter = refl
@@ -65,7 +31,7 @@ pub if_some : {A : Type 0} (b : Bool) (x y : A) → (if b then Some x else None)
 if_some true x y is = (refl, same_Some x y is)
 if_some false x y is = absurd (none-some y is)
 
--- what a step says of the kinds: where there is one, the update and the next state are of the state's kind; where there
+-- what a step says of the same_kind: where there is one, the update and the next state are of the state's kind; where there
 -- is none, the update is not, or the state is that of an RGA
 abbrev pub StepKnown : State → Update → Option State → Type 0
 StepKnown state update None = (is_kind (kind_of_state state) (kind_of_update update) ≡ false) ⊎ (kind_of_state state ≡ Rga)

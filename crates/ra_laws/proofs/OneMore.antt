@@ -24,13 +24,12 @@ use Rattle.ra_labels.specs.Insertion.{updates_among, updates_passing, or_label, 
 use Rattle.ra_labels.specs.Commuting.{then_step}
 use Rattle.ra_labels.specs.Late.{put_after, kept_entries}
 use Rattle.ra_labels.specs.Waiting.{puts_in, is_there, needed_by, NoneWaits}
-use Rattle.ra_laws.proofs.Places.{Contains-cons_cases, at_head, behind_head, reached}
 use Rattle.ra_labels.proofs.InLists.{list_all-from_contains}
+use Rattle.ra_labels.proofs.Members.{head_or_behind, at_head, behind_head, reached, what_passes}
 use Rattle.ra_laws.proofs.Standing.{is_update-acts}
 use Rattle.ra_laws.proofs.Unique.{label_found}
 use Rattle.ra_laws.proofs.Stepping.{state_from, stuck, state-of_kind}
 use Rattle.ra_laws.proofs.Having.{filter_same, makes_one, makes_update}
-use Rattle.ra_laws.proofs.Ranking.{list_any_at}
 use Rattle.ra_laws.proofs.Exactly.{acts}
 use Rattle.ra_laws.proofs.Rgas.{in-exactly, after_is, removed_is, is_listed, list-once, came_in, comes_in}
 use Rattle.ra_laws.proofs.Keeping.{kept-nearest}
@@ -80,7 +79,7 @@ made-once operation u v makes also = makes_same (record { number = 0; replica = 
 pub made-exactly : (operation : Op) → (is_update operation ≡ true) ↔ ((u : Update) × Makes operation u)
 made-exactly operation = (
   (λ is.
-      let (act, found, does) = list_any_at (λ (a : Half × Act). is_some (update_of a.1)) (acts_of operation) (sym (is_update-acts operation) ∙ is) in
+      let (act, found, does) = what_passes (λ (a : Half × Act). is_some (update_of a.1)) (acts_of operation) (sym (is_update-acts operation) ∙ is) in
       let (u, same) = (acts act.1).0 does in
       (u, (act.0, subst (λ a. Contains (acts_of operation) (act.0, a)) same found))),
   (λ (u, makes). makes_update operation u makes),
@@ -193,7 +192,7 @@ one_place q p x [] q_in p_in out same = absurd (omega (arith, q_in.1))
 one_place q p x (y ∷ ys) q_in p_in out same =
     let here : (r : ℕ) → (r == y) ≡ true → insert_in r x (y ∷ ys) ≡ y ∷ x ∷ ys = λ r is. cond-true (r == y) (y ∷ x ∷ ys) (y ∷ insert_in r x ys) is in
     let on : (r : ℕ) → (r == y) ≡ false → insert_in r x (y ∷ ys) ≡ y ∷ insert_in r x ys = λ r is. cond-false (r == y) (y ∷ x ∷ ys) (y ∷ insert_in r x ys) is in
-    let behind : (r : ℕ) → (r == y) ≡ false → Contains (y ∷ ys) r → Contains ys r = λ r is there. elim (Contains-cons_cases y ys r there) [
+    let behind : (r : ℕ) → (r == y) ≡ false → Contains (y ∷ ys) r → Contains ys r = λ r is there. elim (head_or_behind y ys r there) [
       | inl first ↦ absurd (false≢true (sym is ∙ eq-eqb r y (sym first)))
       | inr later ↦ later
     ] in

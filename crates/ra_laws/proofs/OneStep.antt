@@ -29,15 +29,16 @@ use Rattle.ra_labels.specs.Fault.{Holds}
 use Rattle.ra_labels.specs.Laws.{kind_of_state, acts_on, WasAddedAndStays, IdentifiersAreOneLabels}
 use Rattle.ra_labels.specs.Insertion.{updates_had_of, updates_had, Makes}
 use Rattle.ra_labels.specs.Commuting.{then_step, clash, AddsWhatIsTakenOut, NoneClashes, last_written, last_on}
-use Rattle.ra_laws.proofs.Places.{Contains-cons_cases, at_head, behind_head, there-kept, from_where, reached}
 use Rattle.ra_laws.proofs.Seen.{had_closed, sees_earlier}
 use Rattle.ra_labels.proofs.InLists.{list_all-from_contains, among-exactly}
+use Rattle.ra_labels.proofs.Members.{head_or_behind, at_head, behind_head, there-kept, from_where, reached, piece_of, in_piece}
+use Rattle.ra_labels.proofs.Parts.{part_is_of}
 use Rattle.ra_laws.proofs.Order.{label_cmp-total, label_below, IsSorted-named_labels, IsPermutation-named_labels}
 use Rattle.ra_laws.proofs.Unique.{head_least, sorted_behind}
 use Rattle.ra_laws.proofs.Exactly.{queries-exactly}
 use Rattle.ra_laws.proofs.Stepping.{state-of_kind}
 use Rattle.ra_laws.proofs.OrSets.{pairs-exactly, answers-ids}
-use Rattle.ra_laws.proofs.Ranking.{piece_of, in_piece, part_is_of, named_differ, have_one_number}
+use Rattle.ra_laws.proofs.Ranking.{named_differ, have_one_number}
 use Rattle.ra_laws.proofs.Commuting.{counter-late, or_set-late}
 use Rattle.ra_laws.proofs.Overriding.{writes-late, last_written-behind, set-late, last_on-behind}
 use Rattle.ra_laws.proofs.Having.{differ_round, delivery-own}
@@ -45,7 +46,7 @@ use Rattle.ra_laws.proofs.Having.{differ_round, delivery-own}
 -- an update is one of a part
 taken : (o : Option Update) (rest : List Update) (u : Update) → Contains (cons_option o rest) u → (o ≡ Some u) ⊎ Contains rest u
 taken None rest u there = inr there
-taken (Some v) rest u there = elim (Contains-cons_cases v rest u there) [
+taken (Some v) rest u there = elim (head_or_behind v rest u there) [
   | inl here ↦ inl (ap Some here)
   | inr further ↦ inr further
 ]
@@ -81,7 +82,7 @@ op_of (RgaRemove x) = op.RgaRemove x
 op_of (TakeOut x ids) = op.OrRemove x ids
 
 its_act : (half : Half) (act : Act) (which : Half) (u : Update) → Contains {X = Half × Act} ((half, act) ∷ []) (which, Does u) → act ≡ Does u
-its_act half act which u there = elim (Contains-cons_cases (half, act) [] (which, Does u) there) [
+its_act half act which u there = elim (head_or_behind (half, act) [] (which, Does u) there) [
   | inl same ↦ ap (λ (a : Half × Act). a.1) same
   | inr none ↦ absurd (omega (arith, none.1))
 ]
@@ -106,7 +107,7 @@ made_by (op.Last value) u (half, there) = absurd (no_update _ _ half u there)
 made_by (op.LwwRead list) u (half, there) = absurd (no_update _ _ half u there)
 made_by (op.OrRead list) u (half, there) = absurd (no_update _ _ half u there)
 made_by (op.RgaRead list) u (half, there) = absurd (no_update _ _ half u there)
-made_by (op.OrRemove x ids) u (half, there) = elim (Contains-cons_cases (QueryHalf, Asks (ReadIds x ids)) ((UpdateHalf, Does (TakeOut x ids)) ∷ []) (half, Does u) there) [
+made_by (op.OrRemove x ids) u (half, there) = elim (head_or_behind (QueryHalf, Asks (ReadIds x ids)) ((UpdateHalf, Does (TakeOut x ids)) ∷ []) (half, Does u) there) [
   | inl same ↦ absurd (none-some u (ap (λ (a : Half × Act). update_of a.1) same))
   | inr later ↦ ap op_of (its_update UpdateHalf (TakeOut x ids) half u later)
 ]

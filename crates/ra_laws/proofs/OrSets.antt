@@ -19,9 +19,9 @@ use Rattle.ra_labels.specs.declared.operation.Query.TheVariants.{ReadIds, OrRead
 use Rattle.ra_labels.specs.Lists.{is_among, pair_cmp, identifiers_of, elements_of, without_pairs}
 use Rattle.ra_labels.specs.Specification.{State, Number, Written, Members, Pairs, Listed, step_of, answers, state_after}
 use Rattle.ra_labels.specs.Laws.{takes_out, NoneTakesOut, WasAddedAndStays}
-use Rattle.ra_laws.proofs.Places.{kept-there, there-kept, reached, from_where}
 use Rattle.ra_labels.proofs.InLists.{among-exactly, same-exactly}
-use Rattle.ra_laws.proofs.Order.{ranked_less, ranked_same}
+use Rattle.ra_labels.proofs.Members.{kept-there, there-kept, reached, from_where}
+use Rattle.ra_labels.proofs.StampOrder.{ranked_less, ranked_same}
 use Rattle.ra_laws.proofs.Keys.{inserted-exactly, inserted-sorted}
 use Rattle.ra_laws.proofs.Stepping.{state_from, stuck}
 

@@ -1,13 +1,13 @@
 -- The named order of the labels.
 use Rattle.std.proofs.Common.{◌≡◌, ℕ, ◌+◌, ◌<◌, ◌≤◌, false, [], ◌∷◌, refl, sym, ap, ◌∙◌, inl, inr, arith, Ordering, reverse}
 use mathlib.Core.List.{reverse-cons}
-use Rattle.std.specs.Prelude.{◌↔◌, ◌⊎◌, IsPermutation, IsSorted, All}
+use Rattle.std.specs.Prelude.{◌↔◌, ◌⊎◌, IsPermutation, IsSorted}
 use Rattle.std.specs.Ordering.{MatchOrdering, nat_cmp, is_lt, ordering_then}
 use Rattle.std.specs.declared.cmp.Ordering.TheVariants.{Less, Equal, Greater}
 use Rattle.std.specs.Cmp.{IsTotalOrder}
 use Rattle.std.proofs.lemmas.Cmp.{ranked, on_total, then_total, nat_cmp_total}
 use Rattle.std.proofs.lemmas.Bool.{le-ltb, ne_eqb}
-use Rattle.std.proofs.lemmas.List.Elements.{All-nil, All-cons, All-weaker}
+use Rattle.std.proofs.lemmas.List.Elements.{All-weaker}
 use Rattle.std.proofs.lemmas.List.Sorted.{All-permutation, IsPermutation-reverse}
 use Rattle.ra_labels.specs.declared.kind.Kind.{Kind}
 use Rattle.ra_labels.specs.declared.label.Stamp.{Stamp}
@@ -16,10 +16,9 @@ use Rattle.ra_labels.specs.declared.command.Command.TheVariants.{Operate}
 use Rattle.ra_labels.specs.Records.{Records, label_count, labels_of, next_label}
 use Rattle.ra_labels.specs.NamedOrder.{lowest_rank, rank_of, stamp_cmp, label_cmp, sort_by, insert_by, named_labels}
 use Rattle.ra_labels.specs.Laws.{IsStampBelow}
+use Rattle.ra_labels.proofs.StampOrder.{stamp_cmp-total, stamp_below, stamp_same}
+use Rattle.ra_labels.proofs.Counted.{numbers_below_count}
 use Rattle.ra_laws.proofs.Sorting.{IsSorted-sort_by, IsPermutation-sort_by, insert_by-last}
-
-pub stamp_cmp-total : IsTotalOrder stamp_cmp
-stamp_cmp-total = then_total (on_total (λ (s : Stamp). s.clock) nat_cmp_total) (on_total (λ (s : Stamp). s.replica) nat_cmp_total)
 
 -- the named order is a total order
 pub label_cmp-total : (kind : Kind) (records : Records) → IsTotalOrder (label_cmp kind records)
@@ -32,15 +31,6 @@ IsSorted-named_labels kind records = IsSorted-sort_by (label_cmp kind records) (
 -- and they are the labels
 pub IsPermutation-named_labels : (kind : Kind) (records : Records) → IsPermutation (labels_of records) (named_labels kind records)
 IsPermutation-named_labels kind records = IsPermutation-sort_by (label_cmp kind records) (labels_of records)
-
--- each label's number is below their count
-pub numbers_below_count : (records : Records) → All (λ label. label.number < label_count records) (labels_of records)
-numbers_below_count [] = All-nil (λ label. label.number < 0)
-numbers_below_count (Operate by op clock ∷ before) =
-    All-cons (λ label. label.number < label_count before + 1) (next_label before by op clock) (labels_of before)
-    (omega arith)
-    (All-weaker (λ label. label.number < label_count before) (λ label. label.number < label_count before + 1) (λ label below. omega arith) (labels_of before) (numbers_below_count before))
-numbers_below_count (_ ∷ before) = numbers_below_count before
 
 -- a label is not below those of the same rank that are numbered before it
 same_rank_above : (s t : Stamp) (m n : ℕ) → s ≡ lowest_rank → t ≡ lowest_rank → m < n → is_lt (ordering_then (stamp_cmp s t) (nat_cmp n m)) ≡ false
@@ -61,38 +51,6 @@ sort_by_number cmp (_ ∷ before) above = sort_by_number cmp before above
 pub named_labels-by_number : (kind : Kind) (records : Records) → ((label : Label) → rank_of kind records label ≡ lowest_rank) → named_labels kind records ≡ reverse (labels_of records)
 named_labels-by_number kind records lowest =
     sort_by_number (label_cmp kind records) records (λ l m below. same_rank_above (rank_of kind records l) (rank_of kind records m) m.number l.number (lowest l) (lowest m) below)
-
--- of two comparisons the first decides, and the second where that is a tie
-pub ranked_less : (m n j k : ℕ) (o p : Ordering) → MatchOrdering o (m < n) (m ≡ n) (n < m) → MatchOrdering p (j < k) (j ≡ k) (k < j) → (ordering_then o p ≡ Less) ↔ ((m < n) ⊎ ((m ≡ n) × (j < k)))
-ranked_less m n j k Less p first second = (λ is. inl first, λ below. refl)
-ranked_less m n j k Equal Less first second = (λ is. inr (first, second), λ below. refl)
-ranked_less m n j k Equal Equal first second = (λ is. absurd (cc is), λ below. absurd (omega arith))
-ranked_less m n j k Equal Greater first second = (λ is. absurd (cc is), λ below. absurd (omega arith))
-ranked_less m n j k Greater p first second = (λ is. absurd (cc is), λ below. absurd (omega arith))
-
-pub ranked_same : (m n j k : ℕ) (o p : Ordering) → MatchOrdering o (m < n) (m ≡ n) (n < m) → MatchOrdering p (j < k) (j ≡ k) (k < j) → (ordering_then o p ≡ Equal) ↔ ((m ≡ n) × (j ≡ k))
-ranked_same m n j k Less p first second = (λ is. absurd (cc is), λ same. absurd (omega arith))
-ranked_same m n j k Equal Less first second = (λ is. absurd (cc is), λ same. absurd (omega arith))
-ranked_same m n j k Equal Equal first second = (λ is. (first, second), λ same. refl)
-ranked_same m n j k Equal Greater first second = (λ is. absurd (cc is), λ same. absurd (omega arith))
-ranked_same m n j k Greater p first second = (λ is. absurd (cc is), λ same. absurd (omega arith))
-
--- stamps are ordered by clock, and at one clock by replica
-pub stamp_below : (s t : Stamp) → (stamp_cmp s t ≡ Less) ↔ IsStampBelow s t
-stamp_below s t =
-    ranked_less s.clock t.clock s.replica t.replica (nat_cmp s.clock t.clock) (nat_cmp s.replica t.replica)
-    (ranked s.clock t.clock _ refl) (ranked s.replica t.replica _ refl)
-
-pub stamp_same : (s t : Stamp) → (stamp_cmp s t ≡ Equal) ↔ (s ≡ t)
-stamp_same s t =
-    let both = ranked_same s.clock t.clock s.replica t.replica (nat_cmp s.clock t.clock) (nat_cmp s.replica t.replica) (ranked s.clock t.clock _ refl) (ranked s.replica t.replica _ refl) in (
-      (λ tie. let fields = both.0 tie in λ i. record { clock = fields.0 i; replica = fields.1 i }),
-      (λ same. both.1 (ap (λ (r : Stamp). r.clock) same, ap (λ (r : Stamp). r.replica) same)),
-    )
-
--- the lowest rank is below each stamp
-pub lowest_below : (s : Stamp) → 1 ≤ s.clock → IsStampBelow lowest_rank s
-lowest_below s from_one = inl from_one
 
 then_less : (o p : Ordering) → (ordering_then o p ≡ Less) ↔ ((o ≡ Less) ⊎ ((o ≡ Equal) × (p ≡ Less)))
 then_less Less p = (λ is. inl refl, λ known. refl)

@@ -18,8 +18,8 @@ use Rattle.ra_labels.specs.Specification.{State, Number, Written, Members, Pairs
 use Rattle.ra_labels.specs.Answer.{is_kind}
 use Rattle.ra_labels.specs.Laws.{kind_of_state, kind_of_update, acts_on}
 use Rattle.ra_labels.specs.Commuting.{then_step, last_of, written_by, last_written, last_on}
-use Rattle.ra_laws.proofs.Places.{at_head, behind_head, there-kept}
 use Rattle.ra_labels.proofs.InLists.{among-exactly, same-exactly, rising_same}
+use Rattle.ra_labels.proofs.Members.{at_head, behind_head, there-kept}
 use Rattle.ra_laws.proofs.Putting.{among-insert, among-remove}
 use Rattle.ra_laws.proofs.Stepping.{state_from, stuck, state-of_kind, set-rises, admitted-of_kind, other_way}
 use Rattle.ra_laws.proofs.Exactly.{some-exactly}

@@ -24,11 +24,12 @@ use Rattle.ra_labels.specs.Insertion.{updates_among, updates_passing, or_label, 
 use Rattle.ra_labels.specs.Late.{kept_entries}
 use Rattle.ra_labels.specs.Waiting.{is_there, shown_by, needed_by, NoneWaits}
 use Rattle.ra_labels.proofs.InLists.{list_all-contains, list_all-from_contains, bool_same}
-use Rattle.ra_laws.proofs.Places.{Contains-cons_cases, at_head, behind_head, split_at, there-kept, reached}
+use Rattle.ra_labels.proofs.Members.{head_or_behind, at_head, behind_head, split_at, there-kept, reached, piece_of, in_piece}
+use Rattle.ra_labels.proofs.Parts.{part_is_of}
 use Rattle.ra_laws.proofs.Order.{IsPermutation-named_labels}
 use Rattle.ra_laws.proofs.Exactly.{some-exactly}
 use Rattle.ra_laws.proofs.Stepping.{state-of_kind, admitted-only, admitted-of_kind}
-use Rattle.ra_laws.proofs.Ranking.{piece_of, in_piece, part_is_of, named_differ, have_one_number}
+use Rattle.ra_laws.proofs.Ranking.{named_differ, have_one_number}
 use Rattle.ra_laws.proofs.Insertion.{order-inserted}
 use Rattle.ra_laws.proofs.Having.{filter_all, differ_round, delivery-order, among-append, among-same, among-one, among-not}
 use Rattle.ra_laws.proofs.Rgas.{is_listed}
@@ -155,7 +156,7 @@ rest_there b (Some v) rest m there = behind_head (marked_as b v) rest m there
 
 mark_there : (passes : ℕ → Bool) (parts : List Part) (part : Part) (u : Update) → Contains parts part → update_of part.act ≡ Some u → Contains (mark passes parts) (passes part.label.number, u)
 mark_there passes [] part u there is = absurd (omega (arith, there.1))
-mark_there passes (q ∷ parts) part u there is = elim (Contains-cons_cases q parts part there) [
+mark_there passes (q ∷ parts) part u there is = elim (head_or_behind q parts part there) [
   | inl here ↦
       subst (λ (p : Part). Contains (mark passes (q ∷ parts)) (passes p.label.number, u)) here
       (one_there (passes q.label.number) (update_of q.act) (mark passes parts) u (ap (λ (p : Part). update_of p.act) here ∙ is))

@@ -1,12 +1,12 @@
 -- Where the ranks of the labels let the named sequence extend visibility.
-use Rattle.std.proofs.Common.{◌≡◌, ℕ, ◌<◌, Bool, true, false, List, [], ◌∷◌, ◌++◌, refl, sym, ap, ◌∙◌, subst, inl, inr, arith, Ordering}
-use Rattle.std.specs.Prelude.{◌↔◌, ◌==◌, not, All, Contains, IsSorted, flat_map, is_some}
-use Rattle.std.specs.List.{list_all, list_any, IsDistinct, AllByRecursion}
+use Rattle.std.proofs.Common.{◌≡◌, ◌<◌, Bool, true, false, List, [], ◌∷◌, ◌++◌, refl, sym, ap, ◌∙◌, subst, inl, inr, arith, Ordering}
+use Rattle.std.specs.Prelude.{◌↔◌, ◌==◌, All, Contains, IsSorted, flat_map, is_some}
+use Rattle.std.specs.List.{IsDistinct, AllByRecursion}
 use Rattle.std.specs.Option.{option_map_or}
 use Rattle.std.specs.Ordering.{is_lt, ordering_reverse}
 use Rattle.std.specs.declared.cmp.Ordering.TheVariants.{Less, Equal, Greater}
-use Rattle.std.proofs.lemmas.Bool.{true≢false, false≢true, false_from_ne_true, and_parts, and_from, or_cases, not-true, cases_eq, eq-eqb, ne_eqb}
-use Rattle.std.proofs.lemmas.List.Elements.{All-head, All-tail, All-weaker, All-contains, All-contains_itself, Contains-append_left, Contains-append_right, Contains-append_cases}
+use Rattle.std.proofs.lemmas.Bool.{true≢false, false_from_ne_true, eq-eqb, ne_eqb}
+use Rattle.std.proofs.lemmas.List.Elements.{All-head, All-tail, All-weaker, All-contains, All-contains_itself}
 use Rattle.std.proofs.lemmas.List.Sorted.{All-permutation, Contains-permutation, IsPermutation-sym}
 use Rattle.std.proofs.lemmas.Map.Keys.{IsDistinct-IsPermutation}
 use Rattle.ra_labels.specs.declared.kind.Kind.{Kind}
@@ -22,98 +22,24 @@ use Rattle.ra_labels.specs.Rewriting.{Part, Half, Act, acts_of, part_of, parts_o
 use Rattle.ra_labels.specs.Linearization.{must_precede, extends, extends_visibility}
 use Rattle.ra_labels.specs.NamedOrder.{lowest_rank, rank_of, stamp_cmp, label_cmp, named_labels, named_sequence}
 use Rattle.ra_labels.specs.Laws.{IsStampBelow, MustStandBefore}
-use Rattle.ra_labels.proofs.InLists.{list_all-contains, list_all-from_contains}
-use Rattle.ra_laws.proofs.Places.{Contains-cons_cases, at_head, behind_head, reached, from_where}
+use Rattle.ra_labels.proofs.Members.{head_or_behind, at_head, behind_head, reached, piece_of, in_piece, everyone, what_passes}
+use Rattle.ra_labels.proofs.StampOrder.{stamp_cmp-total, stamp_below, stamp_same}
+use Rattle.ra_labels.proofs.Parts.{extends-first, extends-behind, extends-apart, part_is_of, some_part}
+use Rattle.ra_labels.proofs.Counted.{numbers_below_count}
+use Rattle.ra_labels.proofs.Comparisons.{eqb-comm}
 use Rattle.ra_laws.proofs.Seen.{sees_earlier}
 use Rattle.ra_laws.proofs.Standing.{is_update-acts}
-use Rattle.ra_laws.proofs.Order.{label_cmp-total, IsSorted-named_labels, IsPermutation-named_labels, stamp_cmp-total, stamp_below, stamp_same, label_below, numbers_below_count}
+use Rattle.ra_laws.proofs.Order.{label_cmp-total, IsSorted-named_labels, IsPermutation-named_labels, label_below}
 use Rattle.ra_laws.proofs.Unique.{head_least, sorted_behind, label_found}
 use Rattle.ra_laws.proofs.Extending.{extends-append, own_parts}
 use Rattle.ra_laws.proofs.Exactly.{acts, must_precede-exactly}
-
-module _ {A : Type 0} where
-  pub list_any_at : (p : A → Bool) (xs : List A) → list_any p xs ≡ true → (x : A) × Contains xs x × (p x ≡ true)
-  list_any_at p [] some = absurd (false≢true some)
-  list_any_at p (x ∷ xs) some = elim (or_cases (p x) (list_any p xs) some) [
-    | inl here ↦ (x, at_head x xs x refl, here)
-    | inr further ↦ let rest = list_any_at p xs further in (rest.0, behind_head x xs rest.0 rest.1, rest.2)
-  ]
-
-  -- of a sequence that extends an order, so does what stands first
-  pub extends-first : (precedes : A → A → Bool) (xs ys : List A) → extends precedes (xs ++ ys) ≡ true → extends precedes xs ≡ true
-  extends-first precedes [] ys extended = refl
-  extends-first precedes (x ∷ xs) ys extended =
-      let parts = and_parts (list_all (λ q. not (precedes q x)) (xs ++ ys)) (extends precedes (xs ++ ys)) extended in
-      and_from (list_all (λ q. not (precedes q x)) xs) (extends precedes xs)
-      (list_all-from_contains (λ q. not (precedes q x)) xs (λ q there. list_all-contains (λ r. not (precedes r x)) (xs ++ ys) q parts.0 (Contains-append_left xs ys q there)))
-      (extends-first precedes xs ys parts.1)
-
-  -- and what stands behind
-  pub extends-behind : (precedes : A → A → Bool) (xs ys : List A) → extends precedes (xs ++ ys) ≡ true → extends precedes ys ≡ true
-  extends-behind precedes [] ys extended = extended
-  extends-behind precedes (x ∷ xs) ys extended =
-      extends-behind precedes xs ys (and_parts (list_all (λ q. not (precedes q x)) (xs ++ ys)) (extends precedes (xs ++ ys)) extended).1
-
-  -- and none of it must stand before what is there first
-  pub extends-apart : (precedes : A → A → Bool) (xs ys : List A) → extends precedes (xs ++ ys) ≡ true → (p q : A) → Contains xs p → Contains ys q → precedes q p ≡ false
-  extends-apart precedes [] ys extended p q p_there q_there = absurd (omega (arith, p_there.1))
-  extends-apart precedes (x ∷ xs) ys extended p q p_there q_there =
-      let parts = and_parts (list_all (λ r. not (precedes r x)) (xs ++ ys)) (extends precedes (xs ++ ys)) extended in
-      elim (Contains-cons_cases x xs p p_there) [
-        | inl here ↦ subst (λ r. precedes q r ≡ false) here (not-true (precedes q x) (list_all-contains (λ r. not (precedes r x)) (xs ++ ys) q parts.0 (Contains-append_right xs ys q q_there)))
-        | inr further ↦ extends-apart precedes xs ys parts.1 p q further q_there
-      ]
-
-module _ {A B : Type 0} where
-  -- what is in a list of pieces is in one of them
-  pub piece_of : (f : B → List A) (bs : List B) (y : A) → Contains (flat_map f bs) y → (b : B) × Contains bs b × Contains (f b) y
-  piece_of f [] y there = absurd (omega (arith, there.1))
-  piece_of f (b ∷ bs) y there = elim (Contains-append_cases (f b) (flat_map f bs) y there) [
-    | inl here ↦ (b, at_head b bs b refl, here)
-    | inr further ↦ let rest = piece_of f bs y further in (rest.0, behind_head b bs rest.0 rest.1, rest.2)
-  ]
-
-  pub in_piece : (f : B → List A) (bs : List B) (b : B) (y : A) → Contains bs b → Contains (f b) y → Contains (flat_map f bs) y
-  in_piece f [] b y found there = absurd (omega (arith, found.1))
-  in_piece f (c ∷ bs) b y found there = elim (Contains-cons_cases c bs b found) [
-    | inl here ↦ Contains-append_left (f c) (flat_map f bs) y (subst (λ d. Contains (f d) y) (sym here) there)
-    | inr further ↦ Contains-append_right (f c) (flat_map f bs) y (in_piece f bs b y further there)
-  ]
-
--- a part is one of its label
-pub part_is_of : (label : Label) (part : Part) → Contains (parts_of label) part → part.label ≡ label
-part_is_of label part there =
-    let from = from_where (part_of label) (acts_of label.op) part there in
-    sym (ap (λ (p : Part). p.label) from.2)
-
--- each label has a part
-some_act : (operation : Op) → (act : Half × Act) × Contains (acts_of operation) act
-some_act op.Inc = (_, (0, omega arith, refl))
-some_act op.Dec = (_, (0, omega arith, refl))
-some_act (op.Count v) = (_, (0, omega arith, refl))
-some_act (op.Write value) = (_, (0, omega arith, refl))
-some_act (op.Last value) = (_, (0, omega arith, refl))
-some_act (op.LwwAdd x) = (_, (0, omega arith, refl))
-some_act (op.LwwRemove x) = (_, (0, omega arith, refl))
-some_act (op.LwwRead list) = (_, (0, omega arith, refl))
-some_act (op.OrAdd x id) = (_, (0, omega arith, refl))
-some_act (op.OrRemove x ids) = (_, (0, omega arith, refl))
-some_act (op.OrRead list) = (_, (0, omega arith, refl))
-some_act (op.After anchor x) = (_, (0, omega arith, refl))
-some_act (op.RgaRemove x) = (_, (0, omega arith, refl))
-some_act (op.RgaRead list) = (_, (0, omega arith, refl))
-
-pub some_part : (label : Label) → (part : Part) × Contains (parts_of label) part
-some_part label =
-    let act = some_act label.op in
-    (part_of label act.0, reached (part_of label) (acts_of label.op) act.0 act.1)
 
 -- a label that is there, and an update, has a part that is one
 update_part : (records : Records) (label : Label) → Contains (labels_of records) label → is_update_at records label.number ≡ true
     → (part : Part) × Contains (parts_of label) part × (is_some (update_of part.act) ≡ true)
 update_part records label there is =
     let update : is_update label.op ≡ true = sym (ap (λ l. option_map_or (λ (m : Label). is_update m.op) l false) (label_found records label there)) ∙ is in
-    let act = list_any_at (λ (a : Half × Act). is_some (update_of a.1)) (acts_of label.op) (sym (is_update-acts label.op) ∙ update) in
+    let act = what_passes (λ (a : Half × Act). is_some (update_of a.1)) (acts_of label.op) (sym (is_update-acts label.op) ∙ update) in
     (part_of label act.0, reached (part_of label) (acts_of label.op) act.0 act.1, act.2)
 
 -- a label that must stand before another is numbered before it
@@ -154,25 +80,12 @@ part_must records m n there (inr earlier) q is_n =
       ))),
     )
 
-pub everyone : {A : Type 0} (P : A → Type 0) (xs : List A) (y : A) → AllByRecursion P xs → Contains xs y → P y
-everyone P [] y all there = absurd (omega (arith, there.1))
-everyone P (x ∷ xs) y all there = elim (Contains-cons_cases x xs y there) [
-  | inl here ↦ subst P here all.0
-  | inr further ↦ everyone P xs y all.1 further
-]
-
 for_everyone : {A : Type 0} (P : A → Type 0) (xs : List A) → All P xs → AllByRecursion P xs
 for_everyone P [] all = tt
 for_everyone P (x ∷ xs) all = (All-head P x xs all, for_everyone P xs (All-tail P x xs all))
 
 abbrev pub have_one_number : Label → Label → Bool
 have_one_number l m = l.number == m.number
-
-number_flips : (m n : ℕ) → (m == n) ≡ (n == m)
-number_flips m n = elim (cases_eq m n) [
-  | inl same ↦ eq-eqb m n same ∙ sym (eq-eqb n m (sym same))
-  | inr other ↦ ne_eqb m n other ∙ sym (ne_eqb n m (λ is. other (sym is)))
-]
 
 -- no two labels have one number
 labels_differ : (records : Records) → IsDistinct have_one_number (labels_of records)
@@ -187,7 +100,7 @@ labels_differ (_ ∷ before) = labels_differ before
 
 pub named_differ : (kind : Kind) (records : Records) → IsDistinct have_one_number (named_labels kind records)
 named_differ kind records =
-    IsDistinct-IsPermutation have_one_number (λ l m. number_flips l.number m.number) (labels_of records) (named_labels kind records) (IsPermutation-named_labels kind records) (labels_differ records)
+    IsDistinct-IsPermutation have_one_number (λ l m. eqb-comm l.number m.number) (labels_of records) (named_labels kind records) (IsPermutation-named_labels kind records) (labels_differ records)
 
 module _ (records : Records) where
   -- no label of the list must stand before one that it stands behind
@@ -238,10 +151,10 @@ module _ (kind : Kind) (records : Records) where
 
   ranks_allow : (xs : List Label) → IsSorted (label_cmp kind records) xs → NoneMisplaced records xs → RanksAllow xs
   ranks_allow [] sorted clear m n m_there n_there must = absurd (omega (arith, m_there.1))
-  ranks_allow (x ∷ xs) sorted clear m n m_there n_there must = elim (Contains-cons_cases x xs m m_there) [
+  ranks_allow (x ∷ xs) sorted clear m n m_there n_there must = elim (head_or_behind x xs m m_there) [
     | inl here ↦
         not_below_ranks m n (subst (λ l. is_lt (label_cmp kind records n l) ≡ false) here (head_least (label_cmp kind records) (label_cmp-total kind records) x xs sorted n n_there))
-    | inr further ↦ elim (Contains-cons_cases x xs n n_there) [
+    | inr further ↦ elim (head_or_behind x xs n n_there) [
       | inl first ↦ absurd (clear.0 m further (subst (MustStandBefore records m) (sym first) must))
       | inr behind ↦ ranks_allow xs (sorted_behind (label_cmp kind records) (label_cmp-total kind records) x xs sorted) clear.1 m n further behind must
     ]

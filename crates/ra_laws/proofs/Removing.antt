@@ -10,8 +10,7 @@ use Rattle.ra_labels.specs.Lists.{shown}
 use Rattle.ra_labels.specs.Specification.{Listed, state_after}
 use Rattle.ra_labels.specs.Laws.{elements_in, NoneTwice}
 use Rattle.ra_labels.specs.Waiting.{removes, shown_by}
-use Rattle.ra_laws.proofs.Places.{Contains-cons_cases, at_head, behind_head, from_where, there-kept, kept-there, reached}
-use Rattle.ra_laws.proofs.Ranking.{list_any_at}
+use Rattle.ra_labels.proofs.Members.{head_or_behind, at_head, behind_head, from_where, there-kept, kept-there, reached, what_passes}
 use Rattle.ra_laws.proofs.Having.{any_at}
 use Rattle.ra_laws.proofs.Rgas.{comes_in, list-exactly, list-once}
 use Rattle.ra_laws.proofs.Showing.{list-shown}
@@ -29,7 +28,7 @@ removed_by x (TakeOut y ids) us found it = absurd (false≢true it)
 removed_by x (After anchor y) us found it = absurd (false≢true it)
 
 any_removed : (x : ℕ) (us : List Update) → list_any (removes x) us ≡ true → Contains us (RgaRemove x)
-any_removed x us some = let (u, found, it) = list_any_at (removes x) us some in removed_by x u us found it
+any_removed x us some = let (u, found, it) = what_passes (removes x) us some in removed_by x u us found it
 
 removed_any : (x : ℕ) (us : List Update) → Contains us (RgaRemove x) → list_any (removes x) us ≡ true
 removed_any x us found = any_at (removes x) us (RgaRemove x) found (eq-eqb x x refl)
@@ -40,12 +39,12 @@ in_elements list x b there = reached (λ (e : ℕ × Bool). e.0) list (x, b) the
 
 one_entry : (list : List (ℕ × Bool)) (x : ℕ) (b c : Bool) → NoneTwice (elements_in list) → Contains list (x, b) → Contains list (x, c) → b ≡ c
 one_entry [] x b c once there also = absurd (omega (arith, there.1))
-one_entry (entry ∷ list) x b c once there also = elim (Contains-cons_cases entry list (x, b) there) [
-  | inl is ↦ elim (Contains-cons_cases entry list (x, c) also) [
+one_entry (entry ∷ list) x b c once there also = elim (head_or_behind entry list (x, b) there) [
+  | inl is ↦ elim (head_or_behind entry list (x, c) also) [
     | inl is_too ↦ sym (ap (λ (e : ℕ × Bool). e.1) is) ∙ ap (λ (e : ℕ × Bool). e.1) is_too
     | inr further ↦ absurd (once.0 (subst (Contains (elements_in list)) (sym (ap (λ (e : ℕ × Bool). e.0) is)) (in_elements list x c further)))
   ]
-  | inr further ↦ elim (Contains-cons_cases entry list (x, c) also) [
+  | inr further ↦ elim (head_or_behind entry list (x, c) also) [
     | inl is_too ↦ absurd (once.0 (subst (Contains (elements_in list)) (sym (ap (λ (e : ℕ × Bool). e.0) is_too)) (in_elements list x b further)))
     | inr further_too ↦ one_entry list x b c once.1 further further_too
   ]

@@ -15,8 +15,8 @@ use Rattle.ra_labels.specs.declared.operation.Query.TheVariants.{RgaRead}
 use Rattle.ra_labels.specs.Lists.{is_in_list, insert_after, hide, shown}
 use Rattle.ra_labels.specs.Specification.{State, Number, Written, Members, Pairs, Listed, step_of, answers, state_after}
 use Rattle.ra_labels.specs.Laws.{elements_in, RootFirst, IsPutBehind, NoneTwice, WasPutIn, kind_of_state}
+use Rattle.ra_labels.proofs.Members.{head_or_behind, at_head, behind_head}
 use Rattle.ra_laws.proofs.OfKind.{if_some}
-use Rattle.ra_laws.proofs.Places.{Contains-cons_cases, at_head, behind_head}
 use Rattle.ra_laws.proofs.Stepping.{state_from, stuck}
 
 -- what the list has
@@ -27,7 +27,7 @@ in-exactly x (entry ∷ list) = (
     | inl here ↦ at_head entry.0 (elements_in list) x (sym (eqb-true x entry.0 here))
     | inr further ↦ behind_head entry.0 (elements_in list) x ((in-exactly x list).0 further)
   ]),
-  (λ there. elim (Contains-cons_cases entry.0 (elements_in list) x there) [
+  (λ there. elim (head_or_behind entry.0 (elements_in list) x there) [
     | inl here ↦ or_left (x == entry.0) (is_in_list x list) (eq-eqb x entry.0 (sym here))
     | inr further ↦ or_right (x == entry.0) (is_in_list x list) ((in-exactly x list).1 further)
   ]),
@@ -146,14 +146,14 @@ answers-shown list asked = pointwise_decides unsigned_Decides asked (shown list)
 pub insert-only : (anchor x y : ℕ) (list : List (ℕ × Bool)) → Contains (elements_in (insert_after anchor x list)) y → (x ≡ y) ⊎ Contains (elements_in list) y
 insert-only anchor x y [] there = inr there
 insert-only anchor x y (entry ∷ list) there = elim (cases_Bool (anchor == entry.0)) [
-  | inl here ↦ elim (Contains-cons_cases entry.0 (x ∷ elements_in list) y (subst (λ es. Contains (elements_in es) y) (insert_here anchor x entry list here) there)) [
+  | inl here ↦ elim (head_or_behind entry.0 (x ∷ elements_in list) y (subst (λ es. Contains (elements_in es) y) (insert_here anchor x entry list here) there)) [
     | inl first ↦ inr (at_head entry.0 (elements_in list) y first)
-    | inr behind ↦ elim (Contains-cons_cases x (elements_in list) y behind) [
+    | inr behind ↦ elim (head_or_behind x (elements_in list) y behind) [
       | inl new ↦ inl new
       | inr further ↦ inr (behind_head entry.0 (elements_in list) y further)
     ]
   ]
-  | inr other ↦ elim (Contains-cons_cases entry.0 (elements_in (insert_after anchor x list)) y (subst (λ es. Contains (elements_in es) y) (insert_on anchor x entry list other) there)) [
+  | inr other ↦ elim (head_or_behind entry.0 (elements_in (insert_after anchor x list)) y (subst (λ es. Contains (elements_in es) y) (insert_on anchor x entry list other) there)) [
     | inl first ↦ inr (at_head entry.0 (elements_in list) y first)
     | inr behind ↦ elim (insert-only anchor x y list behind) [
       | inl new ↦ inl new
@@ -165,11 +165,11 @@ insert-only anchor x y (entry ∷ list) there = elim (cases_Bool (anchor == entr
 pub insert-keeps : (anchor x y : ℕ) (list : List (ℕ × Bool)) → Contains (elements_in list) y → Contains (elements_in (insert_after anchor x list)) y
 insert-keeps anchor x y [] there = there
 insert-keeps anchor x y (entry ∷ list) there = elim (cases_Bool (anchor == entry.0)) [
-  | inl here ↦ subst (λ es. Contains (elements_in es) y) (sym (insert_here anchor x entry list here)) (elim (Contains-cons_cases entry.0 (elements_in list) y there) [
+  | inl here ↦ subst (λ es. Contains (elements_in es) y) (sym (insert_here anchor x entry list here)) (elim (head_or_behind entry.0 (elements_in list) y there) [
     | inl first ↦ at_head entry.0 (x ∷ elements_in list) y first
     | inr further ↦ behind_head entry.0 (x ∷ elements_in list) y (behind_head x (elements_in list) y further)
   ])
-  | inr other ↦ subst (λ es. Contains (elements_in es) y) (sym (insert_on anchor x entry list other)) (elim (Contains-cons_cases entry.0 (elements_in list) y there) [
+  | inr other ↦ subst (λ es. Contains (elements_in es) y) (sym (insert_on anchor x entry list other)) (elim (head_or_behind entry.0 (elements_in list) y there) [
     | inl first ↦ at_head entry.0 (elements_in (insert_after anchor x list)) y first
     | inr further ↦ behind_head entry.0 (elements_in (insert_after anchor x list)) y (insert-keeps anchor x y list further)
   ])
@@ -184,7 +184,7 @@ insert-once anchor x (entry ∷ list) out once =
     let not_behind : ¬ Contains els x = λ there. out (behind_head entry.0 els x there) in
     elim (cases_Bool (anchor == entry.0)) [
       | inl here ↦ subst (λ es. NoneTwice (elements_in es)) (sym (insert_here anchor x entry list here)) (
-        (λ there. elim (Contains-cons_cases x els entry.0 there) [
+        (λ there. elim (head_or_behind x els entry.0 there) [
           | inl same ↦ not_first (sym same)
           | inr further ↦ once.0 further
         ]),
@@ -343,7 +343,7 @@ pub comes_in : (ls : List (ℕ × Bool)) (us : List Update) (qs : List (ℕ × B
 comes_in ls [] qs anchor y is put = absurd (omega (arith, put.1))
 comes_in ls (update ∷ us) qs anchor y is put =
     let leads = first_step ls update us qs is in
-    elim (Contains-cons_cases update us (After anchor y) put) [
+    elim (head_or_behind update us (After anchor y) put) [
       | inl here ↦
           let known = step_puts ls leads.0 update anchor y leads.1 here in
           (kept (λ es. Contains (elements_in es) y) (there-step y) leads.0 us qs leads.2 known.2, known.1)
@@ -355,7 +355,7 @@ comes_in ls (update ∷ us) qs anchor y is put =
 pub list-exactly : (updates : List Update) (list : List (ℕ × Bool)) (x : ℕ) → state_after Rga updates ≡ Some (Listed list) → Contains (elements_in list) x ↔ ((x ≡ 0) ⊎ WasPutIn x updates)
 list-exactly updates list x is = (
   (λ there. elim (came_in ((0, false) ∷ []) updates list x is there) [
-    | inl old ↦ elim (Contains-cons_cases 0 [] x old) [
+    | inl old ↦ elim (head_or_behind 0 [] x old) [
       | inl root ↦ inl (sym root)
       | inr none ↦ absurd (omega (arith, none.1))
     ]

@@ -18,8 +18,8 @@ use Rattle.ra_labels.specs.Linearization.{updates_admitted}
 use Rattle.ra_labels.specs.NamedOrder.{named_labels, named_sequence}
 use Rattle.ra_labels.specs.Insertion.{updates_among, updates_passing, or_label, Makes}
 use Rattle.ra_labels.specs.Waiting.{is_there, needed_by, OnePutsIn, NoneWaits, OthersWait, AllSettled, IsSettled}
-use Rattle.ra_laws.proofs.Places.{Contains-cons_cases, at_head, behind_head}
 use Rattle.ra_labels.proofs.InLists.{bool_same}
+use Rattle.ra_labels.proofs.Members.{head_or_behind, at_head, behind_head}
 use Rattle.ra_laws.proofs.Ranking.{named_differ, have_one_number}
 use Rattle.ra_laws.proofs.Having.{differ_round, among-append, among-one, among-not}
 use Rattle.ra_laws.proofs.Rgas.{list-exactly}
@@ -67,7 +67,7 @@ by-needs records admitted P done (n ∷ rest) behind is goes known label u there
     (λ m v m_there m_makes needs. goes m v (behind_head n rest m m_there) m_makes needs)
     (λ m v m_there m_makes. elim (Contains-append_cases done (n ∷ []) m m_there) [
       | inl old ↦ known m v old m_makes
-      | inr new ↦ elim (Contains-cons_cases n [] m new) [
+      | inr new ↦ elim (head_or_behind n [] m new) [
         | inl here ↦ subst P here (own v (subst (λ (k : Label). Makes k.op v) (sym here) m_makes))
         | inr none ↦ absurd (omega (arith, none.1))
       ]
@@ -226,7 +226,7 @@ settled-operation records by op clock had settled new is_settled =
     let same = passing-operation Rga records by op clock settled not_yet in
     record {
       had_them = is_settled.had_them;
-      where_needed = λ l u there makes had_it. elim (Contains-cons_cases (next_label records by op clock) (labels_of records) l there) [
+      where_needed = λ l u there makes had_it. elim (head_or_behind (next_label records by op clock) (labels_of records) l there) [
         | inl here ↦ absurd (false≢true (sym new ∙ ap (λ (m : Label). had m.number) here ∙ had_it))
         | inr older ↦ is_settled.where_needed l u older makes had_it ∙ sym (ap (is_there (needed_by u)) same)
       ];

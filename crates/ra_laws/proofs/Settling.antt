@@ -10,13 +10,13 @@ use Rattle.ra_labels.specs.declared.label.Label.{Label}
 use Rattle.ra_labels.specs.Records.{Records, labels_of}
 use Rattle.ra_labels.specs.Insertion.{updates_passing, or_label, Makes}
 use Rattle.ra_labels.specs.Waiting.{puts_in, is_there, needed_by, put_in_by, IsSettled, IsSettling}
-use Rattle.ra_laws.proofs.Places.{Contains-cons_cases, at_head, behind_head}
+use Rattle.ra_labels.proofs.Members.{head_or_behind, at_head, behind_head}
 use Rattle.ra_laws.proofs.OneMore.{there-more, none-waits_more}
 use Rattle.ra_laws.proofs.Settled.{settled-exactly}
 
 -- the element that an update puts in
 puts_it : (x : ℕ) (u : Update) → Contains (put_in_by u) x → puts_in x u ≡ true
-puts_it x (After anchor y) found = elim (Contains-cons_cases y [] x found) [
+puts_it x (After anchor y) found = elim (head_or_behind y [] x found) [
   | inl is ↦ eq-eqb y x is
   | inr none ↦ absurd (omega (arith, none.1))
 ]
@@ -110,7 +110,7 @@ settling-follows records had passes arrived label u settling there makes was_had
 without : (first later : List ℕ) (x y : ℕ) → Contains (first ++ x ∷ later) y → (x ≡ y) ⊎ Contains (first ++ later) y
 without first later x y found = elim (Contains-append_cases first (x ∷ later) y found) [
   | inl early ↦ inr (Contains-append_left first later y early)
-  | inr rest ↦ elim (Contains-cons_cases x later y rest) [
+  | inr rest ↦ elim (head_or_behind x later y rest) [
     | inl is ↦ inl is
     | inr late ↦ inr (Contains-append_right first later y late)
   ]

@@ -9,7 +9,7 @@ use Rattle.ra_labels.specs.declared.operation.Update.TheVariants.{After, RgaRemo
 use Rattle.ra_labels.specs.Lists.{shown}
 use Rattle.ra_labels.specs.Specification.{Listed, state_after}
 use Rattle.ra_labels.specs.Laws.{elements_in, WasPutIn}
-use Rattle.ra_laws.proofs.Places.{Contains-cons_cases, at_head, behind_head, kept-there, there-kept}
+use Rattle.ra_labels.proofs.Members.{head_or_behind, at_head, behind_head, kept-there, there-kept}
 use Rattle.ra_laws.proofs.Stepping.{state_from}
 use Rattle.ra_laws.proofs.Rgas.{put_behind, shown-append, hide-shown, Steps, first_step, there-step, step_puts, comes_in}
 
@@ -40,17 +40,17 @@ shows-step y ls next update (inl (anchor, x, which, there, out, same)) =
     )
   where
     without_next : (anchor x y : ℕ) (is_shown : Bool) (behind : List (ℕ × Bool)) → Contains (shown ((anchor, is_shown) ∷ (x, true) ∷ behind)) y → (x ≡ y) ⊎ Contains (shown ((anchor, is_shown) ∷ behind)) y
-    without_next anchor x y true behind found = elim (Contains-cons_cases anchor (x ∷ shown behind) y found) [
+    without_next anchor x y true behind found = elim (head_or_behind anchor (x ∷ shown behind) y found) [
       | inl here ↦ inr (at_head anchor (shown behind) y here)
-      | inr late ↦ elim (Contains-cons_cases x (shown behind) y late) [
+      | inr late ↦ elim (head_or_behind x (shown behind) y late) [
         | inl this ↦ inl this
         | inr further ↦ inr (behind_head anchor (shown behind) y further)
       ]
     ]
-    without_next anchor x y false behind found = Contains-cons_cases x (shown behind) y found
+    without_next anchor x y false behind found = head_or_behind x (shown behind) y found
 
     with_next : (anchor x y : ℕ) (is_shown : Bool) (behind : List (ℕ × Bool)) → Contains (shown ((anchor, is_shown) ∷ behind)) y → Contains (shown ((anchor, is_shown) ∷ (x, true) ∷ behind)) y
-    with_next anchor x y true behind found = elim (Contains-cons_cases anchor (shown behind) y found) [
+    with_next anchor x y true behind found = elim (head_or_behind anchor (shown behind) y found) [
       | inl here ↦ at_head anchor (x ∷ shown behind) y here
       | inr late ↦ behind_head anchor (x ∷ shown behind) y (behind_head x (shown behind) y late)
     ]
@@ -107,7 +107,7 @@ shows ls (update ∷ us) qs y listed is =
           rest.1 (
             elim known.0 [
               | inl old ↦ inl (step.1 (inl old, never_now))
-              | inr (a, put) ↦ elim (Contains-cons_cases update us (After a y) put) [
+              | inr (a, put) ↦ elim (head_or_behind update us (After a y) put) [
                 | inl here ↦ inl (step.1 (inr (a, here), never_now))
                 | inr further ↦ inr (a, further)
               ]
@@ -117,7 +117,7 @@ shows ls (update ∷ us) qs y listed is =
     )
   where
     not_removed : ¬ (update ≡ RgaRemove y) → ¬ Contains us (RgaRemove y) → ¬ Contains (update ∷ us) (RgaRemove y)
-    not_removed now later there = elim (Contains-cons_cases update us (RgaRemove y) there) [
+    not_removed now later there = elim (head_or_behind update us (RgaRemove y) there) [
       | inl here ↦ now here
       | inr further ↦ later further
     ]

@@ -21,9 +21,9 @@ use Rattle.ra_labels.specs.NamedOrder.{stamp_cmp}
 use Rattle.ra_labels.specs.Fault.{fault_of}
 use Rattle.ra_labels.specs.Answer.{when, first_of, kind_of, is_kind, has_rising_list, carries_stamp, has_clock, misfit_of, has_stamp, is_taken, comes_with_taken, gives_taken, refusal_of, with_accepted, records_after, records_after_all}
 use Rattle.ra_labels.specs.Laws.{IsOwnStamp, HasItsClock, IsFit, EachLabelFits, StampsAreOneLabels}
-use Rattle.ra_laws.proofs.Places.{Contains-cons_cases}
-use Rattle.ra_laws.proofs.Order.{stamp_same}
-use Rattle.ra_laws.proofs.OfKind.{kinds, same_kinds}
+use Rattle.ra_labels.proofs.Members.{head_or_behind}
+use Rattle.ra_labels.proofs.StampOrder.{stamp_same}
+use Rattle.ra_labels.proofs.SameKind.{same_kind, kind_itself}
 
 -- an element that passes a test
 abbrev pub One : (Label → Bool) → List Label → Type 0
@@ -38,7 +38,7 @@ any_one p (first ∷ labels) is = elim (or_cases (p first) (list_any p labels) i
 
 pub one_any : (p : Label → Bool) (labels : List Label) (label : Label) → Contains labels label → p label ≡ true → list_any p labels ≡ true
 one_any p [] label there passes = absurd (omega (arith, there.1))
-one_any p (first ∷ labels) label there passes = elim (Contains-cons_cases first labels label there) [
+one_any p (first ∷ labels) label there passes = elim (head_or_behind first labels label there) [
   | inl here ↦ or_left (p first) (list_any p labels) (ap p here ∙ passes)
   | inr further ↦ or_right (p first) (list_any p labels) (one_any p labels label further passes)
 ]
@@ -109,12 +109,12 @@ pub fits-exactly : (kind : Kind) (by : ℕ) (op : Op) (clock : Option ℕ) → (
 fits-exactly kind by op clock = (
   (λ none.
       let tests = form-none (not (is_kind kind (kind_of op))) (not (has_rising_list op)) (carries_stamp op && not (has_clock clock)) (not (carries_stamp op) && is_some clock) none in (
-        kinds kind (kind_of op) (from_not (is_kind kind (kind_of op)) tests.0),
+        same_kind kind (kind_of op) (from_not (is_kind kind (kind_of op)) tests.0),
         from_not (has_rising_list op) tests.1,
         to_clock (carries_stamp op) clock tests.2 tests.3,
       )),
   (λ known.
-      let right : is_kind kind (kind_of op) ≡ true = ap (is_kind kind) known.0 ∙ same_kinds kind in
+      let right : is_kind kind (kind_of op) ≡ true = ap (is_kind kind) known.0 ∙ kind_itself kind in
       rw (right, known.1, no_missing (carries_stamp op) clock known.2.0, no_unwanted (carries_stamp op) clock known.2.1)),
 )
 
@@ -193,7 +193,7 @@ kept_by_all P kind replicas keeps records (command ∷ commands) before =
 
 -- each accepted label fits
 fits_accepted : (kind : Kind) (replicas : ℕ) (records : Records) (command : Command) → refusal_of kind replicas records command ≡ None → EachLabelFits kind replicas records → EachLabelFits kind replicas (with_accepted records command)
-fits_accepted kind replicas records (Operate by op clock) accepted each label there = elim (Contains-cons_cases (next_label records by op clock) (labels_of records) label there) [
+fits_accepted kind replicas records (Operate by op clock) accepted each label there = elim (head_or_behind (next_label records by op clock) (labels_of records) label there) [
   | inl here ↦
       let known = (operated-exactly kind replicas records by op clock).0 accepted in
       let form = (fits-exactly kind by op clock).0 known.1 in
@@ -222,12 +222,12 @@ once_accepted : (kind : Kind) (replicas : ℕ) (records : Records) (command : Co
 once_accepted kind replicas records (Operate by op clock) accepted once l m stamp l_there m_there l_is m_is =
     let free = ((operated-exactly kind replicas records by op clock).0 accepted).2 in
     let next = next_label records by op clock in
-    elim (Contains-cons_cases next (labels_of records) l l_there) [
-      | inl l_here ↦ elim (Contains-cons_cases next (labels_of records) m m_there) [
+    elim (head_or_behind next (labels_of records) l l_there) [
+      | inl l_here ↦ elim (head_or_behind next (labels_of records) m m_there) [
         | inl m_here ↦ sym l_here ∙ m_here
         | inr m_further ↦ absurd (newly_given records by op clock m stamp free (ap (λ (n : Label). n.stamp) l_here ∙ l_is) m_further m_is)
       ]
-      | inr l_further ↦ elim (Contains-cons_cases next (labels_of records) m m_there) [
+      | inr l_further ↦ elim (head_or_behind next (labels_of records) m m_there) [
         | inl m_here ↦ absurd (newly_given records by op clock l stamp free (ap (λ (n : Label). n.stamp) m_here ∙ m_is) l_further l_is)
         | inr m_further ↦ once l m stamp l_further m_further l_is m_is
       ]

@@ -14,7 +14,7 @@ use Rattle.ra_labels.specs.Rewriting.{Half, Whole, QueryHalf, UpdateHalf, Part, 
 use Rattle.ra_labels.specs.Linearization.{parts_in, extends, must_precede, are_halves, is_visible_to, is_earlier_there, is_query_half_of, IsRaLinearizationBy, IsRaLinearization}
 use Rattle.ra_labels.specs.Laws.{StandsBefore, AllStandBefore, NoneTwice}
 use Rattle.ra_labels.proofs.InLists.{list_all-contains, list_all-from_contains}
-use Rattle.ra_laws.proofs.Places.{Contains-cons_cases, split_at}
+use Rattle.ra_labels.proofs.Members.{head_or_behind, split_at}
 use Rattle.ra_laws.proofs.Seen.{sees_earlier}
 
 -- in a sequence that extends an order, each element stands where it must
@@ -22,8 +22,8 @@ pub extends-stands : {A : Type 0} (precedes : A → A → Bool) → ((p : A) →
 extends-stands precedes irreflexive [] extended p q (k, within, is) found_q must = absurd (omega arith)
 extends-stands precedes irreflexive (x ∷ xs) extended p q found_p found_q must =
     let parts = and_parts (list_all (λ r. not (precedes r x)) xs) (extends precedes xs) extended in
-    elim (Contains-cons_cases x xs p found_p) [
-      | inl p_here ↦ elim (Contains-cons_cases x xs q found_q) [
+    elim (head_or_behind x xs p found_p) [
+      | inl p_here ↦ elim (head_or_behind x xs q found_q) [
         | inl q_here ↦
             let same : p ≡ q = sym p_here ∙ q_here in
             absurd (true≢false (sym must ∙ ap (λ r. precedes p r) (sym same) ∙ irreflexive p))
@@ -31,7 +31,7 @@ extends-stands precedes irreflexive (x ∷ xs) extended p q found_p found_q must
             let rest = split_at xs q q_further in
             ([], rest.0, rest.1, (λ i. p_here i ∷ rest.2 i))
       ]
-      | inr p_further ↦ elim (Contains-cons_cases x xs q found_q) [
+      | inr p_further ↦ elim (head_or_behind x xs q found_q) [
         | inl q_here ↦
             let not_so = not-true (precedes p x) (list_all-contains (λ r. not (precedes r x)) xs p parts.0 p_further) in
             absurd (true≢false (sym must ∙ ap (λ r. precedes p r) (sym q_here) ∙ not_so))

@@ -19,8 +19,9 @@ use Rattle.ra_labels.specs.Specification.{State, Number, Written, Members, Pairs
 use Rattle.ra_labels.specs.Answer.{is_kind}
 use Rattle.ra_labels.specs.Laws.{kind_of_state, kind_of_update, acts_on, NoneActsOn}
 use Rattle.ra_labels.proofs.InLists.{among-exactly, same-exactly, bool_same}
+use Rattle.ra_labels.proofs.SameKind.{kind_itself}
 use Rattle.ra_laws.proofs.Putting.{among-insert, among-remove, rises-insert, rises-remove}
-use Rattle.ra_laws.proofs.OfKind.{same_kinds, start_kind, StepKnown, step-known, step-kind}
+use Rattle.ra_laws.proofs.OfKind.{start_kind, StepKnown, step-known, step-kind}
 
 -- the state that updates lead to from another
 abbrev pub state_from : Option State → List Update → Option State
@@ -38,7 +39,7 @@ onwards : (state : State) (update : Update) (updates : List Update) (o : Option 
 onwards state update updates None known rest is = absurd (false≢true (sym (ap is_some (stuck updates)) ∙ is))
 onwards state update updates (Some next) known rest is =
     and_from (is_kind (kind_of_state state) (kind_of_update update)) (list_all (λ u. is_kind (kind_of_state state) (kind_of_update u)) updates)
-    (ap (is_kind (kind_of_state state)) known.1 ∙ same_kinds (kind_of_state state)) (rest next known.0 is)
+    (ap (is_kind (kind_of_state state)) known.1 ∙ kind_itself (kind_of_state state)) (rest next known.0 is)
 
 only_kind : (state : State) (kind : Kind) (updates : List Update) → kind_of_state state ≡ kind → is_some (state_from (Some state) updates) ≡ true → list_all (λ update. is_kind kind (kind_of_update update)) updates ≡ true
 only_kind state kind [] of is = refl

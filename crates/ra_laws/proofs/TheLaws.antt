@@ -74,7 +74,8 @@ pub use Rattle.ra_laws.proofs.FirstUpdates.{had-first as first_updates_of_each_r
 pub use Rattle.ra_laws.proofs.Numbers.{numbers_of_labels as labels_are_numbered_in_turn, label_there as each_number_has_its_label-there, no_label_there as each_number_has_its_label-none}
 pub use Rattle.ra_laws.proofs.Unique.{label_found as each_number_has_its_label-found, named_labels-only as the_order_is_pinned}
 pub use Rattle.ra_laws.proofs.Holding.{IsPermutation-named_sequence as each_part_once}
-pub use Rattle.ra_laws.proofs.Order.{stamp_below as stamps_by_clock_and_then_by_replica-less, stamp_same as stamps_by_clock_and_then_by_replica-equal, lowest_below as the_lowest_rank_is_below_each_stamp, label_below as labels_by_rank_and_then_by_number, IsPermutation-named_labels as named_labels_are_sorted-same, IsSorted-named_labels as named_labels_are_sorted-sorted, named_labels-by_number as named_in_order_of_execution-labels}
+pub use Rattle.ra_labels.proofs.StampOrder.{stamp_below as stamps_by_clock_and_then_by_replica-less, stamp_same as stamps_by_clock_and_then_by_replica-equal, lowest_below as the_lowest_rank_is_below_each_stamp}
+pub use Rattle.ra_laws.proofs.Order.{label_below as labels_by_rank_and_then_by_number, IsPermutation-named_labels as named_labels_are_sorted-same, IsSorted-named_labels as named_labels_are_sorted-sorted, named_labels-by_number as named_in_order_of_execution-labels}
 pub use Rattle.ra_laws.proofs.Ranking.{execution-extends as the_order_of_execution_extends_visibility-labels, counter-extends as the_order_of_execution_extends_visibility-counter, or_set-extends as the_order_of_execution_extends_visibility-or_set, ranks-extend as visibility_is_extended_where_ranks_say_so}
 -- laws::timestamps
 pub use Rattle.ra_laws.proofs.Timestamps.{timestamp-own as a_timestamp_is_the_greatest_seen-own, timestamp-reached as a_timestamp_is_the_greatest_seen-seen, timestamp-bounds as a_timestamp_is_the_greatest_seen-greatest, timestamp-append as a_timestamp_is_kept}

@@ -1,11 +1,9 @@
 -- The timestamp of a label: its own stamp, or the greatest that it sees.
-use Rattle.std.proofs.Common.{◌≡◌, ℕ, zero, suc, ◌<◌, Bool, true, false, eqb, List, [], ◌∷◌, ◌++◌, filter, Option, Some, None, refl, sym, ap, ◌∙◌, subst, inl, inr, arith}
+use Rattle.std.proofs.Common.{◌≡◌, ℕ, zero, suc, ◌<◌, Bool, eqb, List, [], ◌∷◌, ◌++◌, filter, Option, Some, None, refl, sym, ap, ◌∙◌, subst, inl, inr, arith}
 use Rattle.std.specs.Prelude.{◌⊎◌, Contains, unwrap_or, cond}
 use Rattle.std.specs.Option.{option_map_or}
 use Rattle.std.specs.Ordering.{is_lt}
-use Rattle.std.specs.declared.cmp.Ordering.{Ordering}
-use Rattle.std.specs.declared.cmp.Ordering.TheVariants.{Less, Equal, Greater}
-use Rattle.std.proofs.lemmas.Bool.{false≢true, cases_Bool, cases_order, cases_lt, cond-true, cond-false, cond_both, ne_eqb}
+use Rattle.std.proofs.lemmas.Bool.{cases_Bool, cases_order, cases_lt, cond-true, cond-false, cond_both, ne_eqb}
 use Rattle.std.proofs.lemmas.Option.{none-some}
 use Rattle.ra_labels.specs.declared.operation.Op.{Op}
 use Rattle.ra_labels.specs.declared.label.Stamp.{Stamp}
@@ -15,22 +13,10 @@ use Rattle.ra_labels.specs.Records.{Records, label_count, labels_of}
 use Rattle.ra_labels.specs.Visibility.{sees, had}
 use Rattle.ra_labels.specs.NamedOrder.{lowest_rank, stamp_cmp, greater_of, greatest_stamp, timestamp_of}
 use Rattle.ra_labels.specs.Laws.{IsStampBelow, SeesStamp}
+use Rattle.ra_labels.proofs.Members.{head_or_behind, kept-there, there-kept}
+use Rattle.ra_labels.proofs.StampOrder.{below_tested, not_below_tested}
 use Rattle.ra_laws.proofs.Numbers.{label_count-append}
-use Rattle.ra_laws.proofs.Places.{Contains-cons_cases, kept-there, there-kept}
-use Rattle.ra_laws.proofs.Order.{stamp_below}
 use Rattle.ra_laws.proofs.FirstUpdates.{sees-next}
-
--- what a test of the order says
-less_from : (o : Ordering) → is_lt o ≡ true → o ≡ Less
-less_from Less is = refl
-less_from Equal is = absurd (false≢true is)
-less_from Greater is = absurd (false≢true is)
-
-below_from_test : (s t : Stamp) → is_lt (stamp_cmp s t) ≡ true → IsStampBelow s t
-below_from_test s t is = (stamp_below s t).0 (less_from (stamp_cmp s t) is)
-
-not_below_from_test : (s t : Stamp) → is_lt (stamp_cmp s t) ≡ false → ¬ IsStampBelow s t
-not_below_from_test s t fails below = false≢true (sym fails ∙ ap is_lt ((stamp_below s t).1 below))
 
 -- the order of stamps, over their numbers
 not_both : (a b c d : ℕ) → (a < c) ⊎ ((a ≡ c) × (b < d)) → (c < a) ⊎ ((c ≡ a) × (d < b)) → ⊥
@@ -65,18 +51,18 @@ not_below-through s t u first second = through s.clock s.replica t.clock t.repli
 -- the greater of two is not below either, and is one of them
 greater-left : (s t : Stamp) → ¬ IsStampBelow (greater_of s t) s
 greater-left s t = cond_both (is_lt (stamp_cmp s t)) t s (λ u. ¬ IsStampBelow u s)
-    (λ is below. not_both s.clock s.replica t.clock t.replica (below_from_test s t is) below)
+    (λ is below. not_both s.clock s.replica t.clock t.replica (below_tested s t is) below)
     (λ fails. not_below-itself s)
 
 greater-right : (s t : Stamp) → ¬ IsStampBelow (greater_of s t) t
 greater-right s t = cond_both (is_lt (stamp_cmp s t)) t s (λ u. ¬ IsStampBelow u t)
     (λ is. not_below-itself t)
-    (λ fails. not_below_from_test s t fails)
+    (λ fails. not_below_tested s t fails)
 
 greater-one : (s t : Stamp) → (greater_of s t ≡ t) ⊎ ((greater_of s t ≡ s) × ¬ IsStampBelow s t)
 greater-one s t = elim (cases_Bool (is_lt (stamp_cmp s t))) [
   | inl is ↦ inl (cond-true (is_lt (stamp_cmp s t)) t s is)
-  | inr fails ↦ inr (cond-false (is_lt (stamp_cmp s t)) t s fails, not_below_from_test s t fails)
+  | inr fails ↦ inr (cond-false (is_lt (stamp_cmp s t)) t s fails, not_below_tested s t fails)
 ]
 
 -- one more label
@@ -99,7 +85,7 @@ no_less label labels = elim (stamp_or_none label.stamp) [
 
 greatest-bounds : (labels : List Label) (label : Label) (s : Stamp) → Contains labels label → label.stamp ≡ Some s → ¬ IsStampBelow (greatest_stamp labels) s
 greatest-bounds [] label s there is = absurd (omega (arith, there.1))
-greatest-bounds (first ∷ labels) label s there is = elim (Contains-cons_cases first labels label there) [
+greatest-bounds (first ∷ labels) label s there is = elim (head_or_behind first labels label there) [
   | inl here ↦
       let own : first.stamp ≡ Some s = ap (λ (l : Label). l.stamp) here ∙ is in
       subst (λ u. ¬ IsStampBelow u s) (sym (with_stamp first labels s own)) (greater-right (greatest_stamp labels) s)
@@ -136,7 +122,7 @@ greatest-reached (first ∷ labels) = elim (stamp_or_none first.stamp) [
         | inl one ↦ inl (subst (HasStamp (first ∷ labels)) (sym same) (further_on first labels (greatest_stamp labels) one))
         | inr lowest ↦ inr (
           same ∙ lowest.0,
-          (λ label there. elim (Contains-cons_cases first labels label there) [
+          (λ label there. elim (head_or_behind first labels label there) [
             | inl here ↦ sym (ap (λ (l : Label). l.stamp) here) ∙ none
             | inr further ↦ lowest.1 label further
           ]),

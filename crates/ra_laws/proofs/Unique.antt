@@ -15,9 +15,10 @@ use Rattle.ra_labels.specs.declared.label.Label.{Label}
 use Rattle.ra_labels.specs.declared.command.Command.TheVariants.{Operate}
 use Rattle.ra_labels.specs.Records.{Records, label_count, labels_of, label_at, next_label}
 use Rattle.ra_labels.specs.NamedOrder.{rank_of, stamp_cmp, label_cmp, named_labels}
-use Rattle.ra_laws.proofs.Places.{Contains-cons_cases}
+use Rattle.ra_labels.proofs.Members.{head_or_behind}
+use Rattle.ra_labels.proofs.Counted.{numbers_below_count}
 use Rattle.ra_laws.proofs.Numbers.{label_at-append}
-use Rattle.ra_laws.proofs.Order.{label_cmp-total, IsSorted-named_labels, IsPermutation-named_labels, numbers_below_count}
+use Rattle.ra_laws.proofs.Order.{label_cmp-total, IsSorted-named_labels, IsPermutation-named_labels}
 
 -- neither is below the other
 pub neither_below : (o p : Ordering) → o ≡ ordering_reverse p → is_lt o ≡ false → is_lt p ≡ false → is_eq o ≡ true
@@ -87,7 +88,7 @@ module _ {A : Type 0} (cmp : A → A → Ordering) (total : IsTotalOrder cmp) wh
 -- a label is found at its number
 pub label_found : (records : Records) (label : Label) → Contains (labels_of records) label → label_at records label.number ≡ Some label
 label_found [] label (k, within, is) = absurd (omega arith)
-label_found (Operate by op clock ∷ before) label found = elim (Contains-cons_cases (next_label before by op clock) (labels_of before) label found) [
+label_found (Operate by op clock ∷ before) label found = elim (head_or_behind (next_label before by op clock) (labels_of before) label found) [
   | inl newest ↦ cond-true (eqb (label_count before) label.number) _ _ (eq-eqb _ _ (ap (λ (l : Label). l.number) newest)) ∙ ap Some newest
   | inr older ↦
       let below = All-contains (λ l. l.number < label_count before) (labels_of before) label (numbers_below_count before) older in

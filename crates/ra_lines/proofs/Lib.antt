@@ -1,5 +1,4 @@
 pub mod Cuts
-pub mod SameKind
 pub mod Numbers
 pub mod Lists
 pub mod Operations

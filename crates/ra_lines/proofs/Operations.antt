@@ -12,7 +12,7 @@ use Rattle.ra_labels.specs.declared.operation.Op.TheVariants.{Inc, Dec, Count, W
 use Rattle.ra_lines.specs.Grammar.{IsSmall, list_word, value_word, marked, has_words, operation_fields, HasSmallNumbers}
 use Rattle.ra_lines.specs.Reading.{number_read, signed_read, list_read, value_read, number_first, mark_first, behind_first, query_read, read_first, write_first, addition_read, add_first, plain_removal, removal_read, remove_first, after_first, word_first}
 use Rattle.ra_labels.specs.Answer.{is_kind}
-use Rattle.ra_lines.proofs.SameKind.{same_kind}
+use Rattle.ra_labels.proofs.SameKind.{same_kind}
 use Rattle.ra_lines.proofs.Numbers.{not_number, number_read-Some, number_read-decimal, signed_read-Some, signed_read-decimal}
 use Rattle.ra_lines.proofs.Lists.{mapped, list_read-Some, list_read-word}
 

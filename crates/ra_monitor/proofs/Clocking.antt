@@ -1,12 +1,10 @@
 -- Clocks as they are looked up.
-use Rattle.std.proofs.Common.{◌≡◌, ℕ, ◌<◌, ◌≤◌, Bool, true, false, List, ◌∷◌, length, get_or, refl, sym, ap, ◌∙◌, arith, Ordering}
+use Rattle.std.proofs.Common.{◌≡◌, ℕ, ◌<◌, ◌≤◌, Bool, true, false, List, ◌∷◌, length, get_or, refl, sym, ap, ◌∙◌, arith}
 use Rattle.std.specs.Prelude.{◌||◌, ◌&&◌, ◌==◌, nat_eq, nat_lt, set}
 use Rattle.std.specs.List.{list_any, insert}
 use Rattle.std.specs.List.Sorted.{IsNonDecreasing, IsPartitionPoint}
-use Rattle.std.specs.Ordering.{MatchOrdering, is_eq, nat_cmp, ordering_then}
-use Rattle.std.specs.declared.cmp.Ordering.TheVariants.{Less, Equal, Greater}
+use Rattle.std.specs.Ordering.{is_eq, nat_cmp}
 use Rattle.std.proofs.lemmas.Bool.{eq-eqb, ne_eqb, eqb-true, ltb-true, ltb-false}
-use Rattle.std.proofs.lemmas.Cmp.{ranked}
 use Rattle.std.proofs.lemmas.List.Elements.{All-from_get_or}
 use Rattle.std.proofs.lemmas.List.Folds.{list_any_at, list_any_none}
 use Rattle.std.proofs.lemmas.List.Sorted.{list_any-IsPermutation, IsPermutation-insert, IsNonDecreasingBy-insert}
@@ -14,18 +12,12 @@ use Rattle.std.proofs.lemmas.List.{get_or-set_same, get_or-set_other}
 use Rattle.std.proofs.lemmas.Grind.{get_or_default_zero}
 use Rattle.ra_labels.specs.declared.label.Stamp.{Stamp}
 use Rattle.ra_labels.specs.NamedOrder.{stamp_cmp}
+use Rattle.ra_labels.proofs.Comparisons.{eqb-comm, is_eq-nat_cmp, then_eq}
 use Rattle.ra_monitor.specs.Clocks.{Clocks, is_clock_in, IsPlaceFor}
 use Rattle.ra_monitor.specs.Taken.{clocks_at}
 
 both : true ≡ false → ⊥
 both e = absurd (cc e)
-
-by_tests : (x y : ℕ) (b : Bool) → (x == y) ≡ b → (x == y) ≡ (y == x)
-by_tests x y true same = same ∙ sym (eq-eqb y x (sym (eqb-true x y same)))
-by_tests x y false other = other ∙ sym (ne_eqb y x (λ e. both (sym (eq-eqb x y (sym e)) ∙ other)))
-
-eqb-comm : (x y : ℕ) → (x == y) ≡ (y == x)
-eqb-comm x y = by_tests x y (x == y) refl
 
 -- the place that a search finds
 pub place_found : (xs : List ℕ) (clock place : ℕ) → place ≤ length xs
@@ -69,20 +61,6 @@ sorted_with xs place clock sorted at =
     IsNonDecreasingBy-insert (λ x. x) xs place clock sorted at.among
     (λ k d below. omega (arith, get_or_default_zero xs k d (omega (arith, below, at.among)), at.before k below))
     (λ k d behind below. omega (arith, get_or_default_zero xs k d below, at.behind k behind below))
-
-cmp_tests : (x y : ℕ) (o : Ordering) → MatchOrdering o (x < y) (x ≡ y) (y < x) → is_eq o ≡ (x == y)
-cmp_tests x y Less known = sym (ne_eqb x y (λ same. absurd (omega arith)))
-cmp_tests x y Equal known = sym (eq-eqb x y known)
-cmp_tests x y Greater known = sym (ne_eqb x y (λ same. absurd (omega arith)))
-
--- numbers are the same where they compare so
-is_eq-nat_cmp : (x y : ℕ) → is_eq (nat_cmp x y) ≡ (x == y)
-is_eq-nat_cmp x y = cmp_tests x y (nat_cmp x y) (ranked x y _ refl)
-
-then_eq : (a b : Ordering) → is_eq (ordering_then a b) ≡ (is_eq a && is_eq b)
-then_eq Less b = refl
-then_eq Equal b = refl
-then_eq Greater b = refl
 
 -- and stamps where clock and replica are
 pub stamps_eq : (s t : Stamp) → is_eq (stamp_cmp s t) ≡ (s.clock == t.clock && s.replica == t.replica)

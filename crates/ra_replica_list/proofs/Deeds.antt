@@ -12,6 +12,7 @@ use Rattle.ra_labels.specs.Linearization.{updates_admitted}
 use Rattle.ra_labels.specs.NamedOrder.{named_sequence}
 use Rattle.ra_labels.specs.Insertion.{updates_passing, or_label}
 use Rattle.ra_labels.specs.Waiting.{puts_in, is_there, needed_by}
+use Rattle.ra_labels.proofs.InLists.{bool_same}
 use Rattle.ra_laws.proofs.TheLaws.{each_number_has_its_label-found, an_element_is_put_in_by_one_label-one, an_element_is_put_in_by_one_label-other, an_element_is_there_where_its_label_passes-label, updates_admitted_where_they_lead_to_a_state, one_more_label_puts_its_update_in-there}
 use Rattle.ra_element_list.specs.ElementList.{Arrival, ElementList, arrival_at, is_marked}
 use Rattle.ra_replica_list.specs.declared.deed.Deed.{Deed}
@@ -19,7 +20,6 @@ use Rattle.ra_replica_list.specs.declared.deed.Deed.TheVariants.{PutsIn, Removes
 use Rattle.ra_replica_list.specs.Deeds.{deed_at, element_at, number_of, needed_number, update_of, AreElementsOf, AreDeedsOf}
 use Rattle.ra_replica_list.specs.ReplicaList.{AreThere}
 use Rattle.ra_replica_list.specs.Freed.{puts}
-use Rattle.ra_replica_list.proofs.Places.{pass_together}
 
 -- labels with one number are one
 pub same_label : (records : Records) (l m : Label) → Contains (labels_of records) l → Contains (labels_of records) m → l.number ≡ m.number → l ≡ m
@@ -103,7 +103,7 @@ root_marked {records = records} {passes = passes} stand there =
 -- what a deed puts in, by numbers and by elements
 pub puts_same : {arrivals : List Arrival} {deeds : List (Option Deed)} {records : Records} → AreDeedsOf arrivals deeds records → (n : ℕ) (deed : Deed) → deed_at deeds n ≡ Some deed → (number : ℕ) → number < length arrivals
     → puts_in (element_at arrivals number) (update_of arrivals deed) ≡ puts number deed
-puts_same {arrivals = arrivals} stand n (PutsIn k) is number known = pass_together (element_at arrivals k == element_at arrivals number) (number == k)
+puts_same {arrivals = arrivals} stand n (PutsIn k) is number known = bool_same (element_at arrivals k == element_at arrivals number) (number == k)
     (λ same. eq-eqb number k (sym (stand.once k number (stand.known n (PutsIn k) is) known (eqb-true (element_at arrivals k) (element_at arrivals number) same))))
     (λ same. eq-eqb (element_at arrivals k) (element_at arrivals number) (sym (ap (λ (m : ℕ). element_at arrivals m) (eqb-true number k same))))
 puts_same stand n (Removes k) is number known = refl

@@ -16,6 +16,7 @@ use Rattle.ra_labels.specs.Linearization.{updates_admitted}
 use Rattle.ra_labels.specs.NamedOrder.{greater_of, named_labels, named_sequence}
 use Rattle.ra_labels.specs.Insertion.{updates_among, updates_passing, updates_had, or_label, Makes}
 use Rattle.ra_labels.specs.Waiting.{IsSettled}
+use Rattle.ra_labels.proofs.Members.{at_head}
 use Rattle.ra_laws.proofs.TheLaws.{named_labels_are_sorted-same, each_number_has_its_label-found, an_operation_makes_one_update-exactly, a_replica_had_one_more-delivery, a_delivery_puts_its_update_in-order, settled_labels_stay_settled-alike, settled_labels_stay_settled-delivery, tests_that_agree_let_the_same_updates_pass, a_later_command_leaves_the_updates_that_pass-delivery, one_more_label_puts_its_update_in-count, settled_updates_are_admitted-same, what_is_settled_follows_from_what_was_had, one_more_label_settles_none_before_it-count}
 use Rattle.ra_element_list.specs.ElementList.{ElementList, arrival_at}
 use Rattle.ra_replica_list.specs.declared.deed.Deed.{Deed}
@@ -23,7 +24,6 @@ use Rattle.ra_replica_list.specs.declared.deed.Deed.TheVariants.{PutsIn, Removes
 use Rattle.ra_replica_list.specs.Deeds.{deed_at, update_of, AreElementsOf}
 use Rattle.ra_replica_list.specs.ReplicaList.{ReplicaList, IsGreatestOf, IsListOf}
 use Rattle.ra_replica_list.specs.Freed.{IsKeptAfter}
-use Rattle.ra_replica_list.proofs.Places.{at_head}
 use Rattle.ra_replica_list.proofs.Deeds.{same_label, all_admitted}
 use Rattle.ra_replica_list.proofs.Fewer.{passing_fewer}
 use Rattle.ra_replica_list.proofs.Alike.{kept_alike, kept_delivered, greatest_alike, greatest_delivered}

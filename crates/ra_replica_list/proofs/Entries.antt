@@ -1,13 +1,13 @@
 -- What a map of labels that wait says, where one of its entries changes.
 use Rattle.std.proofs.Common.{◌≡◌, ◌≢◌, ℕ, cond, List, [], ◌∷◌, ◌++◌, length, Option, Some, None, refl, sym, ap, ◌∙◌, subst, inl, inr}
-use Rattle.std.specs.Prelude.{nat_eq, unwrap_or, option_map, Vec, Result, Ok, Err, OnErr, Contains}
+use Rattle.std.specs.Prelude.{nat_eq, unwrap_or, option_map, Vec, Contains}
 use Rattle.std.specs.Map.{lookup}
 use Rattle.std.specs.declared.alloc.Global.{Global}
 use Rattle.std.proofs.lemmas.Bool.{cases_eq, eq-eqb, ne_eqb, cond-true, cond-false}
 use Rattle.std.proofs.lemmas.Option.{none-some, same_Some}
 use Rattle.std.proofs.lemmas.Map.Made.{lookup-map_values}
-use Rattle.ra_replica_list.proofs.Places.{at_head}
 use Rattle.ra_replica_list.specs.Waiting.{labels_under, waiting_in, NoneEmpty}
+use Rattle.ra_labels.proofs.Members.{at_head}
 
 abbrev pub Entries : Type 0
 Entries = List (ℕ × Vec ℕ Global)
@@ -57,10 +57,6 @@ module _ (entries next : Entries) (number : ℕ) (now : Option (Vec ℕ Global))
 pub filled_push : (labels : List ℕ) (label : ℕ) → ¬ (labels ++ label ∷ [] ≡ [])
 filled_push [] label is = absurd (cc is)
 filled_push (first ∷ labels) label is = absurd (cc is)
-
-pub on_err_any : {T E : Type 0} {P : Type 0} (r : Result T E) → P → OnErr r P
-on_err_any (Ok x) p = tt
-on_err_any (Err e) p = p
 
 -- where there is an entry some label waits
 abbrev SomeWaits : List (ℕ × List ℕ) → Type 0

@@ -15,14 +15,15 @@ use Rattle.ra_labels.specs.declared.operation.Op.TheVariants as op
 use Rattle.ra_labels.specs.declared.operation.Update.{Update}
 use Rattle.ra_labels.specs.declared.operation.Query.{Query}
 use Rattle.ra_labels.specs.declared.label.Label.{Label}
-use Rattle.ra_labels.specs.declared.command.Command.TheVariants.{Operate, Deliver, Verdict}
-use Rattle.ra_labels.specs.Records.{Records, label_count, labels_of}
+use Rattle.ra_labels.specs.Records.{Records, labels_of}
 use Rattle.ra_labels.specs.Rewriting.{Part, Half, Act, Does, Asks, acts_of, part_of, parts_of, update_of as act_update, updates_of}
 use Rattle.ra_labels.specs.Specification.{State}
 use Rattle.ra_labels.specs.NamedOrder.{named_labels}
 use Rattle.ra_labels.specs.Laws.{NoneTwice}
 use Rattle.ra_labels.specs.Insertion.{updates_among, updates_passing, or_label}
 use Rattle.ra_labels.specs.Waiting.{is_there, needed_by}
+use Rattle.ra_labels.proofs.Members.{head_or_behind, at_head, behind_head, none_there}
+use Rattle.ra_labels.proofs.Counted.{labels_counted}
 use Rattle.ra_laws.proofs.TheLaws.{what_is_settled_does_not_wait, named_labels_are_sorted-same}
 use Rattle.ra_element_list.specs.ElementList.{ElementList, is_marked}
 use Rattle.ra_replica_list.specs.declared.deed.Deed.{Deed}
@@ -31,7 +32,7 @@ use Rattle.ra_replica_list.specs.Waiting.{labels_under}
 use Rattle.ra_replica_list.specs.Deeds.{deed_at, needed_number, AreElementsOf}
 use Rattle.ra_replica_list.specs.ReplicaList.{IsKept}
 use Rattle.ra_replica_list.specs.Freed.{puts, is_put_by, freed_under, IsFreeing, IsKeptAfter}
-use Rattle.ra_replica_list.proofs.Places.{head_or_behind, at_head, behind_head, none_there, not_both, still_passes, others_pass}
+use Rattle.ra_replica_list.proofs.Places.{not_both, still_passes, others_pass}
 use Rattle.ra_replica_list.proofs.Deeds.{deeds_stand, needed_marked, needed_known, marked_label, root_marked}
 use Rattle.ra_replica_list.proofs.Freeing.{unmarked, marked}
 
@@ -168,12 +169,6 @@ few_updates passes (label ∷ labels) =
     ap updates_of (filter-append test (parts_of label) (flat_map parts_of labels))
     ∙ filter_map-append (λ (p : Part). act_update p.act) (filter test (parts_of label)) (filter test (flat_map parts_of labels)) in
     omega (arith, few_acts passes label label.op, few_updates passes labels, ap length split, length-append own (updates_among passes labels))
-
-labels_counted : (records : Records) → length (labels_of records) ≡ label_count records
-labels_counted [] = refl
-labels_counted (Operate by o clock ∷ before) = omega (arith, labels_counted before)
-labels_counted (Deliver to label ∷ before) = labels_counted before
-labels_counted (Verdict ∷ before) = labels_counted before
 
 -- so no more labels follow than there are
 pub not_many : {all : ElementList} {deeds : List (Option Deed)} {records : Records} {state : State} {marks : List Bool} {labels : List ℕ} {done : ℕ} {had settled : ℕ → Bool} {first : ℕ} → AreElementsOf all deeds records

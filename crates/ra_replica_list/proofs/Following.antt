@@ -10,6 +10,7 @@ use Rattle.ra_labels.specs.Specification.{State, step_of}
 use Rattle.ra_labels.specs.Laws.{elements_in}
 use Rattle.ra_labels.specs.Insertion.{updates_passing}
 use Rattle.ra_labels.specs.Waiting.{is_there}
+use Rattle.ra_labels.proofs.Members.{at_head}
 use Rattle.ra_element_list.specs.ElementList.{ElementList, is_marked, IsKeptByMark, IsNearestBefore}
 use Rattle.ra_replica_list.specs.declared.deed.Deed.{Deed}
 use Rattle.ra_replica_list.specs.declared.deed.Deed.TheVariants.{PutsIn, Removes}
@@ -17,7 +18,6 @@ use Rattle.ra_replica_list.specs.Waiting.{labels_under}
 use Rattle.ra_replica_list.specs.Deeds.{deed_at, element_at, needed_number, AreElementsOf}
 use Rattle.ra_replica_list.specs.ReplicaList.{IsKept}
 use Rattle.ra_replica_list.specs.Freed.{IsFreeing, IsAmidst}
-use Rattle.ra_replica_list.proofs.Places.{at_head}
 use Rattle.ra_replica_list.proofs.Deeds.{deeds_stand, root_marked, AreMarksWith}
 use Rattle.ra_replica_list.proofs.Stepping.{removal_leads, insertion_leads}
 use Rattle.ra_replica_list.proofs.Taking.{or_nothing}

@@ -11,6 +11,7 @@ use Rattle.ra_labels.specs.Specification.{State, state_after}
 use Rattle.ra_labels.specs.Laws.{NoneTwice}
 use Rattle.ra_labels.specs.Insertion.{updates_passing, or_label}
 use Rattle.ra_labels.specs.Waiting.{NoneWaits, OthersWait}
+use Rattle.ra_labels.proofs.Members.{head_or_behind, at_head, behind_head, none_there}
 use Rattle.ra_laws.proofs.TheLaws.{what_is_settled_does_not_wait, one_more_label_puts_its_update_in-count}
 use Rattle.ra_element_list.specs.ElementList.{Arrival, is_marked}
 use Rattle.ra_replica_list.specs.declared.deed.Deed.{Deed}
@@ -19,7 +20,7 @@ use Rattle.ra_replica_list.specs.Waiting.{labels_under}
 use Rattle.ra_replica_list.specs.Deeds.{deed_at, needed_number, update_of, AreDeedsOf}
 use Rattle.ra_replica_list.specs.ReplicaList.{AreThere, AreWaiting, IsKept}
 use Rattle.ra_replica_list.specs.Freed.{puts, IsFreeing}
-use Rattle.ra_replica_list.proofs.Places.{head_or_behind, at_head, behind_head, none_there, none_twice-append, none_twice-one, not_both, it_passes, still_passes, others_pass, passes_or_is, not_before, not_it}
+use Rattle.ra_replica_list.proofs.Places.{none_twice-append, none_twice-one, not_both, it_passes, still_passes, others_pass, passes_or_is, not_before, not_it}
 use Rattle.ra_replica_list.proofs.Deeds.{needed_marked, marked_label, AreMarksWith, there_with}
 use Rattle.ra_replica_list.proofs.Stepping.{none_waits_with}
 

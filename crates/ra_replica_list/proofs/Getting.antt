@@ -11,6 +11,7 @@ use Rattle.ra_labels.specs.Specification.{State, state_after}
 use Rattle.ra_labels.specs.Laws.{NoneTwice}
 use Rattle.ra_labels.specs.Insertion.{updates_passing, or_label}
 use Rattle.ra_labels.specs.Waiting.{is_there, needed_by, NoneWaits, IsSettled}
+use Rattle.ra_labels.proofs.Members.{head_or_behind, at_head, none_there}
 use Rattle.ra_laws.proofs.TheLaws.{what_is_settled_does_not_wait, settled_labels_stay_settled-waiting, one_more_update_is_one_step-none_waits, one_more_label_puts_its_update_in-count}
 use Rattle.ra_element_list.specs.ElementList.{Arrival, is_marked}
 use Rattle.ra_replica_list.specs.declared.deed.Deed.{Deed}
@@ -18,7 +19,7 @@ use Rattle.ra_replica_list.specs.Waiting.{labels_under}
 use Rattle.ra_replica_list.specs.Deeds.{deed_at, needed_number, update_of, AreDeedsOf}
 use Rattle.ra_replica_list.specs.ReplicaList.{IsKept}
 use Rattle.ra_replica_list.specs.Freed.{puts, IsKeptAfter}
-use Rattle.ra_replica_list.proofs.Places.{head_or_behind, at_head, none_there, none_twice-append, none_twice-one, not_both, it_passes, still_passes, passes_or_is, others_pass, not_before, not_it}
+use Rattle.ra_replica_list.proofs.Places.{none_twice-append, none_twice-one, not_both, it_passes, still_passes, passes_or_is, others_pass, not_before, not_it}
 use Rattle.ra_replica_list.proofs.Deeds.{needed_marked, AreMarksWith, there_with}
 
 -- the label waits under this number from now on

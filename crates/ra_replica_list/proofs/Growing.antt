@@ -14,12 +14,12 @@ use Rattle.ra_labels.specs.Linearization.{updates_admitted}
 use Rattle.ra_labels.specs.NamedOrder.{named_sequence}
 use Rattle.ra_labels.specs.Insertion.{updates_passing, Makes}
 use Rattle.ra_labels.specs.Waiting.{is_there}
+use Rattle.ra_labels.proofs.Members.{head_or_behind, at_head, behind_head}
 use Rattle.ra_laws.proofs.TheLaws.{an_operation_makes_one_update-one, an_element_is_put_in_by_one_label-one, an_element_is_put_in_by_one_label-other, an_element_is_there_where_its_label_passes-label}
 use Rattle.ra_element_list.specs.ElementList.{Arrival, ElementList, arrival_at, root}
 use Rattle.ra_replica_list.specs.declared.deed.Deed.{Deed}
 use Rattle.ra_replica_list.specs.declared.deed.Deed.TheVariants.{PutsIn, Removes}
 use Rattle.ra_replica_list.specs.Deeds.{deed_at, element_at, number_of, needed_number, update_of, AreElementsOf, AreDeedsOf}
-use Rattle.ra_replica_list.proofs.Places.{head_or_behind, at_head, behind_head}
 use Rattle.ra_replica_list.proofs.Deeds.{deeds_stand, deed_there}
 use Rattle.ra_replica_list.proofs.Knowing.{AreLonger, older_deed, still_deed}
 

@@ -13,13 +13,14 @@ use Rattle.ra_labels.specs.Visibility.{is_update, is_update_at, had}
 use Rattle.ra_labels.specs.Specification.{State, state_after}
 use Rattle.ra_labels.specs.Insertion.{updates_passing}
 use Rattle.ra_labels.specs.Waiting.{is_there}
+use Rattle.ra_labels.proofs.Members.{head_or_behind, behind_head}
 use Rattle.ra_laws.proofs.TheLaws.{had_updates-updates, had_updates-there, settled_labels_stay_settled-operation, a_later_command_leaves_the_updates_that_pass-operation}
 use Rattle.ra_element_list.specs.ElementList.{Arrival}
 use Rattle.ra_replica_list.specs.declared.deed.Deed.{Deed}
 use Rattle.ra_replica_list.specs.Waiting.{labels_under}
 use Rattle.ra_replica_list.specs.Deeds.{deed_at, element_at, needed_number}
 use Rattle.ra_replica_list.specs.ReplicaList.{IsKept, IsGreatestOf}
-use Rattle.ra_replica_list.proofs.Places.{head_or_behind, behind_head, not_both}
+use Rattle.ra_replica_list.proofs.Places.{not_both}
 use Rattle.ra_replica_list.proofs.Deeds.{deed_there}
 
 -- no replica had a label that is not there

@@ -17,15 +17,15 @@ use Rattle.ra_labels.specs.NamedOrder.{named_labels, named_sequence}
 use Rattle.ra_labels.specs.Laws.{elements_in, NoneTwice, IsStampBelow}
 use Rattle.ra_labels.specs.Insertion.{updates_passing, Makes}
 use Rattle.ra_labels.specs.Waiting.{is_there}
+use Rattle.ra_labels.proofs.Members.{head_or_behind, at_head, behind_head, none_there}
+use Rattle.ra_labels.proofs.StampOrder.{below_below}
 use Rattle.ra_laws.proofs.TheLaws.{a_list_has_what_was_put_in-root, a_list_has_what_was_put_in-once, between_an_anchor_and_its_element_stand_later_ones, labels_with_stamps_stand_in_their_order, stamps_by_clock_and_then_by_replica-less, an_element_is_there_where_its_label_passes-label, what_is_there_a_label_put_in-passing, named_labels_are_sorted-same}
 use Rattle.ra_element_list.specs.ElementList.{ElementList, arrival_at, is_marked, IsSomewhereBehind, IsNearestBefore}
 use Rattle.ra_replica_list.specs.declared.deed.Deed.{Deed}
 use Rattle.ra_replica_list.specs.declared.deed.Deed.TheVariants.{PutsIn, Removes}
 use Rattle.ra_replica_list.specs.Deeds.{deed_at, element_at, update_of, AreElementsOf}
 use Rattle.ra_replica_list.specs.ReplicaList.{AreThere, IsGreatestOf}
-use Rattle.ra_replica_list.proofs.Places.{head_or_behind, at_head, behind_head, none_there}
 use Rattle.ra_replica_list.proofs.Deeds.{all_admitted, deeds_stand, needed_marked}
-use Rattle.ra_replica_list.proofs.Greatest.{below_below}
 
 -- a test that each passes
 all_pass : (p : ℕ × Bool → Bool) (xs : List (ℕ × Bool)) → ((x : ℕ × Bool) → Contains xs x → p x ≡ true) → list_all p xs ≡ true

@@ -14,6 +14,7 @@ use Rattle.ra_labels.specs.Specification.{State, step_of, state_after}
 use Rattle.ra_labels.specs.Linearization.{extends_visibility, updates_admitted}
 use Rattle.ra_labels.specs.NamedOrder.{greater_of, named_sequence}
 use Rattle.ra_labels.specs.Insertion.{updates_passing, or_label, Makes}
+use Rattle.ra_labels.proofs.Members.{at_head}
 use Rattle.ra_laws.proofs.TheLaws.{what_is_settled_does_not_wait, an_operation_makes_one_update-exactly, a_replica_had_one_more-operation, a_label_behind_all_that_pass_is_one_step}
 use Rattle.ra_element_list.specs.ElementList.{Arrival, ElementList, is_marked}
 use Rattle.ra_replica_list.specs.declared.deed.Deed.{Deed}
@@ -22,7 +23,7 @@ use Rattle.ra_replica_list.specs.Waiting.{labels_under}
 use Rattle.ra_replica_list.specs.Deeds.{deed_at, element_at, needed_number, AreElementsOf, AreDeedsOf}
 use Rattle.ra_replica_list.specs.ReplicaList.{ReplicaList, IsKept, IsGreatestOf, IsListOf}
 use Rattle.ra_replica_list.specs.Freed.{IsKeptAfter}
-use Rattle.ra_replica_list.proofs.Places.{at_head, not_both}
+use Rattle.ra_replica_list.proofs.Places.{not_both}
 use Rattle.ra_replica_list.proofs.Deeds.{deeds_stand, needed_known, AreMarksWith}
 use Rattle.ra_replica_list.proofs.Alike.{kept_alike, greatest_alike}
 use Rattle.ra_replica_list.proofs.Greatest.{greatest_with, greatest_without}

@@ -1,23 +1,10 @@
--- Where an element stands in a list, lists with none twice, and tests.
-use Rattle.std.proofs.Common.{◌≡◌, ℕ, zero, suc, Bool, true, false, List, [], ◌∷◌, ◌++◌, length, refl, sym, ap, ◌∙◌, inl, inr, arith}
-use Rattle.std.specs.Prelude.{◌⊎◌, ◌==◌, ◌||◌, Contains, Result, Ok, Err, OnOk, OnErr}
+-- Lists with none twice, and tests.
+use Rattle.std.proofs.Common.{◌≡◌, ℕ, Bool, true, false, List, [], ◌∷◌, ◌++◌, length, refl, sym, ap, ◌∙◌, inl, inr, arith}
+use Rattle.std.specs.Prelude.{◌⊎◌, ◌==◌, ◌||◌, Contains}
 use Rattle.std.proofs.lemmas.Bool.{false≢true, or_left, or_right, eqb-true, eq-eqb, false_from_ne_true, cases_eq, ne_eqb}
 use Rattle.ra_labels.specs.Laws.{NoneTwice}
 use Rattle.ra_labels.specs.Insertion.{or_label}
-
--- an element of a list is its head, or stands behind it
-pub head_or_behind : {A : Type 0} (x : A) (xs : List A) (y : A) → Contains (x ∷ xs) y → (x ≡ y) ⊎ Contains xs y
-head_or_behind x xs y (zero, within, is) = inl is
-head_or_behind x xs y (suc k, within, is) = inr (k, omega arith, is)
-
-pub at_head : {A : Type 0} (x : A) (xs : List A) (y : A) → x ≡ y → Contains (x ∷ xs) y
-at_head x xs y is = (zero, omega arith, is)
-
-pub behind_head : {A : Type 0} (x : A) (xs : List A) (y : A) → Contains xs y → Contains (x ∷ xs) y
-behind_head x xs y (k, within, is) = (suc k, omega arith, is)
-
-pub none_there : {A : Type 0} (y : A) → ¬ Contains [] y
-none_there y there = omega (arith, there.1)
+use Rattle.ra_labels.proofs.Members.{head_or_behind, at_head, behind_head, none_there}
 
 -- two lists with none twice, and none of one in the other, together
 pub none_twice-append : {A : Type 0} (xs ys : List A) → NoneTwice xs → NoneTwice ys → ((x : A) → Contains xs x → Contains ys x → ⊥) → NoneTwice (xs ++ ys)
@@ -36,12 +23,6 @@ none_twice-append (x ∷ xs) ys one two apart = (
 
 pub none_twice-one : {A : Type 0} (x : A) → NoneTwice (x ∷ [])
 none_twice-one x = (none_there x, tt)
-
--- two tests that pass together are one
-pub pass_together : (a b : Bool) → (a ≡ true → b ≡ true) → (b ≡ true → a ≡ true) → a ≡ b
-pass_together true b there back = sym (there refl)
-pass_together false true there back = back refl
-pass_together false false there back = refl
 
 pub not_both : (b : Bool) → b ≡ false → ¬ (b ≡ true)
 not_both b fails passes = false≢true (sym fails ∙ passes)
@@ -71,15 +52,6 @@ not_before passes n m fails = false_from_ne_true (passes m) (λ it. not_both (or
 
 pub not_it : (passes : ℕ → Bool) (n m : ℕ) → or_label passes n m ≡ false → ¬ (m ≡ n)
 not_it passes n m fails is = not_both (or_label passes n m) fails (it_passes passes n m is)
-
--- what holds of a result
-pub on_ok : {T E : Type 0} {P Q : Type 0} (r : Result T E) → OnOk r P → (P → Q) → OnOk r Q
-on_ok (Ok x) p f = f p
-on_ok (Err e) p f = tt
-
-pub on_err : {T E : Type 0} {P Q : Type 0} (r : Result T E) → OnErr r P → (P → Q) → OnErr r Q
-on_err (Ok x) p f = tt
-on_err (Err e) p f = f p
 
 -- a list with no length
 pub empty_if : (xs : List ℕ) → (length xs == 0) ≡ true → xs ≡ []

@@ -10,12 +10,13 @@ use Rattle.ra_labels.specs.Records.{Records, label_count, labels_of, next_label}
 use Rattle.ra_labels.specs.Visibility.{had, sees}
 use Rattle.ra_labels.specs.NamedOrder.{lowest_rank, timestamp_of}
 use Rattle.ra_labels.specs.Laws.{IsStampBelow, SeesStamp}
+use Rattle.ra_labels.proofs.Members.{head_or_behind, behind_head}
+use Rattle.ra_labels.proofs.StampOrder.{same_else}
 use Rattle.ra_laws.proofs.TheLaws.{a_timestamp_is_the_greatest_seen-seen, a_timestamp_is_the_greatest_seen-greatest}
 use Rattle.ra_element_list.specs.ElementList.{Arrival}
 use Rattle.ra_replica_list.specs.declared.deed.Deed.{Deed}
 use Rattle.ra_replica_list.specs.ReplicaList.{ReplicaList, IsListOf}
-use Rattle.ra_replica_list.proofs.Places.{head_or_behind, behind_head, not_both}
-use Rattle.ra_replica_list.proofs.Greatest.{same_else}
+use Rattle.ra_replica_list.proofs.Places.{not_both}
 use Rattle.ra_replica_list.proofs.Knowing.{not_had}
 
 -- a new label sees what its replica had

@@ -8,10 +8,10 @@ use Rattle.ra_labels.specs.NamedOrder.{lowest_rank}
 use Rattle.ra_element_list.specs.ElementList.{root, is_marked}
 use Rattle.ra_replica_list.specs.Waiting.{labels_under}
 use Rattle.ra_replica_list.specs.ReplicaList.{IsListOf}
-use Rattle.ra_replica_list.proofs.Places.{none_there}
 use Rattle.std.specs.Prelude.{Contains}
 use Rattle.ra_labels.specs.Laws.{NoneTwice}
 use Rattle.ra_labels.specs.Waiting.{is_there}
+use Rattle.ra_labels.proofs.Members.{none_there}
 
 root_alone : (marks : List Bool) (number : ℕ) → 0 < length marks → ((k : ℕ) → is_marked marks k ≡ false) → 1 ≤ number → is_marked (set marks 0 true) number ≡ false
 root_alone marks number some none beyond = get_or-set_other marks 0 number true false (λ is. omega (arith, is)) ∙ none number

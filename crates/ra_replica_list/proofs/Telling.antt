@@ -7,13 +7,14 @@ use Rattle.ra_labels.specs.Records.{Records}
 use Rattle.ra_labels.specs.Specification.{State, state_after, is_admitted}
 use Rattle.ra_labels.specs.Insertion.{updates_passing}
 use Rattle.ra_labels.specs.Waiting.{AllSettled}
+use Rattle.ra_labels.proofs.Members.{none_there}
 use Rattle.ra_laws.proofs.TheLaws.{settled_updates_are_admitted-all, settled_updates_are_admitted-same}
 use Rattle.ra_element_list.specs.ElementList.{ElementList}
 use Rattle.ra_replica_list.specs.declared.deed.Deed.{Deed}
 use Rattle.ra_replica_list.specs.Waiting.{labels_under}
 use Rattle.ra_replica_list.specs.Deeds.{needed_number, AreElementsOf}
 use Rattle.ra_replica_list.specs.ReplicaList.{IsKept}
-use Rattle.ra_replica_list.proofs.Places.{none_there, not_both}
+use Rattle.ra_replica_list.proofs.Places.{not_both}
 use Rattle.ra_replica_list.proofs.Deeds.{all_admitted}
 
 not_some : {A : Type 0} (o : Option A) → is_some o ≡ false → None ≡ o

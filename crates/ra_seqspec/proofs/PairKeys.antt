@@ -15,24 +15,18 @@ use Rattle.std.proofs.lemmas.Cmp.{ranked, nat_cmp_total, on_total, then_total}
 use Rattle.std.proofs.lemmas.Bool.{cases_Bool, cases_order, cond-true, cond-false, eqb-true, eqb-false, eq-eqb, ne_eqb, lt-ltb, le-ltb, ltb-true, and_from, and_parts, and_right, not_from_true, not_from_false}
 use Rattle.std.proofs.lemmas.Bool.Decides.{nat_tests}
 use Rattle.ra_labels.specs.Lists.{is_among, rises, pair_cmp, identifiers_of, elements_of, without_pairs}
+use Rattle.ra_labels.proofs.Comparisons.{then_eq, eqb-comm, cmp_tests}
 use Rattle.ra_seqspec.specs.Pairs.{identifiers_in_front, elements_behind, distinct_elements}
-use Rattle.ra_seqspec.proofs.Keys.{equal_test}
 use Rattle.ra_seqspec.proofs.Removing.{removed, filter_none_left}
 
 pub pairs_total : IsTotalOrder pair_cmp
 pairs_total = then_total (on_total (λ p. p.0) nat_cmp_total) (on_total (λ p. p.1) nat_cmp_total)
 
--- a pair compared
-then_test : (a b : Ordering) → is_eq (ordering_then a b) ≡ (is_eq a && is_eq b)
-then_test Less b = refl
-then_test Equal b = refl
-then_test Greater b = refl
-
 pub pair_test : (p q : ℕ × ℕ) → is_at (pair_cmp p) q ≡ (p.0 == q.0 && p.1 == q.1)
 pair_test p q =
-    then_test (nat_cmp p.0 q.0) (nat_cmp p.1 q.1)
-    ∙ ap (λ b. b && is_eq (nat_cmp p.1 q.1)) (equal_test p.0 q.0 _ (ranked p.0 q.0 _ refl))
-    ∙ ap (λ b. p.0 == q.0 && b) (equal_test p.1 q.1 _ (ranked p.1 q.1 _ refl))
+    then_eq (nat_cmp p.0 q.0) (nat_cmp p.1 q.1)
+    ∙ ap (λ b. b && is_eq (nat_cmp p.1 q.1)) (cmp_tests p.0 q.0 _ (ranked p.0 q.0 _ refl))
+    ∙ ap (λ b. p.0 == q.0 && b) (cmp_tests p.1 q.1 _ (ranked p.1 q.1 _ refl))
 
 -- one more identifier is taken out
 filter_twice : (p q r : ℕ × ℕ → Bool) → ((k : ℕ × ℕ) → r k ≡ (q k && p k)) → (ks : List (ℕ × ℕ)) → filter p (filter q ks) ≡ filter r ks
@@ -56,9 +50,6 @@ or_assoc : (a b c : Bool) → (a || (b || c)) ≡ ((a || b) || c)
 or_assoc true b c = refl
 or_assoc false b c = refl
 
-same_back : (x y : ℕ) → (x == y) ≡ (y == x)
-same_back x y = grind (arith, nat_tests)
-
 among_push : (x y : ℕ) (xs : List ℕ) → is_among x (xs ++ y ∷ []) ≡ (is_among x xs || x == y)
 among_push x y [] = or_false (x == y)
 among_push x y (z ∷ zs) = ap (λ b. x == z || b) (among_push x y zs) ∙ or_assoc (x == z) (is_among x zs) (x == y)
@@ -73,7 +64,7 @@ taken_out_more x id ids pairs ordered =
     removed pairs_total (x, id) (without_pairs x ids pairs) ordered
     ∙ filter_twice (λ q. not (is_at (pair_cmp (x, id)) q)) (λ q. not (x == q.0 && is_among q.1 ids)) (λ q. not (x == q.0 && is_among q.1 (ids ++ id ∷ []))) (λ q.
     ap (λ b. not (x == q.0 && b)) (among_push q.1 id ids) ∙ one_more (x == q.0) (is_among q.1 ids) (q.1 == id)
-    ∙ ap (λ b. not (x == q.0 && is_among q.1 ids) && not b) (ap (λ b. x == q.0 && b) (same_back q.1 id) ∙ sym (pair_test (x, id) q))) pairs
+    ∙ ap (λ b. not (x == q.0 && is_among q.1 ids) && not b) (ap (λ b. x == q.0 && b) (eqb-comm q.1 id) ∙ sym (pair_test (x, id) q))) pairs
 
 -- pairs behind one: the element is no lower, and the identifier higher where it is the same
 record Behind (p q : ℕ × ℕ) : Type 0 where
@@ -173,7 +164,7 @@ is_last x (Some y) = x == y
 
 is_it : (p : ℕ × ℕ) (last : Option ℕ) → option_eq (λ x y. x == y) last (Some p.0) ≡ is_last p.0 last
 is_it p None = refl
-is_it p (Some y) = same_back y p.0
+is_it p (Some y) = eqb-comm y p.0
 
 or_comm : (a b : Bool) → (a || b) ≡ (b || a)
 or_comm true true = refl

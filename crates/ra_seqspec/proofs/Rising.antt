@@ -1,20 +1,16 @@
 -- Lists that rise, held against a list with the same elements.
-use Rattle.std.proofs.Common.{◌≡◌, ℕ, Bool, true, false, List, refl, sym, ◌∙◌}
+use Rattle.std.proofs.Common.{◌≡◌, ℕ, Bool, true, List, sym, ◌∙◌}
 use Rattle.std.specs.Prelude.{◌↔◌, IsTrue, Contains}
 use Rattle.std.specs.Cmp.{nat_eq_equiv}
 use Rattle.std.proofs.lemmas.Bool.{eqb-true}
 use Rattle.std.proofs.lemmas.Map.Views.{list_any-from_Contains, Contains-from_any}
 use Rattle.ra_labels.specs.Lists.{is_among, have_same, rises}
 use Rattle.ra_labels.proofs.TheLaws.{lists_have_the_same_elements-rising, lists_have_the_same_elements-elements}
+use Rattle.ra_labels.proofs.InLists.{bool_same}
 
 -- what is in a list
 among_contains : (xs : List ℕ) (x : ℕ) → (is_among x xs ≡ true) ↔ Contains xs x
 among_contains xs x = (Contains-from_any eqb-true x xs, list_any-from_Contains nat_eq_equiv x xs)
-
-decided : (r same : Bool) → (r ≡ true → same ≡ true) → (same ≡ true → r ≡ true) → r ≡ same
-decided true same to from = sym (to refl)
-decided false true to from = from refl
-decided false false to from = refl
 
 -- a list that rises has the same elements as these where it is the list that has them once each
 pub is_answer : (list once these : List ℕ) (r : Bool) → rises list ≡ true → rises once ≡ true → ((x : ℕ) → is_among x once ≡ is_among x these) → IsTrue r ↔ (list ≡ once) → r ≡ have_same list these
@@ -22,7 +18,7 @@ is_answer list once these r up also same answer =
     let equal = lists_have_the_same_elements-rising list once up also in
     let ours = lists_have_the_same_elements-elements list once in
     let theirs = lists_have_the_same_elements-elements list these in
-    decided r (have_same list these)
+    bool_same r (have_same list these)
     (λ holds. theirs.1 (λ x.
     let both = ours.0 (equal.1 (answer.0 holds)) x in (
       (λ there. (among_contains these x).0 (sym (same x) ∙ (among_contains once x).1 (both.0 there))),

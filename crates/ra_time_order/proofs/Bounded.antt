@@ -10,11 +10,11 @@ use Rattle.ra_labels.specs.declared.command.Command.TheVariants.{Operate, Delive
 use Rattle.ra_labels.specs.NamedOrder.{greatest_stamp, timestamp_of}
 use Rattle.ra_labels.specs.Records.{Records, label_count, labels_of, next_label}
 use Rattle.ra_labels.specs.Visibility.{had, sees, is_update, is_update_at, IsCausal}
+use Rattle.ra_labels.proofs.Counted.{numbers_below_count}
 use Rattle.ra_laws.proofs.TheLaws.{causal_records_leave_nothing_out-had}
 use Rattle.ra_visibility.specs.Order.{must_stand_before}
 use Rattle.ra_time_order.specs.Stamps.{AtMost}
 use Rattle.ra_time_order.proofs.Ranks.{lowest_at_most, head_or_behind, behind, IsGreatestOf, greatest_of}
-use Rattle.ra_time_order.proofs.Table.{below_count}
 use Rattle.ra_time_order.proofs.Seeing.{kept_is, is_kept}
 
 -- a replica had its own updates
@@ -47,7 +47,7 @@ seen_had (Operate by op clock ∷ before) m k found is =
           let known : had before by k ≡ true = sym (cond-true (m.number == label_count before) (had before by k) (sees before m.number k) (eq-eqb m.number (label_count before) number)) ∙ is in
           or_right own (had before m.replica k) (subst (λ r. had before r k ≡ true) (ap (λ (l : Label). l.replica) newest) known)
       | inr older ↦
-          let below = All-contains (λ l. l.number < label_count before) (labels_of before) m (below_count before) older in
+          let below = All-contains (λ l. l.number < label_count before) (labels_of before) m (numbers_below_count before) older in
           let known : sees before m.number k ≡ true = sym (cond-false (m.number == label_count before) (had before by k) (sees before m.number k) (ne_eqb m.number (label_count before) (λ e. omega (arith, e, below)))) ∙ is in
           or_right own (had before m.replica k) (seen_had before m k older known)
     ]

@@ -24,6 +24,8 @@ use Rattle.ra_labels.specs.declared.command.Command.TheVariants.{Operate}
 use Rattle.ra_labels.specs.NamedOrder.{lowest_rank, stamp_cmp, timestamp_of, rank_of, named_labels}
 use Rattle.ra_labels.specs.Records.{Records, label_count, labels_of, next_label}
 use Rattle.ra_labels.specs.Visibility.{sees}
+use Rattle.ra_labels.proofs.InLists.{bool_same}
+use Rattle.ra_labels.proofs.Counted.{numbers_below_count}
 use Rattle.ra_laws.proofs.TheLaws.{named_labels_are_sorted-sorted, named_labels_are_sorted-same, a_timestamp_is_kept}
 use Rattle.ra_visibility.specs.declared.order.Place.{Place}
 use Rattle.ra_visibility.specs.Seen.{Seen, count_in}
@@ -36,14 +38,8 @@ use Rattle.ra_time_order.specs.declared.entry.Entry.{Entry}
 use Rattle.ra_time_order.specs.Replicas.{Replicas}
 use Rattle.ra_time_order.specs.Standing.{TimeOrder, time_order_of, entry_of, StandsFor}
 use Rattle.ra_time_order.proofs.Ranks.{at_most_from, at_most_through, not_below, lowest_at_most, IsGreatestOf}
-use Rattle.ra_time_order.proofs.Table.{below_count}
 use Rattle.ra_time_order.proofs.Seeing.{kept_is, seen_before, greatest_seen, greatest_is}
 use Rattle.ra_time_order.proofs.Bounded.{all_seen, bounded}
-
-same_bool : (a b : Bool) → (a ≡ true → b ≡ true) → (b ≡ true → a ≡ true) → a ≡ b
-same_bool true b there back = sym (there refl)
-same_bool false true there back = back refl
-same_bool false false there back = refl
 
 stamp_total : IsTotalOrder stamp_cmp
 stamp_total = then_total (on_total (λ (s : Stamp). s.clock) nat_cmp_total) (on_total (λ (s : Stamp). s.replica) nat_cmp_total)
@@ -128,7 +124,7 @@ module _ (order : TimeOrder) (kind : Kind) (first : ℕ) (records : Records) (by
   pub rank_before : (m : Label) → Contains (labels_of records) m → rank_of kind now m ≡ rank_of kind records m
   rank_before m found =
       stands.sorts now m
-      ∙ a_timestamp_is_kept (Operate by op clock ∷ []) records m (All-contains (λ l. l.number < label_count records) (labels_of records) m (below_count records) found)
+      ∙ a_timestamp_is_kept (Operate by op clock ∷ []) records m (All-contains (λ l. l.number < label_count records) (labels_of records) m (numbers_below_count records) found)
       ∙ sym (stands.sorts records m)
 
   pub is_label : (m : Label) → Contains (named_labels kind records) m → Contains (labels_of records) m
@@ -204,7 +200,7 @@ module _ (order : TimeOrder) (kind : Kind) (first : ℕ) (records : Records) (by
       at = ap (slice_get (named_labels kind now)) at ∙ stands_there;
       fits =
           fits
-          ∙ same_bool (not (is_lt (stamp_cmp its_rank greatest))) (list_all must_not (drop p (named_labels kind records)))
+          ∙ bool_same (not (is_lt (stamp_cmp its_rank greatest))) (list_all must_not (drop p (named_labels kind records)))
           (λ none. fits_where (at_most_from its_rank greatest (not-true (is_lt (stamp_cmp its_rank greatest)) none)))
           (λ all. not_from_false (is_lt (stamp_cmp its_rank greatest)) (no_greater_where all))
           ∙ ap (λ k. list_all must_not (drop k (named_labels kind records))) (sym at);

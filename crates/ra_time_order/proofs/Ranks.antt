@@ -1,24 +1,16 @@
 -- Stamps in their order, and the greatest of some.
-use Rattle.std.proofs.Common.{◌≡◌, zero, suc, true, false, List, [], ◌∷◌, Option, Some, None, refl, sym, ap, ◌∙◌, subst, inl, inr, arith, Ordering}
+use Rattle.std.proofs.Common.{◌≡◌, zero, suc, true, false, List, [], ◌∷◌, Option, Some, None, refl, sym, ap, ◌∙◌, subst, inl, inr, arith}
 use Rattle.std.specs.Prelude.{◌⊎◌, Contains}
 use Rattle.std.specs.Option.{option_map_or}
 use Rattle.std.specs.Ordering.{is_lt}
-use Rattle.std.specs.declared.cmp.Ordering.TheVariants.{Less, Equal, Greater}
 use Rattle.std.proofs.lemmas.Bool.{true≢false, cases_lt, cases_order, cond_both, false_from_ne_true}
 use Rattle.ra_labels.specs.declared.label.Stamp.{Stamp}
 use Rattle.ra_labels.specs.declared.label.Label.{Label}
 use Rattle.ra_labels.specs.NamedOrder.{lowest_rank, stamp_cmp, greater_of, greatest_stamp}
 use Rattle.ra_labels.specs.Laws.{IsStampBelow}
+use Rattle.ra_labels.proofs.StampOrder.{below_tested}
 use Rattle.ra_laws.proofs.TheLaws.{stamps_by_clock_and_then_by_replica-less}
 use Rattle.ra_time_order.specs.Stamps.{AtMost}
-
-less_from : (o : Ordering) → is_lt o ≡ true → o ≡ Less
-less_from Less is = refl
-less_from Equal is = absurd (cc is)
-less_from Greater is = absurd (cc is)
-
-pub below_from : (s t : Stamp) → is_lt (stamp_cmp s t) ≡ true → IsStampBelow s t
-below_from s t less = (stamps_by_clock_and_then_by_replica-less s t).0 (less_from (stamp_cmp s t) less)
 
 pub below_to : (s t : Stamp) → IsStampBelow s t → is_lt (stamp_cmp s t) ≡ true
 below_to s t below = ap is_lt ((stamps_by_clock_and_then_by_replica-less s t).1 below)
@@ -62,11 +54,11 @@ same_stamp s t there back = elim (there.is) [
 -- s is not below t where t is at most s
 pub not_below : (s t : Stamp) → AtMost t s → is_lt (stamp_cmp s t) ≡ false
 not_below s t most = false_from_ne_true (is_lt (stamp_cmp s t)) (λ less. elim (most.is) [
-  | inl more ↦ elim (below_from s t less) [
+  | inl more ↦ elim (below_tested s t less) [
     | inl under ↦ omega arith
     | inr tie ↦ omega (arith, tie.0)
   ]
-  | inr equal ↦ elim (below_from s t less) [
+  | inr equal ↦ elim (below_tested s t less) [
     | inl under ↦ omega (arith, equal.0)
     | inr tie ↦ omega (arith, tie.1, equal.1)
   ]
@@ -83,7 +75,7 @@ at_most_from s t not_less = elim (cases_order t.clock s.clock) [
 ]
 
 pub at_most_below : (s t : Stamp) → is_lt (stamp_cmp s t) ≡ true → AtMost s t
-at_most_below s t less = elim (below_from s t less) [
+at_most_below s t less = elim (below_tested s t less) [
   | inl under ↦ record { is = inl under }
   | inr tie ↦ record { is = inr (tie.0, omega (arith, tie.1)) }
 ]

@@ -7,12 +7,13 @@ use Rattle.std.proofs.lemmas.Bool.{not_from_true}
 use Rattle.std.proofs.lemmas.List.Edits.{insert-append_left, insert-append_right}
 use Rattle.ra_labels.specs.declared.label.Stamp.{Stamp}
 use Rattle.ra_labels.specs.NamedOrder.{stamp_cmp}
+use Rattle.ra_labels.proofs.StampOrder.{below_tested}
 use Rattle.ra_time_order.specs.declared.entry.Entry.{Entry}
 use Rattle.ra_time_order.specs.declared.run.Run.{Run}
 use Rattle.ra_time_order.specs.Positions.{not_above, IsPositionOf}
 use Rattle.ra_time_order.specs.Stamps.{AtMost}
 use Rattle.ra_time_order.specs.Sorted.{joined, AreBetween, IsRunOf}
-use Rattle.ra_time_order.proofs.Ranks.{at_most_below, at_most_through, below_to, below_from}
+use Rattle.ra_time_order.proofs.Ranks.{at_most_below, at_most_through, below_to}
 use Rattle.ra_time_order.proofs.Each.{each_append, each_left, each_right, each_at, each_from, each_insert, each_set, each_weaker}
 use Rattle.ra_time_order.proofs.Rising.{under_to, position_left, position_right}
 
@@ -63,7 +64,7 @@ own_first before (run ∷ runs) (suc at) d between there = own_first (before ++ 
 
 -- below what is at most another is below that one
 less_through : (r s t : Stamp) → is_lt (stamp_cmp r s) ≡ true → AtMost s t → is_lt (stamp_cmp r t) ≡ true
-less_through r s t less most = elim (below_from r s less) [
+less_through r s t less most = elim (below_tested r s less) [
   | inl under ↦ elim (most.is) [
     | inl more ↦ below_to r t (inl (omega arith))
     | inr tie ↦ below_to r t (inl (omega (arith, tie.0)))

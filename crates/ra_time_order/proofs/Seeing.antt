@@ -12,13 +12,14 @@ use Rattle.ra_labels.specs.NamedOrder.{lowest_rank, greater_of, greatest_stamp}
 use Rattle.ra_labels.specs.Places.{place_of}
 use Rattle.ra_labels.specs.Records.{Records, label_count, label_at, labels_of, next_label}
 use Rattle.ra_labels.specs.Visibility.{sees, is_update}
+use Rattle.ra_labels.proofs.Counted.{numbers_below_count}
 use Rattle.ra_laws.proofs.TheLaws.{each_number_has_its_label-found, sees_earlier_updates-earlier}
 use Rattle.ra_visibility.specs.Seen.{Seen, count_in}
 use Rattle.ra_visibility.specs.Order.{IsSeenBy}
 use Rattle.ra_time_order.specs.Greatest.{greatest_among}
 use Rattle.ra_time_order.specs.Stamps.{AtMost, stamps_at, IsAmong, AreGreatestOf, greatest_in}
 use Rattle.ra_time_order.proofs.Ranks.{at_most_through, greater_above, greater_is_one, head_or_behind, behind, IsGreatestOf, one_greatest, greatest_of}
-use Rattle.ra_time_order.proofs.Table.{below_count, place_before}
+use Rattle.ra_time_order.proofs.Table.{place_before}
 
 -- what a filter keeps
 pub kept_is : (p : Label → Bool) (xs : List Label) (y : Label) → Contains (filter p xs) y → Contains xs y × (p y ≡ true)
@@ -55,7 +56,7 @@ module _ (records : Records) (by : ℕ) (op : Op) (clock : Option ℕ) (seen : S
   count q = count_in seen q
 
   number_below : (l : Label) → Contains (labels_of records) l → l.number < n
-  number_below l found = All-contains (λ m. m.number < label_count records) (labels_of records) l (below_count records) found
+  number_below l found = All-contains (λ m. m.number < label_count records) (labels_of records) l (numbers_below_count records) found
 
   -- a label before is seen where it is among the first updates of its replica
   seen_as : (l : Label) → Contains (labels_of records) l → sees now n l.number ≡ (is_update l.op && nat_lt (place_of records l.number) (count l.replica))

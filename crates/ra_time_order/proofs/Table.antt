@@ -1,10 +1,10 @@
 -- The greatest stamps of each replica, with one more label.
 use Rattle.std.proofs.Common.{◌≡◌, ℕ, ◌+◌, ◌-◌, ◌<◌, ◌≤◌, Bool, true, false, List, [], ◌∷◌, length, Option, Some, None, refl, sym, ap, ◌∙◌, subst, inl, inr, arith, length-append}
-use Rattle.std.specs.Prelude.{◌⊎◌, ◌==◌, ◌&&◌, All, Contains}
+use Rattle.std.specs.Prelude.{◌⊎◌, ◌==◌, ◌&&◌, Contains}
 use Rattle.std.specs.Option.{option_map_or}
 use Rattle.std.proofs.lemmas.Bool.{true≢false, false≢true, cases_eq, cases_lt, cases_Bool, eq-eqb, eqb-true, ne_eqb, cond-true, cond-false, and_from, and_parts, false_from_ne_true}
 use Rattle.std.proofs.lemmas.List.{length-set, get_or-set_same, get_or-set_other, get_or_push, take-append-le, take_all}
-use Rattle.std.proofs.lemmas.List.Elements.{All-nil, All-cons, All-weaker, All-contains}
+use Rattle.std.proofs.lemmas.List.Elements.{All-contains}
 use Rattle.ra_labels.specs.declared.operation.Op.{Op}
 use Rattle.ra_labels.specs.declared.label.Stamp.{Stamp}
 use Rattle.ra_labels.specs.declared.label.Label.{Label}
@@ -13,18 +13,10 @@ use Rattle.ra_labels.specs.NamedOrder.{lowest_rank, greater_of}
 use Rattle.ra_labels.specs.Places.{updates_of, place_of}
 use Rattle.ra_labels.specs.Records.{Records, label_count, labels_of, next_label}
 use Rattle.ra_labels.specs.Visibility.{is_update}
+use Rattle.ra_labels.proofs.Counted.{numbers_below_count}
 use Rattle.ra_time_order.specs.Greatest.{last_of, greatest_among, with_stamp}
 use Rattle.ra_time_order.specs.Stamps.{AtMost, stamps_at, IsAmong, AreGreatestOf, stamps_with}
 use Rattle.ra_time_order.proofs.Ranks.{at_most_itself, at_most_through, greater_above, greater_is_one, head_or_behind, behind}
-
--- each label's number is below their count
-pub below_count : (records : Records) → All (λ label. label.number < label_count records) (labels_of records)
-below_count [] = All-nil (λ label. label.number < 0)
-below_count (Operate by op clock ∷ before) =
-    All-cons (λ label. label.number < label_count before + 1) (next_label before by op clock) (labels_of before)
-    (omega arith)
-    (All-weaker (λ label. label.number < label_count before) (λ label. label.number < label_count before + 1) (λ label below. omega arith) (labels_of before) (below_count before))
-below_count (_ ∷ before) = below_count before
 
 -- the greatest of all, with one more
 abbrev next_of : List Stamp → Option Stamp → Stamp
@@ -88,7 +80,7 @@ module _ (records : Records) (by : ℕ) (op : Op) (clock : Option ℕ) where
   -- the place of a label before, and of the new one
   pub place_before : (l : Label) → Contains (labels_of records) l → place_of now l.number ≡ place_of records l.number
   place_before l found =
-      let below = All-contains (λ m. m.number < label_count records) (labels_of records) l (below_count records) found in
+      let below = All-contains (λ m. m.number < label_count records) (labels_of records) l (numbers_below_count records) found in
       cond-false (l.number == label_count records) (updates_of records by) (place_of records l.number) (ne_eqb l.number (label_count records) (λ e. omega (arith, e, below)))
 
   place_new : place_of now (label_count records) ≡ updates_of records by

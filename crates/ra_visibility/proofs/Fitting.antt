@@ -1,7 +1,6 @@
 -- A new label fits where the sequence goes on extending visibility.
 use Rattle.std.proofs.Common.{◌≡◌, ℕ, ◌<◌, true, false, [], ◌∷◌, Option, refl, sym, ap, ◌∙◌, inl, inr, arith}
-use Rattle.std.specs.Prelude.{◌⊎◌, ◌==◌, ◌&&◌, ◌||◌, not, nat_lt, take, drop, flat_map, is_some, Contains}
-use Rattle.std.specs.List.{insert, list_all}
+use Rattle.std.specs.Prelude.{◌⊎◌, ◌==◌, ◌&&◌, ◌||◌, not, nat_lt, is_some, Contains}
 use Rattle.std.specs.Option.{option_map_or}
 use Rattle.std.proofs.lemmas.Bool.{and_from, or_cases, or_left, or_right, eq-eqb, le-ltb, lt-ltb, false_from_ne_true}
 use Rattle.ra_labels.specs.declared.operation.Op.{Op}
@@ -12,15 +11,10 @@ use Rattle.ra_labels.specs.Records.{Records, label_count, labels_of}
 use Rattle.ra_labels.specs.Visibility.{sees, is_update, is_update_at}
 use Rattle.ra_labels.specs.Rewriting.{Part, Half, Act, acts_of, part_of, parts_of, update_of}
 use Rattle.ra_labels.specs.Linearization.{must_precede, is_visible_to, is_earlier_there, is_query_half_of, extends}
+use Rattle.ra_labels.proofs.Members.{what_passes, reached}
+use Rattle.ra_labels.proofs.Parts.{part_is_of, some_part}
 use Rattle.ra_laws.proofs.TheLaws.{must_precede_in_three_cases-cases, sees_the_same_later, sees_earlier_updates-earlier, sees_earlier_updates-updates, each_number_has_its_label-found, update_where_a_part_is_one}
 use Rattle.ra_visibility.specs.Order.{must_stand_before}
-use Rattle.ra_visibility.proofs.Extending.{list_any_at, mapped_from, mapped_to}
-
--- a part is one of its label
-pub part_is_of : (label : Label) (part : Part) → Contains (parts_of label) part → part.label ≡ label
-part_is_of label part found =
-    let from = mapped_from (part_of label) (acts_of label.op) part found in
-    sym (ap (λ (p : Part). p.label) from.2)
 
 -- no label sees itself
 sees_not_itself : (records : Records) (n : ℕ) → sees records n n ≡ false
@@ -43,36 +37,14 @@ parts_extend records label (op.After anchor x) = refl
 parts_extend records label (op.RgaRemove x) = refl
 parts_extend records label (op.RgaRead list) = refl
 
--- each label has a part
-some_act : (operation : Op) → (act : Half × Act) × Contains (acts_of operation) act
-some_act op.Inc = (_, (0, omega arith, refl))
-some_act op.Dec = (_, (0, omega arith, refl))
-some_act (op.Count v) = (_, (0, omega arith, refl))
-some_act (op.Write value) = (_, (0, omega arith, refl))
-some_act (op.Last value) = (_, (0, omega arith, refl))
-some_act (op.LwwAdd x) = (_, (0, omega arith, refl))
-some_act (op.LwwRemove x) = (_, (0, omega arith, refl))
-some_act (op.LwwRead list) = (_, (0, omega arith, refl))
-some_act (op.OrAdd x id) = (_, (0, omega arith, refl))
-some_act (op.OrRemove x ids) = (_, (0, omega arith, refl))
-some_act (op.OrRead list) = (_, (0, omega arith, refl))
-some_act (op.After anchor x) = (_, (0, omega arith, refl))
-some_act (op.RgaRemove x) = (_, (0, omega arith, refl))
-some_act (op.RgaRead list) = (_, (0, omega arith, refl))
-
-pub some_part : (label : Label) → (part : Part) × Contains (parts_of label) part
-some_part label =
-    let act = some_act label.op in
-    (part_of label act.0, mapped_to (part_of label) (acts_of label.op) act.0 act.1)
-
 -- a label that is there, and an update, has a part that is one
 update_part : (records : Records) (label : Label) → Contains (labels_of records) label → is_update_at records label.number ≡ true
     → (part : Part) × Contains (parts_of label) part × (is_some (update_of part.act) ≡ true)
 update_part records label there is =
     let found = each_number_has_its_label-found records label there in
     let update : is_update label.op ≡ true = sym (ap (λ l. option_map_or (λ (m : Label). is_update m.op) l false) found) ∙ is in
-    let act = list_any_at (λ (a : Half × Act). is_some (update_of a.1)) (acts_of label.op) (sym (update_where_a_part_is_one label.op) ∙ update) in
-    (part_of label act.0, mapped_to (part_of label) (acts_of label.op) act.0 act.1, act.2)
+    let act = what_passes (λ (a : Half × Act). is_some (update_of a.1)) (acts_of label.op) (sym (update_where_a_part_is_one label.op) ∙ update) in
+    (part_of label act.0, reached (part_of label) (acts_of label.op) act.0 act.1, act.2)
 
 -- between parts of labels before, a later operation changes nothing
 pub precedes_later : (records : Records) (by : ℕ) (op : Op) (clock : Option ℕ) (p q : Part) → q.label.number < label_count records

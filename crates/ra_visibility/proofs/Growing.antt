@@ -14,12 +14,15 @@ use Rattle.ra_labels.specs.Records.{Records, label_count, labels_of, next_label}
 use Rattle.ra_labels.specs.Rewriting.{Part, parts_of}
 use Rattle.ra_labels.specs.Linearization.{must_precede, extends, extends_visibility}
 use Rattle.ra_labels.specs.NamedOrder.{named_labels, named_sequence}
+use Rattle.ra_labels.proofs.InLists.{bool_same, list_all-contains, list_all-from_contains}
+use Rattle.ra_labels.proofs.Members.{behind_head, piece_of, in_piece}
+use Rattle.ra_labels.proofs.Parts.{part_is_of, some_part}
 use Rattle.ra_laws.proofs.TheLaws.{named_labels_are_sorted-same}
 use Rattle.ra_visibility.specs.declared.order.Place.{Place}
 use Rattle.ra_visibility.specs.Order.{must_stand_before, IsPlaceOf, EachFitted}
 use Rattle.ra_visibility.proofs.Inserting.{named_below_count, order_delivered, order_after_verdict, at_its_place}
-use Rattle.ra_visibility.proofs.Extending.{same_test, behind, list_all_at, list_all_from, piece_of, in_piece, Apart, extends_pieces, extends_joined, extends_same}
-use Rattle.ra_visibility.proofs.Fitting.{part_is_of, parts_extend, some_part, precedes_later, not_backwards, labels_too, parts_too}
+use Rattle.ra_visibility.proofs.Extending.{Apart, extends_pieces, extends_joined, extends_same}
+use Rattle.ra_visibility.proofs.Fitting.{parts_extend, precedes_later, not_backwards, labels_too, parts_too}
 
 -- a label of the records, or one of its parts, is numbered below their count
 abbrev AreOf : Records → List Label → Type 0
@@ -65,7 +68,7 @@ module _ (before : Records) (by : ℕ) (op : Op) (clock : Option ℕ) where
           sym same_before ∙ extends_joined (must_precede now) (flat_map parts_of xs) (flat_map parts_of ys) first.0 second.1 apart,
           (λ m found. false_from_ne_true (must_stand_before now m x) (λ must.
               let q = some_part x in
-              let p = parts_too now m x (behind x (labels_of before) m (of_ys m found).0) must q.0 (part_is_of x q.0 q.1) in
+              let p = parts_too now m x (behind_head x (labels_of before) m (of_ys m found).0) must q.0 (part_is_of x q.0 q.1) in
               true≢false (sym p.2 ∙ second.2.none q.0 p.0 q.1 (in_piece parts_of ys m p.0 found p.1)))),
         )
 
@@ -115,16 +118,16 @@ extends_where_it_fits kind records by op clock place is =
     let after : named_sequence kind now ≡ flat_map parts_of xs ++ (parts_of label ++ flat_map parts_of ys) =
     ap (flat_map parts_of) (at_its_place kind records by op clock place is).1 ∙ flat_map-append parts_of xs (label ∷ ys) in
     let must : Label → Bool = λ m. not (must_stand_before now m label) in
-    same_test (extends_visibility now (named_sequence kind now)) (extends_visibility records (named_sequence kind records) && place.fits)
+    bool_same (extends_visibility now (named_sequence kind now)) (extends_visibility records (named_sequence kind records) && place.fits)
     (λ extended.
     let both = extended_to records by op clock xs ys of_xs of_ys (ap (extends (must_precede now)) (sym after) ∙ extended) in
     and_from (extends_visibility records (named_sequence kind records)) place.fits
     (ap (extends (must_precede records)) before ∙ both.0)
-    (is.fits ∙ list_all_from must ys (λ m found. not_from_false (must_stand_before now m label) (both.1 m found))))
+    (is.fits ∙ list_all-from_contains must ys (λ m found. not_from_false (must_stand_before now m label) (both.1 m found))))
     (λ both.
     let parts = and_parts (extends_visibility records (named_sequence kind records)) place.fits both in
     ap (extends (must_precede now)) after
-    ∙ extended_from records by op clock xs ys of_xs of_ys (ap (extends (must_precede records)) (sym before) ∙ parts.0) (λ m found. not-true (must_stand_before now m label) (list_all_at must ys m (sym is.fits ∙ parts.1) found)))
+    ∙ extended_from records by op clock xs ys of_xs of_ys (ap (extends (must_precede records)) (sym before) ∙ parts.0) (λ m found. not-true (must_stand_before now m label) (list_all-contains must ys m (sym is.fits ∙ parts.1) found)))
 
 -- a delivery leaves it as it is
 pub delivery_extends : (kind : Kind) (records : Records) (to label : ℕ)

@@ -1,13 +1,13 @@
 -- Where a label is inserted in the named order.
 use Rattle.std.proofs.Common.{◌≡◌, ℕ, zero, suc, ◌+◌, ◌-◌, ◌<◌, ◌≤◌, List, [], ◌∷◌, true, false, length, get_or, Option, Some, refl, sym, ap, ◌∙◌, inl, inr, arith, Ordering}
-use Rattle.std.specs.Prelude.{All, Contains, cond}
+use Rattle.std.specs.Prelude.{All, Contains}
 use Rattle.std.specs.List.{insert, slice_get}
 use Rattle.std.specs.List.Sorted.{IsPartitionPoint}
 use Rattle.std.specs.declared.cmp.Ordering.TheVariants.{Less, Equal, Greater}
 use Rattle.std.specs.Ordering.{is_lt, nat_cmp, ordering_then}
 use Rattle.std.proofs.lemmas.Bool.{cond_both, cond-true, cond-false, cases_order, le-ltb, ne_eqb}
 use Rattle.std.proofs.lemmas.Option.{get_or_from_slice_get, slice_get_within}
-use Rattle.std.proofs.lemmas.List.Elements.{All-nil, All-cons, All-head, All-tail, All-weaker, All-get_or, All-contains, All-contains_itself, Contains-get_or}
+use Rattle.std.proofs.lemmas.List.Elements.{All-get_or, All-contains, All-contains_itself, Contains-get_or}
 use Rattle.std.proofs.lemmas.List.Edits.{length-insert, get_or-insert_below, get_or-insert_above}
 use Rattle.std.proofs.lemmas.List.Sorted.{All-permutation, Contains-permutation, IsPermutation-sym}
 use Rattle.ra_labels.specs.declared.kind.Kind.{Kind}
@@ -19,49 +19,17 @@ use Rattle.ra_labels.specs.declared.command.Command.{Command}
 use Rattle.ra_labels.specs.declared.command.Command.TheVariants.{Operate, Deliver, Verdict}
 use Rattle.ra_labels.specs.Records.{Records, label_count, labels_of, next_label}
 use Rattle.ra_labels.specs.NamedOrder.{timestamp_of, rank_of, stamp_cmp, label_cmp, insert_by, sort_by, named_labels}
+use Rattle.ra_labels.proofs.Sorting.{sort_by_same}
+use Rattle.ra_labels.proofs.Counted.{numbers_below_count}
 use Rattle.ra_laws.proofs.TheLaws.{named_labels_are_sorted-same, a_timestamp_is_kept}
 use Rattle.ra_visibility.specs.declared.order.Place.{Place}
 use Rattle.ra_visibility.specs.Order.{IsPlaceOf}
 
--- each label's number is below their count
-below_count : (records : Records) → All (λ label. label.number < label_count records) (labels_of records)
-below_count [] = All-nil (λ label. label.number < 0)
-below_count (Operate by op clock ∷ before) =
-    All-cons (λ label. label.number < label_count before + 1) (next_label before by op clock) (labels_of before)
-    (omega arith)
-    (All-weaker (λ label. label.number < label_count before) (λ label. label.number < label_count before + 1) (λ label below. omega arith) (labels_of before) (below_count before))
-below_count (_ ∷ before) = below_count before
-
 pub named_below_count : (kind : Kind) (records : Records) → All (λ label. label.number < label_count records) (named_labels kind records)
 named_below_count kind records =
-    All-permutation (λ label. label.number < label_count records) (labels_of records) (named_labels kind records) (named_labels_are_sorted-same kind records) (below_count records)
+    All-permutation (λ label. label.number < label_count records) (labels_of records) (named_labels kind records) (named_labels_are_sorted-same kind records) (numbers_below_count records)
 
 module _ {A : Type 0} where
-  All-insert_by : (P : A → Type 0) (cmp : A → A → Ordering) (x : A) (ys : List A) → P x → All P ys → All P (insert_by cmp x ys)
-  All-insert_by P cmp x [] this all = All-cons P x [] this (All-nil P)
-  All-insert_by P cmp x (y ∷ ys) this all =
-      cond_both (is_lt (cmp x y)) (x ∷ y ∷ ys) (y ∷ insert_by cmp x ys) (All P)
-      (λ _. All-cons P x (y ∷ ys) this all)
-      (λ _. All-cons P y (insert_by cmp x ys) (All-head P y ys all) (All-insert_by P cmp x ys this (All-tail P y ys all)))
-
-  All-sort_by : (P : A → Type 0) (cmp : A → A → Ordering) (xs : List A) → All P xs → All P (sort_by cmp xs)
-  All-sort_by P cmp [] all = All-nil P
-  All-sort_by P cmp (x ∷ xs) all = All-insert_by P cmp x (sort_by cmp xs) (All-head P x xs all) (All-sort_by P cmp xs (All-tail P x xs all))
-
-  insert_by_same : (cmp other : A → A → Ordering) (x : A) (ys : List A) → All (λ y. cmp x y ≡ other x y) ys → insert_by cmp x ys ≡ insert_by other x ys
-  insert_by_same cmp other x [] same = refl
-  insert_by_same cmp other x (y ∷ ys) same =
-      ap (λ o. cond (is_lt o) (x ∷ y ∷ ys) (y ∷ insert_by cmp x ys)) (All-head (λ z. cmp x z ≡ other x z) y ys same)
-      ∙ ap (λ zs. cond (is_lt (other x y)) (x ∷ y ∷ ys) (y ∷ zs)) (insert_by_same cmp other x ys (All-tail (λ z. cmp x z ≡ other x z) y ys same))
-
-  -- comparisons that agree on the elements sort them alike
-  sort_by_same : (P : A → Type 0) (cmp other : A → A → Ordering) → ((x y : A) → P x → P y → cmp x y ≡ other x y) → (xs : List A) → All P xs → sort_by cmp xs ≡ sort_by other xs
-  sort_by_same P cmp other same [] all = refl
-  sort_by_same P cmp other same (x ∷ xs) all =
-      let rest = All-sort_by P other xs (All-tail P x xs all) in
-      ap (insert_by cmp x) (sort_by_same P cmp other same xs (All-tail P x xs all))
-      ∙ insert_by_same cmp other x (sort_by other xs) (All-weaker P (λ y. cmp x y ≡ other x y) (λ y known. same x y (All-head P x xs all) known) (sort_by other xs) rest)
-
   -- an insertion is one behind those that the element is not below
   insert_by_split : (cmp : A → A → Ordering) (x : A) (ys : List A) (p : ℕ) → p ≤ length ys
       → IsPartitionPoint (λ y. is_lt (cmp x y) ≡ false) (λ y. is_lt (cmp x y) ≡ true) ys p → insert_by cmp x ys ≡ insert ys p x
@@ -83,7 +51,7 @@ module _ {A : Type 0} where
 
 timestamp_later : (command : Command) (records : Records) (label : Label) → Contains (labels_of records) label → timestamp_of (command ∷ records) label ≡ timestamp_of records label
 timestamp_later command records label found =
-    a_timestamp_is_kept (command ∷ []) records label (All-contains (λ l. l.number < label_count records) (labels_of records) label (below_count records) found)
+    a_timestamp_is_kept (command ∷ []) records label (All-contains (λ l. l.number < label_count records) (labels_of records) label (numbers_below_count records) found)
 
 -- a later record leaves a label's rank
 pub rank_later : (kind : Kind) (command : Command) (records : Records) (label : Label) → Contains (labels_of records) label → rank_of kind (command ∷ records) label ≡ rank_of kind records label

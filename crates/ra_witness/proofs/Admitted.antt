@@ -3,8 +3,7 @@ use Rattle.std.proofs.Common.{◌≡◌, ℕ, ◌<◌, ◌≤◌, Bool, true, fa
 use Rattle.std.specs.Prelude.{◌⊎◌, Contains, not, is_some}
 use Rattle.std.specs.Ordering.{nat_cmp, is_lt, is_le, ordering_then}
 use Rattle.std.specs.declared.cmp.Ordering.TheVariants.{Less, Equal, Greater}
-use Rattle.std.proofs.lemmas.Cmp.{ranked, nat_cmp_total, tied_itself}
-use Rattle.std.specs.Ordering.{MatchOrdering}
+use Rattle.std.proofs.lemmas.Cmp.{nat_cmp_total, tied_itself}
 use Rattle.std.proofs.lemmas.Bool.{cases_eq, true≢false, false≢true}
 use Rattle.std.proofs.lemmas.Option.{same_Some}
 use Rattle.ra_labels.specs.declared.kind.Kind.TheVariants as variant
@@ -19,24 +18,20 @@ use Rattle.ra_labels.specs.NamedOrder.{named_sequence, stamp_cmp, lowest_rank, l
 use Rattle.ra_labels.specs.Linearization.{updates_admitted}
 use Rattle.ra_labels.specs.Insertion.{Makes}
 use Rattle.ra_labels.specs.Waiting.{is_there}
+use Rattle.ra_labels.proofs.Members.{head_or_behind, at_head, behind_head}
+use Rattle.ra_labels.proofs.StampOrder.{not_below_itself, is_less}
+use Rattle.ra_labels.proofs.Comparisons.{less_cmp}
 use Rattle.ra_laws.proofs.TheLaws.{a_new_update_is_admitted_where_a_label_below_it_put_in_what_it_needs-insertion, a_new_update_is_admitted_where_a_label_below_it_put_in_what_it_needs-removal, labels_with_stamps_stand_in_their_order, stamps_by_clock_and_then_by_replica-less, a_timestamp_is_the_greatest_seen-own}
 use Rattle.ra_element_list.specs.ElementList.{Arrival, ElementList, arrival_at}
 use Rattle.ra_replica_list.specs.declared.deed.Deed.{Deed}
 use Rattle.ra_replica_list.specs.Deeds.{element_at, AreElementsOf}
 use Rattle.ra_witness.specs.Offered.{IsOffered}
-use Rattle.ra_witness.proofs.StampOrder.{not_below_itself}
-use Rattle.ra_witness.proofs.Places.{head_or_behind, at_head, behind_head}
 use Rattle.ra_witness.proofs.Taken.{label_below}
 use Rattle.ra_witness.proofs.Forms.{has_stamp, its_clock}
 use Rattle.ra_witness.proofs.AllElements.{its_label, its_number, there_numbered, numbered_there}
 
-is_less : (o : Ordering) → o ≡ Less → is_lt o ≡ true
-is_less o is = ap is_lt is
-
-less_is : (o : Ordering) → is_lt o ≡ true → o ≡ Less
-less_is Less is = refl
-less_is Equal is = absurd (true≢false (sym is))
-less_is Greater is = absurd (true≢false (sym is))
+less_to : (o : Ordering) → o ≡ Less → is_lt o ≡ true
+less_to o is = ap is_lt is
 
 then_less : (o p : Ordering) → ordering_then o p ≡ Less → (o ≡ Less) ⊎ (p ≡ Less)
 then_less Less p is = inl refl
@@ -51,14 +46,6 @@ not_below_own records l is =
       | inl less ↦ not_below_itself r r refl ((stamps_by_clock_and_then_by_replica-less r r).0 less)
       | inr less ↦ let e : Equal ≡ Less = sym (tied_itself nat_cmp_total l.number) ∙ less in cc (e)
     ]
-
-less_from : (m n : ℕ) → m < n → nat_cmp m n ≡ Less
-less_from m n lower = by (nat_cmp m n) (ranked m n (nat_cmp m n) refl)
-  where
-    by : (o : Ordering) → MatchOrdering o (m < n) (m ≡ n) (n < m) → o ≡ Less
-    by Less known = refl
-    by Equal known = absurd (omega (arith, lower, known))
-    by Greater known = absurd (omega (arith, lower, known))
 
 le_then : (o : Ordering) → is_le o ≡ true → ordering_then o Less ≡ Less
 le_then Less is = refl
@@ -79,10 +66,10 @@ none_from None false is none = is
 none_from (Some n) b is none = absurd (none n refl)
 
 pub makes_after : (anchor x : ℕ) → Makes (ops.After anchor x) (After anchor x)
-makes_after anchor x = (Whole, at_head (Whole, Does (After anchor x)) [])
+makes_after anchor x = (Whole, at_head (Whole, Does (After anchor x)) [] (Whole, Does (After anchor x)) refl)
 
 pub makes_removal : (x : ℕ) → Makes (ops.RgaRemove x) (RgaRemove x)
-makes_removal x = (Whole, at_head (Whole, Does (RgaRemove x)) [])
+makes_removal x = (Whole, at_head (Whole, Does (RgaRemove x)) [] (Whole, Does (RgaRemove x)) refl)
 
 module _ (all : ElementList) (deeds : List (Option Deed)) (records : Records) (are : AreElementsOf all deeds records) (first by : ℕ) (clock : Option ℕ) (label : Label) where
   -- it is not among the elements
@@ -117,7 +104,7 @@ module _ (all : ElementList) (deeds : List (Option Deed)) (records : Records) (a
     other_stands : (other : Label) (t : Stamp) → Contains (labels_of records) other → other.stamp ≡ Some t → label_cmp variant.Rga now other own ≡ stamp_cmp t stamp
     other_stands other t there is =
         labels_with_stamps_stand_in_their_order variant.Rga now other own t stamp (λ e. cc (e)) (λ e. cc (e)) is own_stamp (λ same.
-        let one = offered.stamps other own stamp (behind_head own (labels_of records) other there) (at_head own (labels_of records)) (is ∙ ap Some same) own_stamp in
+        let one = offered.stamps other own stamp (behind_head own (labels_of records) other there) (at_head own (labels_of records) own refl) (is ∙ ap Some same) own_stamp in
         let number : other.number ≡ label_count records = ap (λ (l : Label). l.number) one in
         let within = label_below records other there in
         omega (arith, number, within))
@@ -138,7 +125,7 @@ module _ (all : ElementList) (deeds : List (Option Deed)) (records : Records) (a
                   element_at all.arrivals (arrival_at all.arrivals m).anchor,
                   behind_head own (labels_of records) it there,
                   subst (λ y. Makes it.op (After (element_at all.arrivals (arrival_at all.arrivals m).anchor) y)) is makes,
-                  other_stands it (arrival_at all.arrivals m).stamp there at ∙ less_is (stamp_cmp (arrival_at all.arrivals m).stamp stamp) less,
+                  other_stands it (arrival_at all.arrivals m).stamp there at ∙ is_less (stamp_cmp (arrival_at all.arrivals m).stamp stamp) less,
                 )
           ],
         )
@@ -153,7 +140,7 @@ module _ (all : ElementList) (deeds : List (Option Deed)) (records : Records) (a
         true≢false (sym (numbered_there all deeds records are x n within is) ∙ (decides.0 admitted).0)
 
     root_below : is_lt (stamp_cmp lowest_rank stamp) ≡ true
-    root_below = is_less (stamp_cmp lowest_rank stamp) ((stamps_by_clock_and_then_by_replica-less lowest_rank stamp).1 (inl (omega (arith, some_clock))))
+    root_below = less_to (stamp_cmp lowest_rank stamp) ((stamps_by_clock_and_then_by_replica-less lowest_rank stamp).1 (inl (omega (arith, some_clock))))
 
     pub insertion_needs : updates_admitted variant.Rga (named_sequence variant.Rga now) ≡ true → NeedsOf
     insertion_needs admitted =
@@ -173,7 +160,7 @@ module _ (all : ElementList) (deeds : List (Option Deed)) (records : Records) (a
                   m,
                   as_number.within,
                   as_number.is,
-                  ap is_lt (sym (other_stands other (arrival_at all.arrivals m).stamp old as_number.stamp)) ∙ is_less (label_cmp variant.Rga now other own) less,
+                  ap is_lt (sym (other_stands other (arrival_at all.arrivals m).stamp old as_number.stamp)) ∙ less_to (label_cmp variant.Rga now other own) less,
                 )
           ]
         ]
@@ -198,7 +185,7 @@ module _ (all : ElementList) (deeds : List (Option Deed)) (records : Records) (a
     other_ranks other t there is =
         ap (λ s. ordering_then (stamp_cmp s (timestamp_of then_now its_own)) (nat_cmp other.number (label_count records))) (a_timestamp_is_the_greatest_seen-own then_now other t is)
         ∙ ap (λ s. ordering_then (stamp_cmp t s) (nat_cmp other.number (label_count records))) its_rank
-        ∙ ap (λ o. ordering_then (stamp_cmp t greatest) o) (less_from other.number (label_count records) (label_below records other there))
+        ∙ ap (λ o. ordering_then (stamp_cmp t greatest) o) (less_cmp other.number (label_count records) (label_below records other there))
 
     pub removal_admitted : (n : ℕ) → 0 < n → n < length all.arrivals → element_at all.arrivals n ≡ x
         → is_le (stamp_cmp (arrival_at all.arrivals n).stamp greatest) ≡ true → updates_admitted variant.Rga (named_sequence variant.Rga then_now) ≡ true

@@ -9,7 +9,7 @@ use Rattle.std.proofs.lemmas.List.Folds.{list_all-append}
 use Rattle.std.proofs.lemmas.List.Elements.{filter_map-append}
 use Rattle.std.proofs.lemmas.Grind.{flat_map-append}
 use Rattle.ra_labels.specs.declared.kind.Kind.{Kind}
-use Rattle.ra_labels.specs.declared.kind.Kind.TheVariants.{Counter, Register, LwwSet, OrSet, Rga}
+use Rattle.ra_labels.specs.declared.kind.Kind.TheVariants.{Rga}
 use Rattle.ra_labels.specs.declared.operation.Op.{Op}
 use Rattle.ra_labels.specs.declared.operation.Update.{Update}
 use Rattle.ra_labels.specs.declared.operation.Query.{Query}
@@ -25,9 +25,11 @@ use Rattle.ra_labels.specs.Fault.{Holds, cause_of}
 use Rattle.ra_labels.specs.Answer.{kind_of, is_kind}
 use Rattle.ra_labels.specs.Laws.{IsAnsweredAfter, kind_of_update, kind_of_act}
 use Rattle.ra_labels.specs.Insertion.{updates_had, IsAnsweredItself}
+use Rattle.ra_labels.proofs.Members.{head_or_behind, at_head, behind_head, reached, from_where}
+use Rattle.ra_labels.proofs.InLists.{bool_same}
+use Rattle.ra_labels.proofs.SameKind.{one_kind}
 use Rattle.ra_laws.proofs.TheLaws.{a_new_label_alone_decides-query, a_new_label_leaves_what_the_others_see-own, a_new_label_leaves_the_order_of_the_others, updates_of_the_kind_are_admitted-only, updates_of_the_kind_are_admitted-exactly, parts_are_of_their_kind}
 use Rattle.ra_witness.specs.Labels.{queries_in, answers_in, cause_in}
-use Rattle.ra_witness.proofs.Places.{head_or_behind, at_head, behind_head, reached, from_where, pass_together}
 
 -- each query that is asked is answered
 all_answered : (o : Option State) (acts : List (Half × Act)) → ((half : Half) (query : Query) → Contains acts (half, Asks query) → answers_in o query ≡ true)
@@ -36,7 +38,7 @@ all_answered o [] each = refl
 all_answered o ((half, Does u) ∷ acts) each =
     all_answered o acts (λ h query there. each h query (behind_head (half, Does u) acts (h, Asks query) there))
 all_answered o ((half, Asks asked) ∷ acts) each =
-    and_from (answers_in o asked) (list_all (answers_in o) (queries_in acts)) (each half asked (at_head (half, Asks asked) acts))
+    and_from (answers_in o asked) (list_all (answers_in o) (queries_in acts)) (each half asked (at_head (half, Asks asked) acts (half, Asks asked) refl))
     (all_answered o acts (λ h query there. each h query (behind_head (half, Asks asked) acts (h, Asks query) there)))
 
 same_query : (o : Option State) (asked query : Query) → Asks asked ≡ Asks query → answers_in o asked ≡ true → answers_in o query ≡ true
@@ -97,7 +99,7 @@ module _ (kind : Kind) (records : Records) (by : ℕ) (op : Op) (clock : Option 
       → queries_admitted kind now (named_sequence kind now) ≡ list_all (answers_in before) (queries_in (acts_of op))
   queries_agree held =
       let decides = a_new_label_alone_decides-query kind records by op clock held in
-      pass_together (queries_admitted kind now (named_sequence kind now)) (list_all (answers_in before) (queries_in (acts_of op)))
+      bool_same (queries_admitted kind now (named_sequence kind now)) (list_all (answers_in before) (queries_in (acts_of op)))
       (λ admitted. from_itself (decides.0 admitted)) (λ pass. decides.1 (to_itself pass))
 
 cause_by_tests : (kind : Kind) (records : Records) (updates queries : Bool)
@@ -135,14 +137,6 @@ of_kind-acts kind other own ((half, Does u) ∷ acts) is pass =
     let parts = and_parts (is_kind other (kind_of_update u)) (list_all (λ (act : Half × Act). is_kind other (kind_of_act act.1)) acts) pass in
     and_from (is_kind kind (kind_of_update u)) (are_of kind (updates_of (map (part_of own) acts))) (one_kind kind other (kind_of_update u) is parts.0)
     (of_kind-acts kind other own acts is parts.1)
-  where
-    one_kind : (a b c : Kind) → is_kind a b ≡ true → is_kind b c ≡ true → is_kind a c ≡ true
-    one_kind Counter Counter c ab bc = bc
-    one_kind Register Register c ab bc = bc
-    one_kind LwwSet LwwSet c ab bc = bc
-    one_kind OrSet OrSet c ab bc = bc
-    one_kind Rga Rga c ab bc = bc
-    one_kind a b c ab bc = absurd (false≢true ab)
 
 -- the updates of labels
 abbrev pub updates_by : List Label → List Update

@@ -21,24 +21,16 @@ use Rattle.ra_labels.specs.Fault.{Holds}
 use Rattle.ra_labels.specs.Answer.{is_kind}
 use Rattle.ra_labels.specs.Laws.{kind_of_update}
 use Rattle.ra_labels.specs.Insertion.{Makes}
+use Rattle.ra_labels.proofs.Members.{head_or_behind, split_at}
 use Rattle.ra_laws.proofs.TheLaws.{each_number_has_its_label-found, had_updates-updates, named_labels_are_sorted-same, updates_of_the_kind_are_admitted-only}
 use Rattle.ra_witness.specs.declared.written.Written.{Written}
 use Rattle.ra_witness.specs.Labels.{updates_in, first_of, update_in, updates_by_number}
 use Rattle.ra_witness.specs.States.{update_at, steps_of}
 use Rattle.ra_witness.specs.Overriding as overriding
 use Rattle.ra_witness.specs.Overriding.{write_at}
-use Rattle.ra_witness.proofs.Places.{head_or_behind}
 use Rattle.ra_witness.proofs.Found.{IsFoundIn, found_in_turn, makes_it, makes_none, update_found}
 use Rattle.ra_witness.proofs.Causes.{are_of, are_of-both, updates_by}
 use Rattle.ra_witness.proofs.Keeping.{made_among}
-
--- the list round one of its elements
-pub split_at : {A : Type 0} (xs : List A) (y : A) → Contains xs y → (before after : List A) × (xs ≡ before ++ y ∷ after)
-split_at [] y there = absurd (omega (arith, there.1))
-split_at (x ∷ xs) y there = elim (head_or_behind x xs y there) [
-  | inl here ↦ ([], xs, ap (λ z. z ∷ xs) here)
-  | inr further ↦ let rest = split_at xs y further in (x ∷ rest.0, rest.1, ap (λ zs. x ∷ zs) rest.2)
-]
 
 -- an operation does at most one thing
 pub at_most_one : (operation : Op) → length (updates_in (acts_of operation)) ≤ 1

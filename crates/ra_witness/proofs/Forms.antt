@@ -5,7 +5,7 @@ use Rattle.std.specs.List.{list_all}
 use Rattle.std.proofs.lemmas.Bool.{and_from}
 use Rattle.std.proofs.lemmas.Option.{none-some}
 use Rattle.ra_labels.specs.declared.kind.Kind.{Kind}
-use Rattle.ra_labels.specs.declared.kind.Kind.TheVariants.{Counter, Register, LwwSet, OrSet, Rga}
+use Rattle.ra_labels.specs.declared.kind.Kind.TheVariants.{Counter, OrSet, Rga}
 use Rattle.ra_labels.specs.declared.operation.Op.{Op}
 use Rattle.ra_labels.specs.declared.operation.Op.TheVariants as op
 use Rattle.ra_labels.specs.declared.operation.Update.{Update}
@@ -15,17 +15,11 @@ use Rattle.ra_labels.specs.Rewriting.{acts_of}
 use Rattle.ra_labels.specs.Lists.{rises}
 use Rattle.ra_labels.specs.Answer.{kind_of, is_kind, has_rising_list, carries_stamp}
 use Rattle.ra_labels.specs.Laws.{HasItsClock}
+use Rattle.ra_labels.proofs.SameKind.{kind_itself}
 use Rattle.ra_laws.proofs.TheLaws.{forms_that_deserve_no_refusal}
 use Rattle.ra_seqspec.specs.Asked.{asks_rising}
 use Rattle.ra_witness.specs.Labels.{queries_in, update_in}
 use Rattle.ra_witness.specs.Offered.{IsOffered}
-
-pub same_kind : (kind : Kind) → is_kind kind kind ≡ true
-same_kind Counter = refl
-same_kind Register = refl
-same_kind LwwSet = refl
-same_kind OrSet = refl
-same_kind Rga = refl
 
 pub asks_only_rising : (operation : Op) → has_rising_list operation ≡ true → list_all asks_rising (queries_in (acts_of operation)) ≡ true
 asks_only_rising op.Inc rising = refl
@@ -48,7 +42,7 @@ module _ (kind : Kind) (first : ℕ) (records : Records) (by : ℕ) (op : Op) (c
   of_its_kind = ((forms_that_deserve_no_refusal kind by op clock).0 offered.form).0
 
   pub is_of_kind : is_kind kind (kind_of op) ≡ true
-  is_of_kind = ap (is_kind kind) of_its_kind ∙ same_kind kind
+  is_of_kind = ap (is_kind kind) of_its_kind ∙ kind_itself kind
 
   pub rising : list_all asks_rising (queries_in (acts_of op)) ≡ true
   rising = asks_only_rising op ((forms_that_deserve_no_refusal kind by op clock).0 offered.form).1

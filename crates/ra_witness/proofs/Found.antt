@@ -19,10 +19,11 @@ use Rattle.ra_labels.specs.Visibility.{is_update, is_update_at}
 use Rattle.ra_labels.specs.Rewriting.{Half, Act, Does, Asks, acts_of, update_of}
 use Rattle.ra_labels.specs.NamedOrder.{named_labels}
 use Rattle.ra_labels.specs.Insertion.{Makes}
+use Rattle.ra_labels.proofs.Members.{at_head, behind_head}
+use Rattle.ra_labels.proofs.Counted.{labels_counted}
 use Rattle.ra_laws.proofs.TheLaws.{had_updates-there, update_where_a_part_is_one, named_labels_are_sorted-same}
 use Rattle.ra_witness.specs.Labels.{updates_in, first_of, update_in, updates_by_number}
 use Rattle.ra_witness.specs.States.{update_at}
-use Rattle.ra_witness.proofs.Places.{at_head, behind_head}
 
 -- the first update of acts is made
 abbrev IsMade : List (Half × Act) → Update → Type 0
@@ -31,7 +32,7 @@ IsMade acts u = (half : Half) × Contains acts (half, Does u)
 first_made : (acts : List (Half × Act)) (u : Update) → first_of (updates_in acts) ≡ Some u → IsMade acts u
 first_made [] u is = absurd (none-some u is)
 first_made ((half, Does v) ∷ acts) u is =
-    (half, subst (λ w. Contains ((half, Does v) ∷ acts) (half, Does w)) (same_Some v u is) (at_head (half, Does v) acts))
+    (half, subst (λ w. Contains ((half, Does v) ∷ acts) (half, Does w)) (same_Some v u is) (at_head (half, Does v) acts (half, Does v) refl))
 first_made ((half, Asks query) ∷ acts) u is =
     let rest = first_made acts u is in (rest.0, behind_head (half, Asks query) acts (rest.0, Does u) rest.1)
 
@@ -53,12 +54,6 @@ any_made ((half, Asks query) ∷ acts) u is = any_made acts u is
 
 pub makes_some : (op : Op) (u : Update) → update_in op ≡ Some u → is_update op ≡ true
 makes_some op u is = update_where_a_part_is_one op ∙ any_made (acts_of op) u is
-
-pub labels_counted : (records : Records) → length (labels_of records) ≡ label_count records
-labels_counted [] = refl
-labels_counted (Operate by op clock ∷ before) = omega (arith, labels_counted before)
-labels_counted (Deliver to label ∷ before) = labels_counted before
-labels_counted (Verdict ∷ before) = labels_counted before
 
 counted_in_turn : (records : Records) → length (reverse (labels_of records)) ≡ label_count records
 counted_in_turn records = length-reverse (labels_of records) ∙ labels_counted records
@@ -96,7 +91,7 @@ update_found (Operate by op clock ∷ before) n is =
       | inl same ↦ (
         label,
         record {
-          there = at_head label (labels_of before);
+          there = at_head label (labels_of before) label refl;
           number = same;
           update = its_update before n label (sym same) true (eq-eqb (label_count before) n same) refl is;
           found =

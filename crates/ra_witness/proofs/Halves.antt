@@ -12,10 +12,10 @@ use Rattle.ra_labels.specs.declared.label.Label.{Label}
 use Rattle.ra_labels.specs.Records.{Records, labels_of}
 use Rattle.ra_labels.specs.Answer.{kind_of}
 use Rattle.ra_labels.specs.Laws.{EachLabelFits}
+use Rattle.ra_labels.proofs.Members.{at_head, behind_head}
 use Rattle.ra_witness.specs.declared.part_ref.Half.TheVariants.{Whole, QueryHalf, UpdateHalf}
 use Rattle.ra_witness.specs.Sequence.{ref_to, has_query_half, refs_at}
 use Rattle.ra_witness.specs.Labels.{update_in, updates_by_number}
-use Rattle.ra_witness.proofs.Places.{at_head, behind_head}
 
 -- updates that make the same labels halves lead to the same parts
 pub refs_alike : (us vs : List (Option Update)) (ns : List ℕ) → ((n : ℕ) → has_query_half (slice_get us n) ≡ has_query_half (slice_get vs n))
@@ -43,7 +43,7 @@ no_half (op.RgaRead list) other = refl
 
 none_half : (ls : List Label) (n : ℕ) → ((l : Label) → Contains ls l → ¬ (kind_of l.op ≡ OrSet)) → has_query_half (slice_get (map (λ (l : Label). update_in l.op) ls) n) ≡ false
 none_half [] n other = refl
-none_half (l ∷ ls) zero other = no_half l.op (other l (at_head l ls))
+none_half (l ∷ ls) zero other = no_half l.op (other l (at_head l ls l refl))
 none_half (l ∷ ls) (suc n) other = none_half ls n (λ m there. other m (behind_head l ls m there))
 
 -- labels of another kind have none

@@ -7,7 +7,7 @@ use Rattle.std.proofs.lemmas.List.{append-nil, length-set, get_or-set_same, get_
 use Rattle.std.proofs.lemmas.List.Elements.{All-contains}
 use Rattle.std.proofs.lemmas.List.Sums.{AllPass-from_list_all}
 use Rattle.ra_labels.specs.declared.kind.Kind.{Kind}
-use Rattle.ra_labels.specs.declared.kind.Kind.TheVariants.{Counter, Register, LwwSet, OrSet, Rga}
+use Rattle.ra_labels.specs.declared.kind.Kind.TheVariants.{Counter, OrSet, Rga}
 use Rattle.ra_labels.specs.declared.operation.Op.{Op}
 use Rattle.ra_labels.specs.declared.operation.Update.{Update}
 use Rattle.ra_labels.specs.declared.operation.Update.TheVariants.{Inc, Dec, Write, LwwAdd, LwwRemove, OrAdd, TakeOut}
@@ -24,11 +24,12 @@ use Rattle.ra_labels.specs.Answer.{kind_of, is_kind}
 use Rattle.ra_labels.specs.Laws.{kind_of_state, kind_of_update, kind_of_act, IdentifiersAreOneLabels}
 use Rattle.ra_labels.specs.Insertion.{updates_had, Makes}
 use Rattle.ra_labels.specs.Commuting.{then_step}
+use Rattle.ra_labels.proofs.Members.{head_or_behind}
+use Rattle.ra_labels.proofs.SameKind.{one_kind}
 use Rattle.ra_laws.proofs.TheLaws.{states_are_of_their_kind, parts_are_of_their_kind, an_operation_puts_its_update_in-query, an_operation_puts_its_update_in-others, a_delivery_puts_its_update_in-own, a_delivery_puts_its_update_in-others, updates_of_the_kind_are_admitted-only, a_delivery_is_one_step-counter, a_delivery_is_one_step-or_set}
 use Rattle.ra_witness.specs.Labels.{update_in}
 use Rattle.ra_witness.specs.States.{state_at, update_at, after_step, states_after}
 use Rattle.ra_witness.specs.Standing.{IsKeptOf}
-use Rattle.ra_witness.proofs.Places.{head_or_behind}
 use Rattle.ra_witness.proofs.Newest.{own-step}
 use Rattle.ra_witness.proofs.Causes.{are_of, are_of-both, updates_by}
 use Rattle.ra_witness.proofs.Found.{makes_it, makes_none, updates_more, IsUpdateAt, update_found}
@@ -44,14 +45,6 @@ steps_on (Pairs pairs) (OrAdd x id) is not_rga = refl
 steps_on (Pairs pairs) (TakeOut x ids) is not_rga = refl
 steps_on (Listed list) u is not_rga = absurd (not_rga refl)
 steps_on s u is not_rga = absurd (false≢true is)
-
-one_kind : (a b c : Kind) → is_kind a b ≡ true → is_kind b c ≡ true → is_kind a c ≡ true
-one_kind Counter Counter c ab bc = bc
-one_kind Register Register c ab bc = bc
-one_kind LwwSet LwwSet c ab bc = bc
-one_kind OrSet OrSet c ab bc = bc
-one_kind Rga Rga c ab bc = bc
-one_kind a b c ab bc = absurd (false≢true ab)
 
 -- an operation of the kind makes an update of it
 made_of_kind : (kind : Kind) (op : Op) (u : Update) → is_kind kind (kind_of op) ≡ true → Makes op u → is_kind kind (kind_of_update u) ≡ true

@@ -22,6 +22,8 @@ use Rattle.ra_labels.specs.Answer.{is_kind}
 use Rattle.ra_labels.specs.Laws.{IsStampBelow, StampsAreOneLabels, acts_on, kind_of_update}
 use Rattle.ra_labels.specs.Insertion.{updates_had_of, updates_had, Makes}
 use Rattle.ra_labels.specs.Commuting.{then_step, last_written, last_on}
+use Rattle.ra_labels.proofs.Members.{behind_head, split_at}
+use Rattle.ra_labels.proofs.StampOrder.{not_below_itself, not_both_below}
 use Rattle.ra_laws.proofs.TheLaws.{a_timestamp_is_the_greatest_seen-own, a_label_stands_before_those_that_it_is_below-behind, labels_by_rank_and_then_by_number, named_labels_are_sorted-same, the_last_label_has_the_last_update-register, the_last_label_has_the_last_update-lww_set, a_delivery_is_one_step-register, a_delivery_is_one_step-lww_set, a_delivery_puts_its_update_in-own, updates_of_the_kind_are_admitted-only, updates_of_the_kind_are_admitted-exactly, states_are_of_their_kind}
 use Rattle.ra_visibility.specs.Order.{IsByTimestamp}
 use Rattle.ra_witness.specs.declared.written.Written.{Written}
@@ -31,11 +33,9 @@ use Rattle.ra_witness.specs.Standing.{IsKeptOf}
 use Rattle.ra_witness.specs.Numbers.{element_of}
 use Rattle.ra_witness.specs.Overriding.{updates_of, write_at, counting}
 use Rattle.ra_witness.specs.Overridden.{IsNumberOf, AreWritesOf, IsLastOn, AreLastOf}
-use Rattle.ra_witness.proofs.Places.{behind_head}
-use Rattle.ra_witness.proofs.StampOrder.{not_below_itself, not_both_below}
 use Rattle.ra_witness.proofs.Causes.{are_of}
 use Rattle.ra_witness.proofs.Keeping.{kept-delivery, stepped}
-use Rattle.ra_witness.proofs.Doing.{split_at, its_write, written_made, update_of_write, had_makes, done_of_kind}
+use Rattle.ra_witness.proofs.Doing.{its_write, written_made, update_of_write, had_makes, done_of_kind}
 use Rattle.ra_witness.proofs.Overridden.{one_write, IsNewWrite, counting-last}
 
 -- with one update more of the kind, updates that led to a state are admitted

@@ -1,6 +1,6 @@
 -- The last labels of replicas, where those of one of them change.
 use Rattle.std.proofs.Common.{◌≡◌, ◌≢◌, ℕ, ◌<◌, cond, List, [], length, get_or, set, Option, Some, None, refl, sym, ap, ◌∙◌, subst, inl, inr, arith}
-use Rattle.std.specs.Prelude.{◌==◌, ◌&&◌, Result, OnOk, OnErr, Ok, Err, IfSome, option_map}
+use Rattle.std.specs.Prelude.{◌==◌, ◌&&◌, IfSome, option_map}
 use Rattle.std.proofs.lemmas.Bool.{cases_eq, eq-eqb, ne_eqb}
 use Rattle.std.proofs.lemmas.Option.{slice_get_read, slice_get-map, get_or_from_slice_get}
 use Rattle.std.proofs.lemmas.List.{get_or_default, map-set, length-map, get_or-set_same, get_or-set_other}
@@ -8,14 +8,6 @@ use Rattle.ra_witness.specs.declared.last.Last.{Last}
 use Rattle.ra_witness.specs.Last.{label_on}
 use Rattle.ra_witness.specs.declared.written.Written.{Written}
 use Rattle.ra_witness.specs.Overriding.{write_at, later_of, labels_in, last_label, counting, last_with}
-
-pub on_ok : {T E : Type 0} {P Q : Type 0} (r : Result T E) → OnOk r P → (P → Q) → OnOk r Q
-on_ok (Ok x) p f = f p
-on_ok (Err e) p f = tt
-
-pub on_err : {T E : Type 0} {P Q : Type 0} (r : Result T E) → OnErr r P → (P → Q) → OnErr r Q
-on_err (Ok x) p f = tt
-on_err (Err e) p f = f p
 
 pub if_some_at : {A : Type 0} (o : Option A) (x : A) (P : A → Type 0) → o ≡ Some x → P x → IfSome o P
 if_some_at o x P is p = subst (λ a. IfSome a P) (sym is) p
@@ -84,10 +76,6 @@ lasts-delivered writes read lasts r n w old new same there is says =
     ∙ ap (λ ls. later_of writes (label_on ls w.on) n w.stamp) (sym (read_at lasts r old there is)) in
     lasts-with lasts r old new w.on (counting writes (labels_in lasts) r n w) there is
     (λ c. says c ∙ ap (λ k. cond (c == w.on) (Some k) (label_on old.labels.items c)) counts)
-
-pub on_err_any : {T E : Type 0} {P : Type 0} (r : Result T E) → P → OnErr r P
-on_err_any (Ok x) p = tt
-on_err_any (Err e) p = p
 
 pub lasts-taken : (lasts : List Last) (r : ℕ) (old new : Last) (e f label n : ℕ) → r < length lasts → old ≡ get_or lasts r old → e ≡ f → label ≡ n
     → ((c : ℕ) → label_on new.labels.items c ≡ cond (c == e) (Some label) (label_on old.labels.items c))

@@ -1,11 +1,9 @@
-pub mod Places
 pub mod Newest
 pub mod Causes
 pub mod Found
 pub mod NamedParts
 pub mod Keeping
 pub mod Lasts
-pub mod StampOrder
 pub mod Overridden
 pub mod Doing
 pub mod LastMade

@@ -17,13 +17,13 @@ use Rattle.ra_labels.specs.Linearization.{updates_admitted}
 use Rattle.ra_labels.specs.Laws.{elements_in, StampsAreOneLabels}
 use Rattle.ra_labels.specs.Late.{put_after}
 use Rattle.ra_labels.specs.Insertion.{Makes}
+use Rattle.ra_labels.proofs.Members.{at_head, behind_head}
+use Rattle.ra_labels.proofs.StampOrder.{below_tested}
 use Rattle.ra_laws.proofs.TheLaws.{an_operation_makes_one_update-one, a_new_label_in_the_list_of_all-insertion, labels_with_stamps_stand_in_their_order}
 use Rattle.ra_element_list.specs.ElementList.{Arrival, ElementList, root, arrival_at, IsBelowByStamp}
 use Rattle.ra_replica_list.specs.declared.deed.Deed.{Deed}
 use Rattle.ra_replica_list.specs.declared.deed.Deed.TheVariants.{PutsIn}
 use Rattle.ra_replica_list.specs.Deeds.{element_at, number_of, update_of, AreElementsOf}
-use Rattle.ra_witness.proofs.Places.{at_head, behind_head}
-use Rattle.ra_witness.proofs.StampOrder.{below_tested}
 use Rattle.ra_witness.proofs.Taken.{label_below}
 use Rattle.ra_witness.proofs.AllElements.{its_number}
 use Rattle.ra_witness.proofs.NewLabel.{Adds, list_after}
@@ -134,7 +134,7 @@ module _ (all next : ElementList) (deeds : List (Option Deed)) (records : Record
       let t = (arrival_at all.arrivals n).stamp in
       let stands : label_cmp variant.Rga now own other ≡ stamp_cmp stamp t =
       labels_with_stamps_stand_in_their_order variant.Rga now own other stamp t (λ e. cc (e)) (λ e. cc (e)) stamped as_number.stamp (λ same.
-      let one = stamps own other stamp (at_head own (labels_of records)) (behind_head own (labels_of records) other there) stamped (as_number.stamp ∙ ap Some (sym same)) in
+      let one = stamps own other stamp (at_head own (labels_of records) own refl) (behind_head own (labels_of records) other there) stamped (as_number.stamp ∙ ap Some (sym same)) in
       let its : label_count records ≡ other.number = ap (λ (l : Label). l.number) one in
       let lower = label_below records other there in
       omega (arith, its, lower)) in

@@ -19,12 +19,12 @@ use Rattle.ra_labels.specs.NamedOrder.{named_sequence}
 use Rattle.ra_labels.specs.Linearization.{updates_admitted}
 use Rattle.ra_labels.specs.Laws.{elements_in}
 use Rattle.ra_labels.specs.Insertion.{Makes}
+use Rattle.ra_labels.proofs.Members.{head_or_behind, at_head, behind_head}
 use Rattle.ra_laws.proofs.TheLaws.{an_operation_makes_one_update-exactly, an_operation_makes_one_update-one, an_operation_puts_its_update_among_all-query, updates_admitted_where_they_lead_to_a_state, states_are_of_their_kind, a_new_label_in_the_list_of_all-removal}
 use Rattle.ra_element_list.specs.ElementList.{Arrival, ElementList, arrival_at}
 use Rattle.ra_replica_list.specs.declared.deed.Deed.{Deed}
 use Rattle.ra_replica_list.specs.declared.deed.Deed.TheVariants.{PutsIn, Removes}
 use Rattle.ra_replica_list.specs.Deeds.{deed_at, element_at, number_of, update_of, AreElementsOf}
-use Rattle.ra_witness.proofs.Places.{head_or_behind, at_head, behind_head}
 use Rattle.ra_witness.proofs.Taken.{label_below}
 
 -- the deeds with one more
@@ -102,7 +102,7 @@ module _ (all next : ElementList) (deeds : List (Option Deed)) (records : Record
       | inl was ↦
           let (label, there, number, makes) = are.makes n deed was in
           (label, behind_head own (labels_of records) label there, number, subst (λ u. Makes label.op u) (sym (same_update deed (are.known n deed was))) makes)
-      | inr (here, is) ↦ (own, at_head own (labels_of records), omega (arith, here, are.count), adds.makes deed is)
+      | inr (here, is) ↦ (own, at_head own (labels_of records) own refl, omega (arith, here, are.count), adds.makes deed is)
     ];
     known = λ n deed at. elim (deed_more deeds o n deed at) [
       | inl was ↦ omega (arith, are.known n deed was, adds.longer)

@@ -1,10 +1,9 @@
 -- The update of a label that fits is the last one of its replica.
-use Rattle.std.proofs.Common.{◌≡◌, ℕ, Bool, true, false, cond, List, [], ◌∷◌, ◌++◌, filter, Option, Some, None, refl, sym, ap, ◌∙◌, arith}
-use Rattle.std.specs.Prelude.{◌&&◌, ◌||◌, not, is_some, Contains, map, flat_map}
+use Rattle.std.proofs.Common.{◌≡◌, ℕ, Bool, true, false, cond, List, [], ◌∷◌, ◌++◌, filter, Option, Some, None, refl, sym, ap, ◌∙◌}
+use Rattle.std.specs.Prelude.{◌&&◌, ◌||◌, not, is_some, flat_map}
 use Rattle.std.specs.List.{list_all, cons_option}
 use Rattle.std.proofs.lemmas.Bool.{and_parts, eq-eqb, true≢false}
 use Rattle.std.proofs.lemmas.List.{append-nil}
-use Rattle.std.proofs.lemmas.List.Folds.{list_all-append}
 use Rattle.std.proofs.lemmas.Grind.{flat_map-append}
 use Rattle.ra_labels.specs.declared.kind.Kind.{Kind}
 use Rattle.ra_labels.specs.declared.operation.Op.{Op}
@@ -13,12 +12,13 @@ use Rattle.ra_labels.specs.declared.label.Label.{Label}
 use Rattle.ra_labels.specs.declared.command.Command.TheVariants.{Operate}
 use Rattle.ra_labels.specs.Records.{Records, label_count, next_label}
 use Rattle.ra_labels.specs.Visibility.{had, sees}
-use Rattle.ra_labels.specs.Rewriting.{Part, Half, Act, Does, acts_of, part_of, parts_of, update_of, updates_of}
+use Rattle.ra_labels.specs.Rewriting.{Part, Does, acts_of, parts_of, update_of, updates_of}
 use Rattle.ra_labels.specs.Specification.{state_after}
 use Rattle.ra_labels.specs.Linearization.{must_precede, extends, extends_visibility, is_earlier_there, is_query_half_of}
 use Rattle.ra_labels.specs.NamedOrder.{named_sequence}
 use Rattle.ra_labels.specs.Insertion.{updates_had_of, updates_had, Makes}
 use Rattle.ra_labels.specs.Commuting.{then_step}
+use Rattle.ra_labels.proofs.Parts.{extends-behind, is_before}
 use Rattle.ra_laws.proofs.TheLaws.{an_operation_puts_its_update_in-own, one_more_update_is_one_more_step}
 
 first_fails : (a b c : Bool) → not (a || b || c) ≡ true → a ≡ false
@@ -56,25 +56,6 @@ module _ (records : Records) (by : ℕ) (op : Op) (clock : Option ℕ) where
       ap (λ (l : Label). sees now l.number p.label.number) is ∙ sees_new p.label.number in
       dropped (had records by p.label.number) p (filter (λ (r : Part). had records by r.label.number) behind)
       (sym (ap (λ b. is_some (update_of p.act) && b) sees_it) ∙ unseen) (none_had q is behind parts.1)
-
-extends-behind : (precedes : Part → Part → Bool) (first later : List Part) → extends precedes (first ++ later) ≡ true → extends precedes later ≡ true
-extends-behind precedes [] later extended = extended
-extends-behind precedes (p ∷ first) later extended =
-    extends-behind precedes first later (and_parts (list_all (λ q. not (precedes q p)) (first ++ later)) (extends precedes (first ++ later)) extended).1
-
--- a part of the label, before which none of those behind must stand
-abbrev IsBefore : (Part → Part → Bool) → Label → List Part → Type 0
-IsBefore precedes label behind = (q : Part) × (q.label ≡ label) × (list_all (λ p. not (precedes p q)) behind ≡ true)
-
-is_before : (precedes : Part → Part → Bool) (label : Label) (acts : List (Half × Act)) (act : Half × Act) (behind : List Part) → Contains acts act
-    → extends precedes (map (part_of label) acts ++ behind) ≡ true → IsBefore precedes label behind
-is_before precedes label [] act behind there extended = absurd (omega (arith, there.1))
-is_before precedes label (first ∷ acts) act behind there extended =
-    let q = part_of label first in
-    let test = λ (p : Part). not (precedes p q) in
-    let rest = map (part_of label) acts in
-    let all = (and_parts (list_all test (rest ++ behind)) (extends precedes (rest ++ behind)) extended).0 in
-    (q, refl, (and_parts (list_all test rest) (list_all test behind) (sym (list_all-append test rest behind) ∙ all)).1)
 
 parts_round : (before behind : List Label) (label : Label) → flat_map parts_of (before ++ label ∷ behind) ≡ flat_map parts_of before ++ (parts_of label ++ flat_map parts_of behind)
 parts_round before behind label = flat_map-append parts_of before (label ∷ behind)

@@ -18,6 +18,7 @@ use Rattle.ra_labels.specs.Linearization.{extends_visibility, updates_admitted}
 use Rattle.ra_labels.specs.NamedOrder.{named_labels, named_sequence}
 use Rattle.ra_labels.specs.Fault.{fault_of, fault_at, cause_of}
 use Rattle.ra_labels.specs.Answer.{refusal_of, records_after, with_accepted}
+use Rattle.ra_labels.proofs.Counted.{labels_counted}
 use Rattle.ra_laws.proofs.TheLaws.{no_fault_holds, named_labels_are_sorted-same, stamps_are_given_once-one, identifiers_are_given_once-one, accepted_labels_fit-one, delivered_where_causal, no_cause_where_records_hold}
 use Rattle.ra_visibility.specs.declared.order.Place.{Place}
 use Rattle.ra_visibility.specs.declared.limits.TheConstants.{MOST_LABELS}
@@ -29,7 +30,6 @@ use Rattle.ra_witness.specs.Labels.{updates_in, first_of, update_in}
 use Rattle.ra_witness.specs.Offered.{IsOffered, IsTold}
 use Rattle.ra_witness.specs.Kept.{IsKept}
 use Rattle.ra_witness.specs.Witness.{IsWitnessOf, IsNext}
-use Rattle.ra_witness.proofs.Found.{labels_counted}
 
 pub from_not : (b c : Bool) → not b ≡ not c → b ≡ c
 from_not true true e = refl

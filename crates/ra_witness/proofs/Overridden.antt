@@ -11,11 +11,11 @@ use Rattle.ra_labels.specs.Records.{Records, labels_of}
 use Rattle.ra_labels.specs.Visibility.{had, is_update_at}
 use Rattle.ra_labels.specs.NamedOrder.{stamp_cmp}
 use Rattle.ra_labels.specs.Laws.{IsStampBelow, StampsAreOneLabels}
+use Rattle.ra_labels.proofs.StampOrder.{below_tested, not_below_tested, below_below, below_else}
 use Rattle.ra_witness.specs.declared.written.Written.{Written}
 use Rattle.ra_witness.specs.Overriding.{write_at, is_above, later_of, last_label, counting, last_with}
 use Rattle.ra_witness.specs.Overridden.{AreWritesOf, IsLastOn, NoneIsOn, AreLastOf}
 use Rattle.ra_witness.proofs.Found.{update_found}
-use Rattle.ra_witness.proofs.StampOrder.{below_tested, not_below_tested, below_below, below_else}
 
 pub one_write : (writes : List (Option Written)) (m n : ℕ) (v w : Written) → m ≡ n → write_at writes m ≡ Some v → write_at writes n ≡ Some w → v ≡ w
 one_write writes m n v w same at_m at_n = same_Some v w (sym at_m ∙ ap (write_at writes) same ∙ at_n)

@@ -16,12 +16,12 @@ use Rattle.ra_labels.specs.Rewriting.{Half, Act, Does, Asks, Part, acts_of, part
 use Rattle.ra_labels.specs.Specification.{State, Number, Written, Members, Pairs, Listed, step_of, state_after}
 use Rattle.ra_labels.specs.NamedOrder.{named_labels}
 use Rattle.ra_labels.specs.Insertion.{updates_had}
+use Rattle.ra_labels.proofs.Counted.{labels_counted}
 use Rattle.ra_laws.proofs.TheLaws.{states_are_of_their_kind, a_counter_goes_no_further_than_its_updates, named_labels_are_sorted-same}
 use Rattle.ra_seqspec.specs.Range.{IsInRange}
 use Rattle.ra_witness.specs.Labels.{updates_in}
 use Rattle.ra_witness.specs.States.{state_at, after_step, CanStep, states_after}
 use Rattle.ra_witness.specs.Standing.{IsKeptOf}
-use Rattle.ra_witness.proofs.Found.{labels_counted}
 use Rattle.ra_witness.proofs.Doing.{at_most_one}
 use Rattle.ra_witness.proofs.Keeping.{same_replica}
 

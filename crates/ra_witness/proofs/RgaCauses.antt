@@ -16,10 +16,10 @@ use Rattle.ra_labels.specs.Linearization.{updates_admitted}
 use Rattle.ra_labels.specs.Fault.{cause_of}
 use Rattle.ra_labels.specs.Answer.{kind_of}
 use Rattle.ra_labels.specs.Insertion.{updates_had}
+use Rattle.ra_labels.proofs.InLists.{bool_same}
 use Rattle.ra_laws.proofs.TheLaws.{an_operation_puts_its_update_among_all-query}
 use Rattle.ra_witness.specs.Labels.{cause_in}
 use Rattle.ra_witness.specs.Offered.{IsOffered}
-use Rattle.ra_witness.proofs.Places.{pass_together}
 use Rattle.ra_witness.proofs.Causes.{cause_where_it_fits}
 
 -- what neither puts in nor removes asks
@@ -59,6 +59,6 @@ module _ (first : ℕ) (records : Records) (by : ℕ) (op : Op) (clock : Option 
   update_cause b none exactly =
       let a = updates_admitted variant.Rga (named_sequence variant.Rga now) in
       let o = state_after variant.Rga (updates_had variant.Rga records by) in
-      either_cause a b (pass_together b a exactly.0 exactly.1)
+      either_cause a b (bool_same b a exactly.0 exactly.1)
       ∙ ap (λ c. cond (not a) (Some cause.Update) c) (sym (none o))
       ∙ sym (cause_where_it_fits variant.Rga records by op clock a offered.holds offered.fits refl)

@@ -14,6 +14,8 @@ use Rattle.ra_labels.specs.Visibility.{is_update, had, sees}
 use Rattle.ra_labels.specs.Linearization.{extends_visibility}
 use Rattle.ra_labels.specs.NamedOrder.{rank_of, named_sequence}
 use Rattle.ra_labels.specs.Laws.{IsStampBelow, StampsAreOneLabels}
+use Rattle.ra_labels.proofs.Members.{head_or_behind, at_head, behind_head}
+use Rattle.ra_labels.proofs.StampOrder.{below_else}
 use Rattle.ra_laws.proofs.TheLaws.{each_number_has_its_label-found, each_number_has_its_label-none, visibility_is_extended_where_ranks_say_so, a_timestamp_is_the_greatest_seen-own, had_updates-updates, had_updates-there}
 use Rattle.ra_visibility.specs.Order.{IsByTimestamp}
 use Rattle.ra_witness.specs.declared.written.Written.{Written}
@@ -21,8 +23,6 @@ use Rattle.ra_witness.specs.Labels.{updates_by_number}
 use Rattle.ra_witness.specs.Numbers.{element_of, number_in, number_with}
 use Rattle.ra_witness.specs.Overriding.{updates_of, write_at, last_label, last_with}
 use Rattle.ra_witness.specs.Overridden.{IsNumberOf, AreWritesOf, IsLastOn, NoneIsOn, AreLastOf, AreBelow, IsNextWrite}
-use Rattle.ra_witness.proofs.StampOrder.{below_else}
-use Rattle.ra_witness.proofs.Places.{head_or_behind, at_head, behind_head}
 use Rattle.ra_witness.proofs.Found.{updates_counted, makes_some}
 
 -- labels are numbered below their count
@@ -243,10 +243,10 @@ module _ (kind : Kind) (writes : List (Option Written)) (lasts : List (List (Opt
   above_old other v old h at =
       let its = are.stamps other v old at in
       let there = behind_head own (labels_of records) other old in
-      let not_above = (visibility_is_extended_where_ranks_say_so kind now_t).0 extended other own there (at_head own (labels_of records)) (inl (sees_it other.number h)) in
+      let not_above = (visibility_is_extended_where_ranks_say_so kind now_t).0 extended other own there (at_head own (labels_of records) own refl) (inl (sees_it other.number h)) in
       let not_below : ¬ IsStampBelow w.stamp v.stamp = λ h. not_above (subst (λ s. IsStampBelow s (rank_of kind now_t other)) (sym (its_rank own w.stamp it.stamp)) (subst (λ s. IsStampBelow w.stamp s) (sym (its_rank other v.stamp its)) h)) in
       below_else w.stamp v.stamp not_below (λ same.
-      let one = once own other w.stamp (at_head own (labels_of records)) there it.stamp (its ∙ ap Some (sym same)) in
+      let one = once own other w.stamp (at_head own (labels_of records) own refl) there it.stamp (its ∙ ap Some (sym same)) in
       let number : label_count records ≡ other.number = ap (λ (l : Label). l.number) one in
       let within = label_below records other old in
       omega (arith, number, within))
@@ -262,7 +262,7 @@ module _ (kind : Kind) (writes : List (Option Written)) (lasts : List (List (Opt
   own_last = record {
     label = own;
     write = w;
-    there = at_head own (labels_of records);
+    there = at_head own (labels_of records) own refl;
     number = refl;
     had_it = had_own;
     found = at_new writes records by op clock (Some w) kept;

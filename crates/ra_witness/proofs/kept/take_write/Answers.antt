@@ -1,10 +1,10 @@
 use Rattle.std.proofs.Common.{◌∙◌, sym, arith}
 use Rattle.ra_witness.specs.Overriding.{updates_of}
-use Rattle.ra_witness.proofs.Lasts.{on_err_any}
 use Rattle.ra_witness.proofs.Carrying.{not_rga-overriding, can_take, stamp_missing}
 use Rattle.ra_witness.proofs.Writing.{writes_counted, overriding_same}
 use Rattle.ra_witness.proofs.WriteTaken.{overriding_taken, overriding_asked}
 use Rattle.ra_witness.proofs.kept.take_write.Goals as goal
+use Rattle.ra_labels.proofs.Results.{on_err_any}
 
 pub returns-in_default-clause-taken : goal.returns-in_default-clause-taken
 returns-in_default-clause-taken c = λ kind first records by op clock stands offered same.

@@ -3,12 +3,11 @@ use Rattle.ra_labels.specs.declared.label.Stamp.{Stamp}
 use Rattle.ra_labels.specs.declared.command.Command.TheVariants.{Deliver}
 use Rattle.ra_labels.specs.NamedOrder.{greater_of}
 use Rattle.ra_labels.specs.Visibility.{had}
+use Rattle.ra_labels.proofs.Results.{on_err, on_err_any}
 use Rattle.ra_replica_list.specs.declared.deed.Deed.{Deed}
 use Rattle.ra_replica_list.specs.declared.deed.Deed.TheVariants.{PutsIn, Removes}
 use Rattle.ra_replica_list.specs.Deeds.{deed_at}
 use Rattle.ra_replica_list.specs.ReplicaList.{ReplicaList, IsGreatestOf, IsListOf}
-use Rattle.ra_replica_list.proofs.Places.{on_err}
-use Rattle.ra_replica_list.proofs.Entries.{on_err_any}
 use Rattle.ra_replica_list.proofs.Deeds.{deeds_stand}
 use Rattle.ra_replica_list.proofs.Alike.{list_alike}
 use Rattle.ra_replica_list.proofs.Delivering.{if_ok_on, if_ok_map, delivered, few_steps, counted, some_step, one_step, with_stamp, with_none}

@@ -6,12 +6,12 @@ use Rattle.ra_labels.specs.Laws.{IsStampBelow}
 use Rattle.ra_labels.specs.Insertion.{updates_passing}
 use Rattle.ra_labels.specs.Waiting.{is_there}
 use Rattle.ra_labels.specs.declared.kind.Kind.TheVariants.{Rga}
+use Rattle.ra_labels.proofs.StampOrder.{below_tested}
 use Rattle.ra_element_list.specs.ElementList.{arrival_at, is_marked, IsNearestBefore}
 use Rattle.ra_replica_list.specs.declared.deed.Deed.TheVariants.{PutsIn}
 use Rattle.ra_replica_list.specs.ReplicaList.{ReplicaList}
 use Rattle.ra_replica_list.specs.Deeds.{element_at}
 use Rattle.ra_replica_list.proofs.Deeds.{deeds_stand, needed_marked}
-use Rattle.ra_replica_list.proofs.Greatest.{below_tested}
 use Rattle.ra_replica_list.proofs.Nearness.{newest_is_nearest}
 use Rattle.ra_replica_list.proofs.replica_list.ReplicaList.nearest.Goals as goal
 

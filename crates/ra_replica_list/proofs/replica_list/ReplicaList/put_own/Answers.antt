@@ -5,13 +5,13 @@ use Rattle.ra_labels.specs.declared.command.Command.TheVariants.{Operate}
 use Rattle.ra_labels.specs.Visibility.{had}
 use Rattle.ra_labels.specs.Specification.{step_of}
 use Rattle.ra_labels.specs.NamedOrder.{greater_of}
+use Rattle.ra_labels.proofs.Results.{on_err_any}
 use Rattle.ra_element_list.specs.ElementList.{Arrival, is_marked}
 use Rattle.ra_replica_list.specs.declared.deed.Deed.TheVariants.{PutsIn}
 use Rattle.ra_replica_list.specs.Waiting.{labels_under}
 use Rattle.ra_replica_list.specs.Deeds.{element_at}
 use Rattle.ra_replica_list.specs.ReplicaList.{ReplicaList, IsGreatestOf, IsListOf}
 use Rattle.ra_replica_list.specs.Freed.{AreAlike}
-use Rattle.ra_replica_list.proofs.Entries.{on_err_any}
 use Rattle.ra_replica_list.proofs.Alike.{kept_in, list_alike, unadded}
 use Rattle.ra_replica_list.proofs.Deeds.{AreMarksWith}
 use Rattle.ra_replica_list.proofs.Getting.{IsAdded}

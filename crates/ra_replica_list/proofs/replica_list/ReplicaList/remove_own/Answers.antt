@@ -3,11 +3,11 @@ use Rattle.ra_labels.specs.declared.label.Stamp.{Stamp}
 use Rattle.ra_labels.specs.declared.operation.Update.TheVariants.{RgaRemove}
 use Rattle.ra_labels.specs.declared.command.Command.TheVariants.{Operate}
 use Rattle.ra_labels.specs.Visibility.{had}
+use Rattle.ra_labels.proofs.Results.{on_err}
 use Rattle.ra_replica_list.specs.declared.deed.Deed.TheVariants.{Removes}
 use Rattle.ra_replica_list.specs.Deeds.{deed_at, element_at}
 use Rattle.ra_replica_list.specs.ReplicaList.{IsGreatestOf}
 use Rattle.ra_replica_list.specs.Freed.{IsKeptAfter}
-use Rattle.ra_replica_list.proofs.Places.{on_err}
 use Rattle.ra_replica_list.proofs.Alike.{list_alike}
 use Rattle.ra_replica_list.proofs.Delivering.{if_ok_on}
 use Rattle.ra_replica_list.proofs.Knowing.{not_had}

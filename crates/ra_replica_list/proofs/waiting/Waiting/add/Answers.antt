@@ -3,8 +3,9 @@ use Rattle.std.specs.Prelude.{nat_eq, option_map}
 use Rattle.std.specs.Map.{lookup}
 use Rattle.std.proofs.lemmas.Option.{same_Some}
 use Rattle.ra_replica_list.specs.Waiting.{labels_under}
-use Rattle.ra_replica_list.proofs.Entries.{under_some, under_none, under_now, under_other, none_empty, filled_push, put_back, looked_up, items_of, on_err_any}
+use Rattle.ra_replica_list.proofs.Entries.{under_some, under_none, under_now, under_other, none_empty, filled_push, put_back, looked_up, items_of}
 use Rattle.ra_replica_list.proofs.waiting.Waiting.add.Goals as goal
+use Rattle.ra_labels.proofs.Results.{on_err_any}
 
 pub invariant_of-self : goal.invariant_of-self
 invariant_of-self c =

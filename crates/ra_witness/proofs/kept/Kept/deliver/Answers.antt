@@ -6,9 +6,10 @@ use Rattle.ra_labels.specs.Insertion.{updates_had}
 use Rattle.std.specs.Prelude.{nat_eq}
 use Rattle.std.specs.HashMap.{get, hash_map_len}
 use Rattle.ra_labels.specs.NamedOrder.{named_labels}
+use Rattle.ra_labels.proofs.Results.{on_ok, on_err, on_err_any}
 use Rattle.ra_witness.specs.Offered.{IsTold}
 use Rattle.ra_witness.specs.Overriding.{write_at}
-use Rattle.ra_witness.proofs.Lasts.{on_ok, on_err, on_err_any, if_some_at}
+use Rattle.ra_witness.proofs.Lasts.{if_some_at}
 use Rattle.ra_witness.proofs.Carrying.{is_commuting, is_overriding, is_rga, told_there, can_tell, commuting_told, if_some_use}
 use Rattle.ra_witness.proofs.Doing.{told_step}
 use Rattle.ra_witness.proofs.Writing.{writes_counted, told_write, can_bring, overriding_told, overriding_same}

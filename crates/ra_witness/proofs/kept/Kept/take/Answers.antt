@@ -2,8 +2,8 @@ use Rattle.std.proofs.Common.{◌≡◌, ◌∷◌, true, subst, arith}
 use Rattle.ra_labels.specs.declared.command.Command.TheVariants.{Operate}
 use Rattle.ra_labels.specs.NamedOrder.{named_sequence}
 use Rattle.ra_labels.specs.Linearization.{updates_admitted}
+use Rattle.ra_labels.proofs.Results.{on_ok, on_err}
 use Rattle.ra_witness.specs.Offered.{IsOffered}
-use Rattle.ra_witness.proofs.Lasts.{on_ok, on_err}
 use Rattle.ra_witness.proofs.Carrying.{on_ok_two, is_commuting, is_overriding, is_rga, not_rga-commuting, can_take, commuting_taken}
 use Rattle.ra_witness.proofs.kept.Kept.take.Goals as goal
 

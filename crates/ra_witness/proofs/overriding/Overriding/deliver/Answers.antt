@@ -1,7 +1,8 @@
 use Rattle.std.proofs.Common.{arith}
 use Rattle.ra_witness.specs.Overriding.{write_at}
-use Rattle.ra_witness.proofs.Lasts.{on_ok, on_err, if_some_at, lasts-same, lasts-delivered, write_found}
+use Rattle.ra_witness.proofs.Lasts.{if_some_at, lasts-same, lasts-delivered, write_found}
 use Rattle.ra_witness.proofs.overriding.Overriding.deliver.Goals as goal
+use Rattle.ra_labels.proofs.Results.{on_ok, on_err}
 
 pub returns-clause-lasts : goal.returns-clause-lasts
 returns-clause-lasts c =

@@ -1,6 +1,7 @@
 use Rattle.std.proofs.Common.{arith}
-use Rattle.ra_witness.proofs.Lasts.{on_err_any, lasts-same, lasts-taken}
+use Rattle.ra_witness.proofs.Lasts.{lasts-same, lasts-taken}
 use Rattle.ra_witness.proofs.overriding.Overriding.take.Goals as goal
+use Rattle.ra_labels.proofs.Results.{on_err_any}
 
 pub returns-in_err-make_own-clause-same_lasts : goal.returns-in_err-make_own-clause-same_lasts
 returns-in_err-make_own-clause-same_lasts c =

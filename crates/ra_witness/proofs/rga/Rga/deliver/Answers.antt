@@ -2,10 +2,10 @@ use Rattle.std.proofs.Common.{◌<◌, ◌∙◌, ◌∷◌, length, refl, sym, 
 use Rattle.std.proofs.lemmas.Option.{slice_get_read}
 use Rattle.std.proofs.lemmas.Result.{IfOk-weaker}
 use Rattle.ra_labels.specs.declared.command.Command.TheVariants.{Deliver}
+use Rattle.ra_labels.proofs.Results.{on_ok, on_err}
 use Rattle.ra_laws.proofs.TheLaws.{had_updates-there}
 use Rattle.ra_replica_list.specs.Deeds.{deed_at, AreElementsOf}
 use Rattle.ra_replica_list.specs.ReplicaList.{IsListOf}
-use Rattle.ra_witness.proofs.Lasts.{on_ok, on_err}
 use Rattle.ra_witness.proofs.ReplicaLists.{told_deed, rga_told, rga_same}
 use Rattle.ra_witness.proofs.rga.Rga.deliver.Goals as goal
 

@@ -8,10 +8,10 @@ use Rattle.ra_labels.specs.declared.command.Command.TheVariants.{Operate}
 use Rattle.ra_labels.specs.NamedOrder.{named_sequence}
 use Rattle.ra_labels.specs.Linearization.{updates_admitted}
 use Rattle.ra_labels.specs.Insertion.{Makes}
+use Rattle.ra_labels.proofs.Results.{on_err_any}
 use Rattle.ra_witness.specs.declared.rga.Rga.{Rga}
 use Rattle.ra_witness.specs.Rga.{IsRgaOf}
 use Rattle.ra_witness.specs.Offered.{IsOffered}
-use Rattle.ra_witness.proofs.Lasts.{on_err_any}
 use Rattle.ra_witness.proofs.Forms.{its_replica, its_clock}
 use Rattle.ra_witness.proofs.Admitted.{makes_removal}
 use Rattle.ra_witness.proofs.ReplicaLists.{rga_same}
