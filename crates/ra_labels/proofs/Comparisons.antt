@@ -17,18 +17,18 @@ cmp_less x y Less known is = known
 cmp_less x y Equal known is = absurd (cc is)
 cmp_less x y Greater known is = absurd (cc is)
 
-pub cmp_tests : (x y : ℕ) (o : Ordering) → MatchOrdering o (x < y) (x ≡ y) (y < x) → is_eq o ≡ (x == y)
+cmp_tests : (x y : ℕ) (o : Ordering) → MatchOrdering o (x < y) (x ≡ y) (y < x) → is_eq o ≡ (x == y)
 cmp_tests x y Less known = sym (ne_eqb x y (λ same. absurd (omega arith)))
 cmp_tests x y Equal known = sym (eq-eqb x y known)
 cmp_tests x y Greater known = sym (ne_eqb x y (λ same. absurd (omega arith)))
 
--- a key is found where it is the number
-pub is_at-eqb : (x y : ℕ) → is_at (nat_cmp x) y ≡ (x == y)
-is_at-eqb x y = cmp_tests x y (nat_cmp x y) (ranked x y _ refl)
-
 -- numbers are the same where they compare so
 pub is_eq-nat_cmp : (x y : ℕ) → is_eq (nat_cmp x y) ≡ (x == y)
 is_eq-nat_cmp x y = cmp_tests x y (nat_cmp x y) (ranked x y _ refl)
+
+-- a key is found where it is the number
+pub is_at-eqb : (x y : ℕ) → is_at (nat_cmp x) y ≡ (x == y)
+is_at-eqb = is_eq-nat_cmp
 
 pub then_eq : (a b : Ordering) → is_eq (ordering_then a b) ≡ (is_eq a && is_eq b)
 then_eq Less b = refl

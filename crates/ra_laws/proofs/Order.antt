@@ -1,5 +1,5 @@
 -- The named order of the labels.
-use Rattle.std.proofs.Common.{◌≡◌, ℕ, ◌+◌, ◌<◌, ◌≤◌, false, [], ◌∷◌, refl, sym, ap, ◌∙◌, inl, inr, arith, Ordering, reverse}
+use Rattle.std.proofs.Common.{◌≡◌, ℕ, ◌<◌, false, [], ◌∷◌, refl, sym, ap, ◌∙◌, inl, inr, arith, Ordering, reverse}
 use mathlib.Core.List.{reverse-cons}
 use Rattle.std.specs.Prelude.{◌↔◌, ◌⊎◌, IsPermutation, IsSorted}
 use Rattle.std.specs.Ordering.{MatchOrdering, nat_cmp, is_lt, ordering_then}

@@ -15,7 +15,7 @@ use Rattle.std.proofs.lemmas.Cmp.{ranked, nat_cmp_total, on_total, then_total}
 use Rattle.std.proofs.lemmas.Bool.{cases_Bool, cases_order, cond-true, cond-false, eqb-true, eqb-false, eq-eqb, ne_eqb, lt-ltb, le-ltb, ltb-true, and_from, and_parts, and_right, not_from_true, not_from_false}
 use Rattle.std.proofs.lemmas.Bool.Decides.{nat_tests}
 use Rattle.ra_labels.specs.Lists.{is_among, rises, pair_cmp, identifiers_of, elements_of, without_pairs}
-use Rattle.ra_labels.proofs.Comparisons.{then_eq, eqb-comm, cmp_tests}
+use Rattle.ra_labels.proofs.Comparisons.{then_eq, eqb-comm, is_eq-nat_cmp}
 use Rattle.ra_seqspec.specs.Pairs.{identifiers_in_front, elements_behind, distinct_elements}
 use Rattle.ra_seqspec.proofs.Removing.{removed, filter_none_left}
 
@@ -25,8 +25,8 @@ pairs_total = then_total (on_total (λ p. p.0) nat_cmp_total) (on_total (λ p. p
 pub pair_test : (p q : ℕ × ℕ) → is_at (pair_cmp p) q ≡ (p.0 == q.0 && p.1 == q.1)
 pair_test p q =
     then_eq (nat_cmp p.0 q.0) (nat_cmp p.1 q.1)
-    ∙ ap (λ b. b && is_eq (nat_cmp p.1 q.1)) (cmp_tests p.0 q.0 _ (ranked p.0 q.0 _ refl))
-    ∙ ap (λ b. p.0 == q.0 && b) (cmp_tests p.1 q.1 _ (ranked p.1 q.1 _ refl))
+    ∙ ap (λ b. b && is_eq (nat_cmp p.1 q.1)) (is_eq-nat_cmp p.0 q.0)
+    ∙ ap (λ b. p.0 == q.0 && b) (is_eq-nat_cmp p.1 q.1)
 
 -- one more identifier is taken out
 filter_twice : (p q r : ℕ × ℕ → Bool) → ((k : ℕ × ℕ) → r k ≡ (q k && p k)) → (ks : List (ℕ × ℕ)) → filter p (filter q ks) ≡ filter r ks

@@ -1,12 +1,13 @@
 -- When a sequence extends an order of its parts, piece by piece.
-use Rattle.std.proofs.Common.{◌≡◌, Bool, true, false, List, [], ◌∷◌, ◌++◌, refl, sym, ap, ◌∙◌, subst, inl, inr, arith}
-use Rattle.std.specs.Prelude.{◌⊎◌, ◌&&◌, not, Contains}
+use Rattle.std.proofs.Common.{◌≡◌, Bool, true, false, List, [], ◌∷◌, ◌++◌, refl, ap, ◌∙◌, arith}
+use Rattle.std.specs.Prelude.{◌&&◌, not, Contains}
 use Rattle.std.specs.List.{list_all}
-use Rattle.std.proofs.lemmas.Bool.{and_parts, and_from, not-true, not_from_false}
+use Rattle.std.proofs.lemmas.Bool.{and_parts, and_from, not_from_false}
 use Rattle.std.proofs.lemmas.List.Folds.{list_all-append}
 use Rattle.ra_labels.specs.Linearization.{extends}
-use Rattle.ra_labels.proofs.InLists.{list_all-contains, list_all-from_contains}
-use Rattle.ra_labels.proofs.Members.{head_or_behind, behind_head}
+use Rattle.ra_labels.proofs.InLists.{list_all-from_contains}
+use Rattle.ra_labels.proofs.Members.{behind_head}
+use Rattle.ra_labels.proofs.Parts.{extends-first, extends-behind, extends-apart}
 
 module _ {A : Type 0} where
   -- none of the later ones must stand before the earlier ones
@@ -16,21 +17,8 @@ module _ {A : Type 0} where
   -- a sequence of two pieces extends the order where both do, and no part of the second must stand before one of the first
   pub extends_pieces : (precedes : A → A → Bool) (xs ys : List A) → extends precedes (xs ++ ys) ≡ true
       → (extends precedes xs ≡ true) × (extends precedes ys ≡ true) × Apart precedes xs ys
-  extends_pieces precedes [] ys extended = (refl, extended, record { none = λ p q (found : Contains [] p) there. absurd (omega (arith, found.1)) })
-  extends_pieces precedes (x ∷ xs) ys extended =
-      let clear : A → Bool = λ q. not (precedes q x) in
-      let both = and_parts (list_all clear (xs ++ ys)) (extends precedes (xs ++ ys)) extended in
-      let heads = and_parts (list_all clear xs) (list_all clear ys) (sym (list_all-append clear xs ys) ∙ both.0) in
-      let rest = extends_pieces precedes xs ys both.1 in (
-        and_from (list_all clear xs) (extends precedes xs) heads.0 rest.0,
-        rest.1,
-        record {
-          none = λ p q found there. elim (head_or_behind x xs p found) [
-            | inl here ↦ subst (λ r. precedes q r ≡ false) here (not-true (precedes q x) (list_all-contains clear ys q heads.1 there))
-            | inr further ↦ rest.2.none p q further there
-          ];
-        },
-      )
+  extends_pieces precedes xs ys extended =
+      (extends-first precedes xs ys extended, extends-behind precedes xs ys extended, record { none = extends-apart precedes xs ys extended })
 
   pub extends_joined : (precedes : A → A → Bool) (xs ys : List A) → extends precedes xs ≡ true → extends precedes ys ≡ true → Apart precedes xs ys
       → extends precedes (xs ++ ys) ≡ true
