@@ -8,7 +8,7 @@ use Rattle.ra_labels.specs.Records.{Records, label_count}
 use Rattle.ra_labels.specs.Visibility.{is_update, is_update_at, had, sees, IsCausal}
 use Rattle.ra_labels.specs.Places.{issuer_of, updates_of, place_of}
 use Rattle.ra_labels.specs.Laws.{IsUpdateOf, AreFirstUpdates}
-use Rattle.ra_laws.proofs.Seen.{is_update_at-below, had_update, sees_earlier}
+use Rattle.ra_laws.proofs.SeenLabels.{is_update_at-below, had_update, sees_earlier}
 use Rattle.ra_laws.proofs.Updates.{newest_or_older, updates-more, place-older, place-here, place-below, place-only, place-there, had-own, sees-own}
 
 -- of no label, none are the first

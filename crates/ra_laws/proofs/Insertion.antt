@@ -25,14 +25,14 @@ use Rattle.ra_labels.proofs.Members.{head_or_behind, at_head, behind_head, piece
 use Rattle.ra_labels.proofs.Sorting.{sort_by_same}
 use Rattle.ra_labels.proofs.Parts.{part_is_of, some_part}
 use Rattle.ra_labels.proofs.Counted.{numbers_below_count}
-use Rattle.ra_laws.proofs.Seen.{sees-append, sees_earlier}
-use Rattle.ra_laws.proofs.Standing.{extends-stands, must_precede-irreflexive, sees_not_itself}
-use Rattle.ra_laws.proofs.Holding.{IsPermutation-named_sequence}
+use Rattle.ra_laws.proofs.SeenLabels.{sees-append, sees_earlier}
+use Rattle.ra_laws.proofs.Extensions.{extends-stands, must_precede-irreflexive, sees_not_itself}
+use Rattle.ra_laws.proofs.Faults.{IsPermutation-named_sequence}
 use Rattle.ra_laws.proofs.Order.{label_cmp-total, label_below, IsSorted-named_labels, IsPermutation-named_labels}
-use Rattle.ra_laws.proofs.Unique.{head_least, sorted_behind}
+use Rattle.ra_laws.proofs.UniqueOrder.{head_least, sorted_behind}
 use Rattle.ra_laws.proofs.Timestamps.{timestamp-append}
-use Rattle.ra_laws.proofs.Exactly.{queries-exactly}
-use Rattle.ra_laws.proofs.Ranking.{ranks-extend, part_must, must_stand-earlier}
+use Rattle.ra_laws.proofs.Meanings.{queries-exactly}
+use Rattle.ra_laws.proofs.Ranks.{ranks-extend, part_must, must_stand-earlier}
 
 module _ {A : Type 0} where
   -- an insertion is one between two pieces

@@ -23,7 +23,7 @@ use Rattle.ra_labels.proofs.InLists.{among-exactly, same-exactly}
 use Rattle.ra_labels.proofs.Members.{kept-there, there-kept, reached, from_where}
 use Rattle.ra_labels.proofs.StampOrder.{ranked_less, ranked_same}
 use Rattle.ra_laws.proofs.Keys.{inserted-exactly, inserted-sorted}
-use Rattle.ra_laws.proofs.Stepping.{state_from, stuck}
+use Rattle.ra_laws.proofs.States.{state_from, stuck}
 
 -- the order of pairs
 pub pair_total : IsTotalOrder pair_cmp

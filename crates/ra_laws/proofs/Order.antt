@@ -18,7 +18,7 @@ use Rattle.ra_labels.specs.NamedOrder.{lowest_rank, rank_of, stamp_cmp, label_cm
 use Rattle.ra_labels.specs.Laws.{IsStampBelow}
 use Rattle.ra_labels.proofs.StampOrder.{stamp_cmp-total, stamp_below, stamp_same}
 use Rattle.ra_labels.proofs.Counted.{numbers_below_count}
-use Rattle.ra_laws.proofs.Sorting.{IsSorted-sort_by, IsPermutation-sort_by, insert_by-last}
+use Rattle.ra_laws.proofs.SortedLists.{IsSorted-sort_by, IsPermutation-sort_by, insert_by-last}
 
 -- the named order is a total order
 pub label_cmp-total : (kind : Kind) (records : Records) → IsTotalOrder (label_cmp kind records)

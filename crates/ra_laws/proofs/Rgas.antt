@@ -16,8 +16,8 @@ use Rattle.ra_labels.specs.Lists.{is_in_list, insert_after, hide, shown}
 use Rattle.ra_labels.specs.Specification.{State, Number, Written, Members, Pairs, Listed, step_of, answers, state_after}
 use Rattle.ra_labels.specs.Laws.{elements_in, RootFirst, IsPutBehind, NoneTwice, WasPutIn, kind_of_state}
 use Rattle.ra_labels.proofs.Members.{head_or_behind, at_head, behind_head}
-use Rattle.ra_laws.proofs.OfKind.{if_some}
-use Rattle.ra_laws.proofs.Stepping.{state_from, stuck}
+use Rattle.ra_laws.proofs.StateKinds.{if_some}
+use Rattle.ra_laws.proofs.States.{state_from, stuck}
 
 -- what the list has
 pub in-exactly : (x : ℕ) (list : List (ℕ × Bool)) → (is_in_list x list ≡ true) ↔ Contains (elements_in list) x
@@ -322,9 +322,6 @@ came_in ls (update ∷ us) qs y is there =
     from_step ls next update us y (inr (x, which, there, same)) found = inl (subst (λ els. Contains els y) (hide-places x ls) (subst (λ es. Contains (elements_in es) y) (sym same) found))
 
 -- what a step puts in
-abbrev IsAfter : Update → ℕ → ℕ → Type 0
-IsAfter update anchor y = update ≡ After anchor y
-
 pub step_puts : (ls next : List (ℕ × Bool)) (update : Update) (anchor y : ℕ) → Steps ls update next → update ≡ After anchor y → Contains (shown next) y × (¬ Contains (elements_in ls) y) × Contains (elements_in next) y
 step_puts ls next update anchor y (inl (a, x, which, there, out, same)) is =
     let this : After a x ≡ After anchor y = sym which ∙ is in

@@ -22,78 +22,78 @@ use Rattle.ra_labels.specs.Fault.{Holds, cause_of, fault_of}
 use Rattle.ra_labels.specs.Answer.{misfit_of, refusal_of, records_after_all}
 use Rattle.ra_labels.specs.Laws.{IsLeastFault}
 use Rattle.ra_labels.specs.Insertion.{updates_passing, updates_had}
-use Rattle.ra_laws.proofs.Seen.{sees_earlier}
-use Rattle.ra_laws.proofs.Holding.{holds_from_no_cause, no_cause_from_holds, each_label_holds, no_fault_from_labels, fault_is_least, only_least_fault}
+use Rattle.ra_laws.proofs.SeenLabels.{sees_earlier}
+use Rattle.ra_laws.proofs.Faults.{holds_from_no_cause, no_cause_from_holds, each_label_holds, no_fault_from_labels, fault_is_least, only_least_fault}
 use Rattle.ra_laws.proofs.Order.{named_labels-by_number}
-use Rattle.ra_laws.proofs.Missing.{records_after_all-causal}
+use Rattle.ra_laws.proofs.MissingLabels.{records_after_all-causal}
 -- laws::specification
-pub use Rattle.ra_laws.proofs.Counting.{state_after-nil as no_update_leaves_the_start, state_after-push as one_more_update_is_one_more_step, counter_within as a_counter_goes_no_further_than_its_updates}
-pub use Rattle.ra_laws.proofs.Exactly.{answers-count as a_count_is_answered_where_it_is_the_number}
-pub use Rattle.ra_laws.proofs.Stepping.{state-of_kind as states_are_of_their_kind, admitted-only as updates_of_the_kind_are_admitted-only, admitted-of_kind as updates_of_the_kind_are_admitted-exactly, register-last as a_register_has_the_last_value-last, answers-last as a_last_value_is_answered_where_it_is_the_value, set-added as a_set_has_what_was_put_in_last-added, set-removed as a_set_has_what_was_put_in_last-removed, set-never as a_set_has_what_was_put_in_last-never, set-rises as a_set_has_what_was_put_in_last-rises, answers-elements as elements_are_answered_where_they_are_the_same}
-pub use Rattle.ra_laws.proofs.OfKind.{answers-of_kind as queries_of_another_kind_are_answered_no, acts-of_kind as parts_are_of_their_kind}
+pub use Rattle.ra_laws.proofs.States.{state_after-nil as no_update_leaves_the_start, state_after-push as one_more_update_is_one_more_step, counter_within as a_counter_goes_no_further_than_its_updates}
+pub use Rattle.ra_laws.proofs.Meanings.{answers-count as a_count_is_answered_where_it_is_the_number}
+pub use Rattle.ra_laws.proofs.States.{state-of_kind as states_are_of_their_kind, admitted-only as updates_of_the_kind_are_admitted-only, admitted-of_kind as updates_of_the_kind_are_admitted-exactly, register-last as a_register_has_the_last_value-last, answers-last as a_last_value_is_answered_where_it_is_the_value, set-added as a_set_has_what_was_put_in_last-added, set-removed as a_set_has_what_was_put_in_last-removed, set-never as a_set_has_what_was_put_in_last-never, set-rises as a_set_has_what_was_put_in_last-rises, answers-elements as elements_are_answered_where_they_are_the_same}
+pub use Rattle.ra_laws.proofs.StateKinds.{answers-of_kind as queries_of_another_kind_are_answered_no, acts-of_kind as parts_are_of_their_kind}
 -- laws::or_set
 pub use Rattle.ra_laws.proofs.OrSets.{pair_below as pairs_by_element_and_then_by_identifier-less, pair_same as pairs_by_element_and_then_by_identifier-equal, pairs-exactly as an_or_set_has_what_was_added_and_stays-pairs, pairs-rise as an_or_set_has_what_was_added_and_stays-rises, added-exactly as an_addition_adds_its_pair, taken_out-exactly as a_removal_takes_out_only_what_it_names, answers-ids as identifiers_are_answered_where_they_are_the_elements, answers-pairs as elements_are_answered_where_they_are_paired}
 -- laws::commuting
-pub use Rattle.ra_laws.proofs.Commuting.{counter-steps as steps_of_a_counter_commute, or_set-steps as steps_of_an_or_set_commute, counter-late as a_late_update_counts_as_the_last-counter, or_set-late as a_late_update_counts_as_the_last-or_set}
+pub use Rattle.ra_laws.proofs.CommutingUpdates.{counter-steps as steps_of_a_counter_commute, or_set-steps as steps_of_an_or_set_commute, counter-late as a_late_update_counts_as_the_last-counter, or_set-late as a_late_update_counts_as_the_last-or_set}
 -- laws::one_step
-pub use Rattle.ra_laws.proofs.OneStep.{clash-exactly as two_updates_clash_where_one_takes_out_what_the_other_adds, removal-sees as a_removal_sees_what_it_takes_out, counter-delivered as a_delivery_is_one_step-counter, register-delivered as a_delivery_is_one_step-register, set-delivered as a_delivery_is_one_step-lww_set, or_set-delivered as a_delivery_is_one_step-or_set}
-pub use Rattle.ra_laws.proofs.Last.{counter-more as one_more_label_is_one_step-counter, register-more as one_more_label_is_one_step-register, set-more as one_more_label_is_one_step-lww_set, or_set-issued as an_operation_of_an_or_set_is_one_step, register-last_label as the_last_label_has_the_last_update-register, set-last_label as the_last_label_has_the_last_update-lww_set, register-overridden as a_label_before_the_last_changes_nothing-register, set-overridden as a_label_before_the_last_changes_nothing-lww_set}
-pub use Rattle.ra_laws.proofs.Offering.{behind-all as a_label_behind_all_that_pass_is_one_step}
+pub use Rattle.ra_laws.proofs.Deliveries.{clash-exactly as two_updates_clash_where_one_takes_out_what_the_other_adds, removal-sees as a_removal_sees_what_it_takes_out, counter-delivered as a_delivery_is_one_step-counter, register-delivered as a_delivery_is_one_step-register, set-delivered as a_delivery_is_one_step-lww_set, or_set-delivered as a_delivery_is_one_step-or_set}
+pub use Rattle.ra_laws.proofs.LastUpdates.{counter-more as one_more_label_is_one_step-counter, register-more as one_more_label_is_one_step-register, set-more as one_more_label_is_one_step-lww_set, or_set-issued as an_operation_of_an_or_set_is_one_step, register-last_label as the_last_label_has_the_last_update-register, set-last_label as the_last_label_has_the_last_update-lww_set, register-overridden as a_label_before_the_last_changes_nothing-register, set-overridden as a_label_before_the_last_changes_nothing-lww_set}
+pub use Rattle.ra_laws.proofs.NewLabels.{behind-all as a_label_behind_all_that_pass_is_one_step}
 -- laws::overriding
-pub use Rattle.ra_laws.proofs.Overriding.{writes-last as writes_lead_to_the_last-last, writes-late as writes_lead_to_the_last-late, set-has as of_each_element_the_last_update_counts-has, set-same as of_each_element_the_last_update_counts-same, set-late as of_each_element_the_last_update_counts-late}
+pub use Rattle.ra_laws.proofs.OverridingUpdates.{writes-last as writes_lead_to_the_last-last, writes-late as writes_lead_to_the_last-late, set-has as of_each_element_the_last_update_counts-has, set-same as of_each_element_the_last_update_counts-same, set-late as of_each_element_the_last_update_counts-late}
 -- laws::rga
 pub use Rattle.ra_laws.proofs.Rgas.{after-admitted as an_element_is_put_behind_one_that_is_there-admitted, after-puts as an_element_is_put_behind_one_that_is_there-behind, removed-admitted as an_element_is_removed_that_is_there-admitted, removed-places as an_element_is_removed_that_is_there-places, removed-shown as an_element_is_removed_that_is_there-shown, removed-anchor as a_removed_element_stays-anchor, removed-again as a_removed_element_stays-again, removed-twice as a_removed_element_stays-twice, list-exactly as a_list_has_what_was_put_in-elements, list-root as a_list_has_what_was_put_in-root, list-once as a_list_has_what_was_put_in-once, list-stays as a_list_has_what_was_put_in-stays, shown-append as elements_are_shown_in_their_order-all, answers-shown as a_list_is_answered_where_it_is_shown}
-pub use Rattle.ra_laws.proofs.Showing.{list-shown as a_list_has_what_was_put_in-shown}
+pub use Rattle.ra_laws.proofs.ShownElements.{list-shown as a_list_has_what_was_put_in-shown}
 -- laws::late
-pub use Rattle.ra_laws.proofs.Late.{newest-behind as a_new_element_stands_behind_its_anchor, late-later as a_late_and_a_later_update_commute-insertions, late-hidden as a_late_and_a_later_update_commute-late_removed, inserted-hidden as a_late_and_a_later_update_commute-removed, hidden-hidden as a_late_and_a_later_update_commute-removals, late-insertion as a_late_insertion_goes_past_the_greater, late-one as a_late_insertion_is_one_step, late-removal as a_late_removal_counts_as_the_last}
-pub use Rattle.ra_laws.proofs.Keeping.{kept-inserted as what_is_kept_keeps_its_order-kept, kept-dropped as what_is_kept_keeps_its_order-dropped, kept-hidden as what_is_kept_keeps_its_order-removed, kept-nearest as an_element_comes_in_behind_the_nearest_before_it}
+pub use Rattle.ra_laws.proofs.LateUpdates.{newest-behind as a_new_element_stands_behind_its_anchor, late-later as a_late_and_a_later_update_commute-insertions, late-hidden as a_late_and_a_later_update_commute-late_removed, inserted-hidden as a_late_and_a_later_update_commute-removed, hidden-hidden as a_late_and_a_later_update_commute-removals, late-insertion as a_late_insertion_goes_past_the_greater, late-one as a_late_insertion_is_one_step, late-removal as a_late_removal_counts_as_the_last}
+pub use Rattle.ra_laws.proofs.KeptEntries.{kept-inserted as what_is_kept_keeps_its_order-kept, kept-dropped as what_is_kept_keeps_its_order-dropped, kept-hidden as what_is_kept_keeps_its_order-removed, kept-nearest as an_element_comes_in_behind_the_nearest_before_it}
 -- laws::passing
-pub use Rattle.ra_laws.proofs.Passing.{had-delivery as a_replica_had_one_more-delivery, had-operation as a_replica_had_one_more-operation, passing-alike as tests_that_agree_let_the_same_updates_pass, passing-of_kind as updates_that_pass_are_admitted_where_all_are, passing-delivery as a_later_command_leaves_the_updates_that_pass-delivery, passing-operation as a_later_command_leaves_the_updates_that_pass-operation, one-more as one_more_label_puts_its_update_in-place, one-more_at as one_more_label_puts_its_update_in-at}
-pub use Rattle.ra_laws.proofs.OneMore.{length-more as one_more_label_puts_its_update_in-count, there-more as one_more_label_puts_its_update_in-there}
+pub use Rattle.ra_laws.proofs.PassingUpdates.{had-delivery as a_replica_had_one_more-delivery, had-operation as a_replica_had_one_more-operation, passing-alike as tests_that_agree_let_the_same_updates_pass, passing-of_kind as updates_that_pass_are_admitted_where_all_are, passing-delivery as a_later_command_leaves_the_updates_that_pass-delivery, passing-operation as a_later_command_leaves_the_updates_that_pass-operation, one-more as one_more_label_puts_its_update_in-place, one-more_at as one_more_label_puts_its_update_in-at}
+pub use Rattle.ra_laws.proofs.RgaSteps.{length-more as one_more_label_puts_its_update_in-count, there-more as one_more_label_puts_its_update_in-there}
 -- laws::waiting
-pub use Rattle.ra_laws.proofs.OneMore.{inserted-admitted as an_update_is_admitted_where_what_it_needs_is_there-insertion, removed-admitted as an_update_is_admitted_where_what_it_needs_is_there-removal, put_in-once as an_element_is_put_in_by_one_label-one, put_in-other as an_element_is_put_in_by_one_label-other, insertion-step as one_more_update_is_one_step-insertion, removal-step as one_more_update_is_one_step-removal, none-waits_more as one_more_update_is_one_step-none_waits}
-pub use Rattle.ra_laws.proofs.Kept.{needed-other as an_update_of_another_kind_needs_the_root, there-list as an_element_is_there_where_its_label_passes-list}
-pub use Rattle.ra_laws.proofs.Passing.{there-label as an_element_is_there_where_its_label_passes-label, passing-admitted as updates_are_admitted_where_none_waits-exactly, passing-list as updates_are_admitted_where_none_waits-list, passing-shown as updates_are_admitted_where_none_waits-shown}
+pub use Rattle.ra_laws.proofs.RgaSteps.{inserted-admitted as an_update_is_admitted_where_what_it_needs_is_there-insertion, removed-admitted as an_update_is_admitted_where_what_it_needs_is_there-removal, put_in-once as an_element_is_put_in_by_one_label-one, put_in-other as an_element_is_put_in_by_one_label-other, insertion-step as one_more_update_is_one_step-insertion, removal-step as one_more_update_is_one_step-removal, none-waits_more as one_more_update_is_one_step-none_waits}
+pub use Rattle.ra_laws.proofs.KeptUpdates.{needed-other as an_update_of_another_kind_needs_the_root, there-list as an_element_is_there_where_its_label_passes-list}
+pub use Rattle.ra_laws.proofs.PassingUpdates.{there-label as an_element_is_there_where_its_label_passes-label, passing-admitted as updates_are_admitted_where_none_waits-exactly, passing-list as updates_are_admitted_where_none_waits-list, passing-shown as updates_are_admitted_where_none_waits-shown}
 -- laws::settled
-pub use Rattle.ra_laws.proofs.Settling.{settling-starts as those_that_waited_follow-starts, settling-follows as those_that_waited_follow-follows, settling-done as those_that_waited_follow-done, settling-ends as those_that_waited_follow-ends, puts-exactly as those_that_waited_follow-element}
-pub use Rattle.ra_laws.proofs.Settled.{needed-before as what_an_update_needs_was_put_in_before_it, settled-admitted as settled_updates_are_admitted-settled, settled-all as settled_updates_are_admitted-all, settled-same as settled_updates_are_admitted-same, settled-exactly as what_is_settled_does_not_wait, settled-waiting as settled_labels_stay_settled-waiting, settled-delivery as settled_labels_stay_settled-delivery, settled-operation as settled_labels_stay_settled-operation, settled-alike as settled_labels_stay_settled-alike, settled-once as what_is_settled_follows_from_what_was_had, settled-before as one_more_label_settles_none_before_it-before, settled-count as one_more_label_settles_none_before_it-count}
+pub use Rattle.ra_laws.proofs.WaitingLabels.{settling-starts as those_that_waited_follow-starts, settling-follows as those_that_waited_follow-follows, settling-done as those_that_waited_follow-done, settling-ends as those_that_waited_follow-ends, puts-exactly as those_that_waited_follow-element}
+pub use Rattle.ra_laws.proofs.SettledUpdates.{needed-before as what_an_update_needs_was_put_in_before_it, settled-admitted as settled_updates_are_admitted-settled, settled-all as settled_updates_are_admitted-all, settled-same as settled_updates_are_admitted-same, settled-exactly as what_is_settled_does_not_wait, settled-waiting as settled_labels_stay_settled-waiting, settled-delivery as settled_labels_stay_settled-delivery, settled-operation as settled_labels_stay_settled-operation, settled-alike as settled_labels_stay_settled-alike, settled-once as what_is_settled_follows_from_what_was_had, settled-before as one_more_label_settles_none_before_it-before, settled-count as one_more_label_settles_none_before_it-count}
 -- laws::arriving
-pub use Rattle.ra_laws.proofs.Arriving.{stands-before as a_label_stands_before_those_that_it_is_below-before, stands-behind as a_label_stands_before_those_that_it_is_below-behind, one-place as a_label_stands_before_those_that_it_is_below-place, own-stamps as labels_with_stamps_stand_in_their_order, all-with as an_operation_puts_its_update_among_all-update, all-without as an_operation_puts_its_update_among_all-query, there-all as what_is_there_a_label_put_in-all, there-among as what_is_there_a_label_put_in-passing, insertion-all as a_new_label_in_the_list_of_all-insertion, removal-all as a_new_label_in_the_list_of_all-removal}
-pub use Rattle.ra_laws.proofs.Offering.{offered-insertion as a_new_update_is_admitted_where_a_label_below_it_put_in_what_it_needs-insertion, offered-removal as a_new_update_is_admitted_where_a_label_below_it_put_in_what_it_needs-removal}
-pub use Rattle.ra_laws.proofs.Between.{between-later as between_an_anchor_and_its_element_stand_later_ones}
+pub use Rattle.ra_laws.proofs.Arrivals.{stands-before as a_label_stands_before_those_that_it_is_below-before, stands-behind as a_label_stands_before_those_that_it_is_below-behind, one-place as a_label_stands_before_those_that_it_is_below-place, own-stamps as labels_with_stamps_stand_in_their_order, all-with as an_operation_puts_its_update_among_all-update, all-without as an_operation_puts_its_update_among_all-query, there-all as what_is_there_a_label_put_in-all, there-among as what_is_there_a_label_put_in-passing, insertion-all as a_new_label_in_the_list_of_all-insertion, removal-all as a_new_label_in_the_list_of_all-removal}
+pub use Rattle.ra_laws.proofs.NewLabels.{offered-insertion as a_new_update_is_admitted_where_a_label_below_it_put_in_what_it_needs-insertion, offered-removal as a_new_update_is_admitted_where_a_label_below_it_put_in_what_it_needs-removal}
+pub use Rattle.ra_laws.proofs.ElementsBetween.{between-later as between_an_anchor_and_its_element_stand_later_ones}
 -- laws::records
-pub use Rattle.ra_laws.proofs.Numbers.{label_at-operation as an_operation_is_found_as_its_label-found, records_to-operation as records_to_a_label_end_with_it-there, records_to-none as records_to_a_label_end_with_it-none}
+pub use Rattle.ra_laws.proofs.LabelNumbers.{label_at-operation as an_operation_is_found_as_its_label-found, records_to-operation as records_to_a_label_end_with_it-there, records_to-none as records_to_a_label_end_with_it-none}
 -- laws::visibility
-pub use Rattle.ra_laws.proofs.Exactly.{had-exactly as had_what_was_issued_or_delivered, sees-exactly as sees_what_its_replica_had}
-pub use Rattle.ra_laws.proofs.Seen.{sees-append as sees_the_same_later, is_update_at-append as is_the_same_later, had_update as had_updates-updates, is_update_at-below as had_updates-there, had-append as had_is_kept, causal-exactly as causal_where_each_delivery_is, had_closed as causal_records_leave_nothing_out-had, sees_through as causal_records_leave_nothing_out-sees}
-pub use Rattle.ra_laws.proofs.Missing.{least_missing as first_missing_is_the_least-some, none_missing as first_missing_is_the_least-none}
+pub use Rattle.ra_laws.proofs.Meanings.{had-exactly as had_what_was_issued_or_delivered, sees-exactly as sees_what_its_replica_had}
+pub use Rattle.ra_laws.proofs.SeenLabels.{sees-append as sees_the_same_later, is_update_at-append as is_the_same_later, had_update as had_updates-updates, is_update_at-below as had_updates-there, had-append as had_is_kept, causal-exactly as causal_where_each_delivery_is, had_closed as causal_records_leave_nothing_out-had, sees_through as causal_records_leave_nothing_out-sees}
+pub use Rattle.ra_laws.proofs.MissingLabels.{least_missing as first_missing_is_the_least-some, none_missing as first_missing_is_the_least-none}
 -- laws::counts
 pub use Rattle.ra_laws.proofs.Updates.{issuer_of-operation as an_operation_has_its_place-issuer, place_of-operation as an_operation_has_its_place-place, updates_of-counted as an_operation_has_its_place-count, place-below as each_place_has_its_update-below, place-there as each_place_has_its_update-there, place-only as each_place_has_its_update-only}
 pub use Rattle.ra_laws.proofs.FirstUpdates.{had-first as first_updates_of_each_replica-had, sees-first as first_updates_of_each_replica-sees}
 -- laws::sequence
-pub use Rattle.ra_laws.proofs.Numbers.{numbers_of_labels as labels_are_numbered_in_turn, label_there as each_number_has_its_label-there, no_label_there as each_number_has_its_label-none}
-pub use Rattle.ra_laws.proofs.Unique.{label_found as each_number_has_its_label-found, named_labels-only as the_order_is_pinned}
-pub use Rattle.ra_laws.proofs.Holding.{IsPermutation-named_sequence as each_part_once}
+pub use Rattle.ra_laws.proofs.LabelNumbers.{numbers_of_labels as labels_are_numbered_in_turn, label_there as each_number_has_its_label-there, no_label_there as each_number_has_its_label-none}
+pub use Rattle.ra_laws.proofs.UniqueOrder.{label_found as each_number_has_its_label-found, named_labels-only as the_order_is_pinned}
+pub use Rattle.ra_laws.proofs.Faults.{IsPermutation-named_sequence as each_part_once}
 pub use Rattle.ra_labels.proofs.StampOrder.{stamp_below as stamps_by_clock_and_then_by_replica-less, stamp_same as stamps_by_clock_and_then_by_replica-equal, lowest_below as the_lowest_rank_is_below_each_stamp}
 pub use Rattle.ra_laws.proofs.Order.{label_below as labels_by_rank_and_then_by_number, IsPermutation-named_labels as named_labels_are_sorted-same, IsSorted-named_labels as named_labels_are_sorted-sorted, named_labels-by_number as named_in_order_of_execution-labels}
-pub use Rattle.ra_laws.proofs.Ranking.{execution-extends as the_order_of_execution_extends_visibility-labels, counter-extends as the_order_of_execution_extends_visibility-counter, or_set-extends as the_order_of_execution_extends_visibility-or_set, ranks-extend as visibility_is_extended_where_ranks_say_so}
+pub use Rattle.ra_laws.proofs.Ranks.{execution-extends as the_order_of_execution_extends_visibility-labels, counter-extends as the_order_of_execution_extends_visibility-counter, or_set-extends as the_order_of_execution_extends_visibility-or_set, ranks-extend as visibility_is_extended_where_ranks_say_so}
 -- laws::timestamps
 pub use Rattle.ra_laws.proofs.Timestamps.{timestamp-own as a_timestamp_is_the_greatest_seen-own, timestamp-reached as a_timestamp_is_the_greatest_seen-seen, timestamp-bounds as a_timestamp_is_the_greatest_seen-greatest, timestamp-append as a_timestamp_is_kept}
 pub use Rattle.ra_laws.proofs.Stamps.{taken-exactly as a_stamp_is_taken_where_a_label_has_it, stamps-once as stamps_are_given_once-one, stamps-once_all as stamps_are_given_once-all, fits-exactly as forms_that_deserve_no_refusal, stamp_taken-exactly as operations_with_a_taken_stamp_are_refused, id_taken-exactly as operations_with_a_taken_identifier_are_refused, operated-exactly as operations_are_accepted_where_nothing_is_taken, labels-fit as accepted_labels_fit-one, labels-fit_all as accepted_labels_fit-all}
 -- laws::identifiers
 pub use Rattle.ra_laws.proofs.Identifiers.{identifier-exactly as an_identifier_is_taken_where_an_addition_has_it-taken, gives-exactly as an_identifier_is_taken_where_an_addition_has_it-gives, identifiers-once as identifiers_are_given_once-one, identifiers-once_all as identifiers_are_given_once-all}
 -- laws::insertion
-pub use Rattle.ra_laws.proofs.OneMore.{made-exactly as an_operation_makes_one_update-exactly, made-once as an_operation_makes_one_update-one}
+pub use Rattle.ra_laws.proofs.RgaSteps.{made-exactly as an_operation_makes_one_update-exactly, made-once as an_operation_makes_one_update-one}
 pub use Rattle.ra_laws.proofs.Insertion.{order-inserted as a_new_label_leaves_the_order_of_the_others, others-see as a_new_label_leaves_what_the_others_see-others, own-sees as a_new_label_leaves_what_the_others_see-own, decides-order as a_new_label_alone_decides-order, decides-query as a_new_label_alone_decides-query, decides-all as a_new_label_alone_decides-all}
-pub use Rattle.ra_laws.proofs.Having.{operation-own as an_operation_puts_its_update_in-own, operation-query as an_operation_puts_its_update_in-query, operation-others as an_operation_puts_its_update_in-others, delivery-own as a_delivery_puts_its_update_in-own, delivery-order as a_delivery_puts_its_update_in-order, delivery-others as a_delivery_puts_its_update_in-others}
+pub use Rattle.ra_laws.proofs.HadUpdates.{operation-own as an_operation_puts_its_update_in-own, operation-query as an_operation_puts_its_update_in-query, operation-others as an_operation_puts_its_update_in-others, delivery-own as a_delivery_puts_its_update_in-own, delivery-order as a_delivery_puts_its_update_in-order, delivery-others as a_delivery_puts_its_update_in-others}
 -- laws::linearization
-pub use Rattle.ra_laws.proofs.Exactly.{visible-exactly as must_precede_in_three_cases-visible, earlier-exactly as must_precede_in_three_cases-earlier, halves-exactly as must_precede_in_three_cases-halves, must_precede-exactly as must_precede_in_three_cases-cases, updates_of-append as updates_stand_in_order-all, visible_updates-append as updates_stand_in_order-visible, updates-exactly as updates_admitted_where_they_lead_to_a_state, queries-exactly as queries_admitted_where_each_is_answered}
-pub use Rattle.ra_laws.proofs.Standing.{must_precede-irreflexive as no_part_precedes_itself, extends-stands as extending_puts_before-stands, stands-extends as extending_puts_before-extends, linearization_by-stands as linearization_by_an_order_puts_before, linearization_by-weaker as linearization_by_a_weaker_order, linearization-stands as linearization_puts_before, is_update-acts as update_where_a_part_is_one}
+pub use Rattle.ra_laws.proofs.Meanings.{visible-exactly as must_precede_in_three_cases-visible, earlier-exactly as must_precede_in_three_cases-earlier, halves-exactly as must_precede_in_three_cases-halves, must_precede-exactly as must_precede_in_three_cases-cases, updates_of-append as updates_stand_in_order-all, visible_updates-append as updates_stand_in_order-visible, updates-exactly as updates_admitted_where_they_lead_to_a_state, queries-exactly as queries_admitted_where_each_is_answered}
+pub use Rattle.ra_laws.proofs.Extensions.{must_precede-irreflexive as no_part_precedes_itself, extends-stands as extending_puts_before-stands, stands-extends as extending_puts_before-extends, linearization_by-stands as linearization_by_an_order_puts_before, linearization_by-weaker as linearization_by_a_weaker_order, linearization-stands as linearization_puts_before, is_update-acts as update_where_a_part_is_one}
 -- laws::fault
-pub use Rattle.ra_laws.proofs.Holding.{cause-order as the_cause_is_the_first_that_fails-order, cause-update as the_cause_is_the_first_that_fails-update, cause-query as the_cause_is_the_first_that_fails-query, holds_from_no_fault as no_fault_holds, fault_stays as a_fault_stays, no_fault_before as records_before_fault_have_none-none, all_before_fault as records_before_fault_have_none-all, count_before as records_before_fault_have_none-count, before_fault-prefix as records_before_fault_are_the_longest-prefix, before_fault-longest as records_before_fault_are_the_longest-longest}
+pub use Rattle.ra_laws.proofs.Faults.{cause-order as the_cause_is_the_first_that_fails-order, cause-update as the_cause_is_the_first_that_fails-update, cause-query as the_cause_is_the_first_that_fails-query, holds_from_no_fault as no_fault_holds, fault_stays as a_fault_stays, no_fault_before as records_before_fault_have_none-none, all_before_fault as records_before_fault_have_none-all, count_before as records_before_fault_have_none-count, before_fault-prefix as records_before_fault_are_the_longest-prefix, before_fault-longest as records_before_fault_are_the_longest-longest}
 -- laws::answer
-pub use Rattle.ra_laws.proofs.Answering.{reply_says as what_a_reply_says, ok_is_evidence as ok_and_yes_are_evidence-ok, yes_is_evidence as ok_and_yes_are_evidence-yes, no_at_fault as no_exactly_at_a_fault, answer_of-fault as no_ever_after_a_fault-reply, records_after-fault as no_ever_after_a_fault-records, answers_to-append as answers_in_turn-replies, records_after_all-append as answers_in_turn-records, misfit_refuses as misfits_are_refused-operation}
-pub use Rattle.ra_laws.proofs.Missing.{not_causal-exactly as not_causal_where_a_seen_label_is_missing, delivered-exactly as delivered_where_causal, records_after-causal as answers_keep_records_causal-one}
+pub use Rattle.ra_laws.proofs.Replies.{reply_says as what_a_reply_says, ok_is_evidence as ok_and_yes_are_evidence-ok, yes_is_evidence as ok_and_yes_are_evidence-yes, no_at_fault as no_exactly_at_a_fault, answer_of-fault as no_ever_after_a_fault-reply, records_after-fault as no_ever_after_a_fault-records, answers_to-append as answers_in_turn-replies, records_after_all-append as answers_in_turn-records, misfit_refuses as misfits_are_refused-operation}
+pub use Rattle.ra_laws.proofs.MissingLabels.{not_causal-exactly as not_causal_where_a_seen_label_is_missing, delivered-exactly as delivered_where_causal, records_after-causal as answers_keep_records_causal-one}
 
 pub a_register_has_the_last_value-none : state_after Register [] ≡ Some (Written None)
 a_register_has_the_last_value-none = refl

@@ -15,7 +15,7 @@ use Rattle.ra_labels.specs.NamedOrder.{lowest_rank, stamp_cmp, greater_of, great
 use Rattle.ra_labels.specs.Laws.{IsStampBelow, SeesStamp}
 use Rattle.ra_labels.proofs.Members.{head_or_behind, kept-there, there-kept}
 use Rattle.ra_labels.proofs.StampOrder.{below_tested, not_below_tested}
-use Rattle.ra_laws.proofs.Numbers.{label_count-append}
+use Rattle.ra_laws.proofs.LabelNumbers.{label_count-append}
 use Rattle.ra_laws.proofs.FirstUpdates.{sees-next}
 
 -- the order of stamps, over their numbers

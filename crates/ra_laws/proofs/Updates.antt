@@ -10,8 +10,8 @@ use Rattle.ra_labels.specs.Records.{Records, label_count, labels_of}
 use Rattle.ra_labels.specs.Visibility.{is_update, is_update_at, had, sees}
 use Rattle.ra_labels.specs.Places.{issuer_of, updates_of, place_of}
 use Rattle.ra_labels.specs.Laws.{IsUpdateOf}
-use Rattle.ra_laws.proofs.Numbers.{label_count-append, label_at-append, label_at-operation}
-use Rattle.ra_laws.proofs.Seen.{is_update_at-append, is_update_at-below, sees-append}
+use Rattle.ra_laws.proofs.LabelNumbers.{label_count-append, label_at-append, label_at-operation}
+use Rattle.ra_laws.proofs.SeenLabels.{is_update_at-append, is_update_at-below, sees-append}
 
 -- the newest operation
 pub issuer_of-operation : (later before : Records) (by : ℕ) (op : Op) (clock : Option ℕ) → issuer_of (later ++ Operate by op clock ∷ before) (label_count before) ≡ by

@@ -11,7 +11,6 @@ use Rattle.std.proofs.lemmas.List.Sorted.{All-permutation, Contains-permutation,
 use Rattle.std.proofs.lemmas.Map.Keys.{IsDistinct-IsPermutation}
 use Rattle.ra_labels.specs.declared.kind.Kind.{Kind}
 use Rattle.ra_labels.specs.declared.kind.Kind.TheVariants.{Counter, OrSet}
-use Rattle.ra_labels.specs.declared.operation.Op.{Op}
 use Rattle.ra_labels.specs.declared.operation.Op.TheVariants as op
 use Rattle.ra_labels.specs.declared.label.Stamp.{Stamp}
 use Rattle.ra_labels.specs.declared.label.Label.{Label}
@@ -27,12 +26,11 @@ use Rattle.ra_labels.proofs.StampOrder.{stamp_cmp-total, stamp_below, stamp_same
 use Rattle.ra_labels.proofs.Parts.{extends-first, extends-behind, extends-apart, part_is_of, some_part}
 use Rattle.ra_labels.proofs.Counted.{numbers_below_count}
 use Rattle.ra_labels.proofs.Comparisons.{eqb-comm}
-use Rattle.ra_laws.proofs.Seen.{sees_earlier}
-use Rattle.ra_laws.proofs.Standing.{is_update-acts}
+use Rattle.ra_laws.proofs.SeenLabels.{sees_earlier}
+use Rattle.ra_laws.proofs.Extensions.{is_update-acts, extends-append, own_parts}
 use Rattle.ra_laws.proofs.Order.{label_cmp-total, IsSorted-named_labels, IsPermutation-named_labels, label_below}
-use Rattle.ra_laws.proofs.Unique.{head_least, sorted_behind, label_found}
-use Rattle.ra_laws.proofs.Extending.{extends-append, own_parts}
-use Rattle.ra_laws.proofs.Exactly.{acts, must_precede-exactly}
+use Rattle.ra_laws.proofs.UniqueOrder.{head_least, sorted_behind, label_found}
+use Rattle.ra_laws.proofs.Meanings.{acts, must_precede-exactly}
 
 -- a label that is there, and an update, has a part that is one
 update_part : (records : Records) (label : Label) → Contains (labels_of records) label → is_update_at records label.number ≡ true

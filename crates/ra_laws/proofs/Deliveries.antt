@@ -29,19 +29,19 @@ use Rattle.ra_labels.specs.Fault.{Holds}
 use Rattle.ra_labels.specs.Laws.{kind_of_state, acts_on, WasAddedAndStays, IdentifiersAreOneLabels}
 use Rattle.ra_labels.specs.Insertion.{updates_had_of, updates_had, Makes}
 use Rattle.ra_labels.specs.Commuting.{then_step, clash, AddsWhatIsTakenOut, NoneClashes, last_written, last_on}
-use Rattle.ra_laws.proofs.Seen.{had_closed, sees_earlier}
+use Rattle.ra_laws.proofs.SeenLabels.{had_closed, sees_earlier}
 use Rattle.ra_labels.proofs.InLists.{list_all-from_contains, among-exactly}
 use Rattle.ra_labels.proofs.Members.{head_or_behind, at_head, behind_head, there-kept, from_where, reached, piece_of, in_piece}
 use Rattle.ra_labels.proofs.Parts.{part_is_of}
 use Rattle.ra_laws.proofs.Order.{label_cmp-total, label_below, IsSorted-named_labels, IsPermutation-named_labels}
-use Rattle.ra_laws.proofs.Unique.{head_least, sorted_behind}
-use Rattle.ra_laws.proofs.Exactly.{queries-exactly}
-use Rattle.ra_laws.proofs.Stepping.{state-of_kind}
+use Rattle.ra_laws.proofs.UniqueOrder.{head_least, sorted_behind}
+use Rattle.ra_laws.proofs.Meanings.{queries-exactly}
+use Rattle.ra_laws.proofs.States.{state-of_kind}
 use Rattle.ra_laws.proofs.OrSets.{pairs-exactly, answers-ids}
-use Rattle.ra_laws.proofs.Ranking.{named_differ, have_one_number}
-use Rattle.ra_laws.proofs.Commuting.{counter-late, or_set-late}
-use Rattle.ra_laws.proofs.Overriding.{writes-late, last_written-behind, set-late, last_on-behind}
-use Rattle.ra_laws.proofs.Having.{differ_round, delivery-own}
+use Rattle.ra_laws.proofs.Ranks.{named_differ, have_one_number}
+use Rattle.ra_laws.proofs.CommutingUpdates.{counter-late, or_set-late}
+use Rattle.ra_laws.proofs.OverridingUpdates.{writes-late, last_written-behind, set-late, last_on-behind}
+use Rattle.ra_laws.proofs.HadUpdates.{differ_round, delivery-own}
 
 -- an update is one of a part
 taken : (o : Option Update) (rest : List Update) (u : Update) → Contains (cons_option o rest) u → (o ≡ Some u) ⊎ Contains rest u

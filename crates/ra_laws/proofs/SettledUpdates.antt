@@ -20,13 +20,13 @@ use Rattle.ra_labels.specs.Insertion.{updates_among, updates_passing, or_label, 
 use Rattle.ra_labels.specs.Waiting.{is_there, needed_by, OnePutsIn, NoneWaits, OthersWait, AllSettled, IsSettled}
 use Rattle.ra_labels.proofs.InLists.{bool_same}
 use Rattle.ra_labels.proofs.Members.{head_or_behind, at_head, behind_head}
-use Rattle.ra_laws.proofs.Ranking.{named_differ, have_one_number}
-use Rattle.ra_laws.proofs.Having.{differ_round, among-append, among-one, among-not}
+use Rattle.ra_laws.proofs.Ranks.{named_differ, have_one_number}
+use Rattle.ra_laws.proofs.HadUpdates.{differ_round, among-append, among-one, among-not}
 use Rattle.ra_laws.proofs.Rgas.{list-exactly}
-use Rattle.ra_laws.proofs.Late.{one_step}
-use Rattle.ra_laws.proofs.Kept.{needed-now}
-use Rattle.ra_laws.proofs.Passing.{in-named, in-labels, others-pass, each, each_passes, passing-delivery, passing-operation, passing-admitted, listed-after, there-label, among-from, among-alike, among-fewer}
-use Rattle.ra_laws.proofs.OneMore.{split-led, same_number, makes_same}
+use Rattle.ra_laws.proofs.LateUpdates.{one_step}
+use Rattle.ra_laws.proofs.KeptUpdates.{needed-now}
+use Rattle.ra_laws.proofs.PassingUpdates.{in-named, in-labels, others-pass, each, each_passes, passing-delivery, passing-operation, passing-admitted, listed-after, there-label, among-from, among-alike, among-fewer}
+use Rattle.ra_laws.proofs.RgaSteps.{split-led, same_number, makes_same}
 
 -- what an update needs was put in before it
 pub needed-before : (records : Records) → updates_admitted Rga (named_sequence Rga records) ≡ true → (first later : List Label) (label : Label) (u : Update) → named_labels Rga records ≡ first ++ label ∷ later → Makes label.op u

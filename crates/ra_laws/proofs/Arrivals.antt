@@ -29,17 +29,17 @@ use Rattle.ra_labels.proofs.Members.{head_or_behind, at_head, behind_head, split
 use Rattle.ra_labels.proofs.StampOrder.{stamp_same, is_less}
 use Rattle.ra_laws.proofs.Order.{label_cmp-total, IsSorted-named_labels}
 use Rattle.ra_laws.proofs.Timestamps.{timestamp-own}
-use Rattle.ra_laws.proofs.Unique.{head_least, neither_below, same_label}
-use Rattle.ra_laws.proofs.Ranking.{named_differ, have_one_number}
+use Rattle.ra_laws.proofs.UniqueOrder.{head_least, neither_below, same_label}
+use Rattle.ra_laws.proofs.Ranks.{named_differ, have_one_number}
 use Rattle.ra_laws.proofs.Insertion.{order-inserted}
-use Rattle.ra_laws.proofs.Having.{makes_update, differ_round, among-append, among-one}
+use Rattle.ra_laws.proofs.HadUpdates.{makes_update, differ_round, among-append, among-one}
 use Rattle.ra_laws.proofs.Rgas.{removed_is, list-exactly}
-use Rattle.ra_laws.proofs.Late.{one_step, late-insertion, late-removal}
-use Rattle.ra_laws.proofs.OneStep.{sorted_from}
-use Rattle.ra_laws.proofs.Kept.{there-exactly}
-use Rattle.ra_laws.proofs.Passing.{in-named, in-labels, each, each_passes, among-from}
-use Rattle.ra_laws.proofs.OneMore.{split-led, inserted_fits}
-use Rattle.ra_laws.proofs.Last.{among-does}
+use Rattle.ra_laws.proofs.LateUpdates.{one_step, late-insertion, late-removal}
+use Rattle.ra_laws.proofs.Deliveries.{sorted_from}
+use Rattle.ra_laws.proofs.KeptUpdates.{there-exactly}
+use Rattle.ra_laws.proofs.PassingUpdates.{in-named, in-labels, each, each_passes, among-from}
+use Rattle.ra_laws.proofs.RgaSteps.{split-led, inserted_fits}
+use Rattle.ra_laws.proofs.LastUpdates.{among-does}
 
 below_behind : (kind : Kind) (records : Records) (first later : List Label) (label other : Label) → named_labels kind records ≡ first ++ label ∷ later → Contains later other → label_cmp kind records label other ≡ Less
 below_behind kind records first later label other is there =

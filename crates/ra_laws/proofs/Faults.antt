@@ -17,7 +17,7 @@ use Rattle.ra_labels.specs.Linearization.{parts_in, extends_visibility, updates_
 use Rattle.ra_labels.specs.NamedOrder.{label_cmp, named_sequence}
 use Rattle.ra_labels.specs.Fault.{Holds, cause_of, fault_of, fault_at, records_before_fault}
 use Rattle.ra_labels.specs.Laws.{IsLeastFault}
-use Rattle.ra_laws.proofs.Sorting.{flat_map-sort_by}
+use Rattle.ra_laws.proofs.SortedLists.{flat_map-sort_by}
 
 -- the named sequence has each part once and nothing else
 pub IsPermutation-named_sequence : (kind : Kind) (records : Records) → IsPermutation (parts_in records) (named_sequence kind records)

@@ -14,8 +14,8 @@ use Rattle.ra_labels.specs.Laws.{elements_in, NoneTwice}
 use Rattle.ra_labels.specs.Commuting.{then_step}
 use Rattle.ra_labels.specs.Late.{put_past, put_after}
 use Rattle.ra_labels.proofs.Members.{head_or_behind, at_head, behind_head}
-use Rattle.ra_laws.proofs.OfKind.{StepKnown, step-known}
-use Rattle.ra_laws.proofs.Stepping.{state_from, stuck}
+use Rattle.ra_laws.proofs.StateKinds.{StepKnown, step-known}
+use Rattle.ra_laws.proofs.States.{state_from, stuck}
 use Rattle.ra_laws.proofs.Rgas.{in-exactly, not_in, not_root, after_is, removed_is, insert_here, insert_on, hide-places, kept, there-step, is_listed, comes_in}
 
 -- where an insertion that goes past greater ones stops, and where it goes on

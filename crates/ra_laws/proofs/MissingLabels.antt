@@ -14,7 +14,7 @@ use Rattle.ra_labels.specs.Visibility.{is_update_at, had, sees, lacks, first_mis
 use Rattle.ra_labels.specs.Fault.{fault_of}
 use Rattle.ra_labels.specs.Answer.{when, first_of, refusal_of, refusal_of_delivery, with_accepted, records_after, records_after_all}
 use Rattle.ra_labels.specs.Laws.{IsCausalDelivery, IsNewUpdate, IsLeastMissing}
-use Rattle.ra_laws.proofs.Seen.{is_update_at-below, sees_earlier}
+use Rattle.ra_laws.proofs.SeenLabels.{is_update_at-below, sees_earlier}
 
 -- the first number that passes, if one does
 find_none : (p : ℕ → Bool) (a n : ℕ) → ((m : ℕ) → m < a + n → p m ≡ false) → find p (range_with_len a n) ≡ None

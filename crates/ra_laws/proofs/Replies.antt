@@ -19,7 +19,7 @@ use Rattle.ra_labels.specs.Rewriting.{Part}
 use Rattle.ra_labels.specs.Linearization.{IsRaLinearization}
 use Rattle.ra_labels.specs.NamedOrder.{named_sequence}
 use Rattle.ra_labels.specs.Laws.{ReplySays}
-use Rattle.ra_laws.proofs.Holding.{holds_from_no_fault}
+use Rattle.ra_laws.proofs.Faults.{holds_from_no_fault}
 
 module _ (kind : Kind) (replicas : ℕ) (records : Records) (command : Command) where
   -- after a fault each answer is the fault, and the records stay

@@ -20,9 +20,9 @@ use Rattle.ra_labels.specs.Laws.{kind_of_state, kind_of_update, acts_on}
 use Rattle.ra_labels.specs.Commuting.{then_step, last_of, written_by, last_written, last_on}
 use Rattle.ra_labels.proofs.InLists.{among-exactly, same-exactly, rising_same}
 use Rattle.ra_labels.proofs.Members.{at_head, behind_head, there-kept}
-use Rattle.ra_laws.proofs.Putting.{among-insert, among-remove}
-use Rattle.ra_laws.proofs.Stepping.{state_from, stuck, state-of_kind, set-rises, admitted-of_kind, other_way}
-use Rattle.ra_laws.proofs.Exactly.{some-exactly}
+use Rattle.ra_laws.proofs.RisingLists.{among-insert, among-remove}
+use Rattle.ra_laws.proofs.States.{state_from, stuck, state-of_kind, set-rises, admitted-of_kind, other_way}
+use Rattle.ra_laws.proofs.Meanings.{some-exactly}
 
 -- the first that is there
 or_again : {A : Type 0} (a : Option A) (x : A) (b : Option A) → option_or (option_or a (Some x)) b ≡ option_or a (Some x)

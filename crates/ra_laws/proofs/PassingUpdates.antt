@@ -27,15 +27,15 @@ use Rattle.ra_labels.proofs.InLists.{list_all-contains, list_all-from_contains, 
 use Rattle.ra_labels.proofs.Members.{head_or_behind, at_head, behind_head, split_at, there-kept, reached, piece_of, in_piece}
 use Rattle.ra_labels.proofs.Parts.{part_is_of}
 use Rattle.ra_laws.proofs.Order.{IsPermutation-named_labels}
-use Rattle.ra_laws.proofs.Exactly.{some-exactly}
-use Rattle.ra_laws.proofs.Stepping.{state-of_kind, admitted-only, admitted-of_kind}
-use Rattle.ra_laws.proofs.Ranking.{named_differ, have_one_number}
+use Rattle.ra_laws.proofs.Meanings.{some-exactly}
+use Rattle.ra_laws.proofs.States.{state-of_kind, admitted-only, admitted-of_kind}
+use Rattle.ra_laws.proofs.Ranks.{named_differ, have_one_number}
 use Rattle.ra_laws.proofs.Insertion.{order-inserted}
-use Rattle.ra_laws.proofs.Having.{filter_all, differ_round, delivery-order, among-append, among-same, among-one, among-not}
+use Rattle.ra_laws.proofs.HadUpdates.{filter_all, differ_round, delivery-order, among-append, among-same, among-one, among-not}
 use Rattle.ra_laws.proofs.Rgas.{is_listed}
-use Rattle.ra_laws.proofs.Removing.{list-shown_by, shown_by-same}
-use Rattle.ra_laws.proofs.OneStep.{update_from, part_makes}
-use Rattle.ra_laws.proofs.Kept.{all_marked, kept_marked, marked_as, marked-is_there, mark-kept, kept-goes, there-list, needed-in}
+use Rattle.ra_laws.proofs.ShownElements.{list-shown_by, shown_by-same}
+use Rattle.ra_laws.proofs.Deliveries.{update_from, part_makes}
+use Rattle.ra_laws.proofs.KeptUpdates.{all_marked, kept_marked, marked_as, marked-is_there, mark-kept, kept-goes, there-list, needed-in}
 
 pub in-named : (kind : Kind) (records : Records) (label : Label) → Contains (labels_of records) label → Contains (named_labels kind records) label
 in-named kind records label there = Contains-permutation (labels_of records) (named_labels kind records) label (IsPermutation-named_labels kind records) there

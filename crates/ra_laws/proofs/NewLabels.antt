@@ -18,13 +18,13 @@ use Rattle.ra_labels.specs.NamedOrder.{named_labels, named_sequence}
 use Rattle.ra_labels.specs.Insertion.{updates_among, updates_passing, or_label, Makes}
 use Rattle.ra_labels.specs.Commuting.{then_step}
 use Rattle.ra_labels.specs.Waiting.{is_there, WasPutInBelow}
-use Rattle.ra_laws.proofs.Counting.{state_after-push}
-use Rattle.ra_laws.proofs.Having.{among-none}
-use Rattle.ra_laws.proofs.Kept.{there-exactly}
-use Rattle.ra_laws.proofs.Passing.{in-labels, each, each_passes, one-more_at, among-from}
-use Rattle.ra_laws.proofs.OneMore.{inserted-admitted, removed-admitted}
-use Rattle.ra_laws.proofs.Last.{among-does}
-use Rattle.ra_laws.proofs.Arriving.{stands-before, all-with}
+use Rattle.ra_laws.proofs.States.{state_after-push}
+use Rattle.ra_laws.proofs.HadUpdates.{among-none}
+use Rattle.ra_laws.proofs.KeptUpdates.{there-exactly}
+use Rattle.ra_laws.proofs.PassingUpdates.{in-labels, each, each_passes, one-more_at, among-from}
+use Rattle.ra_laws.proofs.RgaSteps.{inserted-admitted, removed-admitted}
+use Rattle.ra_laws.proofs.LastUpdates.{among-does}
+use Rattle.ra_laws.proofs.Arrivals.{stands-before, all-with}
 
 -- what is there by those before a label is the root, or was put in by one that is below it
 below_from : (records : Records) (before behind : List Label) (label : Label) (x : ℕ) → named_labels Rga records ≡ before ++ label ∷ behind → is_there x (updates_of (flat_map parts_of before)) ≡ true → (x ≡ 0) ⊎ WasPutInBelow records label x

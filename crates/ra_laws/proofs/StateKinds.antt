@@ -1,4 +1,4 @@
--- The same_kind of states, updates and queries.
+-- The kinds of states, updates and queries.
 use Rattle.std.proofs.Common.{◌≡◌, Bool, true, false, Option, Some, None, refl, sym, subst, inl, inr}
 use Rattle.std.specs.Prelude.{◌⊎◌, not, ◌==◌, ◌&&◌, if◌then◌else◌}
 use Rattle.std.specs.List.{list_all}
@@ -17,7 +17,6 @@ use Rattle.ra_labels.specs.Specification.{State, Number, Written, Members, Pairs
 use Rattle.ra_labels.specs.Rewriting.{acts_of}
 use Rattle.ra_labels.specs.Answer.{kind_of, is_kind}
 use Rattle.ra_labels.specs.Laws.{kind_of_state, kind_of_update, kind_of_query, kind_of_act}
-use Rattle.ra_labels.proofs.SameKind.{same_kind}
 
 pub start_kind : (kind : Kind) → kind_of_state (start_of kind) ≡ kind
 start_kind Counter = refl
@@ -31,7 +30,7 @@ pub if_some : {A : Type 0} (b : Bool) (x y : A) → (if b then Some x else None)
 if_some true x y is = (refl, same_Some x y is)
 if_some false x y is = absurd (none-some y is)
 
--- what a step says of the same_kind: where there is one, the update and the next state are of the state's kind; where there
+-- what a step says of kinds: where there is one, the update and the next state are of the state's kind; where there
 -- is none, the update is not, or the state is that of an RGA
 abbrev pub StepKnown : State → Update → Option State → Type 0
 StepKnown state update None = (is_kind (kind_of_state state) (kind_of_update update) ≡ false) ⊎ (kind_of_state state ≡ Rga)

@@ -19,7 +19,7 @@ use Rattle.ra_labels.proofs.InLists.{list_all-contains}
 use Rattle.ra_labels.proofs.Members.{kept-there, there-kept, behind_head}
 use Rattle.ra_laws.proofs.Keys.{inserted-sorted, sorted_same}
 use Rattle.ra_laws.proofs.OrSets.{pair_total, pair_same, put, nothing_sorted}
-use Rattle.ra_laws.proofs.Stepping.{state_from, stuck}
+use Rattle.ra_laws.proofs.States.{state_from, stuck}
 
 -- states of one kind, as values that updates change
 module _ {X : Type 0} (S : X → State) (P : X → Type 0) (change : Update → Option (X → X))

@@ -1,6 +1,6 @@
 -- The states that updates lead to, step by step.
-use Rattle.std.proofs.Common.{◌≡◌, ℕ, true, false, List, [], ◌∷◌, ◌++◌, filter, Option, Some, None, refl, sym, ap, ◌∙◌, subst, inl, inr}
-use Rattle.std.specs.Prelude.{◌↔◌, ◌==◌, ◌&&◌, ◌||◌, not, fold, option_and_then, is_some, Contains}
+use Rattle.std.proofs.Common.{◌≡◌, ℕ, true, false, List, [], ◌∷◌, ◌++◌, filter, Option, Some, None, refl, sym, ap, ◌∙◌, subst, inl, inr, length, arith}
+use Rattle.std.specs.Prelude.{◌↔◌, ◌==◌, ◌&&◌, ◌||◌, not, fold, option_and_then, is_some, Contains, ℤ, pos, neg_ℤ, ◌+ℤ◌, ◌-ℤ◌, ◌≤ℤ◌}
 use Rattle.std.specs.List.{list_all}
 use Rattle.std.specs.Option.{option_eq}
 use Rattle.std.specs.Bool.{Decides}
@@ -10,7 +10,7 @@ use Rattle.std.proofs.lemmas.Bool.{false≢true, and_parts, and_from, eqb-true, 
 use Rattle.std.proofs.lemmas.Option.{none-some, same_Some}
 use Rattle.std.proofs.lemmas.List.Sums.{fold-append}
 use Rattle.ra_labels.specs.declared.kind.Kind.{Kind}
-use Rattle.ra_labels.specs.declared.kind.Kind.TheVariants.{Register, LwwSet, Rga}
+use Rattle.ra_labels.specs.declared.kind.Kind.TheVariants.{Register, LwwSet, Rga, Counter}
 use Rattle.ra_labels.specs.declared.operation.Update.{Update}
 use Rattle.ra_labels.specs.declared.operation.Update.TheVariants.{Inc, Dec, Write, LwwAdd, LwwRemove, OrAdd, TakeOut, After, RgaRemove}
 use Rattle.ra_labels.specs.declared.operation.Query.TheVariants.{Last, LwwRead}
@@ -20,8 +20,9 @@ use Rattle.ra_labels.specs.Answer.{is_kind}
 use Rattle.ra_labels.specs.Laws.{kind_of_state, kind_of_update, acts_on, NoneActsOn}
 use Rattle.ra_labels.proofs.InLists.{among-exactly, same-exactly, bool_same}
 use Rattle.ra_labels.proofs.SameKind.{kind_itself}
-use Rattle.ra_laws.proofs.Putting.{among-insert, among-remove, rises-insert, rises-remove}
-use Rattle.ra_laws.proofs.OfKind.{start_kind, StepKnown, step-known, step-kind}
+use Rattle.ra_laws.proofs.RisingLists.{among-insert, among-remove, rises-insert, rises-remove}
+use Rattle.ra_laws.proofs.StateKinds.{start_kind, StepKnown, step-known, step-kind}
+use Rattle.std.proofs.lemmas.Int.{ints}
 
 -- the state that updates lead to from another
 abbrev pub state_from : Option State → List Update → Option State
@@ -189,3 +190,36 @@ kind_from (Some s) (update ∷ updates) kind of last is =
 pub state-of_kind : (kind : Kind) (updates : List Update) (state : State) → state_after kind updates ≡ Some state → kind_of_state state ≡ kind
 state-of_kind kind updates state is =
     kind_from (Some (start_of kind)) updates kind (λ s same. ap kind_of_state (sym (same_Some (start_of kind) s same)) ∙ start_kind kind) state is
+
+-- ---- the first state, one more step, and a counter's number
+
+-- before any update the state is the first one
+pub state_after-nil : (kind : Kind) → state_after kind [] ≡ Some (start_of kind)
+state_after-nil kind = refl
+
+-- one more update is one more step
+pub state_after-push : (kind : Kind) (updates : List Update) (update : Update) → state_after kind (updates ++ update ∷ []) ≡ option_and_then (λ state. step_of state update) (state_after kind updates)
+state_after-push kind updates update = fold-append (λ state update. option_and_then (λ s. step_of s update) state) (Some (start_of kind)) updates (update ∷ [])
+
+-- from a number on, updates lead no further than their count
+number_after : (n : ℤ) (updates : List Update) (state : State) → state_from (Some (Number n)) updates ≡ Some state → (m : ℤ) × (state ≡ Number m) × (n ≤ℤ (m +ℤ pos (length updates))) × (m ≤ℤ (n +ℤ pos (length updates)))
+number_after n [] state is = (n, sym (same_Some (Number n) state is), omega (arith, ints), omega (arith, ints))
+number_after n (Inc ∷ updates) state is =
+    let rest = number_after (n +ℤ pos 1) updates state is in
+    (rest.0, rest.1, omega (arith, ints, rest.2, rest.3), omega (arith, ints, rest.2, rest.3))
+number_after n (Dec ∷ updates) state is =
+    let rest = number_after (n -ℤ pos 1) updates state is in
+    (rest.0, rest.1, omega (arith, ints, rest.2, rest.3), omega (arith, ints, rest.2, rest.3))
+number_after n (Write value ∷ updates) state is = absurd (none-some state (sym (stuck updates) ∙ is))
+number_after n (LwwAdd x ∷ updates) state is = absurd (none-some state (sym (stuck updates) ∙ is))
+number_after n (LwwRemove x ∷ updates) state is = absurd (none-some state (sym (stuck updates) ∙ is))
+number_after n (OrAdd x id ∷ updates) state is = absurd (none-some state (sym (stuck updates) ∙ is))
+number_after n (TakeOut x ids ∷ updates) state is = absurd (none-some state (sym (stuck updates) ∙ is))
+number_after n (After anchor x ∷ updates) state is = absurd (none-some state (sym (stuck updates) ∙ is))
+number_after n (RgaRemove x ∷ updates) state is = absurd (none-some state (sym (stuck updates) ∙ is))
+
+-- a counter's number is no further from 0 than their count
+pub counter_within : (updates : List Update) (state : State) → state_after Counter updates ≡ Some state → (number : ℤ) × (state ≡ Number number) × (neg_ℤ (pos (length updates)) ≤ℤ number) × (number ≤ℤ pos (length updates))
+counter_within updates state is =
+    let known = number_after (pos 0) updates state is in
+    (known.0, known.1, omega (arith, ints, known.2), omega (arith, ints, known.3))

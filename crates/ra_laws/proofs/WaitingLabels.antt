@@ -11,8 +11,8 @@ use Rattle.ra_labels.specs.Records.{Records, labels_of}
 use Rattle.ra_labels.specs.Insertion.{updates_passing, or_label, Makes}
 use Rattle.ra_labels.specs.Waiting.{puts_in, is_there, needed_by, put_in_by, IsSettled, IsSettling}
 use Rattle.ra_labels.proofs.Members.{head_or_behind, at_head, behind_head}
-use Rattle.ra_laws.proofs.OneMore.{there-more, none-waits_more}
-use Rattle.ra_laws.proofs.Settled.{settled-exactly}
+use Rattle.ra_laws.proofs.RgaSteps.{there-more, none-waits_more}
+use Rattle.ra_laws.proofs.SettledUpdates.{settled-exactly}
 
 -- the element that an update puts in
 puts_it : (x : ℕ) (u : Update) → Contains (put_in_by u) x → puts_in x u ≡ true

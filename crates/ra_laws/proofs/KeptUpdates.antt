@@ -13,11 +13,11 @@ use Rattle.ra_labels.specs.Laws.{kind_of_update, elements_in, WasPutIn}
 use Rattle.ra_labels.specs.Late.{kept_entries}
 use Rattle.ra_labels.specs.Waiting.{puts_in, is_there, needed_by}
 use Rattle.ra_labels.proofs.Members.{head_or_behind, at_head, behind_head, from_where, there-kept, kept-there, reached, what_passes}
-use Rattle.ra_laws.proofs.Stepping.{state_from}
-use Rattle.ra_laws.proofs.Having.{any_at}
+use Rattle.ra_laws.proofs.States.{state_from}
+use Rattle.ra_laws.proofs.HadUpdates.{any_at}
 use Rattle.ra_laws.proofs.Rgas.{in-exactly, after_is, removed_is, insert_here, insert_on, hide-places, comes_in, list-exactly}
-use Rattle.ra_laws.proofs.Keeping.{kept-inserted, kept-dropped, kept-hidden}
-use Rattle.ra_laws.proofs.Late.{after_goes, remove_goes, one_step, stays_in}
+use Rattle.ra_laws.proofs.KeptEntries.{kept-inserted, kept-dropped, kept-hidden}
+use Rattle.ra_laws.proofs.LateUpdates.{after_goes, remove_goes, one_step, stays_in}
 
 -- what is there, in the words of the laws
 put_by : (x : ℕ) (u : Update) (us : List Update) → Contains us u → puts_in x u ≡ true → WasPutIn x us

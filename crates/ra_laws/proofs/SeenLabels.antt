@@ -7,7 +7,7 @@ use Rattle.ra_labels.specs.declared.command.Command.TheVariants.{Operate, Delive
 use Rattle.ra_labels.specs.Records.{Records, label_count}
 use Rattle.ra_labels.specs.Visibility.{is_update, is_update_at, had, sees, IsCausal}
 use Rattle.ra_labels.specs.Laws.{IsCausalDelivery}
-use Rattle.ra_laws.proofs.Numbers.{label_count-append, label_at-append, no_label_there}
+use Rattle.ra_laws.proofs.LabelNumbers.{label_count-append, label_at-append, no_label_there}
 
 -- a label that is there sees the same in later records
 pub sees-append : (later records : Records) (n m : ℕ) → n < label_count records → sees (later ++ records) n m ≡ sees records n m

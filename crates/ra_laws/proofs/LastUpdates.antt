@@ -22,11 +22,11 @@ use Rattle.ra_labels.specs.Insertion.{updates_among, updates_passing, or_label, 
 use Rattle.ra_labels.specs.Commuting.{then_step, last_of, written_by, last_written, last_on}
 use Rattle.ra_labels.proofs.Members.{head_or_behind, at_head, behind_head, kept-there}
 use Rattle.ra_laws.proofs.Order.{named_labels-by_number}
-use Rattle.ra_laws.proofs.Counting.{state_after-push}
-use Rattle.ra_laws.proofs.Commuting.{counter-late}
-use Rattle.ra_laws.proofs.Overriding.{writes-last, writes-late, last_written-append, last_written-behind, set-same, set-late, acts_at, last_on-append, last_on-cons, last_on-other, last_on-behind}
-use Rattle.ra_laws.proofs.Having.{filter_none, makes_update, had_before, among-append, among-same, among-one, among-none}
-use Rattle.ra_laws.proofs.Passing.{in-labels, one-passes, one-more, one-more_at, among-from, had-operation}
+use Rattle.ra_laws.proofs.States.{state_after-push}
+use Rattle.ra_laws.proofs.CommutingUpdates.{counter-late}
+use Rattle.ra_laws.proofs.OverridingUpdates.{writes-last, writes-late, last_written-append, last_written-behind, set-same, set-late, acts_at, last_on-append, last_on-cons, last_on-other, last_on-behind}
+use Rattle.ra_laws.proofs.HadUpdates.{filter_none, makes_update, had_before, among-append, among-same, among-one, among-none}
+use Rattle.ra_laws.proofs.PassingUpdates.{in-labels, one-passes, one-more, one-more_at, among-from, had-operation}
 
 -- one more label is one step
 pub counter-more : (records : Records) (passes : ℕ → Bool) (label : Label) (u : Update) → Contains (labels_of records) label → Makes label.op u → passes label.number ≡ false

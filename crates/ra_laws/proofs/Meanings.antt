@@ -20,7 +20,7 @@ use Rattle.ra_labels.specs.Visibility.{is_update, is_update_at, had, sees}
 use Rattle.ra_labels.specs.Rewriting.{Half, Whole, QueryHalf, UpdateHalf, Act, Does, Asks, Part, update_of, query_of, updates_of}
 use Rattle.ra_labels.specs.Linearization.{are_halves, is_visible_to, is_earlier_there, is_query_half_of, must_precede, visible_updates, updates_admitted, is_query_admitted, queries_admitted}
 use Rattle.ra_labels.specs.Laws.{WasIssuedAt, WasDeliveredTo, WasIssuedHaving, IsUpdateSeenBy, IsEarlierAtReplica, AreHalvesOfOneLabel, EachQueryIsAnswered}
-use Rattle.ra_laws.proofs.Seen.{had-append, sees-append}
+use Rattle.ra_laws.proofs.SeenLabels.{had-append, sees-append}
 use Rattle.ra_labels.proofs.InLists.{list_all-from_contains}
 
 -- a counter's query is answered exactly where its number is the state's

@@ -26,16 +26,16 @@ use Rattle.ra_labels.specs.Late.{put_after, kept_entries}
 use Rattle.ra_labels.specs.Waiting.{puts_in, is_there, needed_by, NoneWaits}
 use Rattle.ra_labels.proofs.InLists.{list_all-from_contains}
 use Rattle.ra_labels.proofs.Members.{head_or_behind, at_head, behind_head, reached, what_passes}
-use Rattle.ra_laws.proofs.Standing.{is_update-acts}
-use Rattle.ra_laws.proofs.Unique.{label_found}
-use Rattle.ra_laws.proofs.Stepping.{state_from, stuck, state-of_kind}
-use Rattle.ra_laws.proofs.Having.{filter_same, makes_one, makes_update}
-use Rattle.ra_laws.proofs.Exactly.{acts}
+use Rattle.ra_laws.proofs.Extensions.{is_update-acts}
+use Rattle.ra_laws.proofs.UniqueOrder.{label_found}
+use Rattle.ra_laws.proofs.States.{state_from, stuck, state-of_kind}
+use Rattle.ra_laws.proofs.HadUpdates.{filter_same, makes_one, makes_update}
+use Rattle.ra_laws.proofs.Meanings.{acts}
 use Rattle.ra_laws.proofs.Rgas.{in-exactly, after_is, removed_is, is_listed, list-once, came_in, comes_in}
-use Rattle.ra_laws.proofs.Keeping.{kept-nearest}
-use Rattle.ra_laws.proofs.Late.{after_goes, remove_goes, one_step, stays_in, from_first, late-insertion, late-one, late-removal}
-use Rattle.ra_laws.proofs.Kept.{any-put, put-any, there-list, insert_in, elements-inserted, inserted-same}
-use Rattle.ra_laws.proofs.Passing.{one-more, there-label, passing-admitted, passing-list, listed-after}
+use Rattle.ra_laws.proofs.KeptEntries.{kept-nearest}
+use Rattle.ra_laws.proofs.LateUpdates.{after_goes, remove_goes, one_step, stays_in, from_first, late-insertion, late-one, late-removal}
+use Rattle.ra_laws.proofs.KeptUpdates.{any-put, put-any, there-list, insert_in, elements-inserted, inserted-same}
+use Rattle.ra_laws.proofs.PassingUpdates.{one-more, there-label, passing-admitted, passing-list, listed-after}
 
 -- what is there with one more update
 or_moves : (a b c d : Bool) → (a || (b || (c || d))) ≡ ((a || (b || d)) || c)

@@ -1,6 +1,6 @@
 -- Which part stands before which, in a sequence that extends what must stand before.
 use Rattle.std.proofs.Common.{◌≡◌, ℕ, suc, Bool, true, false, List, [], ◌∷◌, ◌++◌, refl, sym, ap, ◌∙◌, subst, inl, inr, arith}
-use Rattle.std.specs.Prelude.{◌==◌, ◌||◌, nat_lt, not, is_some, Contains}
+use Rattle.std.specs.Prelude.{◌==◌, ◌||◌, nat_lt, not, is_some, Contains, ◌&&◌, map}
 use Rattle.std.specs.List.{list_all, list_any}
 use Rattle.std.proofs.lemmas.Bool.{true≢false, not-true, not_from_false, and_parts, and_from, and_right, le-ltb, false_from_ne_true, or_from}
 use Rattle.std.proofs.lemmas.List.Elements.{Contains-append_right}
@@ -10,12 +10,16 @@ use Rattle.ra_labels.specs.declared.operation.Op.{Op}
 use Rattle.ra_labels.specs.declared.operation.Op.TheVariants as op
 use Rattle.ra_labels.specs.Records.{Records}
 use Rattle.ra_labels.specs.Visibility.{is_update, sees}
-use Rattle.ra_labels.specs.Rewriting.{Half, Whole, QueryHalf, UpdateHalf, Part, acts_of, update_of}
+use Rattle.ra_labels.specs.Rewriting.{Half, Whole, QueryHalf, UpdateHalf, Part, acts_of, update_of, Act, Does, Asks, part_of}
 use Rattle.ra_labels.specs.Linearization.{parts_in, extends, must_precede, are_halves, is_visible_to, is_earlier_there, is_query_half_of, IsRaLinearizationBy, IsRaLinearization}
 use Rattle.ra_labels.specs.Laws.{StandsBefore, AllStandBefore, NoneTwice}
 use Rattle.ra_labels.proofs.InLists.{list_all-contains, list_all-from_contains}
 use Rattle.ra_labels.proofs.Members.{head_or_behind, split_at}
-use Rattle.ra_laws.proofs.Seen.{sees_earlier}
+use Rattle.ra_laws.proofs.SeenLabels.{sees_earlier}
+use Rattle.ra_labels.specs.declared.operation.Op.TheVariants.{Inc, Dec, Count, Write, Last, LwwAdd, LwwRemove, LwwRead, OrAdd, OrRemove, OrRead, After, RgaRemove, RgaRead}
+use Rattle.ra_labels.specs.declared.operation.Update.TheVariants.{TakeOut}
+use Rattle.ra_labels.specs.declared.operation.Query.TheVariants.{ReadIds}
+use Rattle.ra_labels.specs.declared.label.Label.{Label}
 
 -- in a sequence that extends an order, each element stands where it must
 pub extends-stands : {A : Type 0} (precedes : A → A → Bool) → ((p : A) → precedes p p ≡ false) → (xs : List A) → extends precedes xs ≡ true → AllStandBefore precedes xs
@@ -134,3 +138,45 @@ is_update-acts (op.OrRead list) = refl
 is_update-acts (op.After anchor x) = refl
 is_update-acts (op.RgaRemove x) = refl
 is_update-acts (op.RgaRead list) = refl
+
+-- ---- one sequence behind another
+
+-- one list behind another
+all-append : {A : Type 0} (p : A → Bool) (xs ys : List A) → list_all p xs ≡ true → list_all p ys ≡ true → list_all p (xs ++ ys) ≡ true
+all-append p [] ys first then = then
+all-append p (x ∷ xs) ys first then =
+    let parts = and_parts (p x) (list_all p xs) first in
+    and_from (p x) (list_all p (xs ++ ys)) parts.0 (all-append p xs ys parts.1 then)
+
+pub extends-append : {A : Type 0} (precedes : A → A → Bool) (xs ys : List A) → extends precedes xs ≡ true → extends precedes ys ≡ true → ((x y : A) → Contains xs x → Contains ys y → precedes y x ≡ false) → extends precedes (xs ++ ys) ≡ true
+extends-append precedes [] ys first then apart = then
+extends-append precedes (x ∷ xs) ys first then apart =
+    let parts = and_parts (list_all (λ q. not (precedes q x)) xs) (extends precedes xs) first in
+    and_from (list_all (λ q. not (precedes q x)) (xs ++ ys)) (extends precedes (xs ++ ys))
+    (all-append (λ q. not (precedes q x)) xs ys parts.0 (list_all-from_contains (λ q. not (precedes q x)) ys (λ y there. not_from_false (precedes y x) (apart x y (0, omega arith, refl) there))))
+    (extends-append precedes xs ys parts.1 then (λ z y found there. apart z y (suc found.0, omega (arith, found.1), found.2) there))
+
+-- the parts of one label stand as they must
+not_own : (records : Records) (label : Label) (does asks : Act) → must_precede records (part_of label (UpdateHalf, does)) (part_of label (QueryHalf, asks)) ≡ false
+not_own records label does asks =
+    or_from (is_some (update_of does) && sees records label.number label.number || label.replica == label.replica && nat_lt label.number label.number) (label.number == label.number && false)
+    (or_from (is_some (update_of does) && sees records label.number label.number) (label.replica == label.replica && nat_lt label.number label.number)
+    (and_right (is_some (update_of does)) (sees records label.number label.number) (sees_not_itself records label.number))
+    (and_right (label.replica == label.replica) (nat_lt label.number label.number) (le-ltb label.number label.number (omega arith))))
+    (and_right (label.number == label.number) false refl)
+
+pub own_parts : (records : Records) (label : Label) (op : Op) → extends (must_precede records) (map (part_of label) (acts_of op) ++ []) ≡ true
+own_parts records label (OrRemove x ids) = ap (λ b. (not b && true) && true) (not_own records label (Does (TakeOut x ids)) (Asks (ReadIds x ids)))
+own_parts records label Inc = refl
+own_parts records label Dec = refl
+own_parts records label (Count v) = refl
+own_parts records label (Write value) = refl
+own_parts records label (Last value) = refl
+own_parts records label (LwwAdd x) = refl
+own_parts records label (LwwRemove x) = refl
+own_parts records label (LwwRead list) = refl
+own_parts records label (OrAdd x id) = refl
+own_parts records label (OrRead list) = refl
+own_parts records label (After anchor x) = refl
+own_parts records label (RgaRemove x) = refl
+own_parts records label (RgaRead list) = refl

@@ -17,7 +17,7 @@ use Rattle.ra_labels.specs.Records.{Records, label_count, labels_of, label_at, n
 use Rattle.ra_labels.specs.NamedOrder.{rank_of, stamp_cmp, label_cmp, named_labels}
 use Rattle.ra_labels.proofs.Members.{head_or_behind}
 use Rattle.ra_labels.proofs.Counted.{numbers_below_count}
-use Rattle.ra_laws.proofs.Numbers.{label_at-append}
+use Rattle.ra_laws.proofs.LabelNumbers.{label_at-append}
 use Rattle.ra_laws.proofs.Order.{label_cmp-total, IsSorted-named_labels, IsPermutation-named_labels}
 
 -- neither is below the other

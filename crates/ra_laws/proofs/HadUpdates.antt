@@ -24,12 +24,12 @@ use Rattle.ra_labels.specs.Insertion.{updates_among, updates_had_of, updates_had
 use Rattle.ra_labels.proofs.Members.{head_or_behind, at_head, behind_head, split_at, piece_of, everyone}
 use Rattle.ra_labels.proofs.Parts.{part_is_of}
 use Rattle.ra_labels.proofs.Counted.{numbers_below_count}
-use Rattle.ra_laws.proofs.Seen.{had_update, is_update_at-below}
-use Rattle.ra_laws.proofs.Standing.{is_update-acts}
+use Rattle.ra_laws.proofs.SeenLabels.{had_update, is_update_at-below}
+use Rattle.ra_laws.proofs.Extensions.{is_update-acts}
 use Rattle.ra_laws.proofs.Order.{IsPermutation-named_labels}
-use Rattle.ra_laws.proofs.Unique.{label_found}
-use Rattle.ra_laws.proofs.Exactly.{updates_of-append}
-use Rattle.ra_laws.proofs.Ranking.{named_differ, have_one_number}
+use Rattle.ra_laws.proofs.UniqueOrder.{label_found}
+use Rattle.ra_laws.proofs.Meanings.{updates_of-append}
+use Rattle.ra_laws.proofs.Ranks.{named_differ, have_one_number}
 use Rattle.ra_laws.proofs.Insertion.{order-inserted, order_later}
 
 -- an operation that does an update does just this one

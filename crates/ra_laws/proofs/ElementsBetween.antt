@@ -16,15 +16,15 @@ use Rattle.ra_labels.specs.NamedOrder.{label_cmp, named_labels, named_sequence}
 use Rattle.ra_labels.specs.Laws.{elements_in, NoneTwice, WasPutIn}
 use Rattle.ra_labels.specs.Insertion.{updates_among, Makes}
 use Rattle.ra_labels.proofs.Members.{head_or_behind, at_head, behind_head, split_at}
-use Rattle.ra_laws.proofs.Stepping.{state_from}
-use Rattle.ra_laws.proofs.Having.{among-append, among-one}
+use Rattle.ra_laws.proofs.States.{state_from}
+use Rattle.ra_laws.proofs.HadUpdates.{among-append, among-one}
 use Rattle.ra_laws.proofs.Rgas.{after-puts, hide-places, list-once}
-use Rattle.ra_laws.proofs.Keeping.{in_append}
-use Rattle.ra_laws.proofs.Late.{one_step}
-use Rattle.ra_laws.proofs.Kept.{GoesIn, GoesOut, which_step, insert_in, elements-inserted}
-use Rattle.ra_laws.proofs.Passing.{in-named, in-labels, each, each_passes, among-from}
-use Rattle.ra_laws.proofs.OneMore.{split-led, put_in-once}
-use Rattle.ra_laws.proofs.Arriving.{stands-behind}
+use Rattle.ra_laws.proofs.KeptEntries.{in_append}
+use Rattle.ra_laws.proofs.LateUpdates.{one_step}
+use Rattle.ra_laws.proofs.KeptUpdates.{GoesIn, GoesOut, which_step, insert_in, elements-inserted}
+use Rattle.ra_laws.proofs.PassingUpdates.{in-named, in-labels, each, each_passes, among-from}
+use Rattle.ra_laws.proofs.RgaSteps.{split-led, put_in-once}
+use Rattle.ra_laws.proofs.Arrivals.{stands-behind}
 
 -- a list in which only such elements stand before x, and one in which only such stand between the anchor and x
 abbrev EndsAt : ℕ → (ℕ → Type 0) → List ℕ → Type 0
