@@ -13,8 +13,8 @@ use Rattle.ra_element_list.specs.Chunk.{Chunk}
 use Rattle.ra_element_list.specs.Chunks.{no_chunk, chunk_at, joined, offset}
 use Rattle.ra_element_list.specs.Groups.{shifted}
 use Rattle.ra_element_list.specs.Kept.{AreEntriesOf}
-use Rattle.ra_element_list.proofs.Joined.{entry_joined, offset_within}
-use Rattle.ra_element_list.proofs.Standing.{index_in}
+use Rattle.ra_element_list.proofs.JoinedChunks.{entry_joined, offset_within}
+use Rattle.ra_element_list.proofs.ElementPlaces.{index_in}
 
 pub shifted_low : (at place : ℕ) → place ≤ at → shifted at place ≡ place
 shifted_low at place low = cond-false (nat_lt at place) (place + 1) place (le-ltb at place low)
@@ -31,7 +31,8 @@ split_chunks (chunk ∷ chunks) (suc at) left right = chunk ∷ split_chunks chu
 step : (at : ℕ) → suc at + 1 ≡ suc (at + 1)
 step at = omega arith
 
-split_is : (chunks : List Chunk) (at : ℕ) (left right : Chunk) → at < length chunks → insert (set chunks at left) (at + 1) right ≡ split_chunks chunks at left right
+split_is : (chunks : List Chunk) (at : ℕ) (left right : Chunk) → at < length chunks
+    → insert (set chunks at left) (at + 1) right ≡ split_chunks chunks at left right
 unfolding split_chunks
 split_is [] at left right there = absurd (omega arith)
 split_is (chunk ∷ chunks) zero left right there = refl
@@ -39,12 +40,15 @@ split_is (chunk ∷ chunks) (suc at) left right there =
     ap (λ k. insert (set (chunk ∷ chunks) (suc at) left) k right) (step at)
     ∙ ap (λ cs. chunk ∷ cs) (split_is chunks at left right (omega arith))
 
-joined_chunks : (left right : Chunk) (chunks : List Chunk) (at : ℕ) → at < length chunks → left.entries ++ right.entries ≡ (chunk_at chunks at).entries
+joined_chunks : (left right : Chunk) (chunks : List Chunk) (at : ℕ) → at < length chunks
+    → left.entries ++ right.entries ≡ (chunk_at chunks at).entries
     → joined (split_chunks chunks at left right) ≡ joined chunks
 unfolding split_chunks
 joined_chunks left right [] at there same = absurd (omega arith)
-joined_chunks left right (chunk ∷ chunks) zero there same = sym (append_assoc left.entries right.entries (joined chunks)) ∙ ap (λ xs. xs ++ joined chunks) same
-joined_chunks left right (chunk ∷ chunks) (suc at) there same = ap (λ xs. chunk.entries ++ xs) (joined_chunks left right chunks at (omega arith) same)
+joined_chunks left right (chunk ∷ chunks) zero there same =
+    sym (append_assoc left.entries right.entries (joined chunks)) ∙ ap (λ xs. xs ++ joined chunks) same
+joined_chunks left right (chunk ∷ chunks) (suc at) there same =
+    ap (λ xs. chunk.entries ++ xs) (joined_chunks left right chunks at (omega arith) same)
 
 module _ (chunks : List Chunk) (at : ℕ) (left right : Chunk) (there : at < length chunks) where
   abbrev now : List Chunk
@@ -57,7 +61,8 @@ module _ (chunks : List Chunk) (at : ℕ) (left right : Chunk) (there : at < len
   length_split = length-insert (set chunks at left) (at + 1) right few ∙ ap (λ n. n + 1) (length-set chunks at left)
 
   pub left_at : chunk_at now at ≡ left
-  left_at = get_or-insert_below (set chunks at left) (at + 1) right no_chunk at (omega arith) few ∙ get_or-set_same chunks at left no_chunk there
+  left_at = get_or-insert_below (set chunks at left) (at + 1) right no_chunk at (omega arith) few
+      ∙ get_or-set_same chunks at left no_chunk there
 
   pub right_at : chunk_at now (at + 1) ≡ right
   right_at = get_or-insert_at (set chunks at left) (at + 1) right no_chunk few
@@ -78,7 +83,8 @@ module _ (chunks : List Chunk) (at : ℕ) (left right : Chunk) (there : at < len
   pub data IsNow (place : ℕ) : Type 0 where
     Left : place ≡ at → chunk_at now place ≡ left → IsNow place
     Right : place ≡ at + 1 → chunk_at now place ≡ right → IsNow place
-    Other : (old : ℕ) → ¬ (old ≡ at) → old < length chunks → place ≡ shifted at old → chunk_at now place ≡ chunk_at chunks old → IsNow place
+    Other : (old : ℕ) → ¬ (old ≡ at) → old < length chunks → place ≡ shifted at old
+        → chunk_at now place ≡ chunk_at chunks old → IsNow place
 
   other_now : (place old : ℕ) → ¬ (old ≡ at) → old < length chunks → place ≡ shifted at old → IsNow place
   other_now place old differ low same = Other old differ low same (ap (chunk_at now) same ∙ other_at old differ)
@@ -94,7 +100,8 @@ module _ (chunks : List Chunk) (at : ℕ) (left right : Chunk) (there : at < len
             let old : ℕ = place - 1 in
             let past : at < old = omega (arith, more, behind) in
             let back : place ≡ old + 1 = omega (arith, more, behind) in
-            other_now place old (λ e. omega (arith, e)) (omega (arith, length_split)) (back ∙ sym (shifted_high at old past))
+            other_now place old (λ e. omega (arith, e)) (omega (arith, length_split))
+            (back ∙ sym (shifted_high at old past))
       ]
     ]
   ]
@@ -107,33 +114,43 @@ module _ (chunks : List Chunk) (at : ℕ) (left right : Chunk) (there : at < len
     numbers_halves = ap numbers_in (sym halves) ∙ map-append (λ (e : Entry). e.number) left.entries right.entries
 
     pub left_in : (n : ℕ) → Contains (numbers_in left.entries) n → Contains (numbers_in (chunk_at chunks at).entries) n
-    left_in n among = subst (λ ns. Contains ns n) (sym numbers_halves) (Contains-append_left (numbers_in left.entries) (numbers_in right.entries) n among)
+    left_in n among = subst (λ ns. Contains ns n) (sym numbers_halves)
+        (Contains-append_left (numbers_in left.entries) (numbers_in right.entries) n among)
 
-    pub right_in : (n : ℕ) → Contains (numbers_in right.entries) n → Contains (numbers_in (chunk_at chunks at).entries) n
-    right_in n among = subst (λ ns. Contains ns n) (sym numbers_halves) (Contains-append_right (numbers_in left.entries) (numbers_in right.entries) n among)
+    pub right_in : (n : ℕ) → Contains (numbers_in right.entries) n
+        → Contains (numbers_in (chunk_at chunks at).entries) n
+    right_in n among = subst (λ ns. Contains ns n) (sym numbers_halves)
+        (Contains-append_right (numbers_in left.entries) (numbers_in right.entries) n among)
 
-    pub half_of : (n : ℕ) → Contains (numbers_in (chunk_at chunks at).entries) n → Contains (numbers_in left.entries) n ⊎ Contains (numbers_in right.entries) n
-    half_of n among = Contains-append_cases (numbers_in left.entries) (numbers_in right.entries) n (subst (λ ns. Contains ns n) numbers_halves among)
+    pub half_of : (n : ℕ) → Contains (numbers_in (chunk_at chunks at).entries) n
+        → Contains (numbers_in left.entries) n ⊎ Contains (numbers_in right.entries) n
+    half_of n among = Contains-append_cases (numbers_in left.entries) (numbers_in right.entries) n
+        (subst (λ ns. Contains ns n) numbers_halves among)
 
     length_halves : length left.entries + length right.entries ≡ length (chunk_at chunks at).entries
     length_halves = sym (length-append left.entries right.entries) ∙ ap (λ (es : List Entry). length es) halves
 
-    number_left : (k : ℕ) → k < length left.entries → entry_at (joined chunks) (offset chunks at + k) ≡ entry_at left.entries k
+    number_left : (k : ℕ) → k < length left.entries
+        → entry_at (joined chunks) (offset chunks at + k) ≡ entry_at left.entries k
     number_left k low =
         entry_joined chunks at k there (omega (arith, length_halves))
         ∙ ap (λ es. entry_at es k) (sym halves)
         ∙ get_or_append_left left.entries right.entries no_entry k low
 
-    number_right : (k : ℕ) → k < length right.entries → entry_at (joined chunks) (offset chunks at + (length left.entries + k)) ≡ entry_at right.entries k
+    number_right : (k : ℕ) → k < length right.entries
+        → entry_at (joined chunks) (offset chunks at + (length left.entries + k)) ≡ entry_at right.entries k
     number_right k low =
         entry_joined chunks at (length left.entries + k) there (omega (arith, length_halves))
         ∙ ap (λ es. entry_at es (length left.entries + k)) (sym halves)
         ∙ get_or-append-add left.entries right.entries k no_entry
 
     -- none stands in both halves
-    pub not_both : (elements : List Element) (n : ℕ) → AreEntriesOf elements (joined chunks) → Contains (numbers_in left.entries) n → ¬ Contains (numbers_in right.entries) n
+    pub not_both : (elements : List Element) (n : ℕ) → AreEntriesOf elements (joined chunks)
+        → Contains (numbers_in left.entries) n → ¬ Contains (numbers_in right.entries) n
     not_both elements n of in_left in_right =
         let l = index_in left.entries n in_left in
         let r = index_in right.entries n in_right in
-        of.distinct (offset chunks at + l.0) (offset chunks at + (length left.entries + r.0)) (omega (arith, l.1)) (omega (arith, r.1, length_halves, offset_within chunks at there))
-        (ap (λ (e : Entry). e.number) (number_left l.0 l.1) ∙ l.2 ∙ sym (ap (λ (e : Entry). e.number) (number_right r.0 r.1) ∙ r.2))
+        of.distinct (offset chunks at + l.0) (offset chunks at + (length left.entries + r.0)) (omega (arith, l.1))
+        (omega (arith, r.1, length_halves, offset_within chunks at there))
+        (ap (λ (e : Entry). e.number) (number_left l.0 l.1) ∙ l.2
+        ∙ sym (ap (λ (e : Entry). e.number) (number_right r.0 r.1) ∙ r.2))

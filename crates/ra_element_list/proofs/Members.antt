@@ -1,5 +1,6 @@
 -- What a list has once one more is put in.
-use Rattle.std.proofs.Common.{◌≡◌, ℕ, zero, suc, ◌+◌, ◌-◌, ◌<◌, ◌≤◌, List, [], ◌∷◌, ◌++◌, length, take, drop, get_or, map, refl, sym, ap, ◌∙◌, subst, inl, inr, arith}
+use Rattle.std.proofs.Common.{◌≡◌, ℕ, zero, suc, ◌+◌, ◌-◌, ◌<◌, ◌≤◌, List, [], ◌∷◌, ◌++◌, length, take, drop, get_or}
+use Rattle.std.proofs.Common.{map, refl, sym, ap, ◌∙◌, subst, inl, inr, arith}
 use Rattle.std.specs.Prelude.{◌⊎◌, Contains}
 use Rattle.std.specs.List.{insert}
 use Rattle.std.proofs.lemmas.Bool.{cases_lt, cases_eq}
@@ -12,9 +13,11 @@ module _ {A : Type 0} where
   pub data IsFrom (xs : List A) (i : ℕ) (x d : A) (k : ℕ) : Type 0 where
     Before : k < i → get_or (insert xs i x) k d ≡ get_or xs k d → IsFrom xs i x d k
     Here : k ≡ i → get_or (insert xs i x) k d ≡ x → IsFrom xs i x d k
-    Behind : (j : ℕ) → k ≡ suc j → i ≤ j → j < length xs → get_or (insert xs i x) k d ≡ get_or xs j d → IsFrom xs i x d k
+    Behind : (j : ℕ) → k ≡ suc j → i ≤ j → j < length xs → get_or (insert xs i x) k d ≡ get_or xs j d
+        → IsFrom xs i x d k
 
-  pub from_insert : (xs : List A) (i : ℕ) (x d : A) (k : ℕ) → i ≤ length xs → k < length (insert xs i x) → IsFrom xs i x d k
+  pub from_insert : (xs : List A) (i : ℕ) (x d : A) (k : ℕ) → i ≤ length xs → k < length (insert xs i x)
+      → IsFrom xs i x d k
   from_insert xs i x d k few there = elim (cases_lt k i) [
     | inl low ↦ Before low (get_or-insert_below xs i x d k low few)
     | inr high ↦ elim (cases_eq k i) [
@@ -42,21 +45,26 @@ module _ {A : Type 0} where
   new_in_insert xs i x = Contains-append_right (take i xs) (x ∷ drop i xs) x (head_there x (drop i xs))
 
   pub old_in_insert : (xs : List A) (i : ℕ) (x y : A) → Contains xs y → Contains (insert xs i x) y
-  old_in_insert xs i x y there = elim (Contains-append_cases (take i xs) (drop i xs) y (subst (λ ys. Contains ys y) (sym (take-append-drop i xs)) there)) [
-    | inl left ↦ Contains-append_left (take i xs) (x ∷ drop i xs) y left
-    | inr right ↦ Contains-append_right (take i xs) (x ∷ drop i xs) y (behind_head x y (drop i xs) right)
-  ]
+  old_in_insert xs i x y there =
+      elim (Contains-append_cases (take i xs) (drop i xs) y
+      (subst (λ ys. Contains ys y) (sym (take-append-drop i xs)) there)) [
+        | inl left ↦ Contains-append_left (take i xs) (x ∷ drop i xs) y left
+        | inr right ↦ Contains-append_right (take i xs) (x ∷ drop i xs) y (behind_head x y (drop i xs) right)
+      ]
 
   pub insert_cases : (xs : List A) (i : ℕ) (x y : A) → Contains (insert xs i x) y → Contains xs y ⊎ (x ≡ y)
   insert_cases xs i x y there = elim (Contains-append_cases (take i xs) (x ∷ drop i xs) y there) [
-    | inl left ↦ inl (subst (λ ys. Contains ys y) (take-append-drop i xs) (Contains-append_left (take i xs) (drop i xs) y left))
+    | inl left ↦
+        inl (subst (λ ys. Contains ys y) (take-append-drop i xs) (Contains-append_left (take i xs) (drop i xs) y left))
     | inr right ↦ elim (head_or_behind x y (drop i xs) right) [
       | inl now ↦ inr now
-      | inr behind ↦ inl (subst (λ ys. Contains ys y) (take-append-drop i xs) (Contains-append_right (take i xs) (drop i xs) y behind))
+      | inr behind ↦ inl
+          (subst (λ ys. Contains ys y) (take-append-drop i xs) (Contains-append_right (take i xs) (drop i xs) y behind))
     ]
   ]
 
-pub map-insert : {A B : Type 0} (f : A → B) (xs : List A) (i : ℕ) (x : A) → map f (insert xs i x) ≡ insert (map f xs) i (f x)
+pub map-insert : {A B : Type 0} (f : A → B) (xs : List A) (i : ℕ) (x : A)
+    → map f (insert xs i x) ≡ insert (map f xs) i (f x)
 map-insert f xs i x =
     map-append f (take i xs) (x ∷ drop i xs)
     ∙ ap (λ ys. ys ++ f x ∷ map f (drop i xs)) (sym (take-map f i xs))
@@ -66,4 +74,5 @@ map-insert f xs i x =
 pub map_same : {A B : Type 0} (f g : A → B) (xs : List A) → ((x : A) → Contains xs x → f x ≡ g x) → map f xs ≡ map g xs
 map_same f g [] same = refl
 map_same f g (x ∷ xs) same =
-    ap (λ y. y ∷ map f xs) (same x (head_there x xs)) ∙ ap (λ ys. g x ∷ ys) (map_same f g xs (λ y there. same y (behind_head x y xs there)))
+    ap (λ y. y ∷ map f xs) (same x (head_there x xs))
+    ∙ ap (λ ys. g x ∷ ys) (map_same f g xs (λ y there. same y (behind_head x y xs there)))

@@ -1,3 +1,4 @@
+//! Room for one more element before it is put in, so that a refusal of memory leaves all as it was.
 ghost use Rattle.std.specs.Prelude.{◌≡◌, true, OnOk};
 ghost use Rattle.ra_element_list.specs.Chunks.{joined};
 ghost use Rattle.ra_element_list.specs.Groups.{AreSameButGroups};

@@ -1,3 +1,4 @@
+//! A full chunk is made two: the chunks behind it stand one further, and its later elements are of a new group.
 ghost use Rattle.std.specs.Prelude.{◌≡◌, ◌<◌, ◌≤◌, length, map, vec_len, OnOk, OnErr};
 ghost use Rattle.std.specs.List.{All};
 ghost use Rattle.ra_element_list.specs.Chunks.{chunk_at, IsSplit};

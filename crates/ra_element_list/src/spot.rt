@@ -1,3 +1,4 @@
+//! Where a new element stands: behind its anchor, past those with a greater stamp, chunk by chunk.
 ghost use Rattle.std.specs.Prelude.{◌+◌, ◌<◌, ◌≤◌, length, Contains};
 ghost use Rattle.ra_element_list.specs.Entries.{numbers_in, IsNumberAt};
 ghost use Rattle.ra_element_list.specs.Chunks.{chunk_at, joined, offset, AreFilled, IsSpotFor};

@@ -10,4 +10,5 @@ loop-group-preserved c =
     let at = c.loop-group in
     let x = get_or at.places at.group 0 in
     ap (λ p. set at.places at.group p) c.shifted.ensures
-    ∙ map_over_more (shifted c.args.at) all at.places at.group x (omega arith) at.invariant (get_or_default at.places at.group 0 x (omega arith))
+    ∙ map_over_more (shifted c.args.at) all at.places at.group x (omega arith) at.invariant
+    (get_or_default at.places at.group 0 x (omega arith))

@@ -1,5 +1,5 @@
 use Rattle.std.proofs.Common.{◌-◌, length}
-use Rattle.ra_element_list.proofs.Passing.{IsPassing}
+use Rattle.ra_element_list.proofs.GreaterStamps.{IsPassing}
 use Rattle.ra_element_list.proofs.spot.spot_behind.Given as goal
 
 abbrev pub invariant-loop-position : goal.invariant-loop-position

@@ -9,7 +9,8 @@ abbrev pub invariant-loop-position : goal.invariant-loop-position
 invariant-loop-position l = record {
   among : l.position ≤ vec_len l.self-inside.entries;
   behind : l.from ≤ l.position;
-  greater : (k : ℕ) → l.from ≤ k → k < l.position → is_lt (stamp_cmp l.stamp (get_or l.self-inside.entries.items k no_entry).stamp) ≡ true;
+  greater : (k : ℕ) → l.from ≤ k → k < l.position
+      → is_lt (stamp_cmp l.stamp (get_or l.self-inside.entries.items k no_entry).stamp) ≡ true;
 }
 
 abbrev pub decreases-loop-position : goal.decreases-loop-position

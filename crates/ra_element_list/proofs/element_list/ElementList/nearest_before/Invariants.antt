@@ -1,6 +1,6 @@
 use Rattle.ra_element_list.specs.Chunks.{joined}
 use Rattle.ra_element_list.specs.Entries.{numbers_in}
-use Rattle.ra_element_list.proofs.Nearest.{IsWalking, first_index}
+use Rattle.ra_element_list.proofs.NearestElements.{IsWalking, first_index}
 use Rattle.ra_element_list.proofs.element_list.ElementList.nearest_before.Given as goal
 
 abbrev pub invariant-loop-self : goal.invariant-loop-self

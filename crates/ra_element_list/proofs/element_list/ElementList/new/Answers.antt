@@ -2,7 +2,7 @@ use Rattle.std.proofs.Common.{◌≡◌, ℕ, ap, ◌∙◌, cond, Some, None, [
 use Rattle.std.specs.Prelude.{nat_eq, ◌==◌}
 use Rattle.std.specs.HashMap.{get}
 use Rattle.ra_element_list.specs.Groups.{no_element}
-use Rattle.ra_element_list.proofs.Starting.{kept_new}
+use Rattle.ra_element_list.proofs.NewLists.{kept_new}
 use Rattle.ra_element_list.proofs.element_list.ElementList.new.Goals as goal
 
 pub invariant_of-result : goal.invariant_of-result
@@ -13,4 +13,5 @@ invariant_of-result c =
     let elements : c.in_ok-vec.field-0.items ≡ no_element ∷ [] = search rules in
     let chunks : c.in_ok-vec-2.field-0.items ≡ c.in_ok-chunk.chunk ∷ [] = search rules in
     let places : c.in_ok-vec-3.field-0.items ≡ 0 ∷ [] = search rules in
-    kept_new (get nat_eq c.insert.new.self) c.in_ok-vec.field-0.items c.in_ok-vec-2.field-0.items c.in_ok-vec-3.field-0.items c.in_ok-chunk.chunk is elements chunks c.in_ok-chunk.ensures.entries places
+    kept_new (get nat_eq c.insert.new.self) c.in_ok-vec.field-0.items c.in_ok-vec-2.field-0.items
+    c.in_ok-vec-3.field-0.items c.in_ok-chunk.chunk is elements chunks c.in_ok-chunk.ensures.entries places

@@ -17,8 +17,8 @@ use Rattle.ra_element_list.specs.Links.{IsLinked}
 use Rattle.ra_element_list.specs.ElementList.{Arrival, IsBelowByStamp}
 use Rattle.ra_element_list.specs.Kept.{arrival_of, elements_by, AreEntriesOf, AreNumbers}
 use Rattle.ra_element_list.proofs.Members.{map-insert, map_same}
-use Rattle.ra_element_list.proofs.Standing.{index_in, one_number, arrival_is, element_is}
-use Rattle.ra_element_list.proofs.Entering.{element_kept}
+use Rattle.ra_element_list.proofs.ElementPlaces.{index_in, one_number, arrival_is, element_is}
+use Rattle.ra_element_list.proofs.NewElements.{element_kept}
 
 module _ (below : ℕ → ℕ → Bool) (x : ℕ) (d : ℕ × Bool) where
   past_at : (list : List (ℕ × Bool)) (q : ℕ) → q ≤ length list → ((k : ℕ) → k < q → below x (get_or list k d).0 ≡ true)
@@ -29,31 +29,44 @@ module _ (below : ℕ → ℕ → Bool) (x : ℕ) (d : ℕ × Bool) where
       cond-false (below x entry.0) (entry ∷ put_past below x list) ((x, true) ∷ entry ∷ list) (stops (omega arith))
   past_at (entry ∷ list) (suc q) few greater stops =
       cond-true (below x entry.0) (entry ∷ put_past below x list) ((x, true) ∷ entry ∷ list) (greater 0 (omega arith))
-      ∙ ap (λ es. entry ∷ es) (past_at list q (omega arith) (λ k low. greater (suc k) (omega arith)) (λ there. stops (omega arith)))
+      ∙ ap (λ es. entry ∷ es)
+      (past_at list q (omega arith) (λ k low. greater (suc k) (omega arith)) (λ there. stops (omega arith)))
 
-  pub after_at : (anchor : ℕ) (list : List (ℕ × Bool)) (i q : ℕ) → i < q → q ≤ length list → anchor ≡ (get_or list i d).0
-      → ((k : ℕ) → k < i → ¬ (anchor ≡ (get_or list k d).0)) → ((k : ℕ) → i < k → k < q → below x (get_or list k d).0 ≡ true)
-      → (q < length list → below x (get_or list q d).0 ≡ false) → put_after below anchor x list ≡ insert list q (x, true)
+  pub after_at : (anchor : ℕ) (list : List (ℕ × Bool)) (i q : ℕ) → i < q → q ≤ length list
+      → anchor ≡ (get_or list i d).0
+      → ((k : ℕ) → k < i → ¬ (anchor ≡ (get_or list k d).0))
+      → ((k : ℕ) → i < k → k < q → below x (get_or list k d).0 ≡ true)
+      → (q < length list → below x (get_or list q d).0 ≡ false)
+      → put_after below anchor x list ≡ insert list q (x, true)
   after_at anchor [] i q from few is before greater stops = absurd (omega arith)
   after_at anchor (entry ∷ list) i zero from few is before greater stops = absurd (omega arith)
   after_at anchor (entry ∷ list) zero (suc q) from few is before greater stops =
-      cond-true (anchor == entry.0) (entry ∷ put_past below x list) (entry ∷ put_after below anchor x list) (eq-eqb anchor entry.0 is)
-      ∙ ap (λ es. entry ∷ es) (past_at list q (omega arith) (λ k low. greater (suc k) (omega arith) (omega arith)) (λ there. stops (omega arith)))
+      cond-true (anchor == entry.0) (entry ∷ put_past below x list) (entry ∷ put_after below anchor x list)
+      (eq-eqb anchor entry.0 is)
+      ∙ ap (λ es. entry ∷ es)
+      (past_at list q (omega arith) (λ k low. greater (suc k) (omega arith) (omega arith))
+      (λ there. stops (omega arith)))
   after_at anchor (entry ∷ list) (suc i) (suc q) from few is before greater stops =
-      cond-false (anchor == entry.0) (entry ∷ put_past below x list) (entry ∷ put_after below anchor x list) (ne_eqb anchor entry.0 (before 0 (omega arith)))
-      ∙ ap (λ es. entry ∷ es) (after_at anchor list i q (omega arith) (omega arith) is (λ k low. before (suc k) (omega arith))
+      cond-false (anchor == entry.0) (entry ∷ put_past below x list) (entry ∷ put_after below anchor x list)
+      (ne_eqb anchor entry.0 (before 0 (omega arith)))
+      ∙ ap (λ es. entry ∷ es)
+      (after_at anchor list i q (omega arith) (omega arith) is (λ k low. before (suc k) (omega arith))
       (λ k low high. greater (suc k) (omega arith) (omega arith)) (λ there. stops (omega arith)))
 
 -- the elements with the new one
-pub elements_with : (elements after : List Element) (next : Option ℕ) (new : Element) (entries : List Entry) (q : ℕ) → IsLinked elements next new after
-    → AreEntriesOf elements entries → elements_by after (insert entries q (record { number = length elements; stamp = new.stamp })) ≡ insert (elements_by elements entries) q new.element
+pub elements_with : (elements after : List Element) (next : Option ℕ) (new : Element) (entries : List Entry) (q : ℕ)
+    → IsLinked elements next new after
+    → AreEntriesOf elements entries
+    → elements_by after (insert entries q (record { number = length elements; stamp = new.stamp }))
+    ≡ insert (elements_by elements entries) q new.element
 elements_with elements after next new entries q linked of =
     let name : ℕ → ℕ = λ n. (element_at after n).element in
     let one : Entry = record { number = length elements; stamp = new.stamp } in
     ap (map name) (map-insert (λ (e : Entry). e.number) entries q one)
     ∙ map-insert name (numbers_in entries) q (length elements)
     ∙ ap (λ y. insert (map name (numbers_in entries)) q y) (ap (λ (e : Element). e.element) linked.newest)
-    ∙ ap (λ ys. insert ys q new.element) (map_same name (λ n. (element_at elements n).element) (numbers_in entries) (λ n among.
+    ∙ ap (λ ys. insert ys q new.element)
+    (map_same name (λ n. (element_at elements n).element) (numbers_in entries) (λ n among.
     let at = index_in entries n among in
     element_kept elements after next new linked n (subst (λ m. m < length elements) at.2 (of.known at.0 at.1))))
 
@@ -61,7 +74,8 @@ elements_with elements after next new entries q linked of =
 abbrev pub nothing : ℕ × Bool
 nothing = (0, false)
 
-module _ (number_of : ℕ → Option ℕ) (elements : List Element) (entries : List Entry) (numbers : AreNumbers number_of elements) (of : AreEntriesOf elements entries)
+module _ (number_of : ℕ → Option ℕ) (elements : List Element) (entries : List Entry)
+    (numbers : AreNumbers number_of elements) (of : AreEntriesOf elements entries)
     (all : List (ℕ × Bool)) (same : elements_in all ≡ elements_by elements entries) where
   pub long : length all ≡ length entries
   long =
@@ -71,14 +85,17 @@ module _ (number_of : ℕ → Option ℕ) (elements : List Element) (entries : L
       omega (arith, ap (λ (xs : List ℕ). length xs) same, a, b, c)
 
   -- the element at an index
-  pub at_index : (k : ℕ) → k < length entries → (get_or all k nothing).0 ≡ (element_at elements (entry_at entries k).number).element
+  pub at_index : (k : ℕ) → k < length entries
+      → (get_or all k nothing).0 ≡ (element_at elements (entry_at entries k).number).element
   at_index k there =
       sym (get_or-map (λ (e : ℕ × Bool). e.0) all k nothing 0 (omega (arith, long)))
       ∙ ap (λ xs. get_or xs k 0) same
       ∙ element_is elements entries k 0 there
 
-  module _ (below : ℕ → ℕ → Bool) (x : ℕ) (stamp : Stamp) (says : IsBelowByStamp below x stamp (map arrival_of elements)) where
-    below_at : (k : ℕ) → k < length entries → below x (get_or all k nothing).0 ≡ is_lt (stamp_cmp stamp (entry_at entries k).stamp)
+  module _ (below : ℕ → ℕ → Bool) (x : ℕ) (stamp : Stamp)
+      (says : IsBelowByStamp below x stamp (map arrival_of elements)) where
+    below_at : (k : ℕ) → k < length entries → below x (get_or all k nothing).0
+        ≡ is_lt (stamp_cmp stamp (entry_at entries k).stamp)
     below_at k there =
         let n = (entry_at entries k).number in
         let known = of.known k there in
@@ -87,15 +104,20 @@ module _ (number_of : ℕ → Option ℕ) (elements : List Element) (entries : L
         ∙ says n (omega (arith, known, length-map elements arrival_of))
         ∙ ap (λ s. is_lt (stamp_cmp stamp s)) (ap (λ (a : Arrival). a.stamp) came ∙ sym (of.stamps k there))
 
-    pub put_in_all : (anchor i q : ℕ) → anchor < length elements → (entry_at entries i).number ≡ anchor → IsPast entries (suc i) stamp q
-        → elements_in (put_after below (element_at elements anchor).element x all) ≡ insert (elements_by elements entries) q x
+    pub put_in_all : (anchor i q : ℕ) → anchor < length elements → (entry_at entries i).number ≡ anchor
+        → IsPast entries (suc i) stamp q
+        → elements_in (put_after below (element_at elements anchor).element x all)
+        ≡ insert (elements_by elements entries) q x
     put_in_all anchor i q known is past =
         let i_there : i < length entries = omega (arith, past.behind, past.among) in
-        ap elements_in (after_at below x nothing (element_at elements anchor).element all i q (omega (arith, past.behind)) (omega (arith, past.among, long))
+        ap elements_in
+        (after_at below x nothing (element_at elements anchor).element all i q (omega (arith, past.behind))
+        (omega (arith, past.among, long))
         (sym (at_index i i_there ∙ ap (λ n. (element_at elements n).element) is))
         (λ k low equal.
         let k_there : k < length entries = omega arith in
-        let one = one_number number_of elements anchor (entry_at entries k).number numbers known (of.known k k_there) (equal ∙ at_index k k_there) in
+        let one = one_number number_of elements anchor (entry_at entries k).number numbers known (of.known k k_there)
+        (equal ∙ at_index k k_there) in
         of.distinct k i low i_there (sym one ∙ sym is))
         (λ k low high. below_at k (omega (arith, past.among)) ∙ past.greater k (omega arith) high)
         (λ there. let q_there : q < length entries = omega (arith, long) in below_at q q_there ∙ past.stops q_there))

@@ -11,17 +11,23 @@ use Rattle.ra_element_list.specs.Chunk.{Chunk}
 use Rattle.ra_element_list.specs.Chunks.{no_chunk, chunk_at, joined, IsSplit}
 use Rattle.ra_element_list.specs.Groups.{element_at, shifted, IsRegrouped, AreSameButGroups}
 use Rattle.ra_element_list.specs.Kept.{have_room, AreEntriesOf, AreLinked, AreBehindAnchors, place_at, place_of, ChunksKept}
-use Rattle.ra_element_list.proofs.Standing.{in_numbers, known_in_chunk}
-use Rattle.ra_element_list.proofs.Numbering.{room_all}
-use Rattle.ra_element_list.proofs.Halves.{shifted_low, shifted_high, length_split, left_at, right_at, other_at, IsNow, Left, Right, Other, is_now, joined_split, left_in, right_in, half_of, not_both}
-use Rattle.ra_element_list.proofs.Same.{entries_same, links_same, behind_same, anchors_same}
+use Rattle.ra_element_list.proofs.ElementPlaces.{in_numbers, known_in_chunk}
+use Rattle.ra_element_list.proofs.ElementNumbers.{room_all}
+use Rattle.ra_element_list.proofs.Halves.{shifted_low, shifted_high, length_split, left_at, right_at, other_at, IsNow}
+use Rattle.ra_element_list.proofs.Halves.{Left, Right, Other, is_now, joined_split, left_in, right_in, half_of}
+use Rattle.ra_element_list.proofs.Halves.{not_both}
+use Rattle.ra_element_list.proofs.ElementGroups.{entries_same, links_same, behind_same, anchors_same}
 
-pub same_but_groups : (elements new : List Element) (entries : List Entry) (group : ℕ) → IsRegrouped elements entries group new → AreSameButGroups elements new
+pub same_but_groups : (elements new : List Element) (entries : List Entry) (group : ℕ)
+    → IsRegrouped elements entries group new → AreSameButGroups elements new
 same_but_groups elements new entries group regrouped = record { same = regrouped.same; kept = regrouped.kept }
 
-module _ (elements after : List Element) (chunks : List Chunk) (places : List ℕ) (at : ℕ) (left right : Chunk) (kept : ChunksKept elements chunks places at)
-    (halves : left.entries ++ right.entries ≡ (chunk_at chunks at).entries) (left_some : 0 < length left.entries) (right_some : 0 < length right.entries)
-    (left_room : 0 < left.room) (right_room : 0 < right.room) (regrouped : IsRegrouped elements right.entries (length places) after) where
+module _ (elements after : List Element) (chunks : List Chunk) (places : List ℕ) (at : ℕ) (left right : Chunk)
+    (kept : ChunksKept elements chunks places at)
+    (halves : left.entries ++ right.entries ≡ (chunk_at chunks at).entries) (left_some : 0 < length left.entries)
+    (right_some : 0 < length right.entries)
+    (left_room : 0 < left.room) (right_room : 0 < right.room)
+    (regrouped : IsRegrouped elements right.entries (length places) after) where
   abbrev chunks_now : List Chunk
   chunks_now = insert (set chunks at left) (at + 1) right
 
@@ -42,7 +48,8 @@ module _ (elements after : List Element) (chunks : List Chunk) (places : List �
 
   place_old : (group : ℕ) → group < length places → place_at places_now group ≡ shifted at (place_at places group)
   place_old group low =
-      get_or_append_left (map (shifted at) places) ((at + 1) ∷ []) 0 group (omega (arith, length-map places (shifted at)))
+      get_or_append_left (map (shifted at) places) ((at + 1) ∷ []) 0 group
+      (omega (arith, length-map places (shifted at)))
       ∙ get_or-map (shifted at) places group 0 0 low
 
   place_new : place_at places_now (length places) ≡ at + 1
@@ -52,16 +59,20 @@ module _ (elements after : List Element) (chunks : List Chunk) (places : List �
   moved : (n : ℕ) → Contains (numbers_in right.entries) n → place_of after places_now n ≡ at + 1
   moved n among = ap (place_at places_now) (regrouped.moved n among) ∙ place_new
 
-  stayed : (n : ℕ) → n < length elements → ¬ Contains (numbers_in right.entries) n → place_of after places_now n ≡ shifted at (place_of elements places n)
-  stayed n low none = ap (place_at places_now) (regrouped.others n none) ∙ place_old (element_at elements n).group (kept.placed.grouped n low)
+  stayed : (n : ℕ) → n < length elements → ¬ Contains (numbers_in right.entries) n
+      → place_of after places_now n ≡ shifted at (place_of elements places n)
+  stayed n low none = ap (place_at places_now) (regrouped.others n none)
+      ∙ place_old (element_at elements n).group (kept.placed.grouped n low)
 
   elsewhere : (n : ℕ) → ¬ (place_of elements places n ≡ at) → ¬ Contains (numbers_in right.entries) n
-  elsewhere n differ among = differ (kept.placed.only at n kept.there (right_in chunks at left right kept.there halves n among))
+  elsewhere n differ among =
+      differ (kept.placed.only at n kept.there (right_in chunks at left right kept.there halves n among))
 
   left_only : (n : ℕ) → Contains (numbers_in left.entries) n → ¬ Contains (numbers_in right.entries) n
   left_only n among = not_both chunks at left right kept.there halves elements n kept.entries among
 
-  known : (place n : ℕ) → place < length chunks → Contains (numbers_in (chunk_at chunks place).entries) n → n < length elements
+  known : (place n : ℕ) → place < length chunks → Contains (numbers_in (chunk_at chunks place).entries) n
+      → n < length elements
   known place n low among = known_in_chunk elements chunks place n kept.entries low among
 
   left_place : (n : ℕ) → Contains (numbers_in left.entries) n → place_of after places_now n ≡ at
@@ -71,7 +82,8 @@ module _ (elements after : List Element) (chunks : List Chunk) (places : List �
       ∙ ap (shifted at) (kept.placed.only at n kept.there here)
       ∙ shifted_low at at (omega arith)
 
-  other_place : (place n : ℕ) → ¬ (place ≡ at) → place < length chunks → Contains (numbers_in (chunk_at chunks place).entries) n → place_of after places_now n ≡ shifted at place
+  other_place : (place n : ℕ) → ¬ (place ≡ at) → place < length chunks
+      → Contains (numbers_in (chunk_at chunks place).entries) n → place_of after places_now n ≡ shifted at place
   other_place place n differ low among =
       let is = kept.placed.only place n low among in
       stayed n (known place n low among) (elsewhere n (λ e. differ (sym is ∙ e))) ∙ ap (shifted at) is
@@ -80,33 +92,43 @@ module _ (elements after : List Element) (chunks : List Chunk) (places : List �
   side : (n : ℕ) → n < length elements → Contains (numbers_in right.entries) n ⊎ ¬ Contains (numbers_in right.entries) n
   side n low = elim (cases_eq (place_of elements places n) at) [
     | inl here ↦
-        elim (half_of chunks at left right kept.there halves n (subst (λ p. Contains (numbers_in (chunk_at chunks p).entries) n) here (kept.placed.stands n low))) [
+        elim (half_of chunks at left right kept.there halves n
+        (subst (λ p. Contains (numbers_in (chunk_at chunks p).entries) n) here (kept.placed.stands n low))) [
           | inl in_left ↦ inr (left_only n in_left)
           | inr in_right ↦ inl in_right
         ]
     | inr away ↦ inr (elsewhere n away)
   ]
 
-  stands_in : (n place : ℕ) (chunk : Chunk) → place_of after places_now n ≡ place → chunk_at chunks_now place ≡ chunk → Contains (numbers_in chunk.entries) n
+  stands_in : (n place : ℕ) (chunk : Chunk) → place_of after places_now n ≡ place → chunk_at chunks_now place ≡ chunk
+      → Contains (numbers_in chunk.entries) n
       → Contains (numbers_in (chunk_at chunks_now (place_of after places_now n)).entries) n
   stands_in n place chunk is has among =
-      subst (λ p. Contains (numbers_in (chunk_at chunks_now p).entries) n) (sym is) (subst (λ (h : Chunk). Contains (numbers_in h.entries) n) (sym has) among)
+      subst (λ p. Contains (numbers_in (chunk_at chunks_now p).entries) n) (sym is)
+      (subst (λ (h : Chunk). Contains (numbers_in h.entries) n) (sym has) among)
 
-  stands_now : (n : ℕ) → n < length elements → Contains (numbers_in (chunk_at chunks_now (place_of after places_now n)).entries) n
+  stands_now : (n : ℕ) → n < length elements
+      → Contains (numbers_in (chunk_at chunks_now (place_of after places_now n)).entries) n
   stands_now n low = elim (cases_eq (place_of elements places n) at) [
     | inl here ↦
-        elim (half_of chunks at left right kept.there halves n (subst (λ p. Contains (numbers_in (chunk_at chunks p).entries) n) here (kept.placed.stands n low))) [
+        elim (half_of chunks at left right kept.there halves n
+        (subst (λ p. Contains (numbers_in (chunk_at chunks p).entries) n) here (kept.placed.stands n low))) [
           | inl in_left ↦ stands_in n at left (left_place n in_left) (left_at chunks at left right kept.there) in_left
-          | inr in_right ↦ stands_in n (at + 1) right (moved n in_right) (right_at chunks at left right kept.there) in_right
+          | inr in_right ↦ stands_in n (at + 1) right (moved n in_right)
+              (right_at chunks at left right kept.there) in_right
         ]
     | inr away ↦
         let place = place_of elements places n in
-        stands_in n (shifted at place) (chunk_at chunks place) (stayed n low (elsewhere n away)) (other_at chunks at left right kept.there place away) (kept.placed.stands n low)
+        stands_in n (shifted at place) (chunk_at chunks place) (stayed n low (elsewhere n away))
+        (other_at chunks at left right kept.there place away) (kept.placed.stands n low)
   ]
 
-  only_from : (place n : ℕ) → IsNow chunks at left right kept.there place → Contains (numbers_in (chunk_at chunks_now place).entries) n → place_of after places_now n ≡ place
-  only_from place n (Left same is) among = left_place n (subst (λ (h : Chunk). Contains (numbers_in h.entries) n) is among) ∙ sym same
-  only_from place n (Right same is) among = moved n (subst (λ (h : Chunk). Contains (numbers_in h.entries) n) is among) ∙ sym same
+  only_from : (place n : ℕ) → IsNow chunks at left right kept.there place
+      → Contains (numbers_in (chunk_at chunks_now place).entries) n → place_of after places_now n ≡ place
+  only_from place n (Left same is) among =
+      left_place n (subst (λ (h : Chunk). Contains (numbers_in h.entries) n) is among) ∙ sym same
+  only_from place n (Right same is) among =
+      moved n (subst (λ (h : Chunk). Contains (numbers_in h.entries) n) is among) ∙ sym same
   only_from place n (Other old differ low same is) among =
       other_place old n differ low (subst (λ (h : Chunk). Contains (numbers_in h.entries) n) is among) ∙ sym same
 
@@ -118,16 +140,19 @@ module _ (elements after : List Element) (chunks : List Chunk) (places : List �
 
   inside_now : (group : ℕ) → group < length places_now → place_at places_now group < length chunks_now
   inside_now group high = elim (cases_lt group (length places)) [
-    | inl low ↦ omega (arith, place_old group low, shifted_few (place_at places group) (kept.placed.inside group low), many)
+    | inl low ↦
+        omega (arith, place_old group low, shifted_few (place_at places group) (kept.placed.inside group low), many)
     | inr past ↦
         let last : group ≡ length places = omega (arith, length_places) in
         omega (arith, ap (place_at places_now) last ∙ place_new, kept.there, many)
   ]
 
-  filled_from : (place : ℕ) → IsNow chunks at left right kept.there place → 0 < length (chunk_at chunks_now place).entries
+  filled_from : (place : ℕ) → IsNow chunks at left right kept.there place
+      → 0 < length (chunk_at chunks_now place).entries
   filled_from place (Left same is) = subst (λ (h : Chunk). 0 < length h.entries) (sym is) left_some
   filled_from place (Right same is) = subst (λ (h : Chunk). 0 < length h.entries) (sym is) right_some
-  filled_from place (Other old differ low same is) = subst (λ (h : Chunk). 0 < length h.entries) (sym is) (kept.filled old low)
+  filled_from place (Other old differ low same is) =
+      subst (λ (h : Chunk). 0 < length h.entries) (sym is) (kept.filled old low)
 
   room_from : (place : ℕ) → IsNow chunks at left right kept.there place → 0 < (chunk_at chunks_now place).room
   room_from place (Left same is) = subst (λ (h : Chunk). 0 < h.room) (sym is) left_room
@@ -144,9 +169,11 @@ module _ (elements after : List Element) (chunks : List Chunk) (places : List �
       record {
         some = omega (arith, kept.some, regrouped.same);
         anchored = anchors_same elements after same kept.anchored;
-        entries = subst (AreEntriesOf after) (sym joins) (entries_same elements after same (joined chunks) kept.entries);
+        entries = subst (AreEntriesOf after) (sym joins)
+            (entries_same elements after same (joined chunks) kept.entries);
         linked = subst (AreLinked after) (sym joins) (links_same elements after same (joined chunks) kept.linked);
-        behind = subst (AreBehindAnchors after) (sym joins) (behind_same elements after same (joined chunks) kept.behind);
+        behind = subst (AreBehindAnchors after) (sym joins)
+            (behind_same elements after same (joined chunks) kept.behind);
         placed = record {
           grouped = λ n high. grouped_now n (omega (arith, regrouped.same));
           inside = inside_now;
@@ -159,19 +186,36 @@ module _ (elements after : List Element) (chunks : List Chunk) (places : List �
       }
 
 -- the same of what the code reads and writes
-module _ (elements : List Element) (chunks now : List Chunk) (places : List ℕ) (at : ℕ) (kept : ChunksKept elements chunks places at) (split : IsSplit chunks at now) where
+module _ (elements : List Element) (chunks now : List Chunk) (places : List ℕ) (at : ℕ)
+    (kept : ChunksKept elements chunks places at) (split : IsSplit chunks at now) where
   pub places_under : (k d : ℕ) → k < length places → get_or places k d ≤ length now - 2
   places_under k d low =
-      omega (arith, get_or_default places k d 0 low, kept.placed.inside k low, ap (λ (cs : List Chunk). length cs) split.made, length_split chunks at split.left split.right kept.there)
+      omega (
+        arith,
+        get_or_default places k d 0 low,
+        kept.placed.inside k low,
+        ap
+            (λ (cs : List Chunk). length cs) split.made,
+        length_split chunks at split.left split.right kept.there,
+      )
 
-  module _ (read : Chunk) (entries : List Entry) (reads : read ≡ get_or now (at + 1) read) (of : entries ≡ read.entries) where
+  module _ (read : Chunk) (entries : List Entry) (reads : read ≡ get_or now (at + 1) read)
+      (of : entries ≡ read.entries) where
     there_now : at + 1 < length now
-    there_now = omega (arith, kept.there, ap (λ (cs : List Chunk). length cs) split.made, length_split chunks at split.left split.right kept.there)
+    there_now =
+        omega (
+          arith,
+          kept.there,
+          ap (λ (cs : List Chunk). length cs) split.made,
+          length_split chunks at split.left
+              split.right kept.there,
+        )
 
     right_is : entries ≡ split.right.entries
     right_is =
         of
-        ∙ ap (λ (h : Chunk). h.entries) (get_or_read now (at + 1) read there_now reads no_chunk ∙ ap (λ cs. chunk_at cs (at + 1)) split.made ∙ right_at chunks at split.left split.right kept.there)
+        ∙ ap (λ (h : Chunk). h.entries) (get_or_read now (at + 1) read there_now reads no_chunk
+        ∙ ap (λ cs. chunk_at cs (at + 1)) split.made ∙ right_at chunks at split.left split.right kept.there)
 
     pub right_known : (k : ℕ) (d : Entry) → k < length entries → (get_or entries k d).number < length elements
     right_known k d low =
@@ -184,26 +228,31 @@ module _ (elements : List Element) (chunks now : List Chunk) (places : List ℕ)
       regrouped_right : IsRegrouped elements split.right.entries (length places) after
       regrouped_right = subst (λ es. IsRegrouped elements es (length places) after) right_is regrouped
 
-      pub split_kept : (places_after : List ℕ) → places_after ≡ map (shifted at) places ++ (at + 1) ∷ [] → ChunksKept after now places_after at
+      pub split_kept : (places_after : List ℕ) → places_after ≡ map (shifted at) places ++ (at + 1) ∷ []
+          → ChunksKept after now places_after at
       split_kept places_after shifts =
           subst (λ ps. ChunksKept after now ps at) (sym shifts)
           (subst (λ cs. ChunksKept after cs (map (shifted at) places ++ (at + 1) ∷ []) at) (sym split.made)
-          (kept_now elements after chunks places at split.left split.right kept split.entries split.left_some split.right_some split.left_room split.right_room regrouped_right))
+          (kept_now elements after chunks places at split.left split.right kept split.entries split.left_some
+          split.right_some split.left_room split.right_room regrouped_right))
 
       pub split_room : have_room now ≡ true
       split_room =
           room_all now (subst (λ cs. (place : ℕ) → place < length cs → 0 < (chunk_at cs place).room) (sym split.made)
-          (room_now elements after chunks places at split.left split.right kept split.entries split.left_some split.right_some split.left_room split.right_room regrouped_right))
+          (room_now elements after chunks places at split.left split.right kept split.entries split.left_some
+          split.right_some split.left_room split.right_room regrouped_right))
 
   pub split_joined : joined now ≡ joined chunks
   split_joined = ap joined split.made ∙ joined_split chunks at split.left split.right kept.there split.entries
 
 -- where the chunk with the newest element has room
-pub room_already : (elements : List Element) (chunks : List Chunk) (places : List ℕ) (at : ℕ) (read : Chunk) → ChunksKept elements chunks places at → read ≡ get_or chunks at read
+pub room_already : (elements : List Element) (chunks : List Chunk) (places : List ℕ) (at : ℕ) (read : Chunk)
+    → ChunksKept elements chunks places at → read ≡ get_or chunks at read
     → 0 < read.room → have_room chunks ≡ true
 room_already elements chunks places at read kept reads some =
     room_all chunks (λ place low. elim (cases_eq place at) [
       | inl same ↦
-          subst (λ p. 0 < (chunk_at chunks p).room) (sym same) (subst (λ (h : Chunk). 0 < h.room) (get_or_read chunks at read kept.there reads no_chunk) some)
+          subst (λ p. 0 < (chunk_at chunks p).room) (sym same)
+          (subst (λ (h : Chunk). 0 < h.room) (get_or_read chunks at read kept.there reads no_chunk) some)
       | inr differ ↦ kept.room place low differ
     ])

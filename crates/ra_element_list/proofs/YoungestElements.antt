@@ -12,9 +12,9 @@ use Rattle.ra_element_list.specs.Chunk.{Chunk}
 use Rattle.ra_element_list.specs.Groups.{no_element, element_at}
 use Rattle.ra_element_list.specs.ElementList.{Arrival, arrival_at, StandsBehind, IsNearestBefore, IsSomewhereBehind}
 use Rattle.ra_element_list.specs.Kept.{arrival_of, elements_by, AreEntriesOf, AreNumbers, ChunksKept}
-use Rattle.ra_element_list.proofs.Standing.{index_of, one_number, arrival_is, element_is}
-use Rattle.ra_element_list.proofs.Putting.{nothing, long, at_index}
-use Rattle.ra_element_list.proofs.Nearest.{before_of, near_at}
+use Rattle.ra_element_list.proofs.ElementPlaces.{index_of, one_number, arrival_is, element_is}
+use Rattle.ra_element_list.proofs.InsertionIndexes.{nothing, long, at_index}
+use Rattle.ra_element_list.proofs.NearestElements.{before_of, near_at}
 
 stands_at : (xs : List ℕ) (i d : ℕ) → suc i < length xs → StandsBehind xs (get_or xs (suc i) d) (get_or xs i d)
 stands_at [] i d there = absurd (omega arith)
@@ -26,18 +26,21 @@ stands_at (p ∷ (x ∷ xs)) (suc i) d there =
 
 -- an element that stands further on than another
 until_at : (d : ℕ × Bool) (list : List (ℕ × Bool)) (j : ℕ) → j < length list
-    → (between behind : List (ℕ × Bool)) × (was_shown : Bool) × (list ≡ between ++ ((get_or list j d).0, was_shown) ∷ behind)
+    → (between behind : List (ℕ × Bool)) × (was_shown : Bool)
+    × (list ≡ between ++ ((get_or list j d).0, was_shown) ∷ behind)
 until_at d [] j there = absurd (omega arith)
 until_at d (entry ∷ list) zero there = ([], list, entry.1, refl)
 until_at d (entry ∷ list) (suc j) there =
     let rest = until_at d list j (omega arith) in
     (entry ∷ rest.0, rest.1, rest.2, ap (λ (es : List (ℕ × Bool)). entry ∷ es) rest.3)
 
-further_on : (entry : ℕ × Bool) (list : List (ℕ × Bool)) (x p : ℕ) → IsSomewhereBehind list x p → IsSomewhereBehind (entry ∷ list) x p
+further_on : (entry : ℕ × Bool) (list : List (ℕ × Bool)) (x p : ℕ) → IsSomewhereBehind list x p
+    → IsSomewhereBehind (entry ∷ list) x p
 further_on entry list x p (before, between, behind, is_shown, was_shown, same) =
     (entry ∷ before, between, behind, is_shown, was_shown, ap (λ (es : List (ℕ × Bool)). entry ∷ es) same)
 
-further_at : (d : ℕ × Bool) (list : List (ℕ × Bool)) (i j : ℕ) → i < j → j < length list → IsSomewhereBehind list (get_or list j d).0 (get_or list i d).0
+further_at : (d : ℕ × Bool) (list : List (ℕ × Bool)) (i j : ℕ) → i < j → j < length list
+    → IsSomewhereBehind list (get_or list j d).0 (get_or list i d).0
 further_at d [] i j before there = absurd (omega arith)
 further_at d (entry ∷ list) i zero before there = absurd (omega arith)
 further_at d (entry ∷ list) zero (suc j) before there =
@@ -47,26 +50,34 @@ further_at d (entry ∷ list) (suc i) (suc j) before there =
     further_on entry list (get_or list j d).0 (get_or list i d).0 (further_at d list i j (omega arith) (omega arith))
 
 -- the names of an element and of its anchor
-own_element : (elements : List Element) (arrivals : List Arrival) (number : ℕ) → number < length elements → map arrival_of elements ≡ arrivals
+own_element : (elements : List Element) (arrivals : List Arrival) (number : ℕ) → number < length elements
+    → map arrival_of elements ≡ arrivals
     → (element_at elements number).element ≡ (arrival_at arrivals number).element
 own_element elements arrivals number known came =
-    sym (ap (λ (a : Arrival). a.element) (arrival_is elements number known)) ∙ ap (λ xs. (arrival_at xs number).element) came
+    sym (ap (λ (a : Arrival). a.element) (arrival_is elements number known))
+    ∙ ap (λ xs. (arrival_at xs number).element) came
 
-anchor_element : (elements : List Element) (arrivals : List Arrival) (number : ℕ) → number < length elements → (element_at elements number).anchor < length elements
+anchor_element : (elements : List Element) (arrivals : List Arrival) (number : ℕ) → number < length elements
+    → (element_at elements number).anchor < length elements
     → map arrival_of elements ≡ arrivals
-    → (element_at elements (element_at elements number).anchor).element ≡ (arrival_at arrivals (arrival_at arrivals number).anchor).element
+    → (element_at elements (element_at elements number).anchor).element
+    ≡ (arrival_at arrivals (arrival_at arrivals number).anchor).element
 anchor_element elements arrivals number known anchored came =
-    sym (ap (λ (a : Arrival). (arrival_at (map arrival_of elements) a.anchor).element) (arrival_is elements number known)
+    sym (ap (λ (a : Arrival). (arrival_at (map arrival_of elements) a.anchor).element)
+    (arrival_is elements number known)
     ∙ ap (λ (a : Arrival). a.element) (arrival_is elements (element_at elements number).anchor anchored))
     ∙ ap (λ xs. (arrival_at xs (arrival_at xs number).anchor).element) came
 
 -- a root has nothing before it
-behind_root : (elements : List Element) (entries : List Entry) (j number : ℕ) → AreEntriesOf elements entries → 0 < number → (entry_at entries j).number ≡ number → (i : ℕ) × (j ≡ suc i)
+behind_root : (elements : List Element) (entries : List Entry) (j number : ℕ) → AreEntriesOf elements entries
+    → 0 < number → (entry_at entries j).number ≡ number → (i : ℕ) × (j ≡ suc i)
 behind_root elements entries zero number of some is = absurd (let same : 0 ≡ number = sym of.root ∙ is in omega arith)
 behind_root elements entries (suc i) number of some is = (i, refl)
 
-module _ (number_of : ℕ → Option ℕ) (elements : List Element) (chunks : List Chunk) (places : List ℕ) (newest number : ℕ) (read : Element) (numbers : AreNumbers number_of elements)
-    (kept : ChunksKept elements chunks places newest) (some : 0 < number) (known : number < length elements) (reads : read ≡ get_or elements number read) where
+module _ (number_of : ℕ → Option ℕ) (elements : List Element) (chunks : List Chunk) (places : List ℕ)
+    (newest number : ℕ) (read : Element) (numbers : AreNumbers number_of elements)
+    (kept : ChunksKept elements chunks places newest) (some : 0 < number) (known : number < length elements)
+    (reads : read ≡ get_or elements number read) where
   abbrev entries : List Entry
   entries = joined chunks
 
@@ -83,10 +94,12 @@ module _ (number_of : ℕ → Option ℕ) (elements : List Element) (chunks : Li
   names = elements_by elements entries
 
   length_names : length names ≡ length entries
-  length_names = length-map (numbers_in entries) (λ n. (element_at elements n).element) ∙ length-map entries (λ (e : Entry). e.number)
+  length_names = length-map (numbers_in entries) (λ n. (element_at elements n).element)
+      ∙ length-map entries (λ (e : Entry). e.number)
 
   -- the number before it, and where that stands
-  number_before : (i : ℕ) × (suc i < length entries) × ((entry_at entries (suc i)).number ≡ number) × (read.before ≡ (entry_at entries i).number)
+  number_before : (i : ℕ) × (suc i < length entries) × ((entry_at entries (suc i)).number ≡ number)
+      × (read.before ≡ (entry_at entries i).number)
   number_before =
       let at = index_of elements chunks places number kept.placed known in
       let back = behind_root elements entries at.0 number kept.entries some at.2 in
@@ -99,84 +112,117 @@ module _ (number_of : ℕ → Option ℕ) (elements : List Element) (chunks : Li
       let at = number_before in
       let of = kept.entries in
       let i = at.0 in
-      let is_x : get_or names (suc i) 0 ≡ x = element_is elements entries (suc i) 0 at.1 ∙ ap (λ n. (element_at elements n).element) at.2 in
-      let is_p : get_or names i 0 ≡ p = element_is elements entries i 0 (omega (arith, at.1)) ∙ ap (λ n. (element_at elements n).element) (sym at.3 ∙ same ∙ ap (λ (e : Element). e.anchor) read_is) in
-      subst (λ y. StandsBehind names y p) is_x (subst (λ y. StandsBehind names (get_or names (suc i) 0) y) is_p (stands_at names i 0 (omega (arith, at.1, length_names))))
+      let is_x : get_or names (suc i) 0 ≡ x = element_is elements entries (suc i) 0 at.1
+      ∙ ap (λ n. (element_at elements n).element) at.2 in
+      let is_p : get_or names i 0 ≡ p = element_is elements entries i 0 (omega (arith, at.1))
+      ∙ ap (λ n. (element_at elements n).element) (sym at.3 ∙ same ∙ ap (λ (e : Element). e.anchor) read_is) in
+      subst (λ y. StandsBehind names y p) is_x
+      (subst (λ y. StandsBehind names (get_or names (suc i) 0) y) is_p
+      (stands_at names i 0 (omega (arith, at.1, length_names))))
 
   pub behind_stands : StandsBehind names x p → read.before ≡ read.anchor
   behind_stands (before, behind, same) =
       let k = length before in
-      let many : length names ≡ k + suc (suc (length behind)) = ap (λ (ys : List ℕ). length ys) same ∙ length-append before (p ∷ x ∷ behind) in
+      let many : length names ≡ k + suc (suc (length behind)) = ap (λ (ys : List ℕ). length ys) same
+      ∙ length-append before (p ∷ x ∷ behind) in
       let there : suc k < length entries = omega (arith, length_names) in
       let here : k < length entries = omega arith in
       let at_p : get_or names k 0 ≡ p = ap (λ ys. get_or ys k 0) same ∙ get_or_at before p (x ∷ behind) 0 k refl in
       let next : k + 1 ≡ suc k = omega arith in
-      let at_x : get_or names (suc k) 0 ≡ x = ap (λ n. get_or names n 0) (sym next) ∙ ap (λ ys. get_or ys (k + 1) 0) same ∙ get_or-append-add before (p ∷ x ∷ behind) 1 0 in
+      let at_x : get_or names (suc k) 0 ≡ x = ap (λ n. get_or names n 0) (sym next)
+      ∙ ap (λ ys. get_or ys (k + 1) 0) same ∙ get_or-append-add before (p ∷ x ∷ behind) 1 0 in
       let of = kept.entries in
-      let is_number = one_number number_of elements (entry_at entries (suc k)).number number numbers (of.known (suc k) there) known (sym (element_is elements entries (suc k) 0 there) ∙ at_x) in
-      let is_anchor = one_number number_of elements (entry_at entries k).number (element_at elements number).anchor numbers (of.known k here) (kept.anchored number known) (sym (element_is elements entries k 0 here) ∙ at_p) in
-      before_of elements entries of kept.linked k number read there is_number reads ∙ is_anchor ∙ sym (ap (λ (e : Element). e.anchor) read_is)
+      let is_number = one_number number_of elements (entry_at entries (suc k)).number number numbers
+      (of.known (suc k) there) known (sym (element_is elements entries (suc k) 0 there) ∙ at_x) in
+      let is_anchor = one_number number_of elements (entry_at entries k).number
+      (element_at elements number).anchor numbers (of.known k here) (kept.anchored number known)
+      (sym (element_is elements entries k 0 here) ∙ at_p) in
+      before_of elements entries of kept.linked k number read there is_number reads ∙ is_anchor
+      ∙ sym (ap (λ (e : Element). e.anchor) read_is)
 
-  pub youngest_nearest : read.before ≡ read.anchor → (keep : ℕ → Bool) (all : List (ℕ × Bool)) → elements_in all ≡ names → keep p ≡ true → IsNearestBefore keep all x p
+  pub youngest_nearest : read.before ≡ read.anchor → (keep : ℕ → Bool) (all : List (ℕ × Bool)) → elements_in all ≡ names
+      → keep p ≡ true → IsNearestBefore keep all x p
   youngest_nearest same keep all listed kept_p =
       let at = number_before in
       let of = kept.entries in
       let i = at.0 in
       let here : i < length entries = omega (arith, at.1) in
-      let is_x : (get_or all (suc i) nothing).0 ≡ x = at_index number_of elements entries numbers of all listed (suc i) at.1 ∙ ap (λ n. (element_at elements n).element) at.2 in
+      let is_x : (get_or all (suc i) nothing).0 ≡ x = at_index number_of elements entries numbers of all listed
+      (suc i) at.1 ∙ ap (λ n. (element_at elements n).element) at.2 in
       let is_p : (get_or all i nothing).0 ≡ p =
-      at_index number_of elements entries numbers of all listed i here ∙ ap (λ n. (element_at elements n).element) (sym at.3 ∙ same ∙ ap (λ (e : Element). e.anchor) read_is) in
+      at_index number_of elements entries numbers of all listed i here
+      ∙ ap (λ n. (element_at elements n).element) (sym at.3 ∙ same ∙ ap (λ (e : Element). e.anchor) read_is) in
       subst (λ y. IsNearestBefore keep all y p) is_x
       (subst (λ y. IsNearestBefore keep all (get_or all (suc i) nothing).0 y) is_p
-      (near_at keep nothing all i (suc i) (omega arith) (omega (arith, at.1, long number_of elements entries numbers of all listed)) (ap keep is_p ∙ kept_p) (λ k low high. absurd (omega arith))))
+      (near_at keep nothing all i (suc i) (omega arith)
+      (omega (arith, at.1, long number_of elements entries numbers of all listed)) (ap keep is_p ∙ kept_p)
+      (λ k low high. absurd (omega arith))))
 
   -- the same of what contracts see
   own_name : (arrivals : List Arrival) → map arrival_of elements ≡ arrivals → x ≡ (arrival_at arrivals number).element
   own_name arrivals came = own_element elements arrivals number known came
 
-  anchor_name : (arrivals : List Arrival) → map arrival_of elements ≡ arrivals → p ≡ (arrival_at arrivals (arrival_at arrivals number).anchor).element
+  anchor_name : (arrivals : List Arrival) → map arrival_of elements ≡ arrivals
+      → p ≡ (arrival_at arrivals (arrival_at arrivals number).anchor).element
   anchor_name arrivals came = anchor_element elements arrivals number known (kept.anchored number known) came
 
   pub stands_exactly : (listed : List ℕ) (arrivals : List Arrival) → names ≡ listed → map arrival_of elements ≡ arrivals
-      → IsTrue (read.before == read.anchor) ↔ StandsBehind listed (arrival_at arrivals number).element (arrival_at arrivals (arrival_at arrivals number).anchor).element
+      → IsTrue (read.before == read.anchor) ↔ StandsBehind listed (arrival_at arrivals number).element
+      (arrival_at arrivals (arrival_at arrivals number).anchor).element
   stands_exactly listed arrivals same came =
       let own = own_name arrivals came in
       let anchor = anchor_name arrivals came in (
-        (λ holds. subst (λ ns. StandsBehind ns (arrival_at arrivals number).element (arrival_at arrivals (arrival_at arrivals number).anchor).element) same
+        (λ holds. subst
+            (λ ns. StandsBehind ns (arrival_at arrivals number).element
+            (arrival_at arrivals (arrival_at arrivals number).anchor).element) same
             (subst (λ y. StandsBehind names y (arrival_at arrivals (arrival_at arrivals number).anchor).element) own
             (subst (λ q. StandsBehind names x q) anchor (stands_behind (eqb-true read.before read.anchor holds))))),
         (λ stands. eq-eqb read.before read.anchor (behind_stands
             (subst (λ q. StandsBehind names x q) (sym anchor)
-            (subst (λ y. StandsBehind names y (arrival_at arrivals (arrival_at arrivals number).anchor).element) (sym own)
-            (subst (λ ns. StandsBehind ns (arrival_at arrivals number).element (arrival_at arrivals (arrival_at arrivals number).anchor).element) (sym same) stands))))),
+            (subst (λ y. StandsBehind names y (arrival_at arrivals (arrival_at arrivals number).anchor).element)
+            (sym own)
+            (subst (λ ns. StandsBehind ns (arrival_at arrivals number).element
+            (arrival_at arrivals (arrival_at arrivals number).anchor).element) (sym same) stands))))),
       )
 
-  pub nearest_exactly : (listed : List ℕ) (arrivals : List Arrival) → names ≡ listed → map arrival_of elements ≡ arrivals → IsTrue (read.before == read.anchor)
-      → (keep : ℕ → Bool) (all : List (ℕ × Bool)) → elements_in all ≡ listed → keep (arrival_at arrivals (arrival_at arrivals number).anchor).element ≡ true
-      → IsNearestBefore keep all (arrival_at arrivals number).element (arrival_at arrivals (arrival_at arrivals number).anchor).element
+  pub nearest_exactly : (listed : List ℕ) (arrivals : List Arrival) → names ≡ listed
+      → map arrival_of elements ≡ arrivals → IsTrue (read.before == read.anchor)
+      → (keep : ℕ → Bool) (all : List (ℕ × Bool)) → elements_in all ≡ listed
+      → keep (arrival_at arrivals (arrival_at arrivals number).anchor).element ≡ true
+      → IsNearestBefore keep all (arrival_at arrivals number).element
+      (arrival_at arrivals (arrival_at arrivals number).anchor).element
   nearest_exactly listed arrivals same came holds keep all lists keeps =
       let anchor = anchor_name arrivals came in
-      subst (λ y. IsNearestBefore keep all y (arrival_at arrivals (arrival_at arrivals number).anchor).element) (own_name arrivals came)
+      subst (λ y. IsNearestBefore keep all y (arrival_at arrivals (arrival_at arrivals number).anchor).element)
+      (own_name arrivals came)
       (subst (λ q. IsNearestBefore keep all x q) anchor
       (youngest_nearest (eqb-true read.before read.anchor holds) keep all (lists ∙ sym same) (ap keep anchor ∙ keeps)))
 
 -- each element but the root stands somewhere behind its anchor
-pub anchor_behind : (number_of : ℕ → Option ℕ) (elements : List Element) (chunks : List Chunk) (places : List ℕ) (newest number : ℕ) → AreNumbers number_of elements
-    → ChunksKept elements chunks places newest → 0 < number → number < length elements → (listed : List ℕ) (arrivals : List Arrival) → elements_by elements (joined chunks) ≡ listed
+pub anchor_behind : (number_of : ℕ → Option ℕ) (elements : List Element) (chunks : List Chunk) (places : List ℕ)
+    (newest number : ℕ) → AreNumbers number_of elements
+    → ChunksKept elements chunks places newest → 0 < number → number < length elements
+    → (listed : List ℕ) (arrivals : List Arrival) → elements_by elements (joined chunks) ≡ listed
     → map arrival_of elements ≡ arrivals → (all : List (ℕ × Bool)) → elements_in all ≡ listed
-    → IsSomewhereBehind all (arrival_at arrivals number).element (arrival_at arrivals (arrival_at arrivals number).anchor).element
-anchor_behind number_of elements chunks places newest number numbers kept some known listed arrivals same came all lists =
+    → IsSomewhereBehind all (arrival_at arrivals number).element
+    (arrival_at arrivals (arrival_at arrivals number).anchor).element
+anchor_behind number_of elements chunks places newest number numbers kept some known listed arrivals same
+    came all lists =
     let entries = joined chunks in
     let at = index_of elements chunks places number kept.placed known in
     let back = behind_root elements entries at.0 number kept.entries some at.2 in
     let old = kept.behind at.0 (omega (arith, back.1)) at.1 in
     let here : old.0 < length entries = omega (arith, old.1, at.1) in
     let lists_them = lists ∙ sym same in
-    let name : (k : ℕ) → k < length entries → (get_or all k nothing).0 ≡ (element_at elements (entry_at entries k).number).element =
+    let name : (k : ℕ) → k < length entries
+    → (get_or all k nothing).0 ≡ (element_at elements (entry_at entries k).number).element =
     λ k low. at_index number_of elements entries numbers kept.entries all lists_them k low in
-    let x_is = name at.0 at.1 ∙ ap (λ n. (element_at elements n).element) at.2 ∙ own_element elements arrivals number known came in
+    let x_is = name at.0 at.1 ∙ ap (λ n. (element_at elements n).element) at.2
+    ∙ own_element elements arrivals number known came in
     let p_is =
-    name old.0 here ∙ ap (λ n. (element_at elements n).element) (old.2 ∙ ap (λ n. (element_at elements n).anchor) at.2) ∙ anchor_element elements arrivals number known (kept.anchored number known) came in
+    name old.0 here ∙ ap (λ n. (element_at elements n).element) (old.2 ∙ ap (λ n. (element_at elements n).anchor) at.2)
+    ∙ anchor_element elements arrivals number known (kept.anchored number known) came in
     subst (λ y. IsSomewhereBehind all y (arrival_at arrivals (arrival_at arrivals number).anchor).element) x_is
     (subst (λ q. IsSomewhereBehind all (get_or all at.0 nothing).0 q) p_is
-    (further_at nothing all old.0 at.0 old.1 (omega (arith, at.1, long number_of elements entries numbers kept.entries all lists_them))))
+    (further_at nothing all old.0 at.0 old.1
+    (omega (arith, at.1, long number_of elements entries numbers kept.entries all lists_them))))

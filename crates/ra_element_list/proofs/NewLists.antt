@@ -10,19 +10,23 @@ use Rattle.ra_element_list.specs.Chunks.{chunk_at}
 use Rattle.ra_element_list.specs.Groups.{no_element, element_at}
 use Rattle.ra_element_list.specs.ElementList.{Arrival, arrival_at}
 use Rattle.ra_element_list.specs.Kept.{arrival_of, AreNumbers, ChunksKept, ElementListKept}
-use Rattle.ra_element_list.proofs.Standing.{arrival_is}
+use Rattle.ra_element_list.proofs.ElementPlaces.{arrival_is}
 
 abbrev one_chunk : ℕ → Chunk
 one_chunk room = record { entries = no_entry ∷ []; room = room }
 
-numbers_new : (number_of : ℕ → Option ℕ) → ((x : ℕ) → number_of x ≡ cond (0 == x) (Some 0) None) → AreNumbers number_of (no_element ∷ [])
+numbers_new : (number_of : ℕ → Option ℕ) → ((x : ℕ) → number_of x ≡ cond (0 == x) (Some 0) None)
+    → AreNumbers number_of (no_element ∷ [])
 numbers_new number_of is = record {
   found = λ n there. zero_found n there;
   there = λ x n found. elim (cases_Bool (0 == x)) [
     | inl same ↦
         let both : Some 0 ≡ Some n = sym (cond-true (0 == x) (Some 0) None same) ∙ sym (is x) ∙ found in
-        let here : 0 ≡ n = cc in
-        (subst (λ m. m < 1) here (omega arith), subst (λ m. (element_at (no_element ∷ []) m).element ≡ x) here (eqb-true 0 x same))
+        let here : 0 ≡ n = cc in (
+          subst (λ m. m < 1) here (omega arith),
+          subst (λ m. (element_at (no_element ∷ []) m).element ≡ x) here
+              (eqb-true 0 x same),
+        )
     | inr other ↦ absurd (none_some n (sym (cond-false (0 == x) (Some 0) None other) ∙ sym (is x) ∙ found))
   ];
 }
@@ -41,7 +45,9 @@ chunks_new room = record {
   entries = record {
     root = refl;
     known = λ k there. only_zero k there (λ m. (entry_at (no_entry ∷ []) m).number < 1) (omega arith);
-    stamps = λ k there. only_zero k there (λ m. (entry_at (no_entry ∷ []) m).stamp ≡ (element_at (no_element ∷ []) (entry_at (no_entry ∷ []) m).number).stamp) refl;
+    stamps = λ k there. only_zero k there
+        (λ m. (entry_at (no_entry ∷ []) m).stamp
+        ≡ (element_at (no_element ∷ []) (entry_at (no_entry ∷ []) m).number).stamp) refl;
     distinct = λ j k low high. absurd (omega arith);
   };
   linked = λ k there. absurd (omega arith);
@@ -49,10 +55,14 @@ chunks_new room = record {
   placed = record {
     grouped = λ n there. only_zero n there (λ m. (element_at (no_element ∷ []) m).group < 1) (omega arith);
     inside = λ group there. only_zero group there (λ m. get_or (0 ∷ []) m 0 < 1) (omega arith);
-    stands = λ n there. only_zero n there (λ m. Contains (numbers_in (chunk_at (one_chunk room ∷ []) (get_or (0 ∷ []) (element_at (no_element ∷ []) m).group 0)).entries) m) (0, omega arith, refl);
+    stands = λ n there. only_zero n there
+        (λ m. Contains
+        (numbers_in (chunk_at (one_chunk room ∷ []) (get_or (0 ∷ []) (element_at (no_element ∷ []) m).group 0)).entries)
+        m) (0, omega arith, refl);
     only = λ place n there among. ap (λ group. get_or (0 ∷ []) group 0) (group_zero n) ∙ first place there;
   };
-  filled = λ place there. only_zero place there (λ p. 0 < length (chunk_at (one_chunk room ∷ []) p).entries) (omega arith);
+  filled = λ place there. only_zero place there (λ p. 0 < length (chunk_at (one_chunk room ∷ []) p).entries)
+      (omega arith);
   there = omega arith;
   room = λ place there other. absurd (other (omega arith));
 }
@@ -67,8 +77,10 @@ chunks_new room = record {
     first : (place : ℕ) → place < 1 → 0 ≡ place
     first place there = omega arith
 
-pub kept_new : (number_of : ℕ → Option ℕ) (elements : List Element) (chunks : List Chunk) (places : List ℕ) (chunk : Chunk)
-    → ((x : ℕ) → number_of x ≡ cond (0 == x) (Some 0) None) → elements ≡ no_element ∷ [] → chunks ≡ chunk ∷ [] → chunk.entries ≡ no_entry ∷ [] → places ≡ 0 ∷ []
+pub kept_new : (number_of : ℕ → Option ℕ) (elements : List Element) (chunks : List Chunk) (places : List ℕ)
+    (chunk : Chunk)
+    → ((x : ℕ) → number_of x ≡ cond (0 == x) (Some 0) None) → elements ≡ no_element ∷ [] → chunks ≡ chunk ∷ []
+    → chunk.entries ≡ no_entry ∷ [] → places ≡ 0 ∷ []
     → ElementListKept number_of elements chunks places 0
 kept_new number_of elements chunks places chunk is of made has at =
     let same : chunk ≡ one_chunk chunk.room = λ i. record { entries = has i; room = chunk.room } in
@@ -79,14 +91,20 @@ kept_new number_of elements chunks places chunk is of made has at =
     (record { numbers = numbers_new number_of is; chunks_kept = chunks_new chunk.room })))
 
 -- the number that a look-up gives
-pub numbers_exactly : (number_of : ℕ → Option ℕ) (elements : List Element) (arrivals : List Arrival) (x : ℕ) (result : Option ℕ) → AreNumbers number_of elements
-    → map arrival_of elements ≡ arrivals → result ≡ number_of x → (n : ℕ) → (result ≡ Some n) ↔ ((n < length arrivals) × ((arrival_at arrivals n).element ≡ x))
+pub numbers_exactly : (number_of : ℕ → Option ℕ) (elements : List Element) (arrivals : List Arrival) (x : ℕ)
+    (result : Option ℕ) → AreNumbers number_of elements
+    → map arrival_of elements ≡ arrivals → result ≡ number_of x → (n : ℕ)
+    → (result ≡ Some n) ↔ ((n < length arrivals) × ((arrival_at arrivals n).element ≡ x))
 numbers_exactly number_of elements arrivals x result numbers came is n =
     subst (λ came. (result ≡ Some n) ↔ ((n < length came) × ((arrival_at came n).element ≡ x))) came (
       (λ found.
-          let at = numbers.there x n (sym is ∙ found) in
-          (omega (arith, at.0, length-map elements arrival_of), ap (λ (a : Arrival). a.element) (arrival_is elements n at.0) ∙ at.1)),
+          let at = numbers.there x n (sym is ∙ found) in (
+            omega (arith, at.0, length-map elements arrival_of),
+            ap (λ (a : Arrival). a.element)
+                (arrival_is elements n at.0) ∙ at.1,
+          )),
       (λ there.
           let low : n < length elements = omega (arith, there.0, length-map elements arrival_of) in
-          is ∙ ap number_of (sym there.1 ∙ ap (λ (a : Arrival). a.element) (arrival_is elements n low)) ∙ numbers.found n low),
+          is ∙ ap number_of (sym there.1 ∙ ap (λ (a : Arrival). a.element) (arrival_is elements n low))
+          ∙ numbers.found n low),
     )
