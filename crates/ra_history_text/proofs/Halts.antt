@@ -1,5 +1,6 @@
 -- Runs that stop before a regular end.
-use Rattle.std.proofs.Common.{◌≡◌, ◌⊎◌, inl, inr, ℕ, Bool, eqb, cond, List, [], ◌++◌, Option, Some, None, IfSome, Result, Ok, Err, IfErr, refl, sym, ap, subst, ◌∙◌, ◌+◌, ◌<◌, ◌≤◌, take, length, arith}
+use Rattle.std.proofs.Common.{◌≡◌, ◌⊎◌, inl, inr, ℕ, Bool, eqb, cond, List, [], ◌++◌, Option, Some, None, IfSome}
+use Rattle.std.proofs.Common.{Result, Ok, Err, IfErr, refl, sym, ap, subst, ◌∙◌, ◌+◌, ◌<◌, ◌≤◌, take, length, arith}
 use Rattle.std.specs.Prelude.{OnOk, is_ok, ◌&&◌}
 use Rattle.std.proofs.lemmas.Bool.{cases_Bool}
 use Rattle.std.specs.Io.KnownBytes.{Appends, Consumes, IsAtEnd, Keeps}
@@ -12,29 +13,36 @@ use Rattle.ra_lines.specs.Spelling.{BeginsWith}
 use Rattle.ra_history_text.specs.Output.{replies_of, last_line_of, last_line_at, output_of}
 use Rattle.ra_history_text.specs.Run.{WritesUpTo, WritesReplies, WritesPart, StopsCheck, HasGiven, IsRunning}
 use Rattle.ra_history_text.specs.Sessions.{AddsReplies, StopsInside, EndsText, StopsEnding}
-use Rattle.ra_history_text.specs.Text.{Said, Progress, Stop, Ending, Regular, Syntax, Truncated, LineTooLong, Full, has_names, next_line, text_start, stop_at, taken, ending_at, end_of}
+use Rattle.ra_history_text.specs.Text.{Said, Progress, Stop, Ending, Regular, Syntax, Truncated, LineTooLong, Full}
+use Rattle.ra_history_text.specs.Text.{has_names, next_line, text_start, stop_at, taken, ending_at, end_of}
 use Rattle.ra_history_text.specs.Written.{HasWritten}
-use Rattle.ra_history_text.proofs.Replies.{output_begins}
+use Rattle.ra_history_text.proofs.ReplyLines.{output_begins}
 use Rattle.ra_history_text.proofs.Runs.{Appends-then, put_alone, written_replies, read_whole, ends_at, said_at_end, output_at_end, output_regular}
-use Rattle.ra_history_text.proofs.Taking.{taken_then, stopped_then}
+use Rattle.ra_history_text.proofs.TakenBytes.{taken_then, stopped_then}
 
 -- ---- in the midst of a text
 
 -- a part that led this far, with its replies written
-pub replies_written : (read : List ℕ) (p : Progress) (old new : Option (List ℕ)) → taken text_start read ≡ Ok p → Appends old new (replies_of p.said) → WritesReplies read old new
+pub replies_written : (read : List ℕ) (p : Progress) (old new : Option (List ℕ)) → taken text_start read ≡ Ok p
+    → Appends old new (replies_of p.said) → WritesReplies read old new
 replies_written read p old new is written = record {
   going_on = ap (λ r. is_ok r) is;
   written = subst (λ s. Appends old new (replies_of s)) (sym (said_at_end read p is)) written;
 }
 
-pub halts_reading : (r0 r1 r2 w0 w1 : Option (List ℕ)) (p : Progress) (out : List ℕ) → IsRunning r0 r1 w0 w1 p out → Keeps r1 r2
+pub halts_reading : (r0 r1 r2 w0 w1 : Option (List ℕ)) (p : Progress) (out : List ℕ) → IsRunning r0 r1 w0 w1 p out
+    → Keeps r1 r2
     → IfSome r0 (λ text. StopsCheck text r2 w0 w1 check_fault.Read)
 halts_reading None r1 r2 w0 w1 p out running keeps = tt
 halts_reading (Some all) None r2 w0 w1 p out running keeps = absurd running.read
 halts_reading (Some all) (Some rest) None w0 w1 p out running keeps = absurd keeps
 halts_reading (Some all) (Some rest) (Some left) w0 w1 p out running keeps =
-    let read = running.read.0 in
-    (read, running.read.1 ∙ ap (λ (bs : List ℕ). read ++ bs) (sym keeps), replies_written read p w0 w1 running.read.2 running.written)
+    let read = running.read.0 in (
+      read,
+      running.read.1
+          ∙ ap (λ (bs : List ℕ). read ++ bs) (sym keeps),
+      replies_written read p w0 w1 running.read.2 running.written,
+    )
 
 pub halts_endless : (r0 r1 w0 w1 : Option (List ℕ)) (p : Progress) (out : List ℕ) → IsRunning r0 r1 w0 w1 p out
     → IfSome r0 (λ text. StopsCheck text r1 w0 w1 check_fault.Endless)
@@ -46,11 +54,13 @@ halts_endless (Some all) (Some rest) w0 w1 p out running =
 -- ---- at the end of the text
 
 -- no last line where the end is not regular
-cut_short : (text : List ℕ) (p : Progress) (n : ℕ) (old new : Option (List ℕ)) → taken text_start text ≡ Ok p → ending_at p ≡ Truncated n
+cut_short : (text : List ℕ) (p : Progress) (n : ℕ) (old new : Option (List ℕ)) → taken text_start text ≡ Ok p
+    → ending_at p ≡ Truncated n
     → Appends old new (replies_of p.said) → WritesUpTo text old new (Truncated n)
 cut_short text p n old new is ending written =
     let nothing : output_of text ≡ replies_of p.said =
-    output_at_end text p is ∙ ap (λ (e : Ending). replies_of p.said ++ last_line_at e p.said) ending ∙ append-nil (replies_of p.said) in
+    output_at_end text p is ∙ ap (λ (e : Ending). replies_of p.said ++ last_line_at e p.said) ending
+    ∙ append-nil (replies_of p.said) in
     record { ends = ends_at text p is ∙ ending; written = subst (Appends old new) (sym nothing) written }
 
 -- a text that ends here has its regular end, or is cut short
@@ -68,18 +78,24 @@ is_no_fault p e is regular short =
       | inr here ↦ short here.0 (sym here.1 ∙ is)
     ]
 
-why_ending : (text : List ℕ) (p : Progress) (old new : Option (List ℕ)) (left : Option (List ℕ)) (fault : CheckFault) → taken text_start text ≡ Ok p → StopsEnding p fault
+why_ending : (text : List ℕ) (p : Progress) (old new : Option (List ℕ)) (left : Option (List ℕ)) (fault : CheckFault)
+    → taken text_start text ≡ Ok p → StopsEnding p fault
     → Appends old new (replies_of p.said) → StopsCheck text left old new fault
 why_ending text p old new left (check_fault.Truncated n) is stops written = cut_short text p n old new is stops written
-why_ending text p old new left check_fault.NoMemory is stops written = (text, [], sym (append-nil text), replies_written text p old new is written)
+why_ending text p old new left check_fault.NoMemory is stops written =
+    (text, [], sym (append-nil text), replies_written text p old new is written)
 why_ending text p old new left check_fault.Read is stops written = absurd (let other = stops.0 in cc)
 why_ending text p old new left check_fault.Write is stops written = absurd (let other = stops.0 in cc)
 why_ending text p old new left check_fault.Endless is stops written = absurd (let other = stops.0 in cc)
-why_ending text p old new left (check_fault.Syntax n) is stops written = absurd (is_no_fault p (Syntax n) stops (λ e. cc) (λ m e. cc))
-why_ending text p old new left (check_fault.LineTooLong n) is stops written = absurd (is_no_fault p (LineTooLong n) stops (λ e. cc) (λ m e. cc))
-why_ending text p old new left (check_fault.Full n) is stops written = absurd (is_no_fault p (Full n) stops (λ e. cc) (λ m e. cc))
+why_ending text p old new left (check_fault.Syntax n) is stops written =
+    absurd (is_no_fault p (Syntax n) stops (λ e. cc) (λ m e. cc))
+why_ending text p old new left (check_fault.LineTooLong n) is stops written =
+    absurd (is_no_fault p (LineTooLong n) stops (λ e. cc) (λ m e. cc))
+why_ending text p old new left (check_fault.Full n) is stops written =
+    absurd (is_no_fault p (Full n) stops (λ e. cc) (λ m e. cc))
 
-pub halts_ending : (r0 r1 r2 w0 w1 : Option (List ℕ)) (p : Progress) (out : List ℕ) (fault : CheckFault) → IsRunning r0 r1 w0 w1 p out → Consumes r1 r2 [] → IsAtEnd r2
+pub halts_ending : (r0 r1 r2 w0 w1 : Option (List ℕ)) (p : Progress) (out : List ℕ) (fault : CheckFault)
+    → IsRunning r0 r1 w0 w1 p out → Consumes r1 r2 [] → IsAtEnd r2
     → StopsEnding p fault → IfSome r0 (λ text. StopsCheck text r2 w0 w1 fault)
 halts_ending None r1 r2 w0 w1 p out fault running consumes at_end stops = tt
 halts_ending (Some all) None r2 w0 w1 p out fault running consumes at_end stops = absurd running.read
@@ -91,7 +107,8 @@ halts_ending (Some all) (Some rest) (Some left) w0 w1 p out fault running consum
 -- ---- the writer fails
 
 -- what was written before, and a part of these bytes, is a part of what the text's output begins with
-part_written : (text : List ℕ) (w0 w1 w2 : Option (List ℕ)) (before bytes later rest : List ℕ) → output_of text ≡ (before ++ bytes) ++ later
+part_written : (text : List ℕ) (w0 w1 w2 : Option (List ℕ)) (before bytes later rest : List ℕ)
+    → output_of text ≡ (before ++ bytes) ++ later
     → 0 < length rest → Appends w0 w1 before → HasWritten w1 w2 bytes rest → WritesPart text w0 w2
 part_written text w0 w1 w2 before bytes later rest whole short written more = record {
   part = before ++ more.prefix;
@@ -104,40 +121,51 @@ part_written text w0 w1 w2 before bytes later rest whole short written more = re
   written = Appends-then w0 w1 w2 before more.prefix written more.appends;
 }
 
-pub halts_writing_end : (r0 r1 r2 w0 w1 w2 : Option (List ℕ)) (p : Progress) (out1 out2 unwritten : List ℕ) (report : Report)
+pub halts_writing_end : (r0 r1 r2 w0 w1 w2 : Option (List ℕ)) (p : Progress) (out1 out2 unwritten : List ℕ)
+    (report : Report)
     → 0 < length unwritten → IsRunning r0 r1 w0 w1 p out1 → Consumes r1 r2 [] → IsAtEnd r2 → EndsText p out1 out2 report
     → HasWritten w1 w2 out2 unwritten → IfSome r0 (λ text. StopsCheck text r2 w0 w2 check_fault.Write)
 halts_writing_end None r1 r2 w0 w1 w2 p out1 out2 unwritten report short running consumes at_end ended written = tt
-halts_writing_end (Some all) None r2 w0 w1 w2 p out1 out2 unwritten report short running consumes at_end ended written = absurd running.read
-halts_writing_end (Some all) (Some rest) None w0 w1 w2 p out1 out2 unwritten report short running consumes at_end ended written = absurd consumes
-halts_writing_end (Some all) (Some rest) (Some left) w0 w1 w2 p out1 out2 unwritten report short running consumes at_end ended written =
+halts_writing_end (Some all) None r2 w0 w1 w2 p out1 out2 unwritten report short running consumes at_end ended written =
+    absurd running.read
+halts_writing_end (Some all) (Some rest) None w0 w1 w2 p out1 out2 unwritten report short running consumes at_end ended
+    written = absurd consumes
+halts_writing_end (Some all) (Some rest)
+    (Some left) w0 w1 w2 p out1 out2 unwritten report short running consumes at_end ended written =
     let is = read_whole all rest left p running.read.0 running.read.1 consumes at_end running.read.2 in
     let gathered : out2 ≡ last_line_of p.said = put_alone out1 out2 (last_line_of p.said) running.nothing ended.out in
     let whole : output_of all ≡ (replies_of p.said ++ out2) ++ [] =
-    output_regular all p is ended.regular ∙ ap (λ (bs : List ℕ). replies_of p.said ++ bs) (sym gathered) ∙ sym (append-nil (replies_of p.said ++ out2)) in
+    output_regular all p is ended.regular ∙ ap (λ (bs : List ℕ). replies_of p.said ++ bs) (sym gathered)
+    ∙ sym (append-nil (replies_of p.said ++ out2)) in
     part_written all w0 w1 w2 (replies_of p.said) out2 [] unwritten whole short running.written written
 
 -- ---- inside a piece
 
 -- a text that goes on behind what was read, and behind a front of the next piece
-goes_on : (all read piece left front behind : List ℕ) → all ≡ read ++ (piece ++ left) → piece ≡ front ++ behind → all ≡ (read ++ front) ++ (behind ++ left)
+goes_on : (all read piece left front behind : List ℕ) → all ≡ read ++ (piece ++ left) → piece ≡ front ++ behind
+    → all ≡ (read ++ front) ++ (behind ++ left)
 goes_on all read piece left front behind parts fed =
-    parts ∙ ap (λ (bs : List ℕ). read ++ (bs ++ left)) fed ∙ ap (λ (bs : List ℕ). read ++ bs) (append_assoc front behind left)
+    parts ∙ ap (λ (bs : List ℕ). read ++ (bs ++ left)) fed
+    ∙ ap (λ (bs : List ℕ). read ++ bs) (append_assoc front behind left)
     ∙ sym (append_assoc read front (behind ++ left))
 
 -- the text stops where the piece does
-all_stops : (all read front later : List ℕ) (p : Progress) (stop : Stop) → all ≡ (read ++ front) ++ later → taken text_start read ≡ Ok p → taken p front ≡ Err stop
+all_stops : (all read front later : List ℕ) (p : Progress) (stop : Stop) → all ≡ (read ++ front) ++ later
+    → taken text_start read ≡ Ok p → taken p front ≡ Err stop
     → taken text_start all ≡ Err stop
 all_stops all read front later p stop parts is stops =
-    ap (taken text_start) parts ∙ stopped_then text_start stop (read ++ front) later (taken_then text_start p read front is ∙ stops)
+    ap (taken text_start) parts
+    ∙ stopped_then text_start stop (read ++ front) later (taken_then text_start p read front is ∙ stops)
 
 -- the output of a text that stops
-stop_output : (text : List ℕ) (said : Said) (e : Ending) → last_line_at e said ≡ [] → taken text_start text ≡ Err (stop_at said e) → output_of text ≡ replies_of said
+stop_output : (text : List ℕ) (said : Said) (e : Ending) → last_line_at e said ≡ []
+    → taken text_start text ≡ Err (stop_at said e) → output_of text ≡ replies_of said
 stop_output text said e none is =
     ap (λ r. replies_of (end_of r).said ++ last_line_at (end_of r).ending (end_of r).said) is
     ∙ ap (λ (bs : List ℕ). replies_of said ++ bs) none ∙ append-nil (replies_of said)
 
-stop_written : (text : List ℕ) (said : Said) (e : Ending) (old new : Option (List ℕ)) → last_line_at e said ≡ [] → taken text_start text ≡ Err (stop_at said e)
+stop_written : (text : List ℕ) (said : Said) (e : Ending) (old new : Option (List ℕ)) → last_line_at e said ≡ []
+    → taken text_start text ≡ Err (stop_at said e)
     → Appends old new (replies_of said) → WritesUpTo text old new e
 stop_written text said e old new none is written = record {
   ends = ap (λ r. (end_of r).ending) is;
@@ -145,56 +173,73 @@ stop_written text said e old new none is written = record {
 }
 
 -- why the check stops where the piece does
-why_feeding : (all read piece left out1 out2 : List ℕ) (p : Progress) (w0 w2 : Option (List ℕ)) (fault : CheckFault) → all ≡ read ++ (piece ++ left)
-    → taken text_start read ≡ Ok p → (stopped : StopsInside p piece out1 out2 fault) → Appends w0 w2 (replies_of stopped.said)
+why_feeding : (all read piece left out1 out2 : List ℕ) (p : Progress) (w0 w2 : Option (List ℕ)) (fault : CheckFault)
+    → all ≡ read ++ (piece ++ left)
+    → taken text_start read ≡ Ok p → (stopped : StopsInside p piece out1 out2 fault)
+    → Appends w0 w2 (replies_of stopped.said)
     → StopsCheck all (Some left) w0 w2 fault
 why_feeding all read piece left out1 out2 p w0 w2 (check_fault.Syntax n) parts is stopped written =
     stop_written all stopped.said (Syntax n) w0 w2 refl
-    (all_stops all read stopped.front (stopped.behind ++ left) p (stop_at stopped.said (Syntax n)) (goes_on all read piece left stopped.front stopped.behind parts stopped.parts) is stopped.why) written
+    (all_stops all read stopped.front (stopped.behind ++ left) p (stop_at stopped.said (Syntax n))
+    (goes_on all read piece left stopped.front stopped.behind parts stopped.parts) is stopped.why) written
 why_feeding all read piece left out1 out2 p w0 w2 (check_fault.Truncated n) parts is stopped written =
     stop_written all stopped.said (Truncated n) w0 w2 refl
-    (all_stops all read stopped.front (stopped.behind ++ left) p (stop_at stopped.said (Truncated n)) (goes_on all read piece left stopped.front stopped.behind parts stopped.parts) is stopped.why) written
+    (all_stops all read stopped.front (stopped.behind ++ left) p (stop_at stopped.said (Truncated n))
+    (goes_on all read piece left stopped.front stopped.behind parts stopped.parts) is stopped.why) written
 why_feeding all read piece left out1 out2 p w0 w2 (check_fault.LineTooLong n) parts is stopped written =
     stop_written all stopped.said (LineTooLong n) w0 w2 refl
-    (all_stops all read stopped.front (stopped.behind ++ left) p (stop_at stopped.said (LineTooLong n)) (goes_on all read piece left stopped.front stopped.behind parts stopped.parts) is stopped.why) written
+    (all_stops all read stopped.front (stopped.behind ++ left) p (stop_at stopped.said (LineTooLong n))
+    (goes_on all read piece left stopped.front stopped.behind parts stopped.parts) is stopped.why) written
 why_feeding all read piece left out1 out2 p w0 w2 (check_fault.Full n) parts is stopped written =
     stop_written all stopped.said (Full n) w0 w2 refl
-    (all_stops all read stopped.front (stopped.behind ++ left) p (stop_at stopped.said (Full n)) (goes_on all read piece left stopped.front stopped.behind parts stopped.parts) is stopped.why) written
+    (all_stops all read stopped.front (stopped.behind ++ left) p (stop_at stopped.said (Full n))
+    (goes_on all read piece left stopped.front stopped.behind parts stopped.parts) is stopped.why) written
 why_feeding all read piece left out1 out2 p w0 w2 check_fault.NoMemory parts is stopped written =
     let q : Progress = record { said = stopped.said; partial = stopped.why.1.0 } in (
       read ++ stopped.front,
       stopped.behind ++ left,
       goes_on all read piece left stopped.front stopped.behind parts stopped.parts,
-      replies_written (read ++ stopped.front) q w0 w2 (taken_then text_start p read stopped.front is ∙ stopped.why.1.1) written,
+      replies_written (read ++ stopped.front) q w0 w2
+          (taken_then text_start p read stopped.front is ∙ stopped.why.1.1) written,
     )
-why_feeding all read piece left out1 out2 p w0 w2 check_fault.Read parts is stopped written = absurd (let other = stopped.why.0 in cc)
-why_feeding all read piece left out1 out2 p w0 w2 check_fault.Write parts is stopped written = absurd (let other = stopped.why.0 in cc)
-why_feeding all read piece left out1 out2 p w0 w2 check_fault.Endless parts is stopped written = absurd (let other = stopped.why.0 in cc)
+why_feeding all read piece left out1 out2 p w0 w2 check_fault.Read parts is stopped written =
+    absurd (let other = stopped.why.0 in cc)
+why_feeding all read piece left out1 out2 p w0 w2 check_fault.Write parts is stopped written =
+    absurd (let other = stopped.why.0 in cc)
+why_feeding all read piece left out1 out2 p w0 w2 check_fault.Endless parts is stopped written =
+    absurd (let other = stopped.why.0 in cc)
 
 pub halts_feeding : (r0 r1 r2 w0 w1 w2 : Option (List ℕ)) (p : Progress) (out1 out2 piece : List ℕ) (fault : CheckFault)
     → IsRunning r0 r1 w0 w1 p out1 → Consumes r1 r2 piece → StopsInside p piece out1 out2 fault → Appends w1 w2 out2
     → IfSome r0 (λ text. StopsCheck text r2 w0 w2 fault)
 halts_feeding None r1 r2 w0 w1 w2 p out1 out2 piece fault running consumes stopped appends = tt
 halts_feeding (Some all) None r2 w0 w1 w2 p out1 out2 piece fault running consumes stopped appends = absurd running.read
-halts_feeding (Some all) (Some rest) None w0 w1 w2 p out1 out2 piece fault running consumes stopped appends = absurd consumes
+halts_feeding (Some all) (Some rest) None w0 w1 w2 p out1 out2 piece fault running consumes stopped appends =
+    absurd consumes
 halts_feeding (Some all) (Some rest) (Some left) w0 w1 w2 p out1 out2 piece fault running consumes stopped appends =
-    let whole : all ≡ running.read.0 ++ (piece ++ left) = running.read.1 ∙ ap (λ (bs : List ℕ). running.read.0 ++ bs) consumes in
-    let written = written_replies w0 w1 w2 p.said stopped.said out1 out2 running.written running.nothing stopped.replied appends in
+    let whole : all ≡ running.read.0 ++ (piece ++ left) = running.read.1
+    ∙ ap (λ (bs : List ℕ). running.read.0 ++ bs) consumes in
+    let written = written_replies w0 w1 w2 p.said stopped.said out1 out2 running.written running.nothing
+    stopped.replied appends in
     why_feeding all running.read.0 piece left out1 out2 p w0 w2 fault whole running.read.2 stopped written
 
 -- what a fault leaves written is what the text's output begins with
-begins_at_stop : (all read piece left out1 out2 : List ℕ) (p : Progress) (fault : CheckFault) → all ≡ read ++ (piece ++ left) → taken text_start read ≡ Ok p
-    → (stopped : StopsInside p piece out1 out2 fault) → (o : Option Ending) → ending_told fault ≡ o → BeginsWith (replies_of stopped.said) (output_of all)
+begins_at_stop : (all read piece left out1 out2 : List ℕ) (p : Progress) (fault : CheckFault)
+    → all ≡ read ++ (piece ++ left) → taken text_start read ≡ Ok p
+    → (stopped : StopsInside p piece out1 out2 fault) → (o : Option Ending) → ending_told fault ≡ o
+    → BeginsWith (replies_of stopped.said) (output_of all)
 begins_at_stop all read piece left out1 out2 p fault parts is stopped None told =
     let why = rw told at stopped.why in
     let q : Progress = record { said = stopped.said; partial = why.1.0 } in
     let whole = goes_on all read piece left stopped.front stopped.behind parts stopped.parts in
     subst (λ (text : List ℕ). BeginsWith (replies_of stopped.said) (output_of text)) (sym whole)
-    (output_begins (read ++ stopped.front) (stopped.behind ++ left) q (taken_then text_start p read stopped.front is ∙ why.1.1))
+    (output_begins (read ++ stopped.front) (stopped.behind ++ left) q
+    (taken_then text_start p read stopped.front is ∙ why.1.1))
 begins_at_stop all read piece left out1 out2 p fault parts is stopped (Some ending) told =
     let why = rw told at stopped.why in
     let whole = goes_on all read piece left stopped.front stopped.behind parts stopped.parts in
-    let stops = all_stops all read stopped.front (stopped.behind ++ left) p (stop_at stopped.said ending) whole is why in (
+    let stops = all_stops all read stopped.front (stopped.behind ++ left) p
+    (stop_at stopped.said ending) whole is why in (
       last_line_at ending stopped.said,
       ap (λ r. replies_of (end_of r).said ++ last_line_at (end_of r).ending (end_of r).said) stops,
     )
@@ -205,8 +250,10 @@ pub record Fed (all : List ℕ) (old : Said) (out1 out2 : List ℕ) : Type 0 whe
   pub replied : AddsReplies old said out1 out2
   pub begins : BeginsWith (replies_of said) (output_of all)
 
-fed_anyway : {T : Type 0} (r : Result T CheckFault) (all read piece left out1 out2 : List ℕ) (old new : Progress) → all ≡ read ++ (piece ++ left)
-    → taken text_start read ≡ Ok old → OnOk r (taken old piece ≡ Ok new) → OnOk r (AddsReplies old.said new.said out1 out2) → IfErr r (StopsInside old piece out1 out2)
+fed_anyway : {T : Type 0} (r : Result T CheckFault) (all read piece left out1 out2 : List ℕ) (old new : Progress)
+    → all ≡ read ++ (piece ++ left)
+    → taken text_start read ≡ Ok old → OnOk r (taken old piece ≡ Ok new)
+    → OnOk r (AddsReplies old.said new.said out1 out2) → IfErr r (StopsInside old piece out1 out2)
     → Fed all old.said out1 out2
 fed_anyway (Ok x) all read piece left out1 out2 old new parts is taken_so replied stopped =
     let whole : all ≡ (read ++ piece) ++ left = parts ∙ sym (append_assoc read piece left) in
@@ -223,24 +270,32 @@ fed_anyway (Err fault) all read piece left out1 out2 old new parts is taken_so r
   begins = begins_at_stop all read piece left out1 out2 old fault parts is stopped (ending_told fault) refl;
 }
 
-pub halts_writing : {T : Type 0} (r : Result T CheckFault) (r0 r1 r2 w0 w1 w2 : Option (List ℕ)) (old new : Progress) (out1 out2 piece unwritten : List ℕ)
+pub halts_writing : {T : Type 0} (r : Result T CheckFault) (r0 r1 r2 w0 w1 w2 : Option (List ℕ)) (old new : Progress)
+    (out1 out2 piece unwritten : List ℕ)
     → 0 < length unwritten → IsRunning r0 r1 w0 w1 old out1 → Consumes r1 r2 piece
-    → OnOk r (taken old piece ≡ Ok new) → OnOk r (AddsReplies old.said new.said out1 out2) → IfErr r (StopsInside old piece out1 out2)
+    → OnOk r (taken old piece ≡ Ok new) → OnOk r (AddsReplies old.said new.said out1 out2)
+    → IfErr r (StopsInside old piece out1 out2)
     → HasWritten w1 w2 out2 unwritten → IfSome r0 (λ text. StopsCheck text r2 w0 w2 check_fault.Write)
-halts_writing r None r1 r2 w0 w1 w2 old new out1 out2 piece unwritten short running consumes taken_so replied stopped written = tt
-halts_writing r (Some all) None r2 w0 w1 w2 old new out1 out2 piece unwritten short running consumes taken_so replied stopped written = absurd running.read
-halts_writing r (Some all) (Some rest) None w0 w1 w2 old new out1 out2 piece unwritten short running consumes taken_so replied stopped written = absurd consumes
-halts_writing r (Some all) (Some rest) (Some left) w0 w1 w2 old new out1 out2 piece unwritten short running consumes taken_so replied stopped written =
+halts_writing r None r1 r2 w0 w1 w2 old new out1 out2 piece unwritten short running consumes taken_so replied stopped
+    written = tt
+halts_writing r (Some all) None r2 w0 w1 w2 old new out1 out2 piece unwritten short running consumes taken_so replied
+    stopped written = absurd running.read
+halts_writing r (Some all) (Some rest) None w0 w1 w2 old new out1 out2 piece unwritten short running consumes taken_so
+    replied stopped written = absurd consumes
+halts_writing r (Some all) (Some rest)
+    (Some left) w0 w1 w2 old new out1 out2 piece unwritten short running consumes taken_so replied stopped written =
     let read = running.read.0 in
     let parts : all ≡ read ++ (piece ++ left) = running.read.1 ∙ ap (λ (bs : List ℕ). read ++ bs) consumes in
     let fed = fed_anyway r all read piece left out1 out2 old new parts running.read.2 taken_so replied stopped in
     let gathered : out2 ≡ fed.replied.more = put_alone out1 out2 fed.replied.more running.nothing fed.replied.out in
     let whole : output_of all ≡ (replies_of old.said ++ out2) ++ fed.begins.0 =
-    fed.begins.1 ∙ ap (λ (bs : List ℕ). bs ++ fed.begins.0) (fed.replied.replies ∙ ap (λ (bs : List ℕ). replies_of old.said ++ bs) (sym gathered)) in
+    fed.begins.1 ∙ ap (λ (bs : List ℕ). bs ++ fed.begins.0)
+    (fed.replied.replies ∙ ap (λ (bs : List ℕ). replies_of old.said ++ bs) (sym gathered)) in
     part_written all w0 w1 w2 (replies_of old.said) out2 fed.begins.0 unwritten whole short running.written written
 
 -- a fault that is passed on by `?`
-pub passed_on : {T : Type 0} (r : Result T CheckFault) (P : CheckFault → Type 0) (fault same : CheckFault) → r ≡ Err same → same ≡ fault → P fault → IfErr r P
+pub passed_on : {T : Type 0} (r : Result T CheckFault) (P : CheckFault → Type 0) (fault same : CheckFault)
+    → r ≡ Err same → same ≡ fault → P fault → IfErr r P
 passed_on {T} r P fault same is equal holds =
     rw is (subst P (sym equal) holds)
 
@@ -250,13 +305,22 @@ pub given_none : (known : Option (List ℕ)) → HasGiven known known 0
 given_none None = tt
 given_none (Some all) = omega arith
 
-pub given_more : (r0 r1 r2 : Option (List ℕ)) (reads count : ℕ) (buffer : List ℕ) → HasGiven r0 r1 reads → Consumes r1 r2 (take count buffer) → 0 < count → count ≤ length buffer
+pub given_more : (r0 r1 r2 : Option (List ℕ)) (reads count : ℕ) (buffer : List ℕ) → HasGiven r0 r1 reads
+    → Consumes r1 r2 (take count buffer) → 0 < count → count ≤ length buffer
     → HasGiven r0 r2 (reads + 1)
 given_more None r1 r2 reads count buffer given consumes some bound = tt
 given_more (Some all) None r2 reads count buffer given consumes some bound = absurd given
 given_more (Some all) (Some rest) None reads count buffer given consumes some bound = absurd consumes
 given_more (Some all) (Some rest) (Some left) reads count buffer given consumes some bound =
-    omega (arith, given, ap length consumes, length-append (take count buffer) left, length-take-le count buffer bound, some)
+    omega (
+      arith,
+      given,
+      ap length consumes,
+      length-append
+          (take count buffer) left,
+      length-take-le count buffer bound,
+      some,
+    )
 
 pub given_less : (r0 r1 : Option (List ℕ)) (less more : ℕ) → less ≤ more → HasGiven r0 r1 more → HasGiven r0 r1 less
 given_less None r1 less more below given = tt

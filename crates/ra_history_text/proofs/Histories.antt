@@ -1,5 +1,6 @@
 -- What is kept true of a recorded history, step by step.
-use Rattle.std.proofs.Common.{◌≡◌, ℕ, zero, suc, ◌+◌, ◌-◌, ◌<◌, ◌≤◌, true, ltb, List, [], ◌∷◌, ◌++◌, length, map, Result, Ok, Err, Some, refl, sym, ap, ◌∙◌, arith, inl, inr}
+use Rattle.std.proofs.Common.{◌≡◌, ℕ, zero, suc, ◌+◌, ◌-◌, ◌<◌, ◌≤◌, true, ltb, List, [], ◌∷◌, ◌++◌, length, map}
+use Rattle.std.proofs.Common.{Result, Ok, Err, Some, refl, sym, ap, ◌∙◌, arith, inl, inr}
 use Rattle.std.specs.Prelude.{◌↔◌, option_map, slice_get}
 use Rattle.std.proofs.lemmas.Bool.{cases_eq, and_parts, and_from, ltb-true, lt-ltb}
 use Rattle.std.proofs.lemmas.List.{length_push, map_push}
@@ -12,7 +13,7 @@ use Rattle.ra_monitor.specs.Monitor.{Monitor, MonitorEntry, commands_of, records
 use Rattle.ra_history_text.specs.declared.history.History.TheInside.{Inside}
 use Rattle.ra_lines.specs.declared.limits.TheConstants.{MOST_COMMANDS}
 use Rattle.ra_history_text.specs.History.{History, StopsAnswering, fault_at}
-use Rattle.ra_history_text.proofs.Replies.{answers_push}
+use Rattle.ra_history_text.proofs.ReplyLines.{answers_push}
 use Rattle.ra_history_text.specs.HistoryKept.{HistoryKept, are_tickets_below}
 
 -- an entry's ticket is below the number of entries
@@ -30,15 +31,19 @@ below_at count (suc i) (entry ∷ log) ticket below is =
 pub next_ticket : (count : ℕ) (log : List MonitorEntry) → are_tickets_below count log ≡ true → IsAboveLast log count
 next_ticket count log below = λ ticket is. below_at count (length log - 1) log ticket below is
 
-tickets_push : (count : ℕ) (log : List MonitorEntry) (entry : MonitorEntry) → are_tickets_below count log ≡ true → entry.ticket ≡ count → are_tickets_below (count + 1) (log ++ entry ∷ []) ≡ true
-tickets_push count [] entry below is = and_from (ltb entry.ticket (count + 1)) true (lt-ltb entry.ticket (count + 1) (omega arith)) refl
+tickets_push : (count : ℕ) (log : List MonitorEntry) (entry : MonitorEntry) → are_tickets_below count log ≡ true
+    → entry.ticket ≡ count → are_tickets_below (count + 1) (log ++ entry ∷ []) ≡ true
+tickets_push count [] entry below is =
+    and_from (ltb entry.ticket (count + 1)) true (lt-ltb entry.ticket (count + 1) (omega arith)) refl
 tickets_push count (first ∷ log) entry below is =
     let parts = and_parts (ltb first.ticket count) (are_tickets_below count log) below in
     let here : first.ticket < count + 1 = omega (arith, ltb-true first.ticket count parts.0) in
-    and_from (ltb first.ticket (count + 1)) (are_tickets_below (count + 1) (log ++ entry ∷ [])) (lt-ltb first.ticket (count + 1) here) (tickets_push count log entry parts.1 is)
+    and_from (ltb first.ticket (count + 1)) (are_tickets_below (count + 1) (log ++ entry ∷ []))
+    (lt-ltb first.ticket (count + 1) here) (tickets_push count log entry parts.1 is)
 
 -- nothing changed
-pub kept_same : (h : Inside) (m : Monitor) → HistoryKept h → m.log ≡ h.monitor.log → m.setup ≡ h.monitor.setup → HistoryKept (record { kind = h.kind; names = h.names; monitor = m })
+pub kept_same : (h : Inside) (m : Monitor) → HistoryKept h → m.log ≡ h.monitor.log → m.setup ≡ h.monitor.setup
+    → HistoryKept (record { kind = h.kind; names = h.names; monitor = m })
 kept_same h m kept log setup = record {
   kind = ap (λ s. s.kind) setup ∙ kept.kind;
   replicas = ap (λ s. s.replicas) setup ∙ kept.replicas;
@@ -49,9 +54,11 @@ kept_same h m kept log setup = record {
 }
 
 -- a command was answered and logged
-pub kept_next : (h : Inside) (m : Monitor) (entry : MonitorEntry) → HistoryKept h → m.log ≡ h.monitor.log ++ entry ∷ [] → m.setup ≡ h.monitor.setup
+pub kept_next : (h : Inside) (m : Monitor) (entry : MonitorEntry) → HistoryKept h → m.log ≡ h.monitor.log ++ entry ∷ []
+    → m.setup ≡ h.monitor.setup
     → entry.ticket ≡ length h.monitor.log → length h.monitor.log < 1048576
-    → entry.reply ≡ answer_of h.monitor.setup.kind h.monitor.setup.replicas (records_of h.monitor.setup h.monitor.log) entry.command
+    → entry.reply ≡ answer_of h.monitor.setup.kind h.monitor.setup.replicas
+    (records_of h.monitor.setup h.monitor.log) entry.command
     → HistoryKept (record { kind = h.kind; names = h.names; monitor = m })
 kept_next h m entry kept log setup ticket room reply = record {
   kind = ap (λ s. s.kind) setup ∙ kept.kind;
@@ -62,17 +69,21 @@ kept_next h m entry kept log setup ticket room reply = record {
       let len : length m.log ≡ length h.monitor.log + 1 = ap length log ∙ length_push h.monitor.log entry in
       rw (len, log) (tickets_push (length h.monitor.log) h.monitor.log entry kept.tickets ticket);
   answered =
-      let replies : map (λ (e : MonitorEntry). e.reply) m.log ≡ map (λ (e : MonitorEntry). e.reply) h.monitor.log ++ entry.reply ∷ [] =
+      let replies : map (λ (e : MonitorEntry). e.reply) m.log ≡ map (λ (e : MonitorEntry). e.reply) h.monitor.log
+      ++ entry.reply ∷ [] =
       ap (map (λ (e : MonitorEntry). e.reply)) log ∙ map_push (λ (e : MonitorEntry). e.reply) h.monitor.log entry in
       let commands : commands_of m.log ≡ commands_of h.monitor.log ++ entry.command ∷ [] =
       ap commands_of log ∙ map_push (λ (e : MonitorEntry). e.command) h.monitor.log entry in
-      let answer : entry.reply ≡ answer_of h.kind (length h.names) (records_after_all h.kind (length h.names) [] (commands_of h.monitor.log)) entry.command =
+      let answer : entry.reply ≡ answer_of h.kind (length h.names)
+      (records_after_all h.kind (length h.names) [] (commands_of h.monitor.log)) entry.command =
       rw (kept.kind, kept.replicas) at reply in
-      rw (replies, commands, kept.answered, answer) (sym (answers_push h.kind (length h.names) [] (commands_of h.monitor.log) entry.command));
+      rw (replies, commands, kept.answered, answer)
+      (sym (answers_push h.kind (length h.names) [] (commands_of h.monitor.log) entry.command));
 }
 
 -- a log that is not full has room below its limit
-pub has_room : {T E : Type 0} (r : Result T E) (x : T) (e : E) (count limit : ℕ) → r ≡ Ok x → ((r ≡ Err e) ↔ (count ≡ limit)) → count ≤ 1048576 → limit ≡ 1048576 → count < 1048576
+pub has_room : {T E : Type 0} (r : Result T E) (x : T) (e : E) (count limit : ℕ) → r ≡ Ok x
+    → ((r ≡ Err e) ↔ (count ≡ limit)) → count ≤ 1048576 → limit ≡ 1048576 → count < 1048576
 has_room r x e count limit is full fits most =
     elim (cases_eq count limit) [
       | inl same ↦ let failed : r ≡ Err e = full.1 same in absurd (let both = sym is ∙ failed in cc)
@@ -80,7 +91,9 @@ has_room r x e count limit is full fits most =
     ]
 
 -- what the monitor hands back stops the text as its fault says
-pub stops_answering : (old : History) (line : ℕ) (command : Command) (fault : StepFault Command) → line ≡ length old.commands + 3
-    → (fault ≡ handed.Full command → length old.commands ≡ MOST_COMMANDS) → unstepped fault ≡ command → StopsAnswering old (fault_at line fault)
+pub stops_answering : (old : History) (line : ℕ) (command : Command) (fault : StepFault Command)
+    → line ≡ length old.commands + 3
+    → (fault ≡ handed.Full command → length old.commands ≡ MOST_COMMANDS) → unstepped fault ≡ command
+    → StopsAnswering old (fault_at line fault)
 stops_answering old line command (handed.Full other) is full back = (is, full (ap handed.Full back))
 stops_answering old line command (handed.NoMemory other) is full back = tt

@@ -1,5 +1,6 @@
 -- What was written for a part of a text, against its output.
-use Rattle.std.proofs.Common.{◌≡◌, ◌+◌, ◌-◌, ◌<◌, ℕ, true, eqb, ltb, cond, List, [], ◌∷◌, ◌++◌, length, Option, Some, Result, Ok, Err, inl, inr, refl, sym, ap, subst, ◌∙◌, arith}
+use Rattle.std.proofs.Common.{◌≡◌, ◌+◌, ◌-◌, ◌<◌, ℕ, true, eqb, ltb, cond, List, [], ◌∷◌, ◌++◌, length, Option, Some}
+use Rattle.std.proofs.Common.{Result, Ok, Err, inl, inr, refl, sym, ap, subst, ◌∙◌, arith}
 use Rattle.std.specs.Prelude.{flat_map, is_ok}
 use Rattle.std.proofs.lemmas.Bool.{cases_Bool}
 use Rattle.std.proofs.lemmas.List.{append_assoc, length-append, length_push}
@@ -20,10 +21,12 @@ use Rattle.ra_lines.specs.Spelling.{BeginsWith}
 use Rattle.ra_history_text.specs.Laws.{line_feeds, IsOfReader, IsLess, GrowsByPart, GrowsByReplies, AnswersEach}
 use Rattle.ra_lines.specs.Reading.{kind_read, names_read, command_read}
 use Rattle.ra_history_text.specs.Run.{WritesUpTo, WritesReplies, StopsCheck}
-use Rattle.ra_history_text.specs.Text.{Said, Nothing, OfKind, OfHistory, Progress, Stop, Ending, Regular, Syntax, Truncated, LineTooLong, Full, next_line, with_command, said_behind, has_names, text_start, byte_taken, taken, end_of, ending_of, said_by, does_not_stop}
+use Rattle.ra_history_text.specs.Text.{Said, Nothing, OfKind, OfHistory, Progress, Stop, Ending, Regular, Syntax}
+use Rattle.ra_history_text.specs.Text.{Truncated, LineTooLong, Full, next_line, with_command, said_behind, has_names}
+use Rattle.ra_history_text.specs.Text.{text_start, byte_taken, taken, end_of, ending_of, said_by, does_not_stop}
 use Rattle.ra_lines.proofs.TheLaws.{mapped}
-use Rattle.ra_history_text.proofs.Replies.{taken_begins, output_begins}
-use Rattle.ra_history_text.proofs.Taking.{taken_then}
+use Rattle.ra_history_text.proofs.ReplyLines.{taken_begins, output_begins}
+use Rattle.ra_history_text.proofs.TakenBytes.{taken_then}
 use Rattle.ra_history_text.proofs.Texts.{taken_as_found, going_on, regular_progress}
 
 -- ---- a part that does not stop
@@ -33,10 +36,12 @@ pub led_to : (r : Result Progress Stop) → is_ok r ≡ true → (p : Progress) 
 led_to (Ok p) e = (p, refl)
 led_to (Err stop) e = absurd cc
 
-pub front_begins : (front back : List ℕ) → does_not_stop front ≡ true → BeginsWith (replies_of (said_by front)) (output_of (front ++ back))
+pub front_begins : (front back : List ℕ) → does_not_stop front ≡ true
+    → BeginsWith (replies_of (said_by front)) (output_of (front ++ back))
 front_begins front back e =
     let at = led_to (taken text_start front) e in
-    subst (λ (said : Said). BeginsWith (replies_of said) (output_of (front ++ back))) (sym (ap (λ r. (end_of r).said) at.1)) (output_begins front back at.0 at.1)
+    subst (λ (said : Said). BeginsWith (replies_of said) (output_of (front ++ back)))
+    (sym (ap (λ r. (end_of r).said) at.1)) (output_begins front back at.0 at.1)
 
 -- ---- a text with a regular end
 
@@ -50,46 +55,66 @@ some_last_line (OfKind kind) e = absurd cc
 some_last_line (OfHistory kind names commands) e =
     some_end (label_count (records_in kind names commands)) (fault_of kind (records_in kind names commands))
 
-regular_output : (text : List ℕ) → ending_of text ≡ Regular → output_of text ≡ replies_of (said_by text) ++ last_line_of (said_by text)
+regular_output : (text : List ℕ) → ending_of text ≡ Regular
+    → output_of text ≡ replies_of (said_by text) ++ last_line_of (said_by text)
 regular_output text regular = ap (λ (e : Ending). replies_of (said_by text) ++ last_line_at e (said_by text)) regular
 
 -- what a part that does not stop gives is less
-part_is_less : (front back : List ℕ) → does_not_stop front ≡ true → ending_of (front ++ back) ≡ Regular → IsLess (replies_of (said_by front)) (output_of (front ++ back))
+part_is_less : (front back : List ℕ) → does_not_stop front ≡ true → ending_of (front ++ back) ≡ Regular
+    → IsLess (replies_of (said_by front)) (output_of (front ++ back))
 part_is_less front back going regular =
     let text : List ℕ = front ++ back in
     let at = led_to (taken text_start front) going in
     let front_said : said_by front ≡ at.0.said = ap (λ r. (end_of r).said) at.1 in
-    let here : BeginsWith (replies_of at.0.said) (replies_of (end_of (taken at.0 back)).said) = taken_begins back at.0 in
-    let all_said : said_by text ≡ (end_of (taken at.0 back)).said = ap (λ r. (end_of r).said) (taken_then text_start at.0 front back at.1) in
+    let here : BeginsWith (replies_of at.0.said) (replies_of (end_of (taken at.0 back)).said) =
+    taken_begins back at.0 in
+    let all_said : said_by text ≡ (end_of (taken at.0 back)).said =
+    ap (λ r. (end_of r).said) (taken_then text_start at.0 front back at.1) in
     let whole = regular_progress text regular in
     let named : has_names (said_by text) ≡ true = ap (λ r. has_names (end_of r).said) whole.1 ∙ whole.2 in
     let last : List ℕ = last_line_of (said_by text) in (
       here.0 ++ last,
-      regular_output text regular ∙ ap (λ (s : Said). replies_of s ++ last) all_said ∙ ap (λ (bs : List ℕ). bs ++ last) here.1
+      regular_output text regular ∙ ap (λ (s : Said). replies_of s ++ last) all_said
+          ∙ ap (λ (bs : List ℕ). bs ++ last) here.1
           ∙ ap (λ (s : Said). (replies_of s ++ here.0) ++ last) (sym front_said)
           ∙ append_assoc (replies_of (said_by front)) here.0 last,
       omega (arith, length-append here.0 last, some_last_line (said_by text) named),
     )
 
-part_of_text : (text front back old new : List ℕ) → text ≡ front ++ back → WritesReplies front (Some old) (Some new) → ending_of text ≡ Regular
+part_of_text : (text front back old new : List ℕ) → text ≡ front ++ back → WritesReplies front (Some old) (Some new)
+    → ending_of text ≡ Regular
     → GrowsByPart old new (output_of text)
 part_of_text text front back old new parts writes regular =
-    let less = part_is_less front back writes.going_on (ap ending_of (sym parts) ∙ regular) in
-    (replies_of (said_by front), writes.written, subst (λ (t : List ℕ). IsLess (replies_of (said_by front)) (output_of t)) (sym parts) less)
+    let less = part_is_less front back writes.going_on (ap ending_of (sym parts) ∙ regular) in (
+      replies_of (said_by front),
+      writes.written,
+      subst
+          (λ (t : List ℕ). IsLess (replies_of (said_by front)) (output_of t)) (sym parts) less,
+    )
 
-other_end : (text : List ℕ) (e : Ending) (old new : Option (List ℕ)) → WritesUpTo text old new e → ending_of text ≡ Regular → (Regular ≡ e → ⊥) → ⊥
+other_end : (text : List ℕ) (e : Ending) (old new : Option (List ℕ)) → WritesUpTo text old new e
+    → ending_of text ≡ Regular → (Regular ≡ e → ⊥) → ⊥
 other_end text e old new writes regular apart = apart (sym regular ∙ writes.ends)
 
-pub unwritten : (text left old new : List ℕ) (fault : CheckFault) → ending_of text ≡ Regular → StopsCheck text (Some left) (Some old) (Some new) fault
+pub unwritten : (text left old new : List ℕ) (fault : CheckFault) → ending_of text ≡ Regular
+    → StopsCheck text (Some left) (Some old) (Some new) fault
     → GrowsByPart old new (output_of text)
-unwritten text left old new (check_fault.Syntax n) regular stops = absurd (other_end text (Syntax n) (Some old) (Some new) stops regular (λ e. cc))
-unwritten text left old new (check_fault.Truncated n) regular stops = absurd (other_end text (Truncated n) (Some old) (Some new) stops regular (λ e. cc))
-unwritten text left old new (check_fault.LineTooLong n) regular stops = absurd (other_end text (LineTooLong n) (Some old) (Some new) stops regular (λ e. cc))
-unwritten text left old new (check_fault.Full n) regular stops = absurd (other_end text (Full n) (Some old) (Some new) stops regular (λ e. cc))
-unwritten text left old new check_fault.Read regular stops = part_of_text text stops.0 left old new stops.1 stops.2 regular
-unwritten text left old new check_fault.Endless regular stops = part_of_text text stops.0 left old new stops.1 stops.2 regular
-unwritten text left old new check_fault.NoMemory regular stops = part_of_text text stops.0 stops.1 old new stops.2 stops.3 regular
-unwritten text left old new check_fault.Write regular stops = (stops.part, stops.written, (stops.more, stops.parts, stops.short))
+unwritten text left old new (check_fault.Syntax n) regular stops =
+    absurd (other_end text (Syntax n) (Some old) (Some new) stops regular (λ e. cc))
+unwritten text left old new (check_fault.Truncated n) regular stops =
+    absurd (other_end text (Truncated n) (Some old) (Some new) stops regular (λ e. cc))
+unwritten text left old new (check_fault.LineTooLong n) regular stops =
+    absurd (other_end text (LineTooLong n) (Some old) (Some new) stops regular (λ e. cc))
+unwritten text left old new (check_fault.Full n) regular stops =
+    absurd (other_end text (Full n) (Some old) (Some new) stops regular (λ e. cc))
+unwritten text left old new check_fault.Read regular stops =
+    part_of_text text stops.0 left old new stops.1 stops.2 regular
+unwritten text left old new check_fault.Endless regular stops =
+    part_of_text text stops.0 left old new stops.1 stops.2 regular
+unwritten text left old new check_fault.NoMemory regular stops =
+    part_of_text text stops.0 stops.1 old new stops.2 stops.3 regular
+unwritten text left old new check_fault.Write regular stops =
+    (stops.part, stops.written, (stops.more, stops.parts, stops.short))
 
 -- ---- reply lines
 
@@ -110,13 +135,16 @@ whole_lines text left old new stops =
     let said = said_by stops.0 in
     (replies_in said, stops.3.written ∙ ap (λ (bs : List ℕ). old ++ bs) (replies_are said))
 
-as_many_answers : (kind : Kind) (n : ℕ) (records : Records) (commands : List Command) → length (answers_to kind n records commands) ≡ length commands
+as_many_answers : (kind : Kind) (n : ℕ) (records : Records) (commands : List Command)
+    → length (answers_to kind n records commands) ≡ length commands
 as_many_answers kind n records [] = refl
-as_many_answers kind n records (c ∷ commands) = omega (arith, as_many_answers kind n (records_after kind n records c) commands)
+as_many_answers kind n records (c ∷ commands) =
+    omega (arith, as_many_answers kind n (records_after kind n records c) commands)
 
 -- ---- as many as there are whole lines
 
-line_counted : (said next : Said) (line : List ℕ) → said_behind said line ≡ Some next → next_line next ≡ next_line said + 1
+line_counted : (said next : Said) (line : List ℕ) → said_behind said line ≡ Some next
+    → next_line next ≡ next_line said + 1
 line_counted Nothing next line e =
     let m = mapped OfKind (kind_read line) next e in
     ap next_line (sym m.2)
@@ -131,14 +159,21 @@ feeds_cons : (byte : ℕ) (bytes : List ℕ) → line_feeds (byte ∷ bytes) ≡
 feeds_cons byte bytes = sum_by-cons (λ x. cond (eqb x 10) 1 0) byte bytes
 
 -- a byte makes as many lines whole as it is line feeds
-byte_counted : (p q : Progress) (byte : ℕ) → byte_taken p byte ≡ Ok q → next_line q.said ≡ next_line p.said + cond (eqb byte 10) 1 0
+byte_counted : (p q : Progress) (byte : ℕ) → byte_taken p byte ≡ Ok q
+    → next_line q.said ≡ next_line p.said + cond (eqb byte 10) 1 0
 byte_counted p q byte e =
     elim (cases_Bool (eqb byte 10)) [
       | inl feed ↦
           let here = rw feed at e in
           let made = taken_as_found p.said (said_behind p.said p.partial) q here in
           let one : ◌≡◌ {A = ℕ} (cond (eqb byte 10) 1 0) 1 = rw feed refl in
-          omega (arith, ap (λ (r : Progress). next_line r.said) made.3, line_counted p.said made.0 p.partial made.1, one)
+          omega (
+            arith,
+            ap (λ (r : Progress). next_line r.said) made.3,
+            line_counted p.said made.0 p.partial
+                made.1,
+            one,
+          )
       | inr other ↦ elim (cases_Bool (ltb (length p.partial) 1048576)) [
         | inl room ↦
             let here = rw (other, room) at e in
@@ -148,7 +183,8 @@ byte_counted p q byte e =
       ]
     ]
 
-pub feeds_counted : (bytes : List ℕ) (p q : Progress) → taken p bytes ≡ Ok q → next_line q.said ≡ next_line p.said + line_feeds bytes
+pub feeds_counted : (bytes : List ℕ) (p q : Progress) → taken p bytes ≡ Ok q
+    → next_line q.said ≡ next_line p.said + line_feeds bytes
 feeds_counted [] p q e =
     let same : p ≡ q = cc in
     omega (arith, ap (λ (r : Progress). next_line r.said) same)
@@ -160,7 +196,8 @@ feeds_counted (byte ∷ bytes) p q e =
 as_many_replies : (said : Said) (feeds : ℕ) → next_line said ≡ 1 + feeds → length (replies_in said) ≡ feeds - 2
 as_many_replies Nothing feeds e = omega (arith, e)
 as_many_replies (OfKind kind) feeds e = omega (arith, e)
-as_many_replies (OfHistory kind names commands) feeds e = omega (arith, e, as_many_answers kind (length names) [] commands)
+as_many_replies (OfHistory kind names commands) feeds e =
+    omega (arith, e, as_many_answers kind (length names) [] commands)
 
 read_is_answered : (read old new : List ℕ) → WritesReplies read (Some old) (Some new) → AnswersEach read old new
 read_is_answered read old new writes =
@@ -172,10 +209,13 @@ read_is_answered read old new writes =
       as_many_replies (said_by read) (line_feeds read) (ap next_line said ∙ counted),
     )
 
-pub each_is_answered : (text left old new : List ℕ) (fault : CheckFault) → IsOfReader fault → StopsCheck text (Some left) (Some old) (Some new) fault
+pub each_is_answered : (text left old new : List ℕ) (fault : CheckFault) → IsOfReader fault
+    → StopsCheck text (Some left) (Some old) (Some new) fault
     → (read : List ℕ) × (text ≡ read ++ left) × AnswersEach read old new
-each_is_answered text left old new check_fault.Read own stops = (stops.0, stops.1, read_is_answered stops.0 old new stops.2)
-each_is_answered text left old new check_fault.Endless own stops = (stops.0, stops.1, read_is_answered stops.0 old new stops.2)
+each_is_answered text left old new check_fault.Read own stops =
+    (stops.0, stops.1, read_is_answered stops.0 old new stops.2)
+each_is_answered text left old new check_fault.Endless own stops =
+    (stops.0, stops.1, read_is_answered stops.0 old new stops.2)
 each_is_answered text left old new check_fault.Write own stops = absurd own
 each_is_answered text left old new (check_fault.Syntax n) own stops = absurd own
 each_is_answered text left old new (check_fault.Truncated n) own stops = absurd own

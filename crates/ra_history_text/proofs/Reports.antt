@@ -13,13 +13,16 @@ use Rattle.ra_history_text.specs.Report.{members_by_fault, members_data}
 
 -- a report by its parts
 abbrev report_of : Kind → ℕ → ℕ → ℕ → Option Fault → Report
-report_of kind calls labels refused fault = record { kind = kind; calls = calls; labels = labels; refused = refused; fault = fault }
+report_of kind calls labels refused fault =
+    record { kind = kind; calls = calls; labels = labels; refused = refused; fault = fault }
 
 -- the text of the object of these members
 abbrev HasText : Report → Option Fault → Type 0
-HasText report fault = compact_text (members_data report fault) ≡ codes "{\"calls\":" ++ (decimal report.calls ++ members_by_fault report fault)
+HasText report fault = compact_text (members_data report fault)
+    ≡ codes "{\"calls\":" ++ (decimal report.calls ++ members_by_fault report fault)
 
-yes_text : (kind : Kind) (calls labels refused : ℕ) (fault : Option Fault) → HasText (report_of kind calls labels refused fault) None
+yes_text : (kind : Kind) (calls labels refused : ℕ) (fault : Option Fault)
+    → HasText (report_of kind calls labels refused fault) None
 unfolding serde_json_on_literals
 yes_text Counter calls labels refused fault = refl
 yes_text Register calls labels refused fault = refl
@@ -52,4 +55,5 @@ no_float report (Some fault) = refl
 
 pub object_text : (report : Report) (fault : Option Fault) → HasText report fault
 object_text report None = yes_text report.kind report.calls report.labels report.refused report.fault
-object_text report (Some fault) = no_text report.kind fault.cause fault.label report.calls report.labels report.refused report.fault
+object_text report (Some fault) =
+    no_text report.kind fault.cause fault.label report.calls report.labels report.refused report.fault

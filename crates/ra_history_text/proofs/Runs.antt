@@ -8,7 +8,7 @@ use Rattle.ra_history_text.specs.Run.{WritesAnswer, HasRead, IsRunning}
 use Rattle.ra_history_text.specs.Sessions.{AddsReplies, EndsText}
 use Rattle.ra_history_text.specs.Text.{Said, Progress, Ending, Regular, text_start, taken, ending_at, end_of, ending_of, said_by}
 use Rattle.ra_history_text.specs.Written.{HasWritten}
-use Rattle.ra_history_text.proofs.Taking.{taken_then}
+use Rattle.ra_history_text.proofs.TakenBytes.{taken_then}
 
 -- ---- writers
 
@@ -20,16 +20,16 @@ pub Appends-then : (a b c : Option (List ℕ)) (xs ys : List ℕ) → Appends a 
 Appends-then None b c xs ys p q = tt
 Appends-then (Some held) None c xs ys p q = absurd p
 Appends-then (Some held) (Some more) None xs ys p q = absurd q
-Appends-then (Some held) (Some more) (Some all) xs ys p q = q ∙ ap (λ (zs : List ℕ). zs ++ ys) p ∙ append_assoc held xs ys
+Appends-then (Some held) (Some more) (Some all) xs ys p q = q ∙ ap (λ (zs : List ℕ). zs ++ ys) p
+    ∙ append_assoc held xs ys
 
-pub written_none : (known : Option (List ℕ)) (bytes : List ℕ) → HasWritten known known bytes bytes
-written_none known bytes = record { prefix = []; parts = refl; appends = Appends-nil known }
-
-pub written_more : (old mid new : Option (List ℕ)) (bytes rest behind : List ℕ) (n : ℕ) → HasWritten old mid bytes rest → Appends mid new (take n rest) → behind ≡ drop n rest → HasWritten old new bytes behind
+pub written_more : (old mid new : Option (List ℕ)) (bytes rest behind : List ℕ) (n : ℕ) → HasWritten old mid bytes rest
+    → Appends mid new (take n rest) → behind ≡ drop n rest → HasWritten old new bytes behind
 written_more old mid new bytes rest behind n written appends is = record {
   prefix = written.prefix ++ take n rest;
   parts =
-      written.parts ∙ ap (λ (bs : List ℕ). written.prefix ++ bs) (sym (take-append-drop n rest) ∙ ap (λ (bs : List ℕ). take n rest ++ bs) (sym is))
+      written.parts ∙ ap (λ (bs : List ℕ). written.prefix ++ bs)
+      (sym (take-append-drop n rest) ∙ ap (λ (bs : List ℕ). take n rest ++ bs) (sym is))
       ∙ sym (append_assoc written.prefix (take n rest) behind);
   appends = Appends-then old mid new written.prefix (take n rest) written.appends appends;
 }
@@ -46,14 +46,16 @@ read_none : (known : Option (List ℕ)) (p : Progress) → p ≡ text_start → 
 read_none None p is = tt
 read_none (Some all) p is = ([], refl, ap Ok (sym is))
 
-pub run_first : (reader writer : Option (List ℕ)) (p : Progress) (out : List ℕ) → p ≡ text_start → out ≡ [] → IsRunning reader reader writer writer p out
+pub run_first : (reader writer : Option (List ℕ)) (p : Progress) (out : List ℕ) → p ≡ text_start → out ≡ []
+    → IsRunning reader reader writer writer p out
 run_first reader writer p out is nothing = record {
   read = read_none reader p is;
   written = subst (λ (q : Progress). Appends writer writer (replies_of q.said)) (sym is) (Appends-nil writer);
   nothing = nothing;
 }
 
-read_more : (first mid last : Option (List ℕ)) (old new : Progress) (piece : List ℕ) → HasRead first mid old → Consumes mid last piece → taken old piece ≡ Ok new → HasRead first last new
+read_more : (first mid last : Option (List ℕ)) (old new : Progress) (piece : List ℕ) → HasRead first mid old
+    → Consumes mid last piece → taken old piece ≡ Ok new → HasRead first last new
 read_more None mid last old new piece read consumes is = tt
 read_more (Some all) None last old new piece read consumes is = absurd read
 read_more (Some all) (Some rest) None old new piece read consumes is = absurd consumes
@@ -64,14 +66,17 @@ read_more (Some all) (Some rest) (Some later) old new piece read consumes is = (
 )
 
 -- the writer has the replies so far, and those that a piece adds
-pub written_replies : (w0 w1 w2 : Option (List ℕ)) (old new : Said) (out1 out2 : List ℕ) → Appends w0 w1 (replies_of old) → out1 ≡ []
+pub written_replies : (w0 w1 w2 : Option (List ℕ)) (old new : Said) (out1 out2 : List ℕ)
+    → Appends w0 w1 (replies_of old) → out1 ≡ []
     → AddsReplies old new out1 out2 → Appends w1 w2 out2 → Appends w0 w2 (replies_of new)
 written_replies w0 w1 w2 old new out1 out2 written nothing adds appends =
     let gathered : out2 ≡ adds.more = put_alone out1 out2 adds.more nothing adds.out in
-    subst (Appends w0 w2) (sym adds.replies) (Appends-then w0 w1 w2 (replies_of old) adds.more written (subst (Appends w1 w2) gathered appends))
+    subst (Appends w0 w2) (sym adds.replies)
+    (Appends-then w0 w1 w2 (replies_of old) adds.more written (subst (Appends w1 w2) gathered appends))
 
 pub run_next : (r0 r1 r2 w0 w1 w2 : Option (List ℕ)) (old new : Progress) (out1 out2 out3 piece : List ℕ)
-    → IsRunning r0 r1 w0 w1 old out1 → Consumes r1 r2 piece → taken old piece ≡ Ok new → AddsReplies old.said new.said out1 out2
+    → IsRunning r0 r1 w0 w1 old out1 → Consumes r1 r2 piece → taken old piece ≡ Ok new
+    → AddsReplies old.said new.said out1 out2
     → Appends w1 w2 out2 → out3 ≡ [] → IsRunning r0 r2 w0 w2 new out3
 run_next r0 r1 r2 w0 w1 w2 old new out1 out2 out3 piece running consumes is adds appends nothing = record {
   read = read_more r0 r1 r2 old new piece running.read consumes is;
@@ -82,12 +87,14 @@ run_next r0 r1 r2 w0 w1 w2 old new out1 out2 out3 piece running consumes is adds
 -- a read of no byte, though there was room for one: nothing is left
 pub read_none_left : (r1 r2 : Option (List ℕ)) (count : ℕ) (buffer : List ℕ) → count ≡ 0 → 0 < length buffer
     → Consumes r1 r2 (take count buffer) × (count ≡ 0 → 0 < length buffer → IsAtEnd r2) → Consumes r1 r2 [] × IsAtEnd r2
-read_none_left r1 r2 count buffer none room read = (subst (λ (k : ℕ). Consumes r1 r2 (take k buffer)) none read.0, read.1 none room)
+read_none_left r1 r2 count buffer none room read =
+    (subst (λ (k : ℕ). Consumes r1 r2 (take k buffer)) none read.0, read.1 none room)
 
 -- ---- at the end
 
 -- all of the text was read
-pub read_whole : (all rest left : List ℕ) (p : Progress) (read : List ℕ) → all ≡ read ++ rest → rest ≡ left → left ≡ [] → taken text_start read ≡ Ok p
+pub read_whole : (all rest left : List ℕ) (p : Progress) (read : List ℕ) → all ≡ read ++ rest → rest ≡ left → left ≡ []
+    → taken text_start read ≡ Ok p
     → taken text_start all ≡ Ok p
 read_whole all rest left p read parts consumes ends is =
     ap (taken text_start) (parts ∙ ap (λ (bs : List ℕ). read ++ bs) (consumes ∙ ends) ∙ append-nil read) ∙ is
@@ -99,12 +106,15 @@ ends_at text p is = ap (λ r. (end_of r).ending) is
 pub said_at_end : (text : List ℕ) (p : Progress) → taken text_start text ≡ Ok p → said_by text ≡ p.said
 said_at_end text p is = ap (λ r. (end_of r).said) is
 
-pub output_at_end : (text : List ℕ) (p : Progress) → taken text_start text ≡ Ok p → output_of text ≡ replies_of p.said ++ last_line_at (ending_at p) p.said
+pub output_at_end : (text : List ℕ) (p : Progress) → taken text_start text ≡ Ok p
+    → output_of text ≡ replies_of p.said ++ last_line_at (ending_at p) p.said
 output_at_end text p is = ap (λ r. replies_of (end_of r).said ++ last_line_at (end_of r).ending (end_of r).said) is
 
 -- with the last line of a text that has its regular end
-pub output_regular : (text : List ℕ) (p : Progress) → taken text_start text ≡ Ok p → ending_at p ≡ Regular → output_of text ≡ replies_of p.said ++ last_line_of p.said
-output_regular text p is regular = output_at_end text p is ∙ ap (λ (e : Ending). replies_of p.said ++ last_line_at e p.said) regular
+pub output_regular : (text : List ℕ) (p : Progress) → taken text_start text ≡ Ok p → ending_at p ≡ Regular
+    → output_of text ≡ replies_of p.said ++ last_line_of p.said
+output_regular text p is regular = output_at_end text p is
+    ∙ ap (λ (e : Ending). replies_of p.said ++ last_line_at e p.said) regular
 
 pub run_last : (r0 r1 r2 w0 w1 w2 : Option (List ℕ)) (p : Progress) (out1 out2 : List ℕ) (report : Report)
     → IsRunning r0 r1 w0 w1 p out1 → Consumes r1 r2 [] → IsAtEnd r2 → EndsText p out1 out2 report → Appends w1 w2 out2
@@ -119,6 +129,7 @@ run_last (Some all) (Some rest) (Some later) w0 w1 w2 p out1 out2 report running
       ends = ends_at all p is ∙ ended.regular;
       written =
           subst (Appends w0 w2) (sym (output_regular all p is ended.regular))
-          (Appends-then w0 w1 w2 (replies_of p.said) (last_line_of p.said) running.written (subst (Appends w1 w2) gathered appends));
+          (Appends-then w0 w1 w2 (replies_of p.said) (last_line_of p.said) running.written
+          (subst (Appends w1 w2) gathered appends));
       reported = subst (λ s. Reports s report) (sym (said_at_end all p is)) ended.reported;
     }

@@ -1,5 +1,5 @@
 use Rattle.std.proofs.Common.{[], sym}
-use Rattle.ra_history_text.proofs.Accepting.{accepted_are}
+use Rattle.ra_history_text.proofs.AcceptedCommands.{accepted_are}
 use Rattle.ra_history_text.proofs.laws.accepted_commands_are_the_records.Goals as goal
 
 pub returns : goal.returns

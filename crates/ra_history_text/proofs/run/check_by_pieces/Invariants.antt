@@ -4,5 +4,6 @@ use Rattle.ra_history_text.proofs.run.check_by_pieces.Given as goal
 -- what was read so far was taken, and the reply lines so far are written; and each read gave a byte
 abbrev pub invariant-loop : goal.invariant-loop
 invariant-loop g l =
-    IsRunning (g.R.Read.remaining l.initial.reader) (g.R.Read.remaining l.reader) (g.W.Write.contents l.initial.writer) (g.W.Write.contents l.writer) l.session l.out.items
+    IsRunning (g.R.Read.remaining l.initial.reader) (g.R.Read.remaining l.reader) (g.W.Write.contents l.initial.writer)
+    (g.W.Write.contents l.writer) l.session l.out.items
     × HasGiven (g.R.Read.remaining l.initial.reader) (g.R.Read.remaining l.reader) l.counter

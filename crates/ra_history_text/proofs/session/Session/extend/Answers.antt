@@ -1,5 +1,5 @@
 use Rattle.std.proofs.Common.{◌-◌, ◌<◌, ◌≤◌, length, arith, rules}
-use Rattle.ra_history_text.proofs.Closing.{extend_takes, extend_stops}
+use Rattle.ra_history_text.proofs.Lines.{extend_takes, extend_stops}
 use Rattle.ra_history_text.proofs.session.Session.extend.Goals as goal
 
 pub returns-then-part-room-clause-fault : goal.returns-then-part-room-clause-fault
@@ -12,7 +12,8 @@ pub returns-clause-taken : goal.returns-clause-taken
 returns-clause-taken c =
     let short : length c.args.part.now ≤ 1048576 - length c.self.inside.partial.items =
     omega (arith, c.len.ensures, c.saturating_sub-room.ensures, c.if-part-room.false, c.self.inside.partial.ok.0) in
-    extend_takes _ c.args.self.now c.args.part.now c.extend_from_slice.new.self.items c.self.view_is c.in_ok-extend_from_slice.ensures.items c.requires short
+    extend_takes _ c.args.self.now c.args.part.now c.extend_from_slice.new.self.items c.self.view_is
+    c.in_ok-extend_from_slice.ensures.items c.requires short
 
 pub returns-in_err-extend_from_slice-clause-fault : goal.returns-in_err-extend_from_slice-clause-fault
 returns-in_err-extend_from_slice-clause-fault c = search rules steps 250000

@@ -1,5 +1,6 @@
 -- How bytes are taken, many at a time.
-use Rattle.std.proofs.Common.{inl, inr, ◌≡◌, ◌≢◌, ℕ, suc, ◌+◌, ◌<◌, ◌≤◌, false, true, eqb, ltb, List, [], ◌∷◌, ◌++◌, length, All, Result, Ok, Err, refl, sym, ap, ◌∙◌, arith}
+use Rattle.std.proofs.Common.{inl, inr, ◌≡◌, ◌≢◌, ℕ, suc, ◌+◌, ◌<◌, ◌≤◌, false, true, eqb, ltb, List, [], ◌∷◌, ◌++◌}
+use Rattle.std.proofs.Common.{length, All, Result, Ok, Err, refl, sym, ap, ◌∙◌, arith}
 use Rattle.std.proofs.lemmas.Bool.{ne_eqb, lt-ltb, ltb-true, cases_Bool}
 use Rattle.std.proofs.lemmas.List.{append_assoc, append-nil, length_push}
 use Rattle.ra_history_text.specs.Text.{Progress, Stop, LineTooLong, next_line, stop_at, line_taken, byte_taken, unless_stopped, taken}
@@ -20,20 +21,24 @@ same_behind (Ok p) f g same = same p
 same_behind (Err stop) f g same = refl
 
 -- bytes behind others are taken from where those led
-pub taken-append : (p : Progress) (front back : List ℕ) → taken p (front ++ back) ≡ unless_stopped (taken p front) (λ q. taken q back)
+pub taken-append : (p : Progress) (front back : List ℕ)
+    → taken p (front ++ back) ≡ unless_stopped (taken p front) (λ q. taken q back)
 taken-append p [] back = refl
 taken-append p (byte ∷ front) back =
-    same_behind (byte_taken p byte) (λ q. taken q (front ++ back)) (λ q. unless_stopped (taken q front) (λ r. taken r back)) (λ q. taken-append q front back)
+    same_behind (byte_taken p byte) (λ q. taken q (front ++ back))
+    (λ q. unless_stopped (taken q front) (λ r. taken r back)) (λ q. taken-append q front back)
     ∙ sym (unless_stopped_assoc (byte_taken p byte) (λ q. taken q front) (λ q. taken q back))
 
 pub taken_then : (p q : Progress) (front back : List ℕ) → taken p front ≡ Ok q → taken p (front ++ back) ≡ taken q back
 taken_then p q front back is = taken-append p front back ∙ ap (λ r. unless_stopped r (λ q. taken q back)) is
 
-pub stopped_then : (p : Progress) (stop : Stop) (front back : List ℕ) → taken p front ≡ Err stop → taken p (front ++ back) ≡ Err stop
+pub stopped_then : (p : Progress) (stop : Stop) (front back : List ℕ) → taken p front ≡ Err stop
+    → taken p (front ++ back) ≡ Err stop
 stopped_then p stop front back is = taken-append p front back ∙ ap (λ r. unless_stopped r (λ q. taken q back)) is
 
 -- a line feed makes the line whole
-pub taken_line : (p q : Progress) (last : List ℕ) → taken p last ≡ Ok q → taken p (last ++ 10 ∷ []) ≡ line_taken q.said q.partial
+pub taken_line : (p q : Progress) (last : List ℕ) → taken p last ≡ Ok q
+    → taken p (last ++ 10 ∷ []) ≡ line_taken q.said q.partial
 taken_line p q last is = taken_then p q last (10 ∷ []) is ∙ unless_stopped_ok (line_taken q.said q.partial)
 
 -- ---- a part of a line
@@ -60,15 +65,18 @@ later_are_none byte bytes none = λ k d below. none (suc k) d (omega (arith, bel
 
 pub taken_part : (p : Progress) (part : List ℕ) → All (λ b. b ≢ 10) part → length p.partial + length part ≤ 1048576
     → taken p part ≡ Ok (record { said = p.said; partial = p.partial ++ part })
-taken_part p [] none short = ap (λ (bs : List ℕ). Ok (record { said = p.said; partial = bs })) (sym (append-nil p.partial))
+taken_part p [] none short = ap (λ (bs : List ℕ). Ok (record { said = p.said; partial = bs }))
+    (sym (append-nil p.partial))
 taken_part p (byte ∷ part) none short =
     let next : Progress = record { said = p.said; partial = p.partial ++ byte ∷ [] } in
     let one = length_push p.partial byte in
-    ap (λ r. unless_stopped r (λ q. taken q part)) (belongs p byte (first_is_none byte part none) (omega (arith, short)))
+    ap (λ r. unless_stopped r (λ q. taken q part))
+    (belongs p byte (first_is_none byte part none) (omega (arith, short)))
     ∙ taken_part next part (later_are_none byte part none) (omega (arith, one, short))
     ∙ ap (λ (bs : List ℕ). Ok (record { said = p.said; partial = bs })) (append_assoc p.partial (byte ∷ []) part)
 
-pub taken_long : (p : Progress) (part : List ℕ) → All (λ b. b ≢ 10) part → 0 < length part → 1048576 < length p.partial + length part
+pub taken_long : (p : Progress) (part : List ℕ) → All (λ b. b ≢ 10) part → 0 < length part
+    → 1048576 < length p.partial + length part
     → taken p part ≡ Err (stop_at p.said (LineTooLong (next_line p.said)))
 taken_long p [] none some long = absurd (omega arith)
 taken_long p (byte ∷ part) none some long =

@@ -9,7 +9,7 @@ use Rattle.ra_history_text.specs.declared.fault.CheckFault.TheVariants.{NoMemory
 use Rattle.ra_history_text.specs.Output.{replies_of}
 use Rattle.ra_history_text.specs.Sessions.{AddsReplies, StopsExtending, StopsClosing, StopsInside, IsFedUpTo, TakesMemory}
 use Rattle.ra_history_text.specs.Text.{Said, Progress, Ending, stop_at, line_taken, taken}
-use Rattle.ra_history_text.proofs.Taking.{taken_then, stopped_then, taken_line}
+use Rattle.ra_history_text.proofs.TakenBytes.{taken_then, stopped_then, taken_line}
 
 -- ---- reply lines
 
@@ -30,7 +30,8 @@ fed_none p piece out = record { front = []; parts = refl; is_taken = refl; repli
 
 -- one more line is taken
 pub fed_line : (first old new : Progress) (piece rest line behind out_first out_old out_new : List ℕ)
-    → IsFedUpTo first old piece rest out_first out_old → IsCutAt 10 rest line behind → taken old (line ++ 10 ∷ []) ≡ Ok new
+    → IsFedUpTo first old piece rest out_first out_old → IsCutAt 10 rest line behind
+    → taken old (line ++ 10 ∷ []) ≡ Ok new
     → AddsReplies old.said new.said out_old out_new → IsFedUpTo first new piece behind out_first out_new
 fed_line first old new piece rest line behind out_first out_old out_new fed cut is replied = record {
   front = fed.front ++ (line ++ 10 ∷ []);
@@ -42,12 +43,14 @@ fed_line first old new piece rest line behind out_first out_old out_new fed cut 
 }
 
 -- and what is behind the last line feed
-pub fed_rest : (first old new : Progress) (piece rest out_first out_old : List ℕ) → IsFedUpTo first old piece rest out_first out_old → taken old rest ≡ Ok new
+pub fed_rest : (first old new : Progress) (piece rest out_first out_old : List ℕ)
+    → IsFedUpTo first old piece rest out_first out_old → taken old rest ≡ Ok new
     → taken first piece ≡ Ok new
 fed_rest first old new piece rest out_first out_old fed is =
     ap (taken first) fed.parts ∙ taken_then first old fed.front rest fed.is_taken ∙ is
 
-pub fed_replies : (first old : Progress) (said : Said) (piece rest out_first out_old : List ℕ) → IsFedUpTo first old piece rest out_first out_old → said ≡ old.said
+pub fed_replies : (first old : Progress) (said : Said) (piece rest out_first out_old : List ℕ)
+    → IsFedUpTo first old piece rest out_first out_old → said ≡ old.said
     → AddsReplies first.said said out_first out_old
 fed_replies first old said piece rest out_first out_old fed same =
     subst (λ (s : Said). AddsReplies first.said s out_first out_old) (sym same) fed.replied
@@ -55,9 +58,11 @@ fed_replies first old said piece rest out_first out_old fed same =
 -- ---- where it stops
 
 -- the piece stops behind what is fed: at these bytes, or for want of memory
-stops_behind : (first old : Progress) (piece rest part behind out_first out_old out_new : List ℕ) (fault : CheckFault) → IsFedUpTo first old piece rest out_first out_old
+stops_behind : (first old : Progress) (piece rest part behind out_first out_old out_new : List ℕ) (fault : CheckFault)
+    → IsFedUpTo first old piece rest out_first out_old
     → rest ≡ part ++ behind → out_new ≡ out_old → (o : Option Ending) → ending_told fault ≡ o
-    → MatchOption o (fault ≡ NoMemory) (λ ending. taken old part ≡ Err (stop_at old.said ending)) → StopsInside first piece out_first out_new fault
+    → MatchOption o (fault ≡ NoMemory) (λ ending. taken old part ≡ Err (stop_at old.said ending))
+    → StopsInside first piece out_first out_new fault
 stops_behind first old piece rest part behind out_first out_old out_new fault fed parts same None told why =
     let front : taken first fed.front ≡ Ok (record { said = old.said; partial = old.partial }) = fed.is_taken in
     record {
@@ -79,62 +84,80 @@ stops_behind first old piece rest part behind out_first out_old out_new fault fe
     }
 
 -- less is said of missing memory
-memory_alone : (fault : CheckFault) (A : Type 0) (P : Ending → Type 0) (o : Option Ending) → MatchOption o ((fault ≡ NoMemory) × A) P
+memory_alone : (fault : CheckFault) (A : Type 0) (P : Ending → Type 0) (o : Option Ending)
+    → MatchOption o ((fault ≡ NoMemory) × A) P
     → MatchOption o (fault ≡ NoMemory) P
 memory_alone fault A P None why = why.0
 memory_alone fault A P (Some ending) why = why
 
-pub stop_line : (first old : Progress) (piece rest line behind out_first out_old out_new : List ℕ) (fault : CheckFault) → IsFedUpTo first old piece rest out_first out_old
-    → IsCutAt 10 rest line behind → StopsClosing old line fault → out_new ≡ out_old → StopsInside first piece out_first out_new fault
+pub stop_line : (first old : Progress) (piece rest line behind out_first out_old out_new : List ℕ) (fault : CheckFault)
+    → IsFedUpTo first old piece rest out_first out_old
+    → IsCutAt 10 rest line behind → StopsClosing old line fault → out_new ≡ out_old
+    → StopsInside first piece out_first out_new fault
 stop_line first old piece rest line behind out_first out_old out_new fault fed cut stops same =
     stops_behind first old piece rest (line ++ 10 ∷ []) behind out_first out_old out_new fault fed
     (cut.parts ∙ sym (append_assoc line (10 ∷ []) behind)) same (ending_told fault) refl
-    (memory_alone fault (old.partial ≡ [] → TakesMemory old.said line) (λ ending. taken old (line ++ 10 ∷ []) ≡ Err (stop_at old.said ending)) (ending_told fault) stops)
+    (memory_alone fault (old.partial ≡ [] → TakesMemory old.said line)
+    (λ ending. taken old (line ++ 10 ∷ []) ≡ Err (stop_at old.said ending)) (ending_told fault) stops)
 
-pub stop_rest : (first old : Progress) (piece rest out_first out_old : List ℕ) (fault : CheckFault) → IsFedUpTo first old piece rest out_first out_old
+pub stop_rest : (first old : Progress) (piece rest out_first out_old : List ℕ) (fault : CheckFault)
+    → IsFedUpTo first old piece rest out_first out_old
     → StopsExtending old rest fault → StopsInside first piece out_first out_old fault
 stop_rest first old piece rest out_first out_old fault fed stops =
-    stops_behind first old piece rest rest [] out_first out_old out_old fault fed (sym (append-nil rest)) refl (ending_told fault) refl
-    (memory_alone fault (length old.partial + length rest ≤ 1048576) (λ ending. taken old rest ≡ Err (stop_at old.said ending)) (ending_told fault) stops)
+    stops_behind first old piece rest rest [] out_first out_old out_old fault fed (sym (append-nil rest)) refl
+    (ending_told fault) refl
+    (memory_alone fault (length old.partial + length rest ≤ 1048576)
+    (λ ending. taken old rest ≡ Err (stop_at old.said ending)) (ending_told fault) stops)
 
 -- ---- a line that came in parts
-
-pub closed_gathered : (old mid : Progress) (last : List ℕ) (next : Progress) → taken old last ≡ Ok mid
-    → line_taken mid.said mid.partial ≡ Ok next → taken old (last ++ 10 ∷ []) ≡ Ok next
-closed_gathered old mid last next is line = taken_line old mid last is ∙ line
 
 -- a line that came in parts is too long, or memory for it is missing
 pub stop_gathering : (old : Progress) (last : List ℕ) (fault : CheckFault) (o : Option Ending)
     → (old.partial ≡ [] → length last ≤ 1048576 → ⊥)
-    → MatchOption o ((fault ≡ NoMemory) × (length old.partial + length last ≤ 1048576)) (λ ending. taken old last ≡ Err (stop_at old.said ending))
-    → MatchOption o ((fault ≡ NoMemory) × (old.partial ≡ [] → TakesMemory old.said last)) (λ ending. taken old (last ++ 10 ∷ []) ≡ Err (stop_at old.said ending))
+    → MatchOption o ((fault ≡ NoMemory) × (length old.partial + length last ≤ 1048576))
+    (λ ending. taken old last ≡ Err (stop_at old.said ending))
+    → MatchOption o ((fault ≡ NoMemory) × (old.partial ≡ [] → TakesMemory old.said last))
+    (λ ending. taken old (last ++ 10 ∷ []) ≡ Err (stop_at old.said ending))
 stop_gathering old last fault None in_parts stops =
     (stops.0, λ nothing. absurd (in_parts nothing (omega (arith, stops.1))))
-stop_gathering old last fault (Some ending) in_parts stops = stopped_then old (stop_at old.said ending) last (10 ∷ []) stops
+stop_gathering old last fault (Some ending) in_parts stops =
+    stopped_then old (stop_at old.said ending) last (10 ∷ []) stops
 
 -- a line that came in parts is not taken
-pub stop_gathered : (old mid : Progress) (last : List ℕ) (fault : CheckFault) (o : Option Ending) → taken old last ≡ Ok mid → mid.said ≡ old.said
+pub stop_gathered : (old mid : Progress) (last : List ℕ) (fault : CheckFault) (o : Option Ending)
+    → taken old last ≡ Ok mid → mid.said ≡ old.said
     → (old.partial ≡ [] → mid.partial ≡ last)
-    → MatchOption o ((fault ≡ NoMemory) × TakesMemory mid.said mid.partial) (λ ending. line_taken mid.said mid.partial ≡ Err (stop_at mid.said ending))
-    → MatchOption o ((fault ≡ NoMemory) × (old.partial ≡ [] → TakesMemory old.said last)) (λ ending. taken old (last ++ 10 ∷ []) ≡ Err (stop_at old.said ending))
-stop_gathered old mid last fault None is same whole stops =
-    (stops.0, λ nothing. subst (λ (bs : List ℕ). TakesMemory old.said bs) (whole nothing) (subst (λ (s : Said). TakesMemory s mid.partial) same stops.1))
+    → MatchOption o ((fault ≡ NoMemory) × TakesMemory mid.said mid.partial)
+    (λ ending. line_taken mid.said mid.partial ≡ Err (stop_at mid.said ending))
+    → MatchOption o ((fault ≡ NoMemory) × (old.partial ≡ [] → TakesMemory old.said last))
+    (λ ending. taken old (last ++ 10 ∷ []) ≡ Err (stop_at old.said ending))
+stop_gathered old mid last fault None is same whole stops = (
+  stops.0,
+  λ nothing. subst (λ (bs : List ℕ). TakesMemory old.said bs) (whole nothing)
+      (subst (λ (s : Said). TakesMemory s mid.partial) same stops.1),
+)
 stop_gathered old mid last fault (Some ending) is same whole stops =
     taken_line old mid last is ∙ stops ∙ ap (λ (s : Said). Err (stop_at s ending)) same
 
 -- ---- in the words of the contracts
 
-pub feed_taken : {T E : Type 0} (r : Result T E) (first old new : Progress) (piece rest out_first out_old : List ℕ) → IsFedUpTo first old piece rest out_first out_old
+pub feed_taken : {T E : Type 0} (r : Result T E) (first old new : Progress) (piece rest out_first out_old : List ℕ)
+    → IsFedUpTo first old piece rest out_first out_old
     → OnOk r (taken old rest ≡ Ok new) → OnOk r (taken first piece ≡ Ok new)
-feed_taken (Ok x) first old new piece rest out_first out_old fed is = fed_rest first old new piece rest out_first out_old fed is
+feed_taken (Ok x) first old new piece rest out_first out_old fed is =
+    fed_rest first old new piece rest out_first out_old fed is
 feed_taken (Err e) first old new piece rest out_first out_old fed is = tt
 
-pub feed_replied : {T E : Type 0} (r : Result T E) (first old new : Progress) (piece rest out_first out_old : List ℕ) → IsFedUpTo first old piece rest out_first out_old
+pub feed_replied : {T E : Type 0} (r : Result T E) (first old new : Progress) (piece rest out_first out_old : List ℕ)
+    → IsFedUpTo first old piece rest out_first out_old
     → new.said ≡ old.said → OnOk r (AddsReplies first.said new.said out_first out_old)
-feed_replied (Ok x) first old new piece rest out_first out_old fed same = fed_replies first old new.said piece rest out_first out_old fed same
+feed_replied (Ok x) first old new piece rest out_first out_old fed same =
+    fed_replies first old new.said piece rest out_first out_old fed same
 feed_replied (Err e) first old new piece rest out_first out_old fed same = tt
 
-pub feed_stops : {T : Type 0} (r : Result T CheckFault) (first old : Progress) (piece rest out_first out_old : List ℕ) → IsFedUpTo first old piece rest out_first out_old
+pub feed_stops : {T : Type 0} (r : Result T CheckFault) (first old : Progress) (piece rest out_first out_old : List ℕ)
+    → IsFedUpTo first old piece rest out_first out_old
     → IfErr r (StopsExtending old rest) → IfErr r (StopsInside first piece out_first out_old)
 feed_stops (Ok x) first old piece rest out_first out_old fed stops = tt
-feed_stops (Err fault) first old piece rest out_first out_old fed stops = stop_rest first old piece rest out_first out_old fault fed stops
+feed_stops (Err fault) first old piece rest out_first out_old fed stops =
+    stop_rest first old piece rest out_first out_old fault fed stops

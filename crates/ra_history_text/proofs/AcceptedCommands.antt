@@ -7,7 +7,8 @@ use Rattle.std.proofs.lemmas.Bool.{ltb-true}
 use Rattle.std.proofs.lemmas.List.{append_assoc, append-nil, map-append, reverse-append}
 use Rattle.ra_labels.specs.declared.kind.Kind.{Kind}
 use Rattle.ra_labels.specs.declared.operation.Op.{Op}
-use Rattle.ra_labels.specs.declared.operation.Op.TheVariants.{Inc, Dec, Count, Write, Last, LwwAdd, LwwRemove, LwwRead, OrAdd, OrRemove, OrRead, After, RgaRemove, RgaRead}
+use Rattle.ra_labels.specs.declared.operation.Op.TheVariants.{Inc, Dec, Count, Write, Last, LwwAdd, LwwRemove, LwwRead}
+use Rattle.ra_labels.specs.declared.operation.Op.TheVariants.{OrAdd, OrRemove, OrRead, After, RgaRemove, RgaRead}
 use Rattle.ra_labels.specs.declared.kind.Kind.TheVariants.{Counter, Register, LwwSet, OrSet, Rga}
 use Rattle.ra_labels.specs.declared.command.Command.{Command}
 use Rattle.ra_labels.specs.declared.command.Command.TheVariants.{Operate, Deliver, Verdict}
@@ -18,7 +19,8 @@ use Rattle.ra_labels.specs.declared.reply.Reply.{Reply}
 use Rattle.ra_labels.specs.declared.reply.Reply.TheVariants as reply
 use Rattle.ra_labels.specs.Records.{Records, label_count}
 use Rattle.ra_labels.specs.Fault.{fault_of}
-use Rattle.ra_labels.specs.Answer.{when, is_kind, kind_of, misfit_of, no_at, refusal_of, answer_to_accepted, with_accepted, answer_of, records_after, records_after_all}
+use Rattle.ra_labels.specs.Answer.{when, is_kind, kind_of, misfit_of, no_at, refusal_of, answer_to_accepted}
+use Rattle.ra_labels.specs.Answer.{with_accepted, answer_of, records_after, records_after_all}
 use Rattle.ra_monitor.specs.declared.setup.Setup.{Setup}
 use Rattle.ra_monitor.specs.Monitor.{MonitorEntry, commands_of, records_of, answer_after}
 use Rattle.ra_journal.specs.Log.{IsLegalAfter}
@@ -35,11 +37,14 @@ reverse_cons command records = reverse-append (command ∷ []) records
 
 -- what one answer tells: the records behind it, and whether they have a fault
 record Tells (kind : Kind) (n : ℕ) (records : Records) (command : Command) (said : Reply) : Type 0 where
-  pub records_are : records_after kind n records command ≡ (cond (tells_accepted (is_some (fault_of kind records)) said) (command ∷ records) records)
-  pub failed_is : is_some (fault_of kind (records_after kind n records command)) ≡ (is_some (fault_of kind records) || is_no said)
+  pub records_are : records_after kind n records command
+      ≡ (cond (tells_accepted (is_some (fault_of kind records)) said) (command ∷ records) records)
+  pub failed_is : is_some (fault_of kind (records_after kind n records command))
+      ≡ (is_some (fault_of kind records) || is_no said)
 
 -- after a fault
-tells_failed : (kind : Kind) (n : ℕ) (records : Records) (command : Command) (fault : Fault) → fault_of kind records ≡ Some fault
+tells_failed : (kind : Kind) (n : ℕ) (records : Records) (command : Command) (fault : Fault)
+    → fault_of kind records ≡ Some fault
     → Tells kind n records command (answer_of kind n records command)
 tells_failed kind n records command fault failed =
     let stays : records_after kind n records command ≡ records = rw failed refl in
@@ -51,7 +56,8 @@ tells_failed kind n records command fault failed =
     subst (Tells kind n records command) (sym said) made
 
 -- a refusal
-tells_refused : (kind : Kind) (n : ℕ) (records : Records) (command : Command) (why : Refusal) → fault_of kind records ≡ None → refusal_of kind n records command ≡ Some why
+tells_refused : (kind : Kind) (n : ℕ) (records : Records) (command : Command) (why : Refusal)
+    → fault_of kind records ≡ None → refusal_of kind n records command ≡ Some why
     → Tells kind n records command (answer_of kind n records command)
 tells_refused kind n records command why sound refused =
     let stays : records_after kind n records command ≡ records = rw (sound, refused) refl in
@@ -67,73 +73,94 @@ record IsTaken (kind : Kind) (n : ℕ) (records : Records) (command : Command) :
   pub records_are : records_after kind n records command ≡ with_accepted records command
   pub said : answer_of kind n records command ≡ answer_to_accepted kind records command
 
-is_taken : (kind : Kind) (n : ℕ) (records : Records) (command : Command) → fault_of kind records ≡ None → refusal_of kind n records command ≡ None → IsTaken kind n records command
-is_taken kind n records command sound fits = record { records_are = rw (sound, fits) refl; said = rw (sound, fits) refl }
+is_taken : (kind : Kind) (n : ℕ) (records : Records) (command : Command) → fault_of kind records ≡ None
+    → refusal_of kind n records command ≡ None → IsTaken kind n records command
+is_taken kind n records command sound fits =
+    record { records_are = rw (sound, fits) refl; said = rw (sound, fits) refl }
 
-tells_operation : (kind : Kind) (n : ℕ) (records : Records) (by : ℕ) (op : Op) (clock : Option ℕ) (o : Option Fault) → fault_of kind records ≡ None
+tells_operation : (kind : Kind) (n : ℕ) (records : Records) (by : ℕ) (op : Op) (clock : Option ℕ) (o : Option Fault)
+    → fault_of kind records ≡ None
     → fault_of kind (Operate by op clock ∷ records) ≡ o → IsTaken kind n records (Operate by op clock)
     → Tells kind n records (Operate by op clock) (option_map_or no_at o (reply.Ok (label_count records)))
 tells_operation kind n records by op clock None sound behind taken = record {
   records_are = taken.records_are;
-  failed_is = ap (λ (r : Records). is_some (fault_of kind r)) taken.records_are ∙ ap is_some behind ∙ ap (λ (o : Option Fault). is_some o || false) (sym sound);
+  failed_is = ap (λ (r : Records). is_some (fault_of kind r)) taken.records_are ∙ ap is_some behind
+      ∙ ap (λ (o : Option Fault). is_some o || false) (sym sound);
 }
 tells_operation kind n records by op clock (Some fault) sound behind taken = record {
-  records_are = taken.records_are ∙ ap (λ (o : Option Fault). cond (not (is_some o)) (Operate by op clock ∷ records) records) (sym sound);
-  failed_is = ap (λ (r : Records). is_some (fault_of kind r)) taken.records_are ∙ ap is_some behind ∙ ap (λ (o : Option Fault). is_some o || true) (sym sound);
+  records_are = taken.records_are
+      ∙ ap (λ (o : Option Fault). cond (not (is_some o)) (Operate by op clock ∷ records) records) (sym sound);
+  failed_is = ap (λ (r : Records). is_some (fault_of kind r)) taken.records_are ∙ ap is_some behind
+      ∙ ap (λ (o : Option Fault). is_some o || true) (sym sound);
 }
 
-tells_taken : (kind : Kind) (n : ℕ) (records : Records) (command : Command) → fault_of kind records ≡ None → IsTaken kind n records command
+tells_taken : (kind : Kind) (n : ℕ) (records : Records) (command : Command) → fault_of kind records ≡ None
+    → IsTaken kind n records command
     → Tells kind n records command (answer_to_accepted kind records command)
 tells_taken kind n records Verdict sound taken = record {
   records_are = taken.records_are;
-  failed_is = ap (λ (r : Records). is_some (fault_of kind r)) taken.records_are ∙ or_false (is_some (fault_of kind records));
+  failed_is = ap (λ (r : Records). is_some (fault_of kind r)) taken.records_are
+      ∙ or_false (is_some (fault_of kind records));
 }
 tells_taken kind n records (Deliver to label) sound taken = record {
   records_are = taken.records_are;
-  failed_is = ap (λ (r : Records). is_some (fault_of kind r)) taken.records_are ∙ or_false (is_some (fault_of kind records));
+  failed_is = ap (λ (r : Records). is_some (fault_of kind r)) taken.records_are
+      ∙ or_false (is_some (fault_of kind records));
 }
 tells_taken kind n records (Operate by op clock) sound taken =
     tells_operation kind n records by op clock (fault_of kind (Operate by op clock ∷ records)) sound refl taken
 
-tells_sound : (kind : Kind) (n : ℕ) (records : Records) (command : Command) (o : Option Refusal) → fault_of kind records ≡ None → refusal_of kind n records command ≡ o
+tells_sound : (kind : Kind) (n : ℕ) (records : Records) (command : Command) (o : Option Refusal)
+    → fault_of kind records ≡ None → refusal_of kind n records command ≡ o
     → Tells kind n records command (answer_of kind n records command)
 tells_sound kind n records command (Some why) sound refused = tells_refused kind n records command why sound refused
 tells_sound kind n records command None sound fits =
     let taken = is_taken kind n records command sound fits in
     subst (Tells kind n records command) (sym taken.said) (tells_taken kind n records command sound taken)
 
-tells_by : (kind : Kind) (n : ℕ) (records : Records) (command : Command) (o : Option Fault) → fault_of kind records ≡ o → Tells kind n records command (answer_of kind n records command)
+tells_by : (kind : Kind) (n : ℕ) (records : Records) (command : Command) (o : Option Fault) → fault_of kind records ≡ o
+    → Tells kind n records command (answer_of kind n records command)
 tells_by kind n records command (Some fault) failed = tells_failed kind n records command fault failed
-tells_by kind n records command None sound = tells_sound kind n records command (refusal_of kind n records command) sound refl
+tells_by kind n records command None sound =
+    tells_sound kind n records command (refusal_of kind n records command) sound refl
 
-tells : (kind : Kind) (n : ℕ) (records : Records) (command : Command) → Tells kind n records command (answer_of kind n records command)
+tells : (kind : Kind) (n : ℕ) (records : Records) (command : Command)
+    → Tells kind n records command (answer_of kind n records command)
 tells kind n records command = tells_by kind n records command (fault_of kind records) refl
 
 -- ---- a whole log
 
 records-append : (kind : Kind) (n : ℕ) (records : Records) (commands later : List Command)
-    → records_after_all kind n records (commands ++ later) ≡ records_after_all kind n (records_after_all kind n records commands) later
+    → records_after_all kind n records (commands ++ later)
+    ≡ records_after_all kind n (records_after_all kind n records commands) later
 records-append kind n records [] later = refl
-records-append kind n records (c ∷ commands) later = records-append kind n (records_after kind n records c) commands later
+records-append kind n records (c ∷ commands) later =
+    records-append kind n (records_after kind n records c) commands later
 
 records_push : (setup : Setup) (before : List MonitorEntry) (entry : MonitorEntry)
-    → records_of setup (before ++ entry ∷ []) ≡ records_after setup.kind setup.replicas (records_of setup before) entry.command
+    → records_of setup (before ++ entry ∷ []) ≡ records_after setup.kind setup.replicas
+    (records_of setup before) entry.command
 records_push setup before entry =
-    ap (records_after_all setup.kind setup.replicas []) (map-append (λ (e : MonitorEntry). e.command) before (entry ∷ []))
+    ap (records_after_all setup.kind setup.replicas [])
+    (map-append (λ (e : MonitorEntry). e.command) before (entry ∷ []))
     ∙ records-append setup.kind setup.replicas [] (commands_of before) (entry.command ∷ [])
 
-reverse_taken : (b : Bool) (command : Command) (records : Records) → reverse (cond b (command ∷ records) records) ≡ reverse records ++ (cond b (command ∷ []) [])
+reverse_taken : (b : Bool) (command : Command) (records : Records)
+    → reverse (cond b (command ∷ records) records) ≡ reverse records ++ (cond b (command ∷ []) [])
 reverse_taken true command records = reverse_cons command records
 reverse_taken false command records = sym (append-nil (reverse records))
 
 pub accepted_are : (setup : Setup) (before log : List MonitorEntry) → IsLegalAfter (answer_after setup) before log
-    → reverse (records_of setup (before ++ log)) ≡ reverse (records_of setup before) ++ accepted_in (is_some (fault_of setup.kind (records_of setup before))) log
-accepted_are setup before [] legal = ap (λ (l : List MonitorEntry). reverse (records_of setup l)) (append-nil before) ∙ sym (append-nil (reverse (records_of setup before)))
+    → reverse (records_of setup (before ++ log)) ≡ reverse (records_of setup before)
+    ++ accepted_in (is_some (fault_of setup.kind (records_of setup before))) log
+accepted_are setup before [] legal = ap (λ (l : List MonitorEntry). reverse (records_of setup l)) (append-nil before)
+    ∙ sym (append-nil (reverse (records_of setup before)))
 accepted_are setup before (entry ∷ log) legal =
     let records : Records = records_of setup before in
     let failed : Bool = is_some (fault_of setup.kind records) in
     let told : Tells setup.kind setup.replicas records entry.command entry.reply =
-    subst (Tells setup.kind setup.replicas records entry.command) (sym legal.0.0) (tells setup.kind setup.replicas records entry.command) in
+    subst (Tells setup.kind setup.replicas records entry.command) (sym legal.0.0)
+    (tells setup.kind setup.replicas records entry.command) in
     let pushed = records_push setup before entry in
     let one : reverse (records_of setup (before ++ entry ∷ [])) ≡ reverse records ++ accepted_one failed entry =
     ap reverse (pushed ∙ told.records_are) ∙ reverse_taken (tells_accepted failed entry.reply) entry.command records in
@@ -147,7 +174,8 @@ accepted_are setup before (entry ∷ log) legal =
 
 -- ---- an accepted command can be spelled
 
-first_none : (b : Bool) (why : Refusal) (later : Option Refusal) → option_or (when b why) later ≡ None → (b ≡ false) × (later ≡ None)
+first_none : (b : Bool) (why : Refusal) (later : Option Refusal) → option_or (when b why) later ≡ None
+    → (b ≡ false) × (later ≡ None)
 first_none true why later e = absurd cc
 first_none false why later e = (refl, e)
 
@@ -179,12 +207,15 @@ or_none : {X : Type 0} (o later : Option X) → option_or o later ≡ None → o
 or_none None later e = refl
 or_none (Some x) later e = absurd cc
 
-misfit_none : (kind : Kind) (by : ℕ) (op : Op) (clock : Option ℕ) (later : Option Refusal) → option_or (misfit_of kind (Operate by op clock)) later ≡ None → is_kind kind (kind_of op) ≡ true
+misfit_none : (kind : Kind) (by : ℕ) (op : Op) (clock : Option ℕ) (later : Option Refusal)
+    → option_or (misfit_of kind (Operate by op clock)) later ≡ None → is_kind kind (kind_of op) ≡ true
 misfit_none kind by op clock later e =
-    let own = first_none (not (is_kind kind (kind_of op))) WrongKind _ (or_none (misfit_of kind (Operate by op clock)) later e) in
+    let own = first_none (not (is_kind kind (kind_of op))) WrongKind _
+    (or_none (misfit_of kind (Operate by op clock)) later e) in
     not_false (is_kind kind (kind_of op)) own.0
 
-spelled : (kind : Kind) (names : List (List ℕ)) (records : Records) (command : Command) → refusal_of kind (length names) records command ≡ None → HasLine kind names command
+spelled : (kind : Kind) (names : List (List ℕ)) (records : Records) (command : Command)
+    → refusal_of kind (length names) records command ≡ None → HasLine kind names command
 spelled kind names records Verdict fits = tt
 spelled kind names records (Deliver to label) fits =
     let known = first_none (not (ltb to (length names))) UnknownReplica _ fits in
@@ -195,36 +226,46 @@ spelled kind names records (Operate by op clock) fits =
     (ltb-true by (length names) (not_false (ltb by (length names)) known.0), own_words op kind form)
 
 -- what an answer tells that is no refusal and no earlier no
-line_by : (kind : Kind) (names : List (List ℕ)) (records : Records) (command : Command) (o : Option Fault) (p : Option Refusal) → fault_of kind records ≡ o
-    → refusal_of kind (length names) records command ≡ p → tells_accepted (is_some (fault_of kind records)) (answer_of kind (length names) records command) ≡ true
+line_by : (kind : Kind) (names : List (List ℕ)) (records : Records) (command : Command) (o : Option Fault)
+    (p : Option Refusal) → fault_of kind records ≡ o
+    → refusal_of kind (length names) records command ≡ p
+    → tells_accepted (is_some (fault_of kind records)) (answer_of kind (length names) records command) ≡ true
     → HasLine kind names command
 line_by kind names records command (Some fault) p failed refused e = absurd (let never = rw failed at e in cc)
 line_by kind names records command None (Some why) sound refused e = absurd (let never = rw (sound, refused) at e in cc)
 line_by kind names records command None None sound fits e = spelled kind names records command fits
 
-all_of_one : (P : Command → Type 0) (b : Bool) (command : Command) → (b ≡ true → P command) → AllByRecursion P (cond b (command ∷ []) [])
+all_of_one : (P : Command → Type 0) (b : Bool) (command : Command) → (b ≡ true → P command)
+    → AllByRecursion P (cond b (command ∷ []) [])
 all_of_one P true command holds = (holds refl, tt)
 all_of_one P false command holds = tt
 
-pub all-append : (P : Command → Type 0) (xs ys : List Command) → AllByRecursion P xs → AllByRecursion P ys → AllByRecursion P (xs ++ ys)
+pub all-append : (P : Command → Type 0) (xs ys : List Command) → AllByRecursion P xs → AllByRecursion P ys
+    → AllByRecursion P (xs ++ ys)
 all-append P [] ys p q = q
 all-append P (x ∷ xs) ys p q = (p.0, all-append P xs ys p.1 q)
 
 -- each accepted command of a legal log can be spelled
-pub accepted_have_lines : (setup : Setup) (names : List (List ℕ)) (before log : List MonitorEntry) → length names ≡ setup.replicas → IsLegalAfter (answer_after setup) before log
-    → AllByRecursion (HasLine setup.kind names) (accepted_in (is_some (fault_of setup.kind (records_of setup before))) log)
+pub accepted_have_lines : (setup : Setup) (names : List (List ℕ)) (before log : List MonitorEntry)
+    → length names ≡ setup.replicas → IsLegalAfter (answer_after setup) before log
+    → AllByRecursion (HasLine setup.kind names)
+    (accepted_in (is_some (fault_of setup.kind (records_of setup before))) log)
 accepted_have_lines setup names before [] as_many legal = tt
 accepted_have_lines setup names before (entry ∷ log) as_many legal =
     let records : Records = records_of setup before in
     let failed : Bool = is_some (fault_of setup.kind records) in
     let told : Tells setup.kind setup.replicas records entry.command entry.reply =
-    subst (Tells setup.kind setup.replicas records entry.command) (sym legal.0.0) (tells setup.kind setup.replicas records entry.command) in
+    subst (Tells setup.kind setup.replicas records entry.command) (sym legal.0.0)
+    (tells setup.kind setup.replicas records entry.command) in
     let next : is_some (fault_of setup.kind (records_of setup (before ++ entry ∷ []))) ≡ (failed || is_no entry.reply) =
     ap (λ (r : Records). is_some (fault_of setup.kind r)) (records_push setup before entry) ∙ told.failed_is in
     let answered : entry.reply ≡ answer_of setup.kind (length names) records entry.command =
     legal.0.0 ∙ ap (λ (n : ℕ). answer_of setup.kind n records entry.command) (sym as_many) in
     let here = all_of_one (HasLine setup.kind names) (tells_accepted failed entry.reply) entry.command
-    (λ e. line_by setup.kind names records entry.command (fault_of setup.kind records) (refusal_of setup.kind (length names) records entry.command) refl refl
+    (λ e. line_by setup.kind names records entry.command (fault_of setup.kind records)
+    (refusal_of setup.kind (length names) records entry.command) refl refl
     (ap (tells_accepted failed) (sym answered) ∙ e)) in
-    let later = subst (λ (b : Bool). AllByRecursion (HasLine setup.kind names) (accepted_in b log)) next (accepted_have_lines setup names (before ++ entry ∷ []) log as_many legal.1) in
-    all-append (HasLine setup.kind names) (accepted_one failed entry) (accepted_in (failed || is_no entry.reply) log) here later
+    let later = subst (λ (b : Bool). AllByRecursion (HasLine setup.kind names) (accepted_in b log)) next
+    (accepted_have_lines setup names (before ++ entry ∷ []) log as_many legal.1) in
+    all-append (HasLine setup.kind names) (accepted_one failed entry)
+    (accepted_in (failed || is_no entry.reply) log) here later

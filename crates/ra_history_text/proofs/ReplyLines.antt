@@ -14,9 +14,10 @@ use Rattle.ra_lines.specs.Replies.{reply_line}
 use Rattle.ra_history_text.specs.Output.{answers_in, records_in, replies_of, last_line_at, output_of}
 use Rattle.ra_lines.specs.Spelling.{BeginsWith}
 use Rattle.ra_lines.specs.Reading.{command_read}
-use Rattle.ra_history_text.specs.Text.{Said, Nothing, OfKind, OfHistory, Progress, Stop, with_command, said_behind, is_full, text_start, line_taken_as, byte_taken, unless_stopped, taken, end_of}
+use Rattle.ra_history_text.specs.Text.{Said, Nothing, OfKind, OfHistory, Progress, Stop, with_command, said_behind}
+use Rattle.ra_history_text.specs.Text.{is_full, text_start, line_taken_as, byte_taken, unless_stopped, taken, end_of}
 use Rattle.ra_lines.proofs.TheLaws.{mapped}
-use Rattle.ra_history_text.proofs.Taking.{taken_then}
+use Rattle.ra_history_text.proofs.TakenBytes.{taken_then}
 
 pub begins_same : (xs : List ℕ) → BeginsWith xs xs
 begins_same xs = ([], sym (append-nil xs))
@@ -27,15 +28,18 @@ begins_then xs ys zs p q = (p.0 ++ q.0, q.1 ∙ ap (λ (bs : List ℕ). bs ++ q.
 -- ---- one command more
 
 pub answers_push : (kind : Kind) (n : ℕ) (records : Records) (commands : List Command) (command : Command)
-    → answers_to kind n records (commands ++ command ∷ []) ≡ answers_to kind n records commands ++ answer_of kind n (records_after_all kind n records commands) command ∷ []
+    → answers_to kind n records (commands ++ command ∷ []) ≡ answers_to kind n records commands
+    ++ answer_of kind n (records_after_all kind n records commands) command ∷ []
 answers_push kind n records [] command = refl
 answers_push kind n records (first ∷ commands) command =
-    ap (λ (replies : List Reply). answer_of kind n records first ∷ replies) (answers_push kind n (records_after kind n records first) commands command)
+    ap (λ (replies : List Reply). answer_of kind n records first ∷ replies)
+    (answers_push kind n (records_after kind n records first) commands command)
 
 -- its reply line stands behind the others
 pub replies_push : (kind : Kind) (names : List (List ℕ)) (commands : List Command) (command : Command)
     → replies_of (with_command kind names commands command)
-    ≡ replies_of (OfHistory kind names commands) ++ reply_line (answer_of kind (length names) (records_in kind names commands) command)
+    ≡ replies_of (OfHistory kind names commands) ++ reply_line
+    (answer_of kind (length names) (records_in kind names commands) command)
 replies_push kind names commands command =
     let answers = answers_in kind names commands in
     let reply = answer_of kind (length names) (records_in kind names commands) command in
@@ -45,19 +49,24 @@ replies_push kind names commands command =
 
 -- ---- more lines
 
-line_begins : (said next : Said) (line : List ℕ) → said_behind said line ≡ Some next → BeginsWith (replies_of said) (replies_of next)
+line_begins : (said next : Said) (line : List ℕ) → said_behind said line ≡ Some next
+    → BeginsWith (replies_of said) (replies_of next)
 line_begins Nothing next line e = (replies_of next, refl)
 line_begins (OfKind kind) next line e = (replies_of next, refl)
 line_begins (OfHistory kind names commands) next line e =
     let m = mapped (with_command kind names commands) (command_read kind names (fields_of line)) next e in
-    subst (λ (s : Said). BeginsWith (replies_of (OfHistory kind names commands)) (replies_of s)) m.2
-    (reply_line (answer_of kind (length names) (records_in kind names commands) m.0), replies_push kind names commands m.0)
+    subst (λ (s : Said). BeginsWith (replies_of (OfHistory kind names commands)) (replies_of s)) m.2 (
+      reply_line (answer_of kind (length names) (records_in kind names commands) m.0),
+      replies_push kind names
+          commands m.0,
+    )
 
 -- what the lines up to an end say has the replies of those before
 abbrev BeginsAt : Said → Result Progress Stop → Type 0
 BeginsAt said r = BeginsWith (replies_of said) (replies_of (end_of r).said)
 
-taken_as_begins : (said : Said) (o : Option Said) → ((next : Said) → o ≡ Some next → BeginsWith (replies_of said) (replies_of next))
+taken_as_begins : (said : Said) (o : Option Said)
+    → ((next : Said) → o ≡ Some next → BeginsWith (replies_of said) (replies_of next))
     → BeginsAt said (line_taken_as said o)
 taken_as_begins said None begins = begins_same (replies_of said)
 taken_as_begins said (Some next) begins =
@@ -69,7 +78,8 @@ taken_as_begins said (Some next) begins =
 byte_begins : (p : Progress) (byte : ℕ) → BeginsAt p.said (byte_taken p byte)
 byte_begins p byte =
     elim (cases_Bool (eqb byte 10)) [
-      | inl feed ↦ rw feed (taken_as_begins p.said (said_behind p.said p.partial) (λ next e. line_begins p.said next p.partial e))
+      | inl feed ↦ rw feed
+          (taken_as_begins p.said (said_behind p.said p.partial) (λ next e. line_begins p.said next p.partial e))
       | inr other ↦ elim (cases_Bool (ltb (length p.partial) 1048576)) [
         | inl room ↦ rw (other, room) (begins_same (replies_of p.said))
         | inr long ↦ rw (other, long) (begins_same (replies_of p.said))
@@ -77,24 +87,31 @@ byte_begins p byte =
     ]
 
 step_begins : (said : Said) (r : Result Progress Stop) (bytes : List ℕ) → BeginsAt said r
-    → ((next : Progress) → BeginsAt next.said (taken next bytes)) → BeginsAt said (unless_stopped r (λ next. taken next bytes))
-step_begins said (Ok next) bytes here later = begins_then (replies_of said) (replies_of next.said) (replies_of (end_of (taken next bytes)).said) here (later next)
+    → ((next : Progress) → BeginsAt next.said (taken next bytes))
+    → BeginsAt said (unless_stopped r (λ next. taken next bytes))
+step_begins said (Ok next) bytes here later =
+    begins_then (replies_of said) (replies_of next.said) (replies_of (end_of (taken next bytes)).said) here (later next)
 step_begins said (Err stop) bytes here later = here
 
 pub taken_begins : (bytes : List ℕ) (p : Progress) → BeginsAt p.said (taken p bytes)
 taken_begins [] p = begins_same (replies_of p.said)
-taken_begins (byte ∷ bytes) p = step_begins p.said (byte_taken p byte) bytes (byte_begins p byte) (λ next. taken_begins bytes next)
+taken_begins (byte ∷ bytes) p = step_begins p.said (byte_taken p byte) bytes (byte_begins p byte)
+    (λ next. taken_begins bytes next)
 
 -- ---- the output of a whole text
 
 -- what is written for a front that does not stop is a front of the text's output
-pub output_begins : (front back : List ℕ) (p : Progress) → taken text_start front ≡ Ok p → BeginsWith (replies_of p.said) (output_of (front ++ back))
+pub output_begins : (front back : List ℕ) (p : Progress) → taken text_start front ≡ Ok p
+    → BeginsWith (replies_of p.said) (output_of (front ++ back))
 output_begins front back p is =
     let whole = taken_then text_start p front back is in
     let r = taken p back in
     let here = taken_begins back p in
-    let all : BeginsWith (replies_of p.said) (replies_of (end_of r).said ++ last_line_at (end_of r).ending (end_of r).said) = (
+    let all : BeginsWith (replies_of p.said)
+    (replies_of (end_of r).said ++ last_line_at (end_of r).ending (end_of r).said) = (
       here.0 ++ last_line_at (end_of r).ending (end_of r).said,
-      ap (λ (bs : List ℕ). bs ++ last_line_at (end_of r).ending (end_of r).said) here.1 ∙ append_assoc (replies_of p.said) here.0 (last_line_at (end_of r).ending (end_of r).said),
+      ap (λ (bs : List ℕ). bs ++ last_line_at (end_of r).ending (end_of r).said) here.1
+          ∙ append_assoc (replies_of p.said) here.0 (last_line_at (end_of r).ending (end_of r).said),
     ) in
-    subst (λ (s : Result Progress Stop). BeginsWith (replies_of p.said) (replies_of (end_of s).said ++ last_line_at (end_of s).ending (end_of s).said)) (sym whole) all
+    subst (λ (s : Result Progress Stop). BeginsWith (replies_of p.said)
+    (replies_of (end_of s).said ++ last_line_at (end_of s).ending (end_of s).said)) (sym whole) all
