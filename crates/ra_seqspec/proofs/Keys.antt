@@ -1,35 +1,57 @@
--- The keys of a set that a key is taken from, and that a list is held against.
-use Rattle.std.proofs.Common.{◌≡◌, ℕ, Bool, true, List, filter, refl, sym, ap, ◌∙◌, subst}
-use Rattle.std.specs.Prelude.{◌↔◌, IsTrue, ◌==◌, not}
+-- What is left of keys in order when one is removed, by any order.
+use Rattle.std.proofs.Common.{◌≡◌, ℕ, Bool, true, List, filter, refl, sym, ap, ◌∙◌, [], ◌∷◌, inl, inr, Ordering}
+use Rattle.std.specs.Prelude.{◌==◌, not}
 use Rattle.std.specs.List.Sorted.{IsStrictlySortedBy}
-use Rattle.std.specs.Ordering.{nat_cmp}
+use Rattle.std.specs.Ordering.{is_eq, nat_cmp}
 use Rattle.std.specs.BTreeMap.{is_at}
-use Rattle.std.specs.BTreeSet.{BTreeSet, IsOrdered}
 use Rattle.std.specs.Set.{remove_key}
+use Rattle.std.specs.Cmp.{IsTotalOrder}
+use Rattle.std.specs.List.{AllByRecursion}
+use Rattle.std.specs.declared.cmp.Ordering.TheVariants.{Less, Equal, Greater}
 use Rattle.std.proofs.lemmas.Cmp.{nat_cmp_total}
-use Rattle.ra_labels.specs.declared.operation.Query.{Query}
-use Rattle.ra_labels.specs.declared.operation.Query.TheVariants.{LwwRead}
-use Rattle.ra_labels.specs.Lists.{rises}
-use Rattle.ra_labels.specs.Specification.{State, Members, answers}
-use Rattle.ra_labels.proofs.TheLaws.{a_list_rises_where_each_is_below_the_later-sorted}
+use Rattle.std.proofs.lemmas.List.Elements.{filter_agree}
+use Rattle.std.proofs.lemmas.Bool.{cases_Bool, cond-true, cond-false, not_from_true, not_from_false}
 use Rattle.ra_labels.proofs.Comparisons.{is_at-eqb}
-use Rattle.ra_seqspec.specs.declared.state.Form.{Form}
-use Rattle.ra_seqspec.specs.declared.state.Form.TheVariants.{LwwSet}
-use Rattle.ra_seqspec.specs.Form.{state_of, StateKept}
-use Rattle.ra_seqspec.specs.Asked.{asks_rising}
-use Rattle.ra_seqspec.proofs.Rising.{is_answer}
-use Rattle.ra_seqspec.proofs.Removing.{removed, filter_same}
 
--- a key taken out of keys that are in order is left out of them
-pub taken_out : (x : ℕ) (ys : List ℕ) → IsStrictlySortedBy nat_cmp ys → remove_key (is_at (nat_cmp x)) ys ≡ filter (λ y. not (x == y)) ys
-taken_out x ys ordered = removed nat_cmp_total x ys ordered ∙ filter_same (λ y. not (is_at (nat_cmp x) y)) (λ y. not (x == y)) (λ y. ap not (is_at-eqb x y)) ys
+pub filter_none_left : {K : Type 0} (p : K → Bool) (ks : List K) → AllByRecursion (λ k. p k ≡ true) ks
+    → filter p ks ≡ ks
+filter_none_left p [] all = refl
+filter_none_left p (k ∷ ks) all = cond-true (p k) (k ∷ filter p ks) (filter p ks) all.0
+    ∙ ap (λ zs. k ∷ zs) (filter_none_left p ks all.1)
 
-pub asked : (form : Form) (elements : BTreeSet ℕ) (now : State) (query : Query) (list shown : List ℕ) (r : Bool) → StateKept form → state_of form ≡ now → form ≡ LwwSet elements → query ≡ LwwRead list → asks_rising query ≡ true
-    → shown ≡ list → IsTrue r ↔ (shown ≡ elements.keys) → r ≡ answers now query
-asked form elements now query list shown r kept view is asks up same answer =
-    let ordered : IsOrdered nat_cmp elements = subst StateKept is kept in
-    let before : now ≡ Members elements.keys = sym view ∙ ap state_of is in
-    let rising : rises list ≡ true = sym (ap asks_rising asks) ∙ up in
-    is_answer list elements.keys elements.keys r rising ((a_list_rises_where_each_is_below_the_later-sorted elements.keys).1 ordered) (λ y. refl)
-    ((λ holds. sym same ∙ answer.0 holds), (λ equal. answer.1 (same ∙ equal)))
-    ∙ sym (λ i. answers (before i) (asks i))
+tests : (o : Ordering) → is_eq o ≡ true → o ≡ Equal
+tests Less is = absurd (cc is)
+tests Equal is = refl
+tests Greater is = absurd (cc is)
+
+-- what is above an equal key is not that key
+above_stay : {K : Type 0} {cmp : K → K → Ordering} → IsTotalOrder cmp → (k head : K) (ks : List K) → cmp k head ≡ Equal
+    → AllByRecursion (λ y. cmp head y ≡ Less) ks → AllByRecursion (λ y. not (is_at (cmp k) y) ≡ true) ks
+above_stay order k head [] same all = all
+above_stay order k head (y ∷ ys) same all =
+    (ap (λ o. not (is_eq o)) (order.congr k head y same ∙ all.0), above_stay order k head ys same all.1)
+
+-- a key removed from keys in order is left out of them
+pub removed : {K : Type 0} {cmp : K → K → Ordering} → IsTotalOrder cmp → (k : K) (ks : List K)
+    → IsStrictlySortedBy cmp ks → remove_key (is_at (cmp k)) ks ≡ filter (λ y. not (is_at (cmp k) y)) ks
+unfolding IsStrictlySortedBy
+removed order k [] ordered = refl
+removed {K} {cmp} order k (y ∷ ys) ordered = elim (cases_Bool (is_at (cmp k) y)) [
+  | inl here ↦
+      cond-true (is_at (cmp k) y) ys (y ∷ remove_key (is_at (cmp k)) ys) here
+      ∙ sym (filter_none_left (λ z. not (is_at (cmp k) z)) ys
+      (above_stay order k y ys (tests (cmp k y) here) ordered.0))
+      ∙ sym (cond-false (not (is_at (cmp k) y)) (y ∷ filter (λ z. not (is_at (cmp k) z)) ys)
+      (filter (λ z. not (is_at (cmp k) z)) ys) (not_from_true (is_at (cmp k) y) here))
+  | inr other ↦
+      cond-false (is_at (cmp k) y) ys (y ∷ remove_key (is_at (cmp k)) ys) other
+      ∙ ap (λ zs. y ∷ zs) (removed order k ys ordered.1)
+      ∙ sym (cond-true (not (is_at (cmp k) y)) (y ∷ filter (λ z. not (is_at (cmp k) z)) ys)
+      (filter (λ z. not (is_at (cmp k) z)) ys) (not_from_false (is_at (cmp k) y) other))
+]
+
+-- of numbers
+pub taken_out : (x : ℕ) (ys : List ℕ) → IsStrictlySortedBy nat_cmp ys
+    → remove_key (is_at (nat_cmp x)) ys ≡ filter (λ y. not (x == y)) ys
+taken_out x ys ordered = removed nat_cmp_total x ys ordered
+    ∙ filter_agree (λ y. not (is_at (nat_cmp x) y)) (λ y. not (x == y)) (λ y. ap not (is_at-eqb x y)) ys

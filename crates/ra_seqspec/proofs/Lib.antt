@@ -1,8 +1,8 @@
-pub mod Asked
-pub mod Keys
+pub mod Queries
 pub mod Links
 pub mod Nodes
+pub mod HiddenNodes
 pub mod PairKeys
-pub mod Reading
-pub mod Removing
-pub mod Rising
+pub mod Walks
+pub mod Keys
+pub mod RisingLists

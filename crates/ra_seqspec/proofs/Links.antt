@@ -1,7 +1,8 @@
 -- Slots along links, when a slot is put behind one of them.
 use Rattle.std.proofs.Common.{◌≡◌, ℕ, zero, suc, Bool, true, false, cond, List, [], ◌∷◌, map, refl, sym, ap, ◌∙◌, subst, inl, inr}
 use Rattle.std.specs.Prelude.{◌==◌, ◌||◌}
-use Rattle.std.proofs.lemmas.Bool.{false≢true, cases_Bool, cond-true, cond-false, eqb-true, eqb-false, eq-eqb, ne_eqb, or_cases, or_left, or_right, or_parts, or_from}
+use Rattle.std.proofs.lemmas.Bool.{false≢true, cases_Bool, cond-true, cond-false, eqb-true, eqb-false, eq-eqb, ne_eqb}
+use Rattle.std.proofs.lemmas.Bool.{or_cases, or_left, or_right, or_parts, or_from}
 use Rattle.ra_labels.specs.Lists.{is_among, insert_after}
 use Rattle.ra_seqspec.specs.Rga.{along, AreDistinct}
 
@@ -11,8 +12,10 @@ put_behind i new [] = []
 put_behind i new (slot ∷ slots) = cond (i == slot) (slot ∷ new ∷ slots) (slot ∷ put_behind i new slots)
 
 -- what is in a list is not what is not
-pub differs : (k other : ℕ) (slots : List ℕ) → is_among k slots ≡ true → is_among other slots ≡ false → (k == other) ≡ false
-differs k other slots there apart = ne_eqb k other (λ same. false≢true (sym apart ∙ subst (λ z. is_among z slots ≡ true) same there))
+pub differs : (k other : ℕ) (slots : List ℕ) → is_among k slots ≡ true → is_among other slots ≡ false
+    → (k == other) ≡ false
+differs k other slots there apart =
+    ne_eqb k other (λ same. false≢true (sym apart ∙ subst (λ z. is_among z slots ≡ true) same there))
 
 among_head : (k : ℕ) (slots : List ℕ) → is_among k (k ∷ slots) ≡ true
 among_head k slots = or_left (k == k) _ (eq-eqb k k refl)
@@ -21,11 +24,13 @@ among_tail : (k slot : ℕ) (slots : List ℕ) → is_among k slots ≡ true →
 among_tail k slot slots there = or_right (k == slot) (is_among k slots) there
 
 -- links that agree on the slots along them lead along the same slots
-pub along_same : (next other : ℕ → ℕ) (n slot : ℕ) → ((k : ℕ) → is_among k (along next n slot) ≡ true → other k ≡ next k) → along other n slot ≡ along next n slot
+pub along_same : (next other : ℕ → ℕ) (n slot : ℕ)
+    → ((k : ℕ) → is_among k (along next n slot) ≡ true → other k ≡ next k) → along other n slot ≡ along next n slot
 along_same next other zero slot same = refl
 along_same next other (suc n) slot same =
     let here : other slot ≡ next slot = same slot (among_head slot (along next n (next slot))) in
-    let rest : along other n (next slot) ≡ along next n (next slot) = along_same next other n (next slot) (λ k there. same k (among_tail k slot (along next n (next slot)) there)) in
+    let rest : along other n (next slot) ≡ along next n (next slot) =
+    along_same next other n (next slot) (λ k there. same k (among_tail k slot (along next n (next slot)) there)) in
     ap (λ slots. slot ∷ slots) (ap (along other n) here ∙ rest)
 
 -- the new slot's link leads where that of slot i led, which leads to the new one; each other link stays
@@ -35,7 +40,8 @@ pub record Relinked (next other : ℕ → ℕ) (i new : ℕ) : Type 0 where
   pub others : (k : ℕ) → (k == new) ≡ false → (k == i) ≡ false → other k ≡ next k
 
 -- the law of links
-pub along_put : (next other : ℕ → ℕ) (n slot i new : ℕ) → Relinked next other i new → AreDistinct (along next n slot) → is_among i (along next n slot) ≡ true → is_among new (along next n slot) ≡ false
+pub along_put : (next other : ℕ → ℕ) (n slot i new : ℕ) → Relinked next other i new → AreDistinct (along next n slot)
+    → is_among i (along next n slot) ≡ true → is_among new (along next n slot) ≡ false
     → along other (suc n) slot ≡ put_behind i new (along next n slot)
 along_put next other zero slot i new links once there apart = absurd (cc there)
 along_put next other (suc n) slot i new links once there apart = elim (cases_Bool (i == slot)) [
@@ -54,28 +60,36 @@ along_put next other (suc n) slot i new links once there apart = elim (cases_Boo
   | inr away ↦
       let rest = along next n (next slot) in
       let parts = or_parts (new == slot) (is_among new rest) apart in
-      let stays : other slot ≡ next slot = links.others slot (ne_eqb slot new (λ same. eqb-false new slot parts.0 (sym same))) (ne_eqb slot i (λ same. eqb-false i slot away (sym same))) in
-      let later : is_among i rest ≡ true = elim (or_cases (i == slot) (is_among i rest) there) [ inl here ↦ absurd (false≢true (sym away ∙ here)) | inr behind ↦ behind ] in
+      let stays : other slot ≡ next slot =
+      links.others slot (ne_eqb slot new (λ same. eqb-false new slot parts.0 (sym same)))
+      (ne_eqb slot i (λ same. eqb-false i slot away (sym same))) in
+      let later : is_among i rest ≡ true = elim (or_cases (i == slot) (is_among i rest) there)
+      [ inl here ↦ absurd (false≢true (sym away ∙ here)) | inr behind ↦ behind ] in
       ap (λ z. slot ∷ along other (suc n) z) stays
       ∙ ap (λ z. slot ∷ z) (along_put next other n (next slot) i new links once.1 later parts.1)
       ∙ sym (cond-false (i == slot) (slot ∷ new ∷ rest) (slot ∷ put_behind i new rest) away)
 ]
 
-later_among : (i slot : ℕ) (slots : List ℕ) → is_among i (slot ∷ slots) ≡ true → (i == slot) ≡ false → is_among i slots ≡ true
-later_among i slot slots there away = elim (or_cases (i == slot) (is_among i slots) there) [ inl here ↦ absurd (false≢true (sym away ∙ here)) | inr behind ↦ behind ]
+later_among : (i slot : ℕ) (slots : List ℕ) → is_among i (slot ∷ slots) ≡ true → (i == slot) ≡ false
+    → is_among i slots ≡ true
+later_among i slot slots there away = elim (or_cases (i == slot) (is_among i slots) there)
+    [ inl here ↦ absurd (false≢true (sym away ∙ here)) | inr behind ↦ behind ]
 
 swapped : (a b c : Bool) → (a || (b || c)) ≡ (b || (a || c))
 swapped true true c = refl
 swapped true false c = refl
 swapped false b c = refl
 
-pub map_same : (f g : ℕ → ℕ × Bool) (slots : List ℕ) → ((k : ℕ) → is_among k slots ≡ true → g k ≡ f k) → map g slots ≡ map f slots
+pub map_same : (f g : ℕ → ℕ × Bool) (slots : List ℕ) → ((k : ℕ) → is_among k slots ≡ true → g k ≡ f k)
+    → map g slots ≡ map f slots
 map_same f g [] each = refl
 map_same f g (slot ∷ slots) each =
-    ap (λ z. z ∷ map g slots) (each slot (among_head slot slots)) ∙ ap (λ z. f slot ∷ z) (map_same f g slots (λ k among. each k (among_tail k slot slots among)))
+    ap (λ z. z ∷ map g slots) (each slot (among_head slot slots))
+    ∙ ap (λ z. f slot ∷ z) (map_same f g slots (λ k among. each k (among_tail k slot slots among)))
 
 -- what is there once one is put behind another
-pub among_put : (i new k : ℕ) (slots : List ℕ) → is_among i slots ≡ true → is_among k (put_behind i new slots) ≡ (k == new || is_among k slots)
+pub among_put : (i new k : ℕ) (slots : List ℕ) → is_among i slots ≡ true
+    → is_among k (put_behind i new slots) ≡ (k == new || is_among k slots)
 among_put i new k [] there = absurd (cc there)
 among_put i new k (slot ∷ slots) there = elim (cases_Bool (i == slot)) [
   | inl here ↦
@@ -89,7 +103,8 @@ among_put i new k (slot ∷ slots) there = elim (cases_Bool (i == slot)) [
 ]
 
 -- no slot stands twice once a new one is put behind another
-pub distinct_put : (i new : ℕ) (slots : List ℕ) → AreDistinct slots → is_among i slots ≡ true → is_among new slots ≡ false → AreDistinct (put_behind i new slots)
+pub distinct_put : (i new : ℕ) (slots : List ℕ) → AreDistinct slots → is_among i slots ≡ true
+    → is_among new slots ≡ false → AreDistinct (put_behind i new slots)
 distinct_put i new [] once there apart = once
 distinct_put i new (slot ∷ slots) once there apart =
     let parts = or_parts (new == slot) (is_among new slots) apart in
@@ -100,12 +115,16 @@ distinct_put i new (slot ∷ slots) once there apart =
           (or_from (slot == new) (is_among slot slots) unlike once.0, (parts.1, once.1))
       | inr away ↦
           let later : is_among i slots ≡ true = later_among i slot slots there away in
-          subst AreDistinct (sym (cond-false (i == slot) (slot ∷ new ∷ slots) (slot ∷ put_behind i new slots) away))
-          (among_put i new slot slots later ∙ or_from (slot == new) (is_among slot slots) unlike once.0, distinct_put i new slots once.1 later parts.1)
+          subst AreDistinct (sym (cond-false (i == slot) (slot ∷ new ∷ slots) (slot ∷ put_behind i new slots) away)) (
+            among_put i new slot slots later ∙ or_from (slot == new)
+                (is_among slot slots) unlike once.0,
+            distinct_put i new slots once.1 later parts.1,
+          )
     ]
 
 -- the list's entries of slots, where a new one is put behind slot i, which alone has the anchor
-pub entries_put : (f g : ℕ → ℕ × Bool) (i new anchor x : ℕ) (slots : List ℕ) → is_among i slots ≡ true → g new ≡ (x, true)
+pub entries_put : (f g : ℕ → ℕ × Bool) (i new anchor x : ℕ) (slots : List ℕ) → is_among i slots ≡ true
+    → g new ≡ (x, true)
     → ((k : ℕ) → is_among k slots ≡ true → (g k ≡ f k) × ((anchor == (f k).0) ≡ (i == k)))
     → map g (put_behind i new slots) ≡ insert_after anchor x (map f slots)
 entries_put f g i new anchor x [] there is each = absurd (cc there)
@@ -118,11 +137,14 @@ entries_put f g i new anchor x (slot ∷ slots) there is each =
           ∙ ap (λ z. z ∷ g new ∷ map g slots) here_is.0
           ∙ ap (λ z. f slot ∷ z ∷ map g slots) is
           ∙ ap (λ z. f slot ∷ (x, true) ∷ z) kept
-          ∙ sym (cond-true (anchor == (f slot).0) (f slot ∷ (x, true) ∷ map f slots) (f slot ∷ insert_after anchor x (map f slots)) (here_is.1 ∙ here))
+          ∙ sym (cond-true (anchor == (f slot).0) (f slot ∷ (x, true) ∷ map f slots)
+          (f slot ∷ insert_after anchor x (map f slots)) (here_is.1 ∙ here))
       | inr away ↦
           let later : is_among i slots ≡ true = later_among i slot slots there away in
           ap (map g) (cond-false (i == slot) (slot ∷ new ∷ slots) (slot ∷ put_behind i new slots) away)
           ∙ ap (λ z. z ∷ map g (put_behind i new slots)) here_is.0
-          ∙ ap (λ z. f slot ∷ z) (entries_put f g i new anchor x slots later is (λ k among. each k (among_tail k slot slots among)))
-          ∙ sym (cond-false (anchor == (f slot).0) (f slot ∷ (x, true) ∷ map f slots) (f slot ∷ insert_after anchor x (map f slots)) (here_is.1 ∙ away))
+          ∙ ap (λ z. f slot ∷ z)
+          (entries_put f g i new anchor x slots later is (λ k among. each k (among_tail k slot slots among)))
+          ∙ sym (cond-false (anchor == (f slot).0) (f slot ∷ (x, true) ∷ map f slots)
+          (f slot ∷ insert_after anchor x (map f slots)) (here_is.1 ∙ away))
     ]

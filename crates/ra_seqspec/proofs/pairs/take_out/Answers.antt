@@ -18,7 +18,9 @@ loop-id-preserved c =
       left =
           c.remove.ensures.keys
           ∙ ap (remove_key (is_at (pair_cmp (c.args.element, id)))) c.loop-id.invariant.left
-          ∙ taken_out_more c.args.element id before c.args.pairs.now.keys (subst (IsStrictlySortedBy pair_cmp) c.loop-id.invariant.left c.loop-id.invariant.ordered)
-          ∙ ap (λ ids. without_pairs c.args.element ids c.args.pairs.now.keys) (sym (take_more c.args.ids.now c.loop-id.id-index 0 c.loop-id-test.true));
+          ∙ taken_out_more c.args.element id before c.args.pairs.now.keys
+          (subst (IsStrictlySortedBy pair_cmp) c.loop-id.invariant.left c.loop-id.invariant.ordered)
+          ∙ ap (λ ids. without_pairs c.args.element ids c.args.pairs.now.keys)
+          (sym (take_more c.args.ids.now c.loop-id.id-index 0 c.loop-id-test.true));
       ordered = c.remove.ensures.ordered;
     }

@@ -1,5 +1,5 @@
 use Rattle.std.proofs.Common.{◌-◌, length}
-use Rattle.ra_seqspec.proofs.Reading.{Walked}
+use Rattle.ra_seqspec.proofs.Walks.{Walked}
 use Rattle.ra_seqspec.proofs.rga.are_shown.Given as goal
 
 abbrev pub invariant-loop-step : goal.invariant-loop-step

@@ -13,7 +13,8 @@ among_contains : (xs : List ℕ) (x : ℕ) → (is_among x xs ≡ true) ↔ Cont
 among_contains xs x = (Contains-from_any eqb-true x xs, list_any-from_Contains nat_eq_equiv x xs)
 
 -- a list that rises has the same elements as these where it is the list that has them once each
-pub is_answer : (list once these : List ℕ) (r : Bool) → rises list ≡ true → rises once ≡ true → ((x : ℕ) → is_among x once ≡ is_among x these) → IsTrue r ↔ (list ≡ once) → r ≡ have_same list these
+pub is_answer : (list once these : List ℕ) (r : Bool) → rises list ≡ true → rises once ≡ true
+    → ((x : ℕ) → is_among x once ≡ is_among x these) → IsTrue r ↔ (list ≡ once) → r ≡ have_same list these
 is_answer list once these r up also same answer =
     let equal = lists_have_the_same_elements-rising list once up also in
     let ours = lists_have_the_same_elements-elements list once in
