@@ -17,7 +17,7 @@ use Rattle.ra_ticket.specs.Views.{numbers_of, next_of, serving_of, ticket_at, ti
 use Rattle.ra_ticket.specs.Rule.{At, SitsAt, NobodyHolds, TurnsKept}
 use Rattle.ra_ticket.proofs.Seats.{each_after, at_after, at_back, at_forth, apart_after}
 use Rattle.ra_ticket.proofs.Logs.{begins_same, begun_more}
-use Rattle.ra_ticket.proofs.Owns.{own_same}
+use Rattle.ra_ticket.proofs.OwnPasses.{own_same}
 
 module _ {M C R S : Type 0} (j : Readings M C R S) (opened : S) where
   abbrev pub Table : Type 0
@@ -44,12 +44,15 @@ module _ {M C R S : Type 0} (j : Readings M C R S) (opened : S) where
       go (Holding n) e = e
 
   -- the seat whose ticket is served is the only one that can hold
-  pub holder_is : (s : Table) (r : Rule s) (id t : ℕ) → At ticket_of s.views id t → t ≡ r.serving → (seat u : ℕ) → At held_of s.views seat u → seat ≡ id
+  pub holder_is : (s : Table) (r : Rule s) (id t : ℕ) → At ticket_of s.views id t → t ≡ r.serving → (seat u : ℕ)
+      → At held_of s.views seat u → seat ≡ id
   holder_is s r id t mine served seat u a =
-      r.tickets_apart seat id t (subst (At ticket_of s.views seat) ((r.out seat u a).0 ∙ sym served) (a.0, a.1, held_ticket a.0 u a.2)) mine
+      r.tickets_apart seat id t
+      (subst (At ticket_of s.views seat) ((r.out seat u a).0 ∙ sym served) (a.0, a.1, held_ticket a.0 u a.2)) mine
 
   -- so nobody holds while it waits
-  pub nobody_holds : (s : Table) (r : Rule s) (id t : ℕ) (k : Known C R S) → get_elem? s.views id ≡ some (Knows k) → k.stage ≡ Waiting t → t ≡ r.serving → NobodyHolds s.views
+  pub nobody_holds : (s : Table) (r : Rule s) (id t : ℕ) (k : Known C R S) → get_elem? s.views id ≡ some (Knows k)
+      → k.stage ≡ Waiting t → t ≡ r.serving → NobodyHolds s.views
   nobody_holds s r id t k here waits served seat u a =
       let same : seat ≡ id = holder_is s r id t (Knows k, here, ap ticket_at waits) served seat u a in
       let me : Knows k ≡ a.0 = some-injective (Knows k) a.0 (sym here ∙ (ap (get_elem? s.views) (sym same) ∙ a.1)) in
@@ -61,7 +64,8 @@ module _ {M C R S : Type 0} (j : Readings M C R S) (opened : S) where
   nobody_out s r same seat u a = let b = r.drawn seat u (a.0, a.1, held_ticket a.0 u a.2) in omega arith
 
   -- the seat id goes from v to w, the words to next', serving' and mark', the slots to homes' and the front to front'
-  pub record Change (s : Table) (r : Rule s) (id : ℕ) (v w : View C R S) (next' serving' mark' : ℕ) (homes' : Homes) (front' : Log) : Type 0 where
+  pub record Change (s : Table) (r : Rule s) (id : ℕ) (v w : View C R S) (next' serving' mark' : ℕ) (homes' : Homes)
+      (front' : Log) : Type 0 where
     pub order : serving' ≤ next'
     pub fits : next' < 2 ^ 64
     pub next_up : r.next ≤ next'
@@ -75,7 +79,8 @@ module _ {M C R S : Type 0} (j : Readings M C R S) (opened : S) where
     pub out : (seat t : ℕ) → At held_of (set s.views id w) seat t → (t ≡ serving') × (homes' ≡ none ∷ [])
     pub home : NobodyHolds (set s.views id w) → (journal : M) × (homes' ≡ some (Some journal) ∷ [])
     pub grows : BeginsWith front' r.front
-    pub others_held : (seat t : ℕ) (u : View C R S) → seat ≢ id → get_elem? s.views seat ≡ some u → held_of u ≡ Some t → seen_of u ≡ front'
+    pub others_held : (seat t : ℕ) (u : View C R S) → seat ≢ id → get_elem? s.views seat ≡ some u → held_of u ≡ Some t
+        → seen_of u ≡ front'
     pub held : (t : ℕ) → held_of w ≡ Some t → seen_of w ≡ front'
     pub rests : (journal : M) → homes' ≡ some (Some journal) ∷ [] → (j.log journal ≡ front') × AllBelow serving' front'
     pub served : AllBelow (serving' + 1) front'
@@ -87,13 +92,20 @@ module _ {M C R S : Type 0} (j : Readings M C R S) (opened : S) where
     pub home_set_up : (journal : M) → homes' ≡ some (Some journal) ∷ [] → j.setup journal ≡ opened
 
   module _ (s : Table) (r : Rule s) (id : ℕ) (v w : View C R S) (here : get_elem? s.views id ≡ some v) where
-    sits_back : numbers_of w ≡ numbers_of v → (seat k number : ℕ) → SitsAt (set s.views id w) seat k number → SitsAt s.views seat k number
+    sits_back : numbers_of w ≡ numbers_of v → (seat k number : ℕ) → SitsAt (set s.views id w) seat k number
+        → SitsAt s.views seat k number
     sits_back same seat k number a = ⊎_elim
-        (λ (t : (seat ≡ id) × (w ≡ a.0)). (v, ap (get_elem? s.views) t.0 ∙ here, ap (λ (l : List ℕ). get_elem? l k) (sym same ∙ ap numbers_of t.1) ∙ a.2))
+        (λ (t : (seat ≡ id) × (w ≡ a.0)). (
+          v,
+          ap (get_elem? s.views) t.0
+              ∙ here,
+          ap (λ (l : List ℕ). get_elem? l k) (sym same ∙ ap numbers_of t.1) ∙ a.2,
+        ))
         (λ (t : (seat ≢ id) × (get_elem? s.views seat ≡ some a.0)). (a.0, t.1, a.2)) (at_set s.views id seat w a.0 a.1)
 
     -- such a change keeps the rule
-    pub changed : (next' serving' mark' : ℕ) (homes' : Homes) (front' : Log) → Change s r id v w next' serving' mark' homes' front'
+    pub changed : (next' serving' mark' : ℕ) (homes' : Homes) (front' : Log)
+        → Change s r id v w next' serving' mark' homes' front'
         → Rule record { words = next' ∷ serving' ∷ mark' ∷ r.others; homes = homes'; views = set s.views id w }
     changed next' serving' mark' homes' front' c = record {
       next = next';
@@ -106,59 +118,78 @@ module _ {M C R S : Type 0} (j : Readings M C R S) (opened : S) where
       reached = each_after (λ (x : View C R S). (next_of x ≤ next') × (serving_of x ≤ serving')) s.views id w c.reached
           (λ seat u _ at. let low = r.reached seat u at in (le_trans low.0 c.next_up, le_trans low.1 c.serving_up));
       drawn = λ seat t a. ⊎_elim (λ (e : (seat ≡ id) × (ticket_of w ≡ Some t)). c.drawn t e.1)
-          (λ (e : (seat ≢ id) × At ticket_of s.views seat t). (c.others_drawn seat t e.0 e.1, let b = r.drawn seat t e.1 in let up = c.next_up in omega arith)) (at_after ticket_of s.views id v w here seat t a);
+          (λ (e : (seat ≢ id) × At ticket_of s.views seat t).
+          (c.others_drawn seat t e.0 e.1, let b = r.drawn seat t e.1 in let up = c.next_up in omega arith))
+          (at_after ticket_of s.views id v w here seat t a);
       tickets_apart = apart_after ticket_of s.views id v w here r.tickets_apart c.apart;
       out = c.out;
       home = c.home;
       front = front';
-      held = λ seat t u at. each_after (λ (x : View C R S). held_of x ≡ Some t → seen_of x ≡ front') s.views id w (c.held t) (λ a x other there. c.others_held a t x other there) seat u at;
+      held = λ seat t u at. each_after (λ (x : View C R S). held_of x ≡ Some t → seen_of x ≡ front') s.views id w
+          (c.held t) (λ a x other there. c.others_held a t x other there) seat u at;
       rests = c.rests;
       served = c.served;
       legal = c.legal;
       told = c.told;
-      begun = each_after (λ (x : View C R S). HasBegun x front') s.views id w c.begun (λ seat u _ at. begun_more u r.front front' c.grows (r.begun seat u at));
+      begun = each_after (λ (x : View C R S). HasBegun x front') s.views id w c.begun
+          (λ seat u _ at. begun_more u r.front front' c.grows (r.begun seat u at));
       own = each_after (λ (x : View C R S). HasOwn x front') s.views id w c.own c.others_own;
-      passes_apart = λ a b k l number p q. r.passes_apart a b k l number (sits_back c.numbers a k number p) (sits_back c.numbers b l number q);
+      passes_apart = λ a b k l number p q. r.passes_apart a b k l number (sits_back c.numbers a k number p)
+          (sits_back c.numbers b l number q);
       set_up = each_after (IsSetUp opened) s.views id w c.set_up (λ seat u _ at. r.set_up seat u at);
       home_set_up = c.home_set_up;
     }
 
     -- a change that leaves the slot, `serving` and the front alone, of which the seat may see more
-    pub seeing : (next' : ℕ) → next' < 2 ^ 64 → r.next ≤ next' → (next_of w ≤ next') × (serving_of w ≤ r.serving) → numbers_of w ≡ numbers_of v → held_of w ≡ held_of v
-        → IsSetUp opened w → HasBegun w r.front → HasOwn w r.front → ((t : ℕ) → held_of w ≡ Some t → seen_of w ≡ r.front)
-        → ((t : ℕ) → ticket_of w ≡ Some t → (r.serving ≤ t) × (t < next')) → ((seat t : ℕ) → ticket_of w ≡ Some t → seat ≢ id → At ticket_of s.views seat t → ⊥)
+    pub seeing : (next' : ℕ) → next' < 2 ^ 64 → r.next ≤ next' → (next_of w ≤ next') × (serving_of w ≤ r.serving)
+        → numbers_of w ≡ numbers_of v → held_of w ≡ held_of v
+        → IsSetUp opened w → HasBegun w r.front → HasOwn w r.front
+        → ((t : ℕ) → held_of w ≡ Some t → seen_of w ≡ r.front)
+        → ((t : ℕ) → ticket_of w ≡ Some t → (r.serving ≤ t) × (t < next'))
+        → ((seat t : ℕ) → ticket_of w ≡ Some t → seat ≢ id → At ticket_of s.views seat t → ⊥)
         → Rule record { words = next' ∷ r.serving ∷ r.mark ∷ r.others; homes = s.homes; views = set s.views id w }
-    seeing next' fits up reached numbers held set_up begun own front drawn apart = changed next' r.serving r.mark s.homes r.front record {
-      order = le_trans r.order up;
-      fits = fits;
-      next_up = up;
-      serving_up = le_refl r.serving;
-      reached = reached;
-      numbers = numbers;
-      set_up = set_up;
-      others_drawn = λ seat t _ a. (r.drawn seat t a).0;
-      drawn = drawn;
-      apart = apart;
-      out = λ seat t a. r.out seat t (at_back held_of s.views id v w here held seat t a);
-      home = λ nobody. r.home (λ seat t a. nobody seat t (at_forth held_of s.views id v w here held seat t a));
-      grows = begins_same r.front r.front refl;
-      others_held = λ seat t u _ at e. r.held seat t u at e;
-      held = front;
-      rests = r.rests;
-      served = r.served;
-      legal = r.legal;
-      told = r.told;
-      begun = begun;
-      own = own;
-      others_own = λ seat u _ at. r.own seat u at;
-      home_set_up = r.home_set_up;
-    }
+    seeing next' fits up reached numbers held set_up begun own front drawn apart =
+        changed next' r.serving r.mark s.homes r.front record {
+          order = le_trans r.order up;
+          fits = fits;
+          next_up = up;
+          serving_up = le_refl r.serving;
+          reached = reached;
+          numbers = numbers;
+          set_up = set_up;
+          others_drawn = λ seat t _ a. (r.drawn seat t a).0;
+          drawn = drawn;
+          apart = apart;
+          out = λ seat t a. r.out seat t (at_back held_of s.views id v w here held seat t a);
+          home = λ nobody. r.home (λ seat t a. nobody seat t (at_forth held_of s.views id v w here held seat t a));
+          grows = begins_same r.front r.front refl;
+          others_held = λ seat t u _ at e. r.held seat t u at e;
+          held = front;
+          rests = r.rests;
+          served = r.served;
+          legal = r.legal;
+          told = r.told;
+          begun = begun;
+          own = own;
+          others_own = λ seat u _ at. r.own seat u at;
+          home_set_up = r.home_set_up;
+        }
 
   -- the same, where the seat sees what it saw before
   module _ (s : Table) (r : Rule s) (id : ℕ) (k k' : Known C R S) (here : get_elem? s.views id ≡ some (Knows k)) where
-    pub unmoved : (next' : ℕ) → next' < 2 ^ 64 → r.next ≤ next' → (k'.next ≤ next') × (k'.serving ≤ r.serving) → k'.numbers ≡ k.numbers → held_at k'.stage ≡ held_at k.stage
+    pub unmoved : (next' : ℕ) → next' < 2 ^ 64 → r.next ≤ next' → (k'.next ≤ next') × (k'.serving ≤ r.serving)
+        → k'.numbers ≡ k.numbers → held_at k'.stage ≡ held_at k.stage
         → k'.setup ≡ k.setup → k'.seen ≡ k.seen
-        → ((t : ℕ) → ticket_at k'.stage ≡ Some t → (r.serving ≤ t) × (t < next')) → ((seat t : ℕ) → ticket_at k'.stage ≡ Some t → seat ≢ id → At ticket_of s.views seat t → ⊥)
-        → Rule record { words = next' ∷ r.serving ∷ r.mark ∷ r.others; homes = s.homes; views = set s.views id (Knows k') }
-    unmoved next' fits up reached numbers held setup seen drawn apart = seeing s r id (Knows k) (Knows k') here next' fits up reached numbers held (setup ∙ r.set_up id (Knows k) here)
-        (subst (λ (l : Log). BeginsWith r.front l) (sym seen) (r.begun id (Knows k) here)) (own_same k k' r.front numbers seen (r.own id (Knows k) here)) (λ t e. seen ∙ r.held id t (Knows k) here (sym held ∙ e)) drawn apart
+        → ((t : ℕ) → ticket_at k'.stage ≡ Some t → (r.serving ≤ t) × (t < next'))
+        → ((seat t : ℕ) → ticket_at k'.stage ≡ Some t → seat ≢ id → At ticket_of s.views seat t → ⊥)
+        → Rule record {
+          words = next' ∷ r.serving ∷ r.mark ∷ r.others;
+          homes = s.homes;
+          views =
+              set s.views id (Knows k');
+        }
+    unmoved next' fits up reached numbers held setup seen drawn apart =
+        seeing s r id (Knows k) (Knows k') here next' fits up reached numbers held (setup ∙ r.set_up id (Knows k) here)
+        (subst (λ (l : Log). BeginsWith r.front l) (sym seen) (r.begun id (Knows k) here))
+        (own_same k k' r.front numbers seen (r.own id (Knows k) here))
+        (λ t e. seen ∙ r.held id t (Knows k) here (sym held ∙ e)) drawn apart

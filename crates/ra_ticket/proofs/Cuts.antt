@@ -1,5 +1,6 @@
 -- The first state keeps the rule of the lock, and so does a seat that is cut in two.
-use Rattle.std.proofs.Common.{◌≡◌, ◌≢◌, ◌⊎◌, ℕ, zero, suc, ◌+◌, ◌^◌, ◌<◌, ◌≤◌, List, [], ◌∷◌, ◌++◌, length, set, Option, Some, None, refl, sym, ap, ◌∙◌, subst, ⊎_elim, inl, inr, le_refl, arith, length-set}
+use Rattle.std.proofs.Common.{◌≡◌, ◌≢◌, ◌⊎◌, ℕ, zero, suc, ◌+◌, ◌^◌, ◌<◌, ◌≤◌, List, [], ◌∷◌, ◌++◌, length, set, Option}
+use Rattle.std.proofs.Common.{Some, None, refl, sym, ap, ◌∙◌, subst, ⊎_elim, inl, inr, le_refl, arith, length-set}
 use mathlib.Core.Logic.{dite}
 use mathlib.Core.Option.{some, some-ne-none, some-injective}
 use native.Mathlib.Decide.{ℕ_discrete}
@@ -14,18 +15,23 @@ use Rattle.ra_ticket.specs.declared.board.Known.{Known}
 use Rattle.ra_ticket.specs.declared.board.Stage.TheVariants.{Idle}
 use Rattle.ra_journal.specs.Log.{Readings, AllBelow}
 use Rattle.ra_ticket.specs.Mark.{IsMarkOf}
-use Rattle.ra_ticket.specs.Views.{stage_of, numbers_of, next_of, serving_of, ticket_at, ticket_of, held_at, held_of, setup_of, seen_of, HasBegun, HasOwn, IsSetUp, starting, first_only, others_only, first_pass, other_passes}
+use Rattle.ra_ticket.specs.Views.{stage_of, numbers_of, next_of, serving_of, ticket_at, ticket_of, held_at, held_of}
+use Rattle.ra_ticket.specs.Views.{setup_of, seen_of, HasBegun, HasOwn, IsSetUp, starting, first_only, others_only}
+use Rattle.ra_ticket.specs.Views.{first_pass, other_passes}
 use Rattle.ra_ticket.specs.Rule.{At, SitsAt, TurnsKept}
 use Rattle.ra_ticket.proofs.Seats.{inside}
 use Rattle.ra_ticket.proofs.Logs.{begins_same}
 use Rattle.std.proofs.lemmas.List.Elements.{All-nil}
 
 -- an element of a list with one more at its end
-at_end : {A : Type 0} (l : List A) (a b : A) (j : ℕ) → get_elem? (l ++ a ∷ []) j ≡ some b → ((j < length l) × (get_elem? l j ≡ some b)) ⊎ ((j ≡ length l) × (a ≡ b))
+at_end : {A : Type 0} (l : List A) (a b : A) (j : ℕ) → get_elem? (l ++ a ∷ []) j ≡ some b
+    → ((j < length l) × (get_elem? l j ≡ some b)) ⊎ ((j ≡ length l) × (a ≡ b))
 at_end [] a b zero e = inr (refl, some-injective a b e)
 at_end [] a b (suc j) e = absurd (some-ne-none b (sym e))
 at_end (x ∷ xs) a b zero e = inl (omega arith, e)
-at_end (x ∷ xs) a b (suc j) e = ⊎_elim (λ (t : (j < length xs) × (get_elem? xs j ≡ some b)). let l = t.0 in inl (omega arith, t.1)) (λ (t : (j ≡ length xs) × (a ≡ b)). inr (ap suc t.0, t.1)) (at_end xs a b j e)
+at_end (x ∷ xs) a b (suc j) e =
+    ⊎_elim (λ (t : (j < length xs) × (get_elem? xs j ≡ some b)). let l = t.0 in inl (omega arith, t.1))
+    (λ (t : (j ≡ length xs) × (a ≡ b)). inr (ap suc t.0, t.1)) (at_end xs a b j e)
 
 -- the j-th of some numbers from k on
 number_at : (k n j x : ℕ) → get_elem? (range_with_len k n) j ≡ some x → x ≡ k + j
@@ -51,7 +57,8 @@ module _ {M C R S : Type 0} (j : Readings M C R S) (opened : S) where
   abbrev Rule : State (Option M) (View C R S) → Type 0
   Rule = TurnsKept j opened
 
-  pub starts : (passes first mark : ℕ) (journal : M) → first < 2 ^ 64 → j.setup journal ≡ opened → j.log journal ≡ [] → IsMarkOf j (j.setup journal) (j.log journal) mark
+  pub starts : (passes first mark : ℕ) (journal : M) → first < 2 ^ 64 → j.setup journal ≡ opened → j.log journal ≡ []
+      → IsMarkOf j (j.setup journal) (j.log journal) mark
       → Rule (opening (first ∷ first ∷ mark ∷ []) (Some journal ∷ []) (starting passes first opened))
   starts passes first mark journal fits so empty is_mark = let v : View C R S = starting passes first opened in record {
     next = first;
@@ -61,29 +68,37 @@ module _ {M C R S : Type 0} (j : Readings M C R S) (opened : S) where
     words = refl;
     order = le_refl first;
     fits = fits;
-    reached = λ seat u e. subst (λ (x : View C R S). (next_of x ≤ first) × (serving_of x ≤ first)) (only v u seat e).1 (le_refl first, le_refl first);
+    reached = λ seat u e. subst (λ (x : View C R S). (next_of x ≤ first) × (serving_of x ≤ first)) (only v u seat e).1
+        (le_refl first, le_refl first);
     drawn = λ seat t a. let none_drawn : None ≡ Some t = ap ticket_of (only v a.0 seat a.1).1 ∙ a.2 in absurd (cc);
     tickets_apart = λ a b t p q. (only v p.0 a p.1).0 ∙ sym (only v q.0 b q.1).0;
     out = λ seat t a. let none_held : None ≡ Some t = ap held_of (only v a.0 seat a.1).1 ∙ a.2 in absurd (cc);
     home = λ _. (journal, refl);
     front = [];
     held = λ seat t u at e. let none_held : None ≡ Some t = ap held_of (only v u seat at).1 ∙ e in absurd (cc);
-    rests = λ other at. let is : journal ≡ other = cc in subst (λ (m : M). (j.log m ≡ []) × AllBelow {C = C} {R = R} first []) is (empty, All-nil (λ (e : Entry C R). e.ticket < first));
+    rests = λ other at. let is : journal ≡ other = cc in
+        subst (λ (m : M). (j.log m ≡ []) × AllBelow {C = C} {R = R} first []) is
+        (empty, All-nil (λ (e : Entry C R). e.ticket < first));
     served = All-nil (λ (e : Entry C R). e.ticket < first + 1);
     legal = tt;
-    told = subst (λ (l : List (Entry C R)). IsMarkOf j opened l mark) empty (subst (λ (x : S). IsMarkOf j x (j.log journal) mark) so is_mark);
-    begun = λ seat u e. subst (λ (x : View C R S). HasBegun x []) (only v u seat e).1 (begins_same {C = C} {R = R} [] [] refl);
+    told = subst (λ (l : List (Entry C R)). IsMarkOf j opened l mark) empty
+        (subst (λ (x : S). IsMarkOf j x (j.log journal) mark) so is_mark);
+    begun = λ seat u e. subst (λ (x : View C R S). HasBegun x []) (only v u seat e).1
+        (begins_same {C = C} {R = R} [] [] refl);
     own = λ seat u e. subst (λ (x : View C R S). HasOwn x []) (only v u seat e).1 (λ k n at. refl);
     set_up = λ seat u e. subst (IsSetUp opened) (only v u seat e).1 refl;
     home_set_up = λ other at. let is : journal ≡ other = cc in subst (λ (m : M). j.setup m ≡ opened) is so;
     passes_apart = λ a b j k number p q. (
       (only v p.0 a p.1).0 ∙ sym (only v q.0 b q.1).0,
-      let x : number ≡ 0 + j = number_at 0 passes j number (ap (λ (u : View C R S). get_elem? (numbers_of u) j) (only v p.0 a p.1).1 ∙ p.2) in
-          let y : number ≡ 0 + k = number_at 0 passes k number (ap (λ (u : View C R S). get_elem? (numbers_of u) k) (only v q.0 b q.1).1 ∙ q.2) in omega arith,
+      let x : number ≡ 0 + j = number_at 0 passes j number
+          (ap (λ (u : View C R S). get_elem? (numbers_of u) j) (only v p.0 a p.1).1 ∙ p.2) in
+          let y : number ≡ 0 + k = number_at 0 passes k number
+          (ap (λ (u : View C R S). get_elem? (numbers_of u) k) (only v q.0 b q.1).1 ∙ q.2) in omega arith,
     );
   }
 
-  module _ (s : State (Option M) (View C R S)) (r : Rule s) (id : ℕ) (k : Known C R S) (here : get_elem? s.views id ≡ some (Knows k)) (idle : k.stage ≡ Idle) where
+  module _ (s : State (Option M) (View C R S)) (r : Rule s) (id : ℕ) (k : Known C R S)
+      (here : get_elem? s.views id ≡ some (Knows k)) (idle : k.stage ≡ Idle) where
     abbrev left : View C R S
     left = Knows (record k { numbers = others_only k.numbers })
 
@@ -94,77 +109,117 @@ module _ {M C R S : Type 0} (j : Readings M C R S) (opened : S) where
     cut = set s.views id left ++ right ∷ []
 
     abbrev IsCut : ℕ → View C R S → Type 0
-    IsCut seat u = ((seat ≡ id) × (left ≡ u)) ⊎ (((seat ≢ id) × (get_elem? s.views seat ≡ some u)) ⊎ ((seat ≡ length s.views) × (right ≡ u)))
+    IsCut seat u = ((seat ≡ id) × (left ≡ u))
+        ⊎ (((seat ≢ id) × (get_elem? s.views seat ≡ some u)) ⊎ ((seat ≡ length s.views) × (right ≡ u)))
 
     -- who sits at a seat after the cut
     cut_at : (seat : ℕ) (u : View C R S) → get_elem? cut seat ≡ some u → IsCut seat u
     cut_at seat u e = ⊎_elim
-        (λ (t : (seat < length (set s.views id left)) × (get_elem? (set s.views id left) seat ≡ some u)). ⊎_elim (λ (x : (seat ≡ id) × (left ≡ u)). inl x) (λ (x : (seat ≢ id) × (get_elem? s.views seat ≡ some u)). inr (inl x)) (at_set s.views id seat left u t.1))
-        (λ (t : (seat ≡ length (set s.views id left)) × (right ≡ u)). inr (inr (t.0 ∙ length-set s.views id left, t.1))) (at_end (set s.views id left) right u seat e)
+        (λ (t : (seat < length (set s.views id left)) × (get_elem? (set s.views id left) seat ≡ some u)). ⊎_elim
+        (λ (x : (seat ≡ id) × (left ≡ u)). inl x)
+        (λ (x : (seat ≢ id) × (get_elem? s.views seat ≡ some u)). inr (inl x)) (at_set s.views id seat left u t.1))
+        (λ (t : (seat ≡ length (set s.views id left)) × (right ≡ u)). inr (inr (t.0 ∙ length-set s.views id left, t.1)))
+        (at_end (set s.views id left) right u seat e)
 
     -- a reading that gives nothing at an idle view reads the same as before
-    back : (of : View C R S → Option ℕ) → of left ≡ None → of right ≡ None → (seat t : ℕ) → At of cut seat t → At of s.views seat t
-    back of l i seat t a = ⊎_elim (λ (x : (seat ≡ id) × (left ≡ a.0)). let no : None ≡ Some t = sym l ∙ (ap of x.1 ∙ a.2) in absurd (cc))
-        (λ (y : ((seat ≢ id) × (get_elem? s.views seat ≡ some a.0)) ⊎ ((seat ≡ length s.views) × (right ≡ a.0))). ⊎_elim (λ (x : (seat ≢ id) × (get_elem? s.views seat ≡ some a.0)). (a.0, x.1, a.2))
-        (λ (x : (seat ≡ length s.views) × (right ≡ a.0)). let no : None ≡ Some t = sym i ∙ (ap of x.1 ∙ a.2) in absurd (cc)) y) (cut_at seat a.0 a.1)
+    back : (of : View C R S → Option ℕ) → of left ≡ None → of right ≡ None → (seat t : ℕ) → At of cut seat t
+        → At of s.views seat t
+    back of l i seat t a =
+        ⊎_elim (λ (x : (seat ≡ id) × (left ≡ a.0)). let no : None ≡ Some t = sym l ∙ (ap of x.1 ∙ a.2) in absurd (cc))
+        (λ (y : ((seat ≢ id) × (get_elem? s.views seat ≡ some a.0)) ⊎ ((seat ≡ length s.views) × (right ≡ a.0))). ⊎_elim
+        (λ (x : (seat ≢ id) × (get_elem? s.views seat ≡ some a.0)). (a.0, x.1, a.2))
+        (λ (x : (seat ≡ length s.views) × (right ≡ a.0)). let no : None ≡ Some t = sym i ∙ (ap of x.1 ∙ a.2) in
+        absurd (cc)) y) (cut_at seat a.0 a.1)
 
     forth : (of : View C R S → Option ℕ) → of (Knows k) ≡ None → (seat t : ℕ) → At of s.views seat t → At of cut seat t
     forth of i seat t a = dite (ℕ_discrete seat id)
-        (λ e. let no : None ≡ Some t = sym i ∙ (ap of (some-injective (Knows k) a.0 (sym here ∙ (ap (get_elem? s.views) (sym e) ∙ a.1))) ∙ a.2) in absurd (cc))
-        (λ other. (a.0, at_longer (set s.views id left) (right ∷ []) seat a.0 (set_else s.views id seat left other ∙ a.1), a.2))
+        (λ e. let no : None ≡ Some t = sym i
+        ∙ (ap of (some-injective (Knows k) a.0 (sym here ∙ (ap (get_elem? s.views) (sym e) ∙ a.1))) ∙ a.2) in
+        absurd (cc))
+        (λ other. (
+          a.0,
+          at_longer (set s.views id left) (right ∷ []) seat a.0
+              (set_else s.views id seat left other ∙ a.1),
+          a.2,
+        ))
 
     -- where a pass sat before the cut
     abbrev Was : ℕ → ℕ → ℕ → ℕ → Type 0
-    Was seat j seat' j' = ((seat ≡ id) × (seat' ≡ id) × (j' ≡ suc j)) ⊎ (((seat ≢ id) × (seat < length s.views) × (seat' ≡ seat) × (j' ≡ j)) ⊎ ((seat ≡ length s.views) × (seat' ≡ id) × (j' ≡ 0) × (j ≡ 0)))
+    Was seat j seat' j' = ((seat ≡ id) × (seat' ≡ id) × (j' ≡ suc j))
+        ⊎ (((seat ≢ id) × (seat < length s.views) × (seat' ≡ seat) × (j' ≡ j))
+        ⊎ ((seat ≡ length s.views) × (seat' ≡ id) × (j' ≡ 0) × (j ≡ 0)))
 
-    was : (seat j number : ℕ) → SitsAt cut seat j number → (seat' j' : ℕ) × SitsAt s.views seat' j' number × Was seat j seat' j'
+    was : (seat j number : ℕ) → SitsAt cut seat j number → (seat' j' : ℕ) × SitsAt s.views seat' j' number
+        × Was seat j seat' j'
     was seat j number a = ⊎_elim
-        (λ (x : (seat ≡ id) × (left ≡ a.0)). (id, suc j, (Knows k, here, at_others_only k.numbers j number (ap (λ (u : View C R S). get_elem? (numbers_of u) j) x.1 ∙ a.2)), inl (x.0, refl, refl)))
+        (λ (x : (seat ≡ id) × (left ≡ a.0)). (
+          id,
+          suc j,
+          (
+            Knows k,
+            here,
+            at_others_only k.numbers j number
+                (ap (λ (u : View C R S). get_elem? (numbers_of u) j) x.1 ∙ a.2),
+          ),
+          inl (x.0, refl, refl),
+        ))
         (λ (y : ((seat ≢ id) × (get_elem? s.views seat ≡ some a.0)) ⊎ ((seat ≡ length s.views) × (right ≡ a.0))). ⊎_elim
-        (λ (x : (seat ≢ id) × (get_elem? s.views seat ≡ some a.0)). (seat, j, (a.0, x.1, a.2), inr (inl (x.0, inside s.views seat a.0 x.1, refl, refl))))
-        (λ (x : (seat ≡ length s.views) × (right ≡ a.0)). let f = at_first_only k.numbers j number (ap (λ (u : View C R S). get_elem? (numbers_of u) j) x.1 ∙ a.2) in
+        (λ (x : (seat ≢ id) × (get_elem? s.views seat ≡ some a.0)).
+        (seat, j, (a.0, x.1, a.2), inr (inl (x.0, inside s.views seat a.0 x.1, refl, refl))))
+        (λ (x : (seat ≡ length s.views) × (right ≡ a.0)). let f =
+        at_first_only k.numbers j number (ap (λ (u : View C R S). get_elem? (numbers_of u) j) x.1 ∙ a.2) in
         (id, 0, (Knows k, here, f.1), inr (inr (x.0, refl, refl, f.0)))) y)
         (cut_at seat a.0 a.1)
 
     -- who sat in one seat sits in one seat
-    told_apart : (a b i j a' b' i' j' : ℕ) → id < length s.views → (a' ≡ b') × (i' ≡ j') → Was a i a' i' → Was b j b' j' → (a ≡ b) × (i ≡ j)
+    told_apart : (a b i j a' b' i' j' : ℕ) → id < length s.views → (a' ≡ b') × (i' ≡ j') → Was a i a' i' → Was b j b' j'
+        → (a ≡ b) × (i ≡ j)
     told_apart a b i j a' b' i' j' within same p q = (omega arith, omega arith)
 
     -- what holds of a seat before the cut and of both halves holds of each seat after it
-    each_cut : (P : View C R S → Type 0) → P left → P right → ((seat : ℕ) (u : View C R S) → get_elem? s.views seat ≡ some u → P u)
+    each_cut : (P : View C R S → Type 0) → P left → P right
+        → ((seat : ℕ) (u : View C R S) → get_elem? s.views seat ≡ some u → P u)
         → (seat : ℕ) (u : View C R S) → get_elem? cut seat ≡ some u → P u
     each_cut P l i others seat u e = ⊎_elim (λ (x : (seat ≡ id) × (left ≡ u)). subst P x.1 l)
-        (λ (y : ((seat ≢ id) × (get_elem? s.views seat ≡ some u)) ⊎ ((seat ≡ length s.views) × (right ≡ u))). ⊎_elim (λ (x : (seat ≢ id) × (get_elem? s.views seat ≡ some u)). others seat u x.1)
+        (λ (y : ((seat ≢ id) × (get_elem? s.views seat ≡ some u)) ⊎ ((seat ≡ length s.views) × (right ≡ u))). ⊎_elim
+        (λ (x : (seat ≢ id) × (get_elem? s.views seat ≡ some u)). others seat u x.1)
         (λ (x : (seat ≡ length s.views) × (right ≡ u)). subst P x.1 i) y) (cut_at seat u e)
 
     pub splits_here : Rule record { words = s.words; homes = s.homes; views = cut }
-    splits_here = let no_ticket : ticket_at k.stage ≡ None = ap ticket_at idle in let not_held : held_at k.stage ≡ None = ap held_at idle in record {
-      next = r.next;
-      serving = r.serving;
-      mark = r.mark;
-      others = r.others;
-      words = r.words;
-      order = r.order;
-      fits = r.fits;
-      reached = let low = r.reached id (Knows k) here in each_cut (λ (z : View C R S). (next_of z ≤ r.next) × (serving_of z ≤ r.serving)) low low r.reached;
-      drawn = λ seat t a. r.drawn seat t (back ticket_of no_ticket no_ticket seat t a);
-      tickets_apart = λ a b t p q. r.tickets_apart a b t (back ticket_of no_ticket no_ticket a t p) (back ticket_of no_ticket no_ticket b t q);
-      out = λ seat t a. r.out seat t (back held_of not_held not_held seat t a);
-      home = λ nobody. r.home (λ seat t a. nobody seat t (forth held_of not_held seat t a));
-      front = r.front;
-      held = λ seat t u at. each_cut (λ (z : View C R S). held_of z ≡ Some t → seen_of z ≡ r.front) (λ e. let no = not_held in absurd (cc)) (λ e. let no = not_held in absurd (cc)) (λ a x there. r.held a t x there) seat u at;
-      rests = r.rests;
-      served = r.served;
-      legal = r.legal;
-      told = r.told;
-      begun = let b = r.begun id (Knows k) here in each_cut (λ (z : View C R S). HasBegun z r.front) b b r.begun;
-      own = each_cut (λ (z : View C R S). HasOwn z r.front) (λ i n at. r.own id (Knows k) here (suc i) n (at_others_only k.numbers i n at))
-          (λ i n at. r.own id (Knows k) here 0 n (at_first_only k.numbers i n at).1) r.own;
-      passes_apart = λ a b i j number p q. let x = was a i number p in let y = was b j number q in
-          told_apart a b i j x.0 y.0 x.1 y.1 (inside s.views id (Knows k) here) (r.passes_apart x.0 y.0 x.1 y.1 number x.2 y.2) x.3 y.3;
-      set_up = let b = r.set_up id (Knows k) here in each_cut (IsSetUp opened) b b r.set_up;
-      home_set_up = r.home_set_up;
-    }
+    splits_here = let no_ticket : ticket_at k.stage ≡ None = ap ticket_at idle in
+        let not_held : held_at k.stage ≡ None = ap held_at idle in record {
+          next = r.next;
+          serving = r.serving;
+          mark = r.mark;
+          others = r.others;
+          words = r.words;
+          order = r.order;
+          fits = r.fits;
+          reached = let low = r.reached id (Knows k) here in
+              each_cut (λ (z : View C R S). (next_of z ≤ r.next) × (serving_of z ≤ r.serving)) low low r.reached;
+          drawn = λ seat t a. r.drawn seat t (back ticket_of no_ticket no_ticket seat t a);
+          tickets_apart = λ a b t p q. r.tickets_apart a b t (back ticket_of no_ticket no_ticket a t p)
+              (back ticket_of no_ticket no_ticket b t q);
+          out = λ seat t a. r.out seat t (back held_of not_held not_held seat t a);
+          home = λ nobody. r.home (λ seat t a. nobody seat t (forth held_of not_held seat t a));
+          front = r.front;
+          held = λ seat t u at. each_cut (λ (z : View C R S). held_of z ≡ Some t → seen_of z ≡ r.front)
+              (λ e. let no = not_held in absurd (cc)) (λ e. let no = not_held in absurd (cc))
+              (λ a x there. r.held a t x there) seat u at;
+          rests = r.rests;
+          served = r.served;
+          legal = r.legal;
+          told = r.told;
+          begun = let b = r.begun id (Knows k) here in each_cut (λ (z : View C R S). HasBegun z r.front) b b r.begun;
+          own = each_cut (λ (z : View C R S). HasOwn z r.front)
+              (λ i n at. r.own id (Knows k) here (suc i) n (at_others_only k.numbers i n at))
+              (λ i n at. r.own id (Knows k) here 0 n (at_first_only k.numbers i n at).1) r.own;
+          passes_apart = λ a b i j number p q. let x = was a i number p in let y = was b j number q in
+              told_apart a b i j x.0 y.0 x.1 y.1 (inside s.views id (Knows k) here)
+              (r.passes_apart x.0 y.0 x.1 y.1 number x.2 y.2) x.3 y.3;
+          set_up = let b = r.set_up id (Knows k) here in each_cut (IsSetUp opened) b b r.set_up;
+          home_set_up = r.home_set_up;
+        }
 
   -- an idle seat is cut in two
   pub splits : (id : ℕ) (v : View C R S) → stage_of v ≡ Some Idle → Splits Rule id v (other_passes v) (first_pass v)
@@ -187,7 +242,8 @@ pub record AreCut {C R S : Type 0} (v : View C R S) (k n : ℕ) : Type 0 where
   pub seen : seen_of (other_passes v) ≡ seen_of v
   pub first_seen : seen_of (first_pass v) ≡ seen_of v
 
-pub are_cut : {C R S : Type 0} (v : View C R S) (k n : ℕ) → stage_of v ≡ Some Idle → numbers_of v ≡ range_with_len k (suc n) → AreCut v k n
+pub are_cut : {C R S : Type 0} (v : View C R S) (k n : ℕ) → stage_of v ≡ Some Idle
+    → numbers_of v ≡ range_with_len k (suc n) → AreCut v k n
 are_cut Spent k n idle numbers = absurd (cc)
 are_cut (Met w u) k n idle numbers = absurd (cc)
 are_cut (Knows w) k n idle numbers = record {

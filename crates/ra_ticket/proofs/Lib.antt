@@ -1,13 +1,14 @@
 pub mod Seats
 pub mod Changes
+pub mod Steps
 pub mod Moves
 pub mod Cuts
 pub mod Closings
 pub mod Meetings
-pub mod Parting
+pub mod Partings
 pub mod Pushes
 pub mod Tickets
 pub mod Logs
 pub mod Journals
 pub mod Marks
-pub mod Owns
+pub mod OwnPasses

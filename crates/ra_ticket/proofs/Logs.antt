@@ -1,5 +1,5 @@
 -- Legal logs, and what a log begins with.
-use Rattle.std.proofs.Common.{◌≡◌, ℕ, List, [], ◌∷◌, ◌++◌, Option, Some, None, IfSome, refl, sym, ap, ◌∙◌, subst}
+use Rattle.std.proofs.Common.{◌≡◌, ℕ, List, [], ◌∷◌, ◌++◌, Some, refl, sym, ap, ◌∙◌, subst}
 use Rattle.std.proofs.lemmas.List.{append-nil, append_assoc}
 use Rattle.ra_journal.specs.declared.entry.Entry.{Entry}
 use Rattle.ra_ticket.specs.declared.board.View.{View}
@@ -18,10 +18,12 @@ module _ {C R : Type 0} where
       (q.0 ++ p.0, p.1 ∙ (ap (λ (l : List (Entry C R)). l ++ p.0) q.1 ∙ append_assoc zs q.0 p.0))
 
   -- what a seat has seen of a log it has seen of a longer one
-  pub begun_more : {S : Type 0} (v : View C R S) (log more : List (Entry C R)) → BeginsWith more log → HasBegun v log → HasBegun v more
+  pub begun_more : {S : Type 0} (v : View C R S) (log more : List (Entry C R)) → BeginsWith more log → HasBegun v log
+      → HasBegun v more
   begun_more Spent log more grows begun = tt
   begun_more (Knows k) log more grows begun = begins_trans more log k.seen grows begun
-  begun_more (Met k l) log more grows begun = (begins_trans more log k.seen grows begun.0, begins_trans more log l.seen grows begun.1)
+  begun_more (Met k l) log more grows begun =
+      (begins_trans more log k.seen grows begun.0, begins_trans more log l.seen grows begun.1)
 
   module _ (answer : List (Entry C R) → C → R) where
     legal_after : (before log : List (Entry C R)) (e : Entry C R) → IsLegalAfter answer before log
@@ -56,13 +58,3 @@ module _ {M C R S : Type 0} (j : Readings M C R S) where
       above_last (seen_of v) t entered.below,
     );
   }
-
-module _ {C R S : Type 0} (reply_of : S → List (Entry C R) → C → R) where
-  -- no entry is a legal log
-  pub legal_none : (o : Option S) (log : List (Entry C R)) → log ≡ [] → IfSome o (λ s. IsLegal (reply_of s) log)
-  legal_none None log e = tt
-  legal_none (Some s) log e = subst (IsLegal (reply_of s)) (sym e) tt
-
-  -- a log that is legal under this setup
-  pub legal_so : (o : Option S) (log : List (Entry C R)) (s : S) → o ≡ Some s → IsLegal (reply_of s) log → IfSome o (λ x. IsLegal (reply_of x) log)
-  legal_so o log s e legal = subst (λ (p : Option S). IfSome p (λ x. IsLegal (reply_of x) log)) (sym e) legal

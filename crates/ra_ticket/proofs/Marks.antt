@@ -24,13 +24,18 @@ module _ {M C R S : Type 0} (j : Readings M C R S) (v : View C R S) (mark calls 
       go : (u : View C R S) → stage_of u ≡ Some Idle → IsTold j u mark → calls ≡ length (seen_of u)
       go Spent idle told = absurd (cc)
       go (Met k l) idle told = absurd (cc)
-      go (Knows k) idle told = (off (length k.seen) (j.fault_of k.setup k.seen) (numbered (j.fault_of k.setup k.seen) (length k.seen) told.1.below told.1.short) told.1.marked).0
+      go (Knows k) idle told =
+          (off (length k.seen) (j.fault_of k.setup k.seen)
+          (numbered (j.fault_of k.setup k.seen) (length k.seen) told.1.below told.1.short) told.1.marked).0
 
   -- and the fault is that of what it has seen
-  pub told_fault : IsTold j v mark → IsReadOff mark calls fault → IfSome (setup_of v) (λ s. fault ≡ j.fault_of s (seen_of v))
+  pub told_fault : IsTold j v mark → IsReadOff mark calls fault
+      → IfSome (setup_of v) (λ s. fault ≡ j.fault_of s (seen_of v))
   told_fault told off = go v told
     where
       go : (u : View C R S) → IsTold j u mark → IfSome (setup_of u) (λ s. fault ≡ j.fault_of s (seen_of u))
       go Spent told = tt
       go (Met k l) told = tt
-      go (Knows k) told = (off (length k.seen) (j.fault_of k.setup k.seen) (numbered (j.fault_of k.setup k.seen) (length k.seen) told.1.below told.1.short) told.1.marked).1
+      go (Knows k) told =
+          (off (length k.seen) (j.fault_of k.setup k.seen)
+          (numbered (j.fault_of k.setup k.seen) (length k.seen) told.1.below told.1.short) told.1.marked).1

@@ -21,11 +21,14 @@ pub each_after : {C R S : Type 0} (P : View C R S → Type 0) (views : List (Vie
 each_after P views id w new others seat u at = ⊎_elim (λ (t : (seat ≡ id) × (w ≡ u)). subst P t.1 new)
     (λ (t : (seat ≢ id) × (get_elem? views seat ≡ some u)). others seat u t.0 t.1) (at_set views id seat w u at)
 
-module _ {C R S X : Type 0} (of : View C R S → Option X) (views : List (View C R S)) (id : ℕ) (v w : View C R S) (here : get_elem? views id ≡ some v) where
+module _ {C R S X : Type 0} (of : View C R S → Option X) (views : List (View C R S)) (id : ℕ) (v w : View C R S)
+    (here : get_elem? views id ≡ some v) where
   -- what stands at a seat after the change stood there before, or is new at the seat id
-  pub at_after : (seat : ℕ) (x : X) → At of (set views id w) seat x → ((seat ≡ id) × (of w ≡ Some x)) ⊎ ((seat ≢ id) × At of views seat x)
+  pub at_after : (seat : ℕ) (x : X) → At of (set views id w) seat x
+      → ((seat ≡ id) × (of w ≡ Some x)) ⊎ ((seat ≢ id) × At of views seat x)
   at_after seat x a = ⊎_elim (λ (t : (seat ≡ id) × (w ≡ a.0)). inl (t.0, ap of t.1 ∙ a.2))
-      (λ (t : (seat ≢ id) × (get_elem? views seat ≡ some a.0)). inr (t.0, (a.0, t.1, a.2))) (at_set views id seat w a.0 a.1)
+      (λ (t : (seat ≢ id) × (get_elem? views seat ≡ some a.0)). inr (t.0, (a.0, t.1, a.2)))
+      (at_set views id seat w a.0 a.1)
 
   -- what stood at another seat stands there still
   pub at_others : (seat : ℕ) (x : X) → seat ≢ id → At of views seat x → At of (set views id w) seat x
@@ -37,7 +40,8 @@ module _ {C R S X : Type 0} (of : View C R S → Option X) (views : List (View C
   -- where the reading stays, what stands at a seat is what stood there
   module _ (same : of w ≡ of v) where
     pub at_back : (seat : ℕ) (x : X) → At of (set views id w) seat x → At of views seat x
-    at_back seat x a = ⊎_elim (λ (t : (seat ≡ id) × (of w ≡ Some x)). subst (λ (k : ℕ). At of views k x) (sym t.0) (v, here, sym same ∙ t.1))
+    at_back seat x a = ⊎_elim
+        (λ (t : (seat ≡ id) × (of w ≡ Some x)). subst (λ (k : ℕ). At of views k x) (sym t.0) (v, here, sym same ∙ t.1))
         (λ (t : (seat ≢ id) × At of views seat x). t.1) (at_after seat x a)
 
     pub at_forth : (seat : ℕ) (x : X) → At of views seat x → At of (set views id w) seat x
@@ -47,9 +51,12 @@ module _ {C R S X : Type 0} (of : View C R S → Option X) (views : List (View C
         (λ other. at_others seat x other a)
 
   -- a seat with a value that no other seat has keeps them apart
-  pub apart_after : ((a b : ℕ) (x : X) → At of views a x → At of views b x → a ≡ b) → ((seat : ℕ) (x : X) → of w ≡ Some x → seat ≢ id → At of views seat x → ⊥)
+  pub apart_after : ((a b : ℕ) (x : X) → At of views a x → At of views b x → a ≡ b)
+      → ((seat : ℕ) (x : X) → of w ≡ Some x → seat ≢ id → At of views seat x → ⊥)
       → (a b : ℕ) (x : X) → At of (set views id w) a x → At of (set views id w) b x → a ≡ b
   apart_after apart new a b x p q = ⊎_elim
-      (λ (s : (a ≡ id) × (of w ≡ Some x)). ⊎_elim (λ (t : (b ≡ id) × (of w ≡ Some x)). s.0 ∙ sym t.0) (λ (t : (b ≢ id) × At of views b x). absurd (new b x s.1 t.0 t.1)) (at_after b x q))
-      (λ (s : (a ≢ id) × At of views a x). ⊎_elim (λ (t : (b ≡ id) × (of w ≡ Some x)). absurd (new a x t.1 s.0 s.1)) (λ (t : (b ≢ id) × At of views b x). apart a b x s.1 t.1) (at_after b x q))
+      (λ (s : (a ≡ id) × (of w ≡ Some x)). ⊎_elim (λ (t : (b ≡ id) × (of w ≡ Some x)). s.0 ∙ sym t.0)
+      (λ (t : (b ≢ id) × At of views b x). absurd (new b x s.1 t.0 t.1)) (at_after b x q))
+      (λ (s : (a ≢ id) × At of views a x). ⊎_elim (λ (t : (b ≡ id) × (of w ≡ Some x)). absurd (new a x t.1 s.0 s.1))
+      (λ (t : (b ≢ id) × At of views b x). apart a b x s.1 t.1) (at_after b x q))
       (at_after a x p)

@@ -1,13 +1,14 @@
 -- The tickets in a log, before and after a step.
-use Rattle.std.proofs.Common.{◌≡◌, ℕ, zero, suc, ◌+◌, ◌<◌, List, [], ◌∷◌, ◌++◌, Some, Result, Ok, Err, IfOk, OnErr, option_map, slice_get, length, ◌-◌, sym, subst, arith}
+use Rattle.std.proofs.Common.{◌≡◌, ℕ, zero, suc, ◌+◌, ◌<◌, List, [], ◌∷◌, Some, option_map, slice_get, length, ◌-◌, subst, arith}
 use Rattle.ra_journal.specs.declared.entry.Entry.{Entry}
-use Rattle.ra_journal.specs.Log.{entry, AllBelow, IsAboveLast}
-use Rattle.std.proofs.lemmas.List.Elements.{All-push}
+use Rattle.ra_journal.specs.Log.{AllBelow, IsAboveLast}
 
 module _ {C R : Type 0} where
-  at_below : (log : List (Entry C R)) (t k : ℕ) → AllBelow t log → (x : ℕ) → option_map (λ (e : Entry C R). e.ticket) (slice_get log k) ≡ Some x → x < t
+  at_below : (log : List (Entry C R)) (t k : ℕ) → AllBelow t log → (x : ℕ)
+      → option_map (λ (e : Entry C R). e.ticket) (slice_get log k) ≡ Some x → x < t
   at_below [] t k below x e = absurd (cc)
-  at_below (y ∷ ys) t zero below x e = let is : y.ticket ≡ x = cc in subst (λ (n : ℕ). n < t) is (below 0 y (omega arith))
+  at_below (y ∷ ys) t zero below x e = let is : y.ticket ≡ x = cc in
+      subst (λ (n : ℕ). n < t) is (below 0 y (omega arith))
   at_below (y ∷ ys) t (suc k) below x e = at_below ys t k (λ j d l. below (suc j) d (omega arith)) x e
 
   -- a ticket above all is above the last
@@ -16,10 +17,3 @@ module _ {C R : Type 0} where
 
   pub below_more : (log : List (Entry C R)) (t : ℕ) → AllBelow t log → AllBelow (t + 1) log
   below_more log t below k d l = let b = below k d l in omega arith
-
-  -- an entry with the ticket t, or none, is added to a log whose tickets are below t
-  pub stepped_below : {F : Type 0} (t : ℕ) (log log' : List (Entry C R)) (pass : ℕ) (command : C) (outcome : Result R F) → AllBelow t log
-      → IfOk outcome (λ r. log' ≡ log ++ entry pass t command r ∷ []) → OnErr outcome (log' ≡ log) → AllBelow (t + 1) log'
-  stepped_below t log log' pass command (Ok r) below logged unchanged = subst (AllBelow (t + 1)) (sym logged)
-      (All-push (λ (e : Entry C R). e.ticket < t + 1) log (entry pass t command r) (below_more log t below) (omega arith))
-  stepped_below t log log' pass command (Err f) below logged unchanged = subst (AllBelow (t + 1)) (sym unchanged) (below_more log t below)

@@ -9,5 +9,7 @@ pub compare_exchange-requires : goal.compare_exchange-requires
 compare_exchange-requires g c = (
   search rules,
   search rules,
-  draws (of_journal g.M.Journal) _ _ _ _ _ c.args.ticket (step c.args.board.now.table_id.slots 0 c.args.ticket (c.args.ticket + 1) none) refl refl (omega arith) c.requires.idle,
+  draws (of_journal g.M.Journal) _ _ _ _ _ c.args.ticket
+      (step c.args.board.now.table_id.slots 0 c.args.ticket (c.args.ticket + 1) none) refl refl
+      (omega arith) c.requires.idle,
 )

@@ -6,4 +6,5 @@ use Rattle.ra_ticket.proofs.Moves.{glances}
 use Rattle.ra_ticket.proofs.glance.look_at_mark.Goals as goal
 
 pub load-requires : goal.load-requires
-load-requires g c = (search rules, search rules, glances (of_journal g.M.Journal) _ _ _ _ _ (step 1 2 0 0 none) c.requires.idle)
+load-requires g c =
+    (search rules, search rules, glances (of_journal g.M.Journal) _ _ _ _ _ (step 1 2 0 0 none) c.requires.idle)

@@ -6,7 +6,12 @@ use Rattle.ra_ticket.proofs.Meetings.{looks_together}
 use Rattle.ra_ticket.proofs.meet.look_together.Goals as goal
 
 pub load-requires : goal.load-requires
-load-requires g c = let both = c.requires.both in (search rules, search rules, looks_together (of_journal g.M.Journal) _ _ _ both.0 both.1 _ _ (step 1 2 0 0 none) both.2)
+load-requires g c = let both = c.requires.both in (
+  search rules,
+  search rules,
+  looks_together (of_journal g.M.Journal) _ _ _ both.0 both.1 _ _
+      (step 1 2 0 0 none) both.2,
+)
 
 pub returns-clause-slot : goal.returns-clause-slot
 returns-clause-slot g c = let both = c.requires.both in (c.load.ensures.2 both.0 both.1 both.2).1

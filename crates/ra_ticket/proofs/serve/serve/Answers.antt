@@ -10,7 +10,8 @@ publish-requires-clause-ahead g c κs within = (
   c.args.ticket,
   search rules,
   search rules,
-  is_ahead (of_journal g.M.Journal) c.args.seat.now.me.0 c.args.ticket c.args.number c.args.journal c.step.new.self c.args.command c.in-Ok.reply
+  is_ahead (of_journal g.M.Journal) c.args.seat.now.me.0 c.args.ticket c.args.number c.args.journal c.step.new.self
+      c.args.command c.in-Ok.reply
       c.requires.entered (search rules) (search rules) (search rules) (search rules),
 )
 

@@ -12,7 +12,8 @@ loop-pass-preserved g c =
     let dealt = c.loop-pass.yielded in
     let pass = c.in-Some.pass in
     let steps = c.in-Some.ensures.steps.0 in record {
-      given = rw c.in_ok-push.ensures.items (map-append pass_of c.loop-pass.callers.items _ ∙ ap (λ ps. ps ++ pass ∷ []) was.given);
+      given = rw c.in_ok-push.ensures.items
+          (map-append pass_of c.loop-pass.callers.items _ ∙ ap (λ ps. ps ++ pass ∷ []) was.given);
       left = was.left ∙ (ap (λ rest. dealt ++ rest) steps ∙ sym (append_assoc dealt (pass ∷ []) _));
       own = All-rest (IsPassOf (arc_value c.args.lock.now)) pass _ _ steps was.own;
     }

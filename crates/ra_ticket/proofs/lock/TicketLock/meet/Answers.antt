@@ -4,25 +4,51 @@ use Rattle.ra_ticket.proofs.Marks.{told_calls}
 use Rattle.ra_ticket.proofs.lock.TicketLock.meet.Goals as goal
 
 pub invariant_of-first : goal.invariant_of-first
-invariant_of-first g c = let its = (c.look_and_part-own.ensures.parted _ _ c.args.first.numbered c.args.second.numbered).0 in record { numbered = its.numbers; idle = its.idle; empty = search rules }
+invariant_of-first g c = let its =
+    (c.look_and_part-own.ensures.parted _ _ c.args.first.numbered c.args.second.numbered).0 in
+    record { numbered = its.numbers; idle = its.idle; empty = search rules }
 
 pub invariant_of-second : goal.invariant_of-second
-invariant_of-second g c = let its = (c.look_and_part-own.ensures.parted _ _ c.args.first.numbered c.args.second.numbered).1 in record { numbered = its.numbers; idle = its.idle; empty = search rules }
+invariant_of-second g c = let its =
+    (c.look_and_part-own.ensures.parted _ _ c.args.first.numbered c.args.second.numbered).1 in
+    record { numbered = its.numbers; idle = its.idle; empty = search rules }
 
 pub returns-clause-first : goal.returns-clause-first
-returns-clause-first g c = let its = (c.look_and_part-own.ensures.parted _ _ c.args.first.numbered c.args.second.numbered).0 in
-    record { number = search rules; lock = search rules; next = its.next; serving = its.serving; setup = its.setup; seen_more = its.begins }
+returns-clause-first g c = let its =
+    (c.look_and_part-own.ensures.parted _ _ c.args.first.numbered c.args.second.numbered).0 in
+    record {
+      number = search rules;
+      lock = search rules;
+      next = its.next;
+      serving = its.serving;
+      setup =
+          its.setup;
+      seen_more = its.begins;
+    }
 
 pub returns-clause-second : goal.returns-clause-second
-returns-clause-second g c = let its = (c.look_and_part-own.ensures.parted _ _ c.args.first.numbered c.args.second.numbered).1 in
-    record { number = search rules; lock = search rules; next = its.next; serving = its.serving; setup = its.setup; seen_more = its.begins }
+returns-clause-second g c = let its =
+    (c.look_and_part-own.ensures.parted _ _ c.args.first.numbered c.args.second.numbered).1 in
+    record {
+      number = search rules;
+      lock = search rules;
+      next = its.next;
+      serving = its.serving;
+      setup =
+          its.setup;
+      seen_more = its.begins;
+    }
 
 pub returns-clause-mine_first : goal.returns-clause-mine_first
-returns-clause-mine_first g c = (c.look_and_part-own.ensures.parted _ _ c.args.first.numbered c.args.second.numbered).0.mine
+returns-clause-mine_first g c =
+    (c.look_and_part-own.ensures.parted _ _ c.args.first.numbered c.args.second.numbered).0.mine
 
 pub returns-clause-mine_second : goal.returns-clause-mine_second
-returns-clause-mine_second g c = (c.look_and_part-own.ensures.parted _ _ c.args.first.numbered c.args.second.numbered).1.mine
+returns-clause-mine_second g c =
+    (c.look_and_part-own.ensures.parted _ _ c.args.first.numbered c.args.second.numbered).1.mine
 
 pub returns-clause-calls : goal.returns-clause-calls
-returns-clause-calls g c = told_calls (of_journal g.M.Journal) c.look_and_part-own.result.0.me.0 c.look_and_part-own.result.1 c.read-calls.result.0 c.read-calls.result.1
-    (c.look_and_part-own.ensures.parted _ _ c.args.first.numbered c.args.second.numbered).0.idle c.look_and_part-own.ensures.told.0 c.read-calls.ensures.packed
+returns-clause-calls g c = told_calls (of_journal g.M.Journal)
+    c.look_and_part-own.result.0.me.0 c.look_and_part-own.result.1 c.read-calls.result.0 c.read-calls.result.1
+    (c.look_and_part-own.ensures.parted _ _ c.args.first.numbered c.args.second.numbered).0.idle
+    c.look_and_part-own.ensures.told.0 c.read-calls.ensures.packed
