@@ -41,42 +41,62 @@ use Rattle.ra_laws.proofs.PassingUpdates.{in-named, in-labels, each, each_passes
 use Rattle.ra_laws.proofs.RgaSteps.{split-led, inserted_fits}
 use Rattle.ra_laws.proofs.LastUpdates.{among-does}
 
-below_behind : (kind : Kind) (records : Records) (first later : List Label) (label other : Label) → named_labels kind records ≡ first ++ label ∷ later → Contains later other → label_cmp kind records label other ≡ Less
+below_behind : (kind : Kind) (records : Records) (first later : List Label) (label other : Label)
+    → named_labels kind records ≡ first ++ label ∷ later → Contains later other
+    → label_cmp kind records label other ≡ Less
 below_behind kind records first later label other is there =
     let cmp = label_cmp kind records in
     let total = label_cmp-total kind records in
-    let sorted = sorted_from kind records first later label (subst (IsSorted cmp) is (IsSorted-named_labels kind records)) in
+    let sorted = sorted_from kind records first later label
+    (subst (IsSorted cmp) is (IsSorted-named_labels kind records)) in
     let least = head_least cmp total label later sorted other (behind_head label later other there) in
-    let in_records : (l : Label) → Contains (first ++ label ∷ later) l → Contains (labels_of records) l = λ l found. in-labels kind records l (subst (λ ls. Contains ls l) (sym is) found) in
+    let in_records : (l : Label) → Contains (first ++ label ∷ later) l
+    → Contains (labels_of records) l =
+    λ l found. in-labels kind records l (subst (λ ls. Contains ls l) (sym is) found) in
     let round = differ_round first later label (subst (IsDistinct have_one_number) is (named_differ kind records)) in
     elim (cases_Bool (is_lt (cmp label other))) [
       | inl below ↦ is_less (cmp label other) below
       | inr not_below ↦
-          let tie = (Equal-is (cmp label other)).0 (neither_below (cmp label other) (cmp other label) (total.antisymm label other) not_below least) in
-          let same = same_label kind records label other (in_records label (Contains-append_right first (label ∷ later) label (at_head label later label refl))) (in_records other (Contains-append_right first (label ∷ later) other (behind_head label later other there))) tie in
+          let tie = (Equal-is (cmp label other)).0
+          (neither_below (cmp label other) (cmp other label) (total.antisymm label other) not_below least) in
+          let same =
+          same_label kind records label other
+          (in_records label (Contains-append_right first (label ∷ later) label (at_head label later label refl)))
+          (in_records other
+          (Contains-append_right first (label ∷ later) other (behind_head label later other there))) tie in
           absurd (round.1 other there (sym (ap (λ (l : Label). l.number) same)))
     ]
 
-below_before : (kind : Kind) (records : Records) (first later : List Label) (label other : Label) → named_labels kind records ≡ first ++ label ∷ later → Contains first other → label_cmp kind records other label ≡ Less
+below_before : (kind : Kind) (records : Records) (first later : List Label) (label other : Label)
+    → named_labels kind records ≡ first ++ label ∷ later → Contains first other
+    → label_cmp kind records other label ≡ Less
 below_before kind records first later label other is there =
     let (before, between, split) = split_at first other there in
     let further : named_labels kind records ≡ before ++ other ∷ (between ++ label ∷ later) =
     is ∙ ap (λ ls. ls ++ label ∷ later) split ∙ append_assoc before (other ∷ between) (label ∷ later) in
-    below_behind kind records before (between ++ label ∷ later) other label further (Contains-append_right between (label ∷ later) label (at_head label later label refl))
+    below_behind kind records before (between ++ label ∷ later) other label further
+    (Contains-append_right between (label ∷ later) label (at_head label later label refl))
 
-not_both : (kind : Kind) (records : Records) (l m : Label) → label_cmp kind records l m ≡ Less → label_cmp kind records m l ≡ Less → ⊥
+not_both : (kind : Kind) (records : Records) (l m : Label) → label_cmp kind records l m ≡ Less
+    → label_cmp kind records m l ≡ Less → ⊥
 not_both kind records l m less also =
     let total = label_cmp-total kind records in
     let wrong : Less ≡ ordering_reverse Less = sym less ∙ total.antisymm l m ∙ ap ordering_reverse also in
     cc (wrong)
 
-stands_where : (kind : Kind) (records : Records) (first later : List Label) (label other : Label) → named_labels kind records ≡ first ++ label ∷ later → Contains (labels_of records) other → Contains first other ⊎ ((label ≡ other) ⊎ Contains later other)
-stands_where kind records first later label other is there = elim (Contains-append_cases first (label ∷ later) other (subst (λ ls. Contains ls other) is (in-named kind records other there))) [
-  | inl early ↦ inl early
-  | inr rest ↦ inr (head_or_behind label later other rest)
-]
+stands_where : (kind : Kind) (records : Records) (first later : List Label) (label other : Label)
+    → named_labels kind records ≡ first ++ label ∷ later → Contains (labels_of records) other
+    → Contains first other ⊎ ((label ≡ other) ⊎ Contains later other)
+stands_where kind records first later label other is there =
+    elim (Contains-append_cases first (label ∷ later) other
+    (subst (λ ls. Contains ls other) is (in-named kind records other there))) [
+      | inl early ↦ inl early
+      | inr rest ↦ inr (head_or_behind label later other rest)
+    ]
 
-pub stands-before : (kind : Kind) (records : Records) (first later : List Label) (label other : Label) → named_labels kind records ≡ first ++ label ∷ later → Contains (labels_of records) other → Contains first other ↔ (label_cmp kind records other label ≡ Less)
+pub stands-before : (kind : Kind) (records : Records) (first later : List Label) (label other : Label)
+    → named_labels kind records ≡ first ++ label ∷ later → Contains (labels_of records) other
+    → Contains first other ↔ (label_cmp kind records other label ≡ Less)
 stands-before kind records first later label other is there = (
   (λ early. below_before kind records first later label other is early),
   (λ less. elim (stands_where kind records first later label other is there) [
@@ -84,15 +104,19 @@ stands-before kind records first later label other is there = (
     | inr (inl same) ↦
         let itself : label_cmp kind records other other ≡ Less = ap (label_cmp kind records other) (sym same) ∙ less in
         absurd (not_both kind records other other itself itself)
-    | inr (inr late) ↦ absurd (not_both kind records other label less (below_behind kind records first later label other is late))
+    | inr (inr late) ↦
+        absurd (not_both kind records other label less (below_behind kind records first later label other is late))
   ]),
 )
 
-pub stands-behind : (kind : Kind) (records : Records) (first later : List Label) (label other : Label) → named_labels kind records ≡ first ++ label ∷ later → Contains (labels_of records) other → Contains later other ↔ (label_cmp kind records label other ≡ Less)
+pub stands-behind : (kind : Kind) (records : Records) (first later : List Label) (label other : Label)
+    → named_labels kind records ≡ first ++ label ∷ later → Contains (labels_of records) other
+    → Contains later other ↔ (label_cmp kind records label other ≡ Less)
 stands-behind kind records first later label other is there = (
   (λ late. below_behind kind records first later label other is late),
   (λ less. elim (stands_where kind records first later label other is there) [
-    | inl early ↦ absurd (not_both kind records label other less (below_before kind records first later label other is early))
+    | inl early ↦
+        absurd (not_both kind records label other less (below_before kind records first later label other is early))
     | inr (inl same) ↦
         let itself : label_cmp kind records label label ≡ Less = ap (label_cmp kind records label) same ∙ less in
         absurd (not_both kind records label label itself itself)
@@ -101,7 +125,8 @@ stands-behind kind records first later label other is there = (
 )
 
 -- and stands at one place
-split_once : (xs ys zs ws : List Label) (l : Label) → ((y : Label) → Contains xs y → ¬ (y.number ≡ l.number)) → ((y : Label) → Contains zs y → ¬ (y.number ≡ l.number)) → xs ++ l ∷ ys ≡ zs ++ l ∷ ws → (xs ≡ zs) × (ys ≡ ws)
+split_once : (xs ys zs ws : List Label) (l : Label) → ((y : Label) → Contains xs y → ¬ (y.number ≡ l.number))
+    → ((y : Label) → Contains zs y → ¬ (y.number ≡ l.number)) → xs ++ l ∷ ys ≡ zs ++ l ∷ ws → (xs ≡ zs) × (ys ≡ ws)
 split_once [] ys [] ws l others also is = (refl, cc (is))
 split_once [] ys (z ∷ zs) ws l others also is =
     let head : l ≡ z = cc (is) in
@@ -112,17 +137,22 @@ split_once (x ∷ xs) ys [] ws l others also is =
 split_once (x ∷ xs) ys (z ∷ zs) ws l others also is =
     let head : x ≡ z = cc (is) in
     let tail : xs ++ l ∷ ys ≡ zs ++ l ∷ ws = cc (is) in
-    let rest = split_once xs ys zs ws l (λ y found. others y (behind_head x xs y found)) (λ y found. also y (behind_head z zs y found)) tail in
+    let rest = split_once xs ys zs ws l (λ y found. others y (behind_head x xs y found))
+    (λ y found. also y (behind_head z zs y found)) tail in
     ((λ i. head i ∷ rest.0 i), rest.1)
 
-pub one-place : (kind : Kind) (records : Records) (before behind first later : List Label) (label : Label) → named_labels kind records ≡ before ++ label ∷ behind → named_labels kind records ≡ first ++ label ∷ later → (before ≡ first) × (behind ≡ later)
+pub one-place : (kind : Kind) (records : Records) (before behind first later : List Label) (label : Label)
+    → named_labels kind records ≡ before ++ label ∷ behind → named_labels kind records ≡ first ++ label ∷ later
+    → (before ≡ first) × (behind ≡ later)
 one-place kind records before behind first later label is also =
     let round = differ_round before behind label (subst (IsDistinct have_one_number) is (named_differ kind records)) in
-    let round_too = differ_round first later label (subst (IsDistinct have_one_number) also (named_differ kind records)) in
+    let round_too =
+    differ_round first later label (subst (IsDistinct have_one_number) also (named_differ kind records)) in
     split_once before behind first later label round.0 round_too.0 (sym is ∙ also)
 
 -- what is there by the updates of labels
-pub there-among : (passes : ℕ → Bool) (labels : List Label) (x : ℕ) → is_there x (updates_among passes labels) ≡ true → (x ≡ 0) ⊎ OnePutsIn x labels
+pub there-among : (passes : ℕ → Bool) (labels : List Label) (x : ℕ) → is_there x (updates_among passes labels) ≡ true
+    → (x ≡ 0) ⊎ OnePutsIn x labels
 there-among passes labels x is = elim ((there-exactly x (updates_among passes labels)).0 is) [
   | inl root ↦ inl root
   | inr (anchor, found) ↦
@@ -130,20 +160,31 @@ there-among passes labels x is = elim ((there-exactly x (updates_among passes la
       inr (m, anchor, m_there, makes)
 ]
 
-pub there-all : (labels : List Label) (x : ℕ) → (is_there x (updates_of (flat_map parts_of labels)) ≡ true) ↔ ((x ≡ 0) ⊎ OnePutsIn x labels)
+pub there-all : (labels : List Label) (x : ℕ) → (is_there x (updates_of (flat_map parts_of labels)) ≡ true)
+    ↔ ((x ≡ 0) ⊎ OnePutsIn x labels)
 there-all labels x = (
   (λ is. there-among each labels x (ap (is_there x) (each_passes labels) ∙ is)),
   (λ known. (there-exactly x (updates_of (flat_map parts_of labels))).1 (elim known [
     | inl root ↦ inl root
-    | inr (m, anchor, m_there, makes) ↦ inr (anchor, subst (λ us. Contains us (After anchor x)) (each_passes labels) (among-does each labels m (After anchor x) m_there makes refl))
+    | inr (m, anchor, m_there, makes) ↦
+        inr (
+          anchor,
+          subst (λ us. Contains us (After anchor x)) (each_passes labels)
+              (among-does each labels m (After anchor x) m_there makes refl),
+        )
   ])),
 )
 
 -- one more operation puts its update among those of all
-pub all-with : (kind : Kind) (records : Records) (by : ℕ) (operation : Op) (clock : Option ℕ) (u : Update) → Makes operation u → let now = Operate by operation clock ∷ records in let label = next_label records by operation clock in
-    (before behind : List Label) × (named_labels kind records ≡ before ++ behind) × (named_labels kind now ≡ before ++ label ∷ behind)
-    × (updates_of (named_sequence kind records) ≡ updates_of (flat_map parts_of before) ++ updates_of (flat_map parts_of behind))
-    × (updates_of (named_sequence kind now) ≡ updates_of (flat_map parts_of before) ++ u ∷ updates_of (flat_map parts_of behind))
+pub all-with : (kind : Kind) (records : Records) (by : ℕ) (operation : Op) (clock : Option ℕ) (u : Update)
+    → Makes operation u → let now = Operate by operation clock ∷ records in
+    let label = next_label records by operation clock in
+    (before behind : List Label) × (named_labels kind records ≡ before ++ behind)
+    × (named_labels kind now ≡ before ++ label ∷ behind)
+    × (updates_of (named_sequence kind records) ≡ updates_of (flat_map parts_of before)
+    ++ updates_of (flat_map parts_of behind))
+    × (updates_of (named_sequence kind now) ≡ updates_of (flat_map parts_of before)
+    ++ u ∷ updates_of (flat_map parts_of behind))
 all-with kind records by operation clock u makes =
     let label = next_label records by operation clock in
     let (before, behind, was, is) = order-inserted kind records by operation clock in
@@ -153,57 +194,77 @@ all-with kind records by operation clock u makes =
       behind,
       was,
       is,
-      sym (each_passes (named_labels kind records)) ∙ ap (updates_among each) was ∙ among-append each before behind ∙ (λ i. first i ++ later i),
-      sym (each_passes (named_labels kind (Operate by operation clock ∷ records))) ∙ ap (updates_among each) is ∙ among-append each before (label ∷ behind)
-          ∙ (λ i. first i ++ (among-append each (label ∷ []) behind ∙ (λ j. among-one each label u makes refl j ++ later j)) i),
+      sym (each_passes (named_labels kind records)) ∙ ap (updates_among each) was ∙ among-append each before behind
+          ∙ (λ i. first i ++ later i),
+      sym (each_passes (named_labels kind (Operate by operation clock ∷ records))) ∙ ap (updates_among each) is
+          ∙ among-append each before (label ∷ behind)
+          ∙ (λ i. first i
+          ++ (among-append each (label ∷ []) behind ∙ (λ j. among-one each label u makes refl j ++ later j)) i),
     )
 
 -- a new element goes past those of labels that stand behind its own
-pub insertion-all : (records : Records) (by : ℕ) (operation : Op) (clock : Option ℕ) (anchor x : ℕ) (all next : List (ℕ × Bool)) (below : ℕ → ℕ → Bool) → Makes operation (After anchor x)
-    → state_after Rga (updates_of (named_sequence Rga records)) ≡ Some (Listed all) → state_after Rga (updates_of (named_sequence Rga (Operate by operation clock ∷ records))) ≡ Some (Listed next)
+pub insertion-all : (records : Records) (by : ℕ) (operation : Op) (clock : Option ℕ) (anchor x : ℕ)
+    (all next : List (ℕ × Bool)) (below : ℕ → ℕ → Bool) → Makes operation (After anchor x)
+    → state_after Rga (updates_of (named_sequence Rga records)) ≡ Some (Listed all)
+    → state_after Rga (updates_of (named_sequence Rga (Operate by operation clock ∷ records))) ≡ Some (Listed next)
     → below x 0 ≡ false
-    → ((other : Label) (behind y : ℕ) → Contains (labels_of records) other → Makes other.op (After behind y) → below x y ≡ is_lt (label_cmp Rga (Operate by operation clock ∷ records) (next_label records by operation clock) other))
+    → ((other : Label) (behind y : ℕ) → Contains (labels_of records) other → Makes other.op (After behind y)
+    → below x y ≡ is_lt
+    (label_cmp Rga (Operate by operation clock ∷ records) (next_label records by operation clock) other))
     → next ≡ put_after below anchor x all
 insertion-all records by operation clock anchor x all next below makes led led_now root stamps =
     let now : Records = Operate by operation clock ∷ records in
     let label = next_label records by operation clock in
-    let (before, behind, was_named, is_named, was, is) = all-with Rga records by operation clock (After anchor x) makes in
+    let (before, behind, was_named, is_named, was, is) =
+    all-with Rga records by operation clock (After anchor x) makes in
     let first = updates_of (flat_map parts_of before) in
     let later = updates_of (flat_map parts_of behind) in
     let led_was = ap (state_after Rga) (sym was) ∙ led in
-    let (older, led_first, anchor_in, out) = inserted_fits first later anchor x all next led_was (ap (state_after Rga) (sym is) ∙ led_now) in
-    let in_records : (l : Label) → Contains (before ++ behind) l → Contains (labels_of records) l = λ l found. in-labels Rga records l (subst (λ ls. Contains ls l) (sym was_named) found) in
+    let (older, led_first, anchor_in, out) =
+    inserted_fits first later anchor x all next led_was (ap (state_after Rga) (sym is) ∙ led_now) in
+    let in_records : (l : Label) → Contains (before ++ behind) l → Contains (labels_of records) l =
+    λ l found. in-labels Rga records l (subst (λ ls. Contains ls l) (sym was_named) found) in
     let not_early : (l : Label) → Contains before l → is_lt (label_cmp Rga now label l) ≡ false = λ l found.
     let less = below_before Rga now before behind label l is_named found in
     let total = label_cmp-total Rga now in
     ap is_lt (total.antisymm label l ∙ ap ordering_reverse less) in
     let none : list_all (λ entry. not (below x entry.0)) older ≡ true =
-    list_all-from_contains (λ (entry : ℕ × Bool). not (below x entry.0)) older (λ entry found. not_from_false (below x entry.0) (elim ((list-exactly first older entry.0 led_first).0 (reached (λ (e : ℕ × Bool). e.0) older entry found)) [
+    list_all-from_contains (λ (entry : ℕ × Bool). not (below x entry.0)) older
+    (λ entry found. not_from_false (below x entry.0)
+    (elim ((list-exactly first older entry.0 led_first).0 (reached (λ (e : ℕ × Bool). e.0) older entry found)) [
       | inl zero_is ↦ ap (below x) zero_is ∙ root
       | inr (a, put) ↦
-          let (m, m_there, it, m_makes) = among-from each before (After a entry.0) (subst (λ us. Contains us (After a entry.0)) (sym (each_passes before)) put) in
+          let (m, m_there, it, m_makes) = among-from each before (After a entry.0)
+          (subst (λ us. Contains us (After a entry.0)) (sym (each_passes before)) put) in
           stamps m a entry.0 (in_records m (Contains-append_left before behind m m_there)) m_makes ∙ not_early m m_there
     ])) in
     let lower : (a y : ℕ) → Contains later (After a y) → below x y ≡ true = λ a y found.
-    let (m, m_there, it, m_makes) = among-from each behind (After a y) (subst (λ us. Contains us (After a y)) (sym (each_passes behind)) found) in
-    stamps m a y (in_records m (Contains-append_right before behind m m_there)) m_makes ∙ ap is_lt (below_behind Rga now before behind label m is_named m_there) in
+    let (m, m_there, it, m_makes) =
+    among-from each behind (After a y) (subst (λ us. Contains us (After a y)) (sym (each_passes behind)) found) in
+    stamps m a y (in_records m (Contains-append_right before behind m m_there)) m_makes
+    ∙ ap is_lt (below_behind Rga now before behind label m is_named m_there) in
     let both : Some (Listed next) ≡ Some (Listed (put_after below anchor x all)) =
-    sym led_now ∙ ap (state_after Rga) is ∙ late-insertion below first later anchor x older all led_first led_was anchor_in out none lower in
+    sym led_now ∙ ap (state_after Rga) is
+    ∙ late-insertion below first later anchor x older all led_first led_was anchor_in out none lower in
     cc (both)
 
 -- a removal leaves each its place
-pub removal-all : (records : Records) (by : ℕ) (operation : Op) (clock : Option ℕ) (x : ℕ) (all next : List (ℕ × Bool)) → Makes operation (RgaRemove x)
-    → state_after Rga (updates_of (named_sequence Rga records)) ≡ Some (Listed all) → state_after Rga (updates_of (named_sequence Rga (Operate by operation clock ∷ records))) ≡ Some (Listed next)
+pub removal-all : (records : Records) (by : ℕ) (operation : Op) (clock : Option ℕ) (x : ℕ) (all next : List (ℕ × Bool))
+    → Makes operation (RgaRemove x)
+    → state_after Rga (updates_of (named_sequence Rga records)) ≡ Some (Listed all)
+    → state_after Rga (updates_of (named_sequence Rga (Operate by operation clock ∷ records))) ≡ Some (Listed next)
     → next ≡ hide x all
 removal-all records by operation clock x all next makes led led_now =
     let (before, behind, was_named, is_named, was, is) = all-with Rga records by operation clock (RgaRemove x) makes in
     let first = updates_of (flat_map parts_of before) in
     let later = updates_of (flat_map parts_of behind) in
-    let (older, led_first, goes) = split-led first (RgaRemove x ∷ later) next (ap (state_after Rga) (sym is) ∙ led_now) in
+    let (older, led_first, goes) =
+    split-led first (RgaRemove x ∷ later) next (ap (state_after Rga) (sym is) ∙ led_now) in
     let (mid, step, rest) = one_step older (RgaRemove x) later next goes in
     let (x_in, other, same) = removed_is older mid x step in
     let both : Some (Listed next) ≡ Some (Listed (hide x all)) =
-    sym led_now ∙ ap (state_after Rga) is ∙ late-removal first later x older all led_first (ap (state_after Rga) (sym was) ∙ led) x_in other in
+    sym led_now ∙ ap (state_after Rga) is
+    ∙ late-removal first later x older all led_first (ap (state_after Rga) (sym was) ∙ led) x_in other in
     cc (both)
 
 -- and one that is no update leaves those of all as they were
@@ -211,18 +272,23 @@ no_update : (us : List Update) → ((u : Update) → ¬ Contains us u) → us �
 no_update [] none = refl
 no_update (u ∷ us) none = absurd (none u (at_head u us u refl))
 
-pub all-without : (kind : Kind) (records : Records) (by : ℕ) (operation : Op) (clock : Option ℕ) → is_update operation ≡ false → updates_of (named_sequence kind (Operate by operation clock ∷ records)) ≡ updates_of (named_sequence kind records)
+pub all-without : (kind : Kind) (records : Records) (by : ℕ) (operation : Op) (clock : Option ℕ)
+    → is_update operation ≡ false → updates_of (named_sequence kind (Operate by operation clock ∷ records))
+    ≡ updates_of (named_sequence kind records)
 all-without kind records by operation clock query =
     let label = next_label records by operation clock in
     let (before, behind, was, is) = order-inserted kind records by operation clock in
     let none : updates_among each (label ∷ []) ≡ [] = no_update (updates_among each (label ∷ [])) (λ u found.
     let (m, m_there, it, makes) = among-from each (label ∷ []) u found in
     elim (head_or_behind label [] m m_there) [
-      | inl here ↦ true≢false (sym (makes_update operation u (subst (λ (l : Label). Makes l.op u) (sym here) makes)) ∙ query)
+      | inl here ↦
+          true≢false (sym (makes_update operation u (subst (λ (l : Label). Makes l.op u) (sym here) makes)) ∙ query)
       | inr nothing ↦ omega (arith, nothing.1)
     ]) in
-    sym (each_passes (named_labels kind (Operate by operation clock ∷ records))) ∙ ap (updates_among each) is ∙ among-append each before (label ∷ behind)
-    ∙ ap (λ us. updates_among each before ++ us) (among-append each (label ∷ []) behind ∙ ap (λ us. us ++ updates_among each behind) none)
+    sym (each_passes (named_labels kind (Operate by operation clock ∷ records))) ∙ ap (updates_among each) is
+    ∙ among-append each before (label ∷ behind)
+    ∙ ap (λ us. updates_among each before ++ us)
+    (among-append each (label ∷ []) behind ∙ ap (λ us. us ++ updates_among each behind) none)
     ∙ sym (ap (updates_among each) was ∙ among-append each before behind)
     ∙ each_passes (named_labels kind records)
 
@@ -232,7 +298,9 @@ by_first Less p other = refl
 by_first Equal p other = absurd (other refl)
 by_first Greater p other = refl
 
-stamps_decide : (kind : Kind) (records : Records) (l m : Label) (s t : Stamp) → rank_of kind records l ≡ timestamp_of records l → rank_of kind records m ≡ timestamp_of records m → l.stamp ≡ Some s → m.stamp ≡ Some t → ¬ (s ≡ t)
+stamps_decide : (kind : Kind) (records : Records) (l m : Label) (s t : Stamp)
+    → rank_of kind records l ≡ timestamp_of records l → rank_of kind records m ≡ timestamp_of records m
+    → l.stamp ≡ Some s → m.stamp ≡ Some t → ¬ (s ≡ t)
     → label_cmp kind records l m ≡ stamp_cmp s t
 stamps_decide kind records l m s t l_rank m_rank l_has m_has other =
     let l_is : rank_of kind records l ≡ s = l_rank ∙ timestamp-own records l s l_has in
@@ -240,9 +308,13 @@ stamps_decide kind records l m s t l_rank m_rank l_has m_has other =
     (λ i. ordering_then (stamp_cmp (l_is i) (m_is i)) (nat_cmp l.number m.number))
     ∙ by_first (stamp_cmp s t) (nat_cmp l.number m.number) (λ tie. other ((stamp_same s t).0 tie))
 
-pub own-stamps : (kind : Kind) (records : Records) (l m : Label) (s t : Stamp) → ¬ (kind ≡ Counter) → ¬ (kind ≡ OrSet) → l.stamp ≡ Some s → m.stamp ≡ Some t → ¬ (s ≡ t) → label_cmp kind records l m ≡ stamp_cmp s t
+pub own-stamps : (kind : Kind) (records : Records) (l m : Label) (s t : Stamp) → ¬ (kind ≡ Counter) → ¬ (kind ≡ OrSet)
+    → l.stamp ≡ Some s → m.stamp ≡ Some t → ¬ (s ≡ t) → label_cmp kind records l m ≡ stamp_cmp s t
 own-stamps Counter records l m s t not_this nor_this l_has m_has other = absurd (not_this refl)
-own-stamps Register records l m s t not_this nor_this l_has m_has other = stamps_decide Register records l m s t refl refl l_has m_has other
-own-stamps LwwSet records l m s t not_this nor_this l_has m_has other = stamps_decide LwwSet records l m s t refl refl l_has m_has other
+own-stamps Register records l m s t not_this nor_this l_has m_has other =
+    stamps_decide Register records l m s t refl refl l_has m_has other
+own-stamps LwwSet records l m s t not_this nor_this l_has m_has other =
+    stamps_decide LwwSet records l m s t refl refl l_has m_has other
 own-stamps OrSet records l m s t not_this nor_this l_has m_has other = absurd (nor_this refl)
-own-stamps Rga records l m s t not_this nor_this l_has m_has other = stamps_decide Rga records l m s t refl refl l_has m_has other
+own-stamps Rga records l m s t not_this nor_this l_has m_has other =
+    stamps_decide Rga records l m s t refl refl l_has m_has other

@@ -1,8 +1,7 @@
 -- One delivery is one step.
 use Rattle.std.proofs.Common.{◌≡◌, ℕ, ◌<◌, true, false, List, [], ◌∷◌, ◌++◌, filter, Option, Some, None, refl, sym, ap, ◌∙◌, subst, inl, inr, arith}
 use Rattle.std.specs.Prelude.{◌↔◌, ◌⊎◌, ◌==◌, ◌&&◌, not, Contains, IsSorted, flat_map}
-use Rattle.std.specs.List.{cons_option}
-use Rattle.std.specs.List.{IsDistinct}
+use Rattle.std.specs.List.{cons_option, IsDistinct}
 use Rattle.std.specs.Ordering.{is_lt}
 use Rattle.std.proofs.lemmas.Bool.{false≢true, true≢false, false_from_ne_true, and_parts, and_from, eq-eqb, eqb-true, cases_order, not_from_false}
 use Rattle.std.proofs.lemmas.Option.{none-some, same_Some}
@@ -22,7 +21,7 @@ use Rattle.ra_labels.specs.Records.{Records, labels_of}
 use Rattle.ra_labels.specs.Visibility.{had, sees, IsCausal}
 use Rattle.ra_labels.specs.Rewriting.{Part, Half, QueryHalf, UpdateHalf, Act, Does, Asks, acts_of, part_of, parts_of, update_of, updates_of}
 use Rattle.ra_labels.specs.Lists.{is_among}
-use Rattle.ra_labels.specs.Specification.{State, Number, Written, Members, Pairs, Listed, answers, state_after, is_admitted}
+use Rattle.ra_labels.specs.Specification.{State, Pairs, answers, state_after, is_admitted}
 use Rattle.ra_labels.specs.Linearization.{visible_updates}
 use Rattle.ra_labels.specs.NamedOrder.{label_cmp, named_labels, named_sequence}
 use Rattle.ra_labels.specs.Fault.{Holds}
@@ -44,7 +43,8 @@ use Rattle.ra_laws.proofs.OverridingUpdates.{writes-late, last_written-behind, s
 use Rattle.ra_laws.proofs.HadUpdates.{differ_round, delivery-own}
 
 -- an update is one of a part
-taken : (o : Option Update) (rest : List Update) (u : Update) → Contains (cons_option o rest) u → (o ≡ Some u) ⊎ Contains rest u
+taken : (o : Option Update) (rest : List Update) (u : Update) → Contains (cons_option o rest) u
+    → (o ≡ Some u) ⊎ Contains rest u
 taken None rest u there = inr there
 taken (Some v) rest u there = elim (head_or_behind v rest u there) [
   | inl here ↦ inl (ap Some here)
@@ -55,7 +55,8 @@ does_it : (act : Act) (u : Update) → update_of act ≡ Some u → act ≡ Does
 does_it (Does v) u is = ap Does (same_Some v u is)
 does_it (Asks query) u is = absurd (none-some u is)
 
-pub update_from : (parts : List Part) (u : Update) → Contains (updates_of parts) u → (p : Part) × Contains parts p × (p.act ≡ Does u)
+pub update_from : (parts : List Part) (u : Update) → Contains (updates_of parts) u
+    → (p : Part) × Contains parts p × (p.act ≡ Does u)
 update_from [] u there = absurd (omega (arith, there.1))
 update_from (part ∷ parts) u there = elim (taken (update_of part.act) (updates_of parts) u there) [
   | inl is ↦ (part, at_head part parts part refl, does_it part.act u is)
@@ -63,7 +64,8 @@ update_from (part ∷ parts) u there = elim (taken (update_of part.act) (updates
 ]
 
 -- and its label's operation makes it
-pub part_makes : (label : Label) (p : Part) (u : Update) → Contains (parts_of label) p → p.act ≡ Does u → Makes label.op u
+pub part_makes : (label : Label) (p : Part) (u : Update) → Contains (parts_of label) p → p.act ≡ Does u
+    → Makes label.op u
 part_makes label p u there does =
     let (act, found, is) = from_where (part_of label) (acts_of label.op) p there in
     let same : act.1 ≡ Does u = ap (λ (q : Part). q.act) is ∙ does in
@@ -81,114 +83,144 @@ op_of (After anchor x) = op.After anchor x
 op_of (RgaRemove x) = op.RgaRemove x
 op_of (TakeOut x ids) = op.OrRemove x ids
 
-its_act : (half : Half) (act : Act) (which : Half) (u : Update) → Contains {X = Half × Act} ((half, act) ∷ []) (which, Does u) → act ≡ Does u
+its_act : (half : Half) (act : Act) (which : Half) (u : Update)
+    → Contains {X = Half × Act} ((half, act) ∷ []) (which, Does u) → act ≡ Does u
 its_act half act which u there = elim (head_or_behind (half, act) [] (which, Does u) there) [
   | inl same ↦ ap (λ (a : Half × Act). a.1) same
   | inr none ↦ absurd (omega (arith, none.1))
 ]
 
-its_update : (half : Half) (v : Update) (which : Half) (u : Update) → Contains {X = Half × Act} ((half, Does v) ∷ []) (which, Does u) → v ≡ u
+its_update : (half : Half) (v : Update) (which : Half) (u : Update)
+    → Contains {X = Half × Act} ((half, Does v) ∷ []) (which, Does u) → v ≡ u
 its_update half v which u there = same_Some v u (ap update_of (its_act half (Does v) which u there))
 
-no_update : (half : Half) (query : Query) (which : Half) (u : Update) → Contains {X = Half × Act} ((half, Asks query) ∷ []) (which, Does u) → ⊥
+no_update : (half : Half) (query : Query) (which : Half) (u : Update)
+    → Contains {X = Half × Act} ((half, Asks query) ∷ []) (which, Does u) → ⊥
 no_update half query which u there = none-some u (ap update_of (its_act half (Asks query) which u there))
 
 pub made_by : (operation : Op) (u : Update) → Makes operation u → operation ≡ op_of u
-made_by op.Inc u (half, there) = ap op_of (its_update _ _ half u there)
-made_by op.Dec u (half, there) = ap op_of (its_update _ _ half u there)
-made_by (op.Write value) u (half, there) = ap op_of (its_update _ _ half u there)
-made_by (op.LwwAdd x) u (half, there) = ap op_of (its_update _ _ half u there)
-made_by (op.LwwRemove x) u (half, there) = ap op_of (its_update _ _ half u there)
-made_by (op.OrAdd x id) u (half, there) = ap op_of (its_update _ _ half u there)
-made_by (op.After anchor x) u (half, there) = ap op_of (its_update _ _ half u there)
-made_by (op.RgaRemove x) u (half, there) = ap op_of (its_update _ _ half u there)
 made_by (op.Count v) u (half, there) = absurd (no_update _ _ half u there)
 made_by (op.Last value) u (half, there) = absurd (no_update _ _ half u there)
 made_by (op.LwwRead list) u (half, there) = absurd (no_update _ _ half u there)
 made_by (op.OrRead list) u (half, there) = absurd (no_update _ _ half u there)
 made_by (op.RgaRead list) u (half, there) = absurd (no_update _ _ half u there)
-made_by (op.OrRemove x ids) u (half, there) = elim (head_or_behind (QueryHalf, Asks (ReadIds x ids)) ((UpdateHalf, Does (TakeOut x ids)) ∷ []) (half, Does u) there) [
-  | inl same ↦ absurd (none-some u (ap (λ (a : Half × Act). update_of a.1) same))
-  | inr later ↦ ap op_of (its_update UpdateHalf (TakeOut x ids) half u later)
-]
+made_by (op.OrRemove x ids) u (half, there) = elim
+    (head_or_behind (QueryHalf, Asks (ReadIds x ids)) ((UpdateHalf, Does (TakeOut x ids)) ∷ []) (half, Does u) there) [
+      | inl same ↦ absurd (none-some u (ap (λ (a : Half × Act). update_of a.1) same))
+      | inr later ↦ ap op_of (its_update UpdateHalf (TakeOut x ids) half u later)
+    ]
+made_by _ u (half, there) = ap op_of (its_update _ _ half u there)
 
 some_pairs : (state : State) → kind_of_state state ≡ OrSet → (ps : List (ℕ × ℕ)) × (state ≡ Pairs ps)
-some_pairs (Number n) is = absurd (cc (is))
-some_pairs (Written last) is = absurd (cc (is))
-some_pairs (Members xs) is = absurd (cc (is))
 some_pairs (Pairs ps) is = (ps, refl)
-some_pairs (Listed list) is = absurd (cc (is))
+some_pairs _ is = absurd (cc (is))
 
 -- where the state is known
 led_there : (o : Option State) (s t : State) → o ≡ Some s → s ≡ t → o ≡ Some t
 led_there o s t led is = subst (λ r. o ≡ Some r) is led
 
 -- the query half of a removal
-asks_first : (operation : Op) (x : ℕ) (ids : List ℕ) → operation ≡ op.OrRemove x ids → Contains (acts_of operation) (QueryHalf, Asks (ReadIds x ids))
-asks_first operation x ids is = subst (λ o. Contains (acts_of o) (QueryHalf, Asks (ReadIds x ids))) (sym is) (0, omega arith, refl)
+asks_first : (operation : Op) (x : ℕ) (ids : List ℕ) → operation ≡ op.OrRemove x ids
+    → Contains (acts_of operation) (QueryHalf, Asks (ReadIds x ids))
+asks_first operation x ids is = subst (λ o. Contains (acts_of o) (QueryHalf, Asks (ReadIds x ids))) (sym is)
+    (0, omega arith, refl)
 
-sees_as : (records : Records) (n : ℕ) (a b : Label) → a ≡ b → sees records n a.number ≡ true → sees records n b.number ≡ true
+sees_as : (records : Records) (n : ℕ) (a b : Label) → a ≡ b → sees records n a.number ≡ true
+    → sees records n b.number ≡ true
 sees_as records n a b same seen = subst (λ (l : Label). sees records n l.number ≡ true) same seen
 
 -- what a removal asked was answered where the updates lead that it sees
 abbrev IsAnswered : Records → Label → ℕ → List ℕ → List (ℕ × ℕ) → Type 0
-IsAnswered records l x ids ps = (state_after OrSet (visible_updates records (named_sequence OrSet records) l.number) ≡ Some (Pairs ps)) × (answers (Pairs ps) (ReadIds x ids) ≡ true)
+IsAnswered records l x ids ps =
+    (state_after OrSet (visible_updates records (named_sequence OrSet records) l.number) ≡ Some (Pairs ps))
+    × (answers (Pairs ps) (ReadIds x ids) ≡ true)
 
-answered_pairs : (records : Records) (l : Label) (x : ℕ) (ids : List ℕ) (state : State) → state_after OrSet (visible_updates records (named_sequence OrSet records) l.number) ≡ Some state → answers state (ReadIds x ids) ≡ true
+answered_pairs : (records : Records) (l : Label) (x : ℕ) (ids : List ℕ) (state : State)
+    → state_after OrSet (visible_updates records (named_sequence OrSet records) l.number) ≡ Some state
+    → answers state (ReadIds x ids) ≡ true
     → (ps : List (ℕ × ℕ)) × (state ≡ Pairs ps) → (ps : List (ℕ × ℕ)) × IsAnswered records l x ids ps
-answered_pairs records l x ids state led answered (ps, is) =
-    (ps, (led_there (state_after OrSet (visible_updates records (named_sequence OrSet records) l.number)) state (Pairs ps) led is, subst (λ s. answers s (ReadIds x ids) ≡ true) is answered))
+answered_pairs records l x ids state led answered (ps, is) = (
+  ps,
+  (
+    led_there (state_after OrSet (visible_updates records (named_sequence OrSet records) l.number)) state
+        (Pairs ps) led is,
+    subst (λ s. answers s (ReadIds x ids) ≡ true) is answered,
+  ),
+)
 
-asked_at : (records : Records) (l : Label) (x : ℕ) (ids : List ℕ) → Holds OrSet records → Contains (labels_of records) l → l.op ≡ op.OrRemove x ids → (ps : List (ℕ × ℕ)) × IsAnswered records l x ids ps
+asked_at : (records : Records) (l : Label) (x : ℕ) (ids : List ℕ) → Holds OrSet records → Contains (labels_of records) l
+    → l.op ≡ op.OrRemove x ids → (ps : List (ℕ × ℕ)) × IsAnswered records l x ids ps
 asked_at records l x ids holds l_there removes =
     let named = named_labels OrSet records in
     let part : Part = part_of l (QueryHalf, Asks (ReadIds x ids)) in
-    let of_l : Contains (parts_of l) part = reached (part_of l) (acts_of l.op) (QueryHalf, Asks (ReadIds x ids)) (asks_first l.op x ids removes) in
-    let there : Contains (named_sequence OrSet records) part = in_piece parts_of named l part (Contains-permutation (labels_of records) named l (IsPermutation-named_labels OrSet records) l_there) of_l in
-    let known = (queries-exactly OrSet records (named_sequence OrSet records)).0 holds.queries part (ReadIds x ids) there refl in
-    answered_pairs records l x ids known.0 known.1 known.2 (some_pairs known.0 (state-of_kind OrSet (visible_updates records (named_sequence OrSet records) l.number) known.0 known.1))
+    let of_l : Contains (parts_of l) part =
+    reached (part_of l) (acts_of l.op) (QueryHalf, Asks (ReadIds x ids)) (asks_first l.op x ids removes) in
+    let there : Contains (named_sequence OrSet records) part = in_piece parts_of named l part
+    (Contains-permutation (labels_of records) named l (IsPermutation-named_labels OrSet records) l_there) of_l in
+    let known = (queries-exactly OrSet records (named_sequence OrSet records)).0 holds.queries part
+    (ReadIds x ids) there refl in
+    answered_pairs records l x ids known.0 known.1 known.2
+    (some_pairs known.0
+    (state-of_kind OrSet (visible_updates records (named_sequence OrSet records) l.number) known.0 known.1))
 
 -- an addition among the updates that a label sees is that of a label that it sees
 abbrev SeesAddition : Records → ℕ → ℕ → ℕ → Type 0
-SeesAddition records n x id = (k : Label) × Contains (labels_of records) k × (k.op ≡ op.OrAdd x id) × (sees records n k.number ≡ true)
+SeesAddition records n x id = (k : Label) × Contains (labels_of records) k × (k.op ≡ op.OrAdd x id)
+    × (sees records n k.number ≡ true)
 
-sees_part : (records : Records) (n x id : ℕ) (p : Part) (k : Label) → Contains (named_labels OrSet records) k → Contains (parts_of k) p → p.act ≡ Does (OrAdd x id) → sees records n p.label.number ≡ true → SeesAddition records n x id
+sees_part : (records : Records) (n x id : ℕ) (p : Part) (k : Label) → Contains (named_labels OrSet records) k
+    → Contains (parts_of k) p → p.act ≡ Does (OrAdd x id) → sees records n p.label.number ≡ true
+    → SeesAddition records n x id
 sees_part records n x id p k k_named of_k does seen = (
   k,
-  Contains-permutation (named_labels OrSet records) (labels_of records) k (IsPermutation-sym (labels_of records) (named_labels OrSet records) (IsPermutation-named_labels OrSet records)) k_named,
+  Contains-permutation (named_labels OrSet records) (labels_of records) k
+      (IsPermutation-sym (labels_of records) (named_labels OrSet records) (IsPermutation-named_labels OrSet records))
+      k_named,
   made_by k.op (OrAdd x id) (part_makes k p (OrAdd x id) of_k does),
   sees_as records n p.label k (part_is_of k p of_k) seen,
 )
 
-sees_addition : (records : Records) (n x id : ℕ) → Contains (visible_updates records (named_sequence OrSet records) n) (OrAdd x id) → SeesAddition records n x id
+sees_addition : (records : Records) (n x id : ℕ)
+    → Contains (visible_updates records (named_sequence OrSet records) n) (OrAdd x id) → SeesAddition records n x id
 sees_addition records n x id there =
-    let (p, p_there, does) = update_from (filter (λ (q : Part). sees records n q.label.number) (named_sequence OrSet records)) (OrAdd x id) there in
+    let (p, p_there, does) = update_from
+    (filter (λ (q : Part). sees records n q.label.number) (named_sequence OrSet records)) (OrAdd x id) there in
     let kept = there-kept (λ (q : Part). sees records n q.label.number) (named_sequence OrSet records) p p_there in
     let at = piece_of parts_of (named_labels OrSet records) p kept.0 in
     sees_part records n x id p at.0 at.1 at.2 does kept.1
 
-added_among : (us : List Update) (x id : ℕ) (ps : List (ℕ × ℕ)) → state_after OrSet us ≡ Some (Pairs ps) → Contains ps (x, id) → Contains us (OrAdd x id)
+added_among : (us : List Update) (x id : ℕ) (ps : List (ℕ × ℕ)) → state_after OrSet us ≡ Some (Pairs ps)
+    → Contains ps (x, id) → Contains us (OrAdd x id)
 added_among us x id ps led paired = by ((pairs-exactly us ps x id led).0 paired)
   where
     by : WasAddedAndStays x id us → Contains us (OrAdd x id)
-    by (first, later, split, none) = subst (λ vs. Contains vs (OrAdd x id)) (sym split) (Contains-append_right first (OrAdd x id ∷ later) (OrAdd x id) (at_head (OrAdd x id) later (OrAdd x id) refl))
+    by (first, later, split, none) = subst (λ vs. Contains vs (OrAdd x id)) (sym split)
+        (Contains-append_right first (OrAdd x id ∷ later) (OrAdd x id) (at_head (OrAdd x id) later (OrAdd x id) refl))
 
 -- a removal sees each addition that it takes out
-pub removal-sees : (records : Records) (l m : Label) (x id : ℕ) (ids : List ℕ) → Holds OrSet records → IdentifiersAreOneLabels records → Contains (labels_of records) l → Contains (labels_of records) m
+pub removal-sees : (records : Records) (l m : Label) (x id : ℕ) (ids : List ℕ) → Holds OrSet records
+    → IdentifiersAreOneLabels records → Contains (labels_of records) l → Contains (labels_of records) m
     → l.op ≡ op.OrRemove x ids → m.op ≡ op.OrAdd x id → Contains ids id → sees records l.number m.number ≡ true
-removal-sees records l m x id ids holds once l_there m_there removes adds listed = by (asked_at records l x ids holds l_there removes)
+removal-sees records l m x id ids holds once l_there m_there removes adds listed =
+    by (asked_at records l x ids holds l_there removes)
   where
     from_addition : SeesAddition records l.number x id → sees records l.number m.number ≡ true
-    from_addition (k, k_there, k_adds, seen) = sees_as records l.number k m (once k m id k_there m_there (x, k_adds) (x, adds)) seen
+    from_addition (k, k_there, k_adds, seen) =
+        sees_as records l.number k m (once k m id k_there m_there (x, k_adds) (x, adds)) seen
 
     by : (ps : List (ℕ × ℕ)) × IsAnswered records l x ids ps → sees records l.number m.number ≡ true
     by (ps, (led, asked)) =
-        from_addition (sees_addition records l.number x id (added_among (visible_updates records (named_sequence OrSet records) l.number) x id ps led (((answers-ids ps x ids).0 asked id).0 listed)))
+        from_addition
+        (sees_addition records l.number x id
+        (added_among (visible_updates records (named_sequence OrSet records) l.number) x id ps led
+        (((answers-ids ps x ids).0 asked id).0 listed)))
 
 -- of two updates that clash, the one adds a pair that the other takes out
 abbrev Clashing : Update → Update → Type 0
-Clashing u v = (x id : ℕ) × (ids : List ℕ) × Contains ids id × (((u ≡ OrAdd x id) × (v ≡ TakeOut x ids)) ⊎ ((u ≡ TakeOut x ids) × (v ≡ OrAdd x id)))
+Clashing u v = (x id : ℕ) × (ids : List ℕ) × Contains ids id
+    × (((u ≡ OrAdd x id) × (v ≡ TakeOut x ids)) ⊎ ((u ≡ TakeOut x ids) × (v ≡ OrAdd x id)))
 
+-- (the row with `Inc` lets the last one look at each second update)
 clashing : (u v : Update) → clash u v ≡ true → Clashing u v
 clashing (OrAdd x id) (TakeOut y ids) is =
     let parts = and_parts (y == x) (is_among id ids) is in
@@ -196,85 +228,8 @@ clashing (OrAdd x id) (TakeOut y ids) is =
 clashing (TakeOut y ids) (OrAdd x id) is =
     let parts = and_parts (y == x) (is_among id ids) is in
     (x, id, ids, (among-exactly id ids).0 parts.1, inr (ap (λ z. TakeOut z ids) (eqb-true y x parts.0), refl))
-clashing (OrAdd x id) Inc is = absurd (false≢true is)
-clashing (OrAdd x id) Dec is = absurd (false≢true is)
-clashing (OrAdd x id) (Write value) is = absurd (false≢true is)
-clashing (OrAdd x id) (LwwAdd y) is = absurd (false≢true is)
-clashing (OrAdd x id) (LwwRemove y) is = absurd (false≢true is)
-clashing (OrAdd x id) (OrAdd y k) is = absurd (false≢true is)
-clashing (OrAdd x id) (After a y) is = absurd (false≢true is)
-clashing (OrAdd x id) (RgaRemove y) is = absurd (false≢true is)
-clashing (TakeOut x out) Inc is = absurd (false≢true is)
-clashing (TakeOut x out) Dec is = absurd (false≢true is)
-clashing (TakeOut x out) (Write value) is = absurd (false≢true is)
-clashing (TakeOut x out) (LwwAdd y) is = absurd (false≢true is)
-clashing (TakeOut x out) (LwwRemove y) is = absurd (false≢true is)
-clashing (TakeOut x out) (TakeOut y ids) is = absurd (false≢true is)
-clashing (TakeOut x out) (After a y) is = absurd (false≢true is)
-clashing (TakeOut x out) (RgaRemove y) is = absurd (false≢true is)
-clashing Inc Inc is = absurd (false≢true is)
-clashing Inc Dec is = absurd (false≢true is)
-clashing Inc (Write other) is = absurd (false≢true is)
-clashing Inc (LwwAdd z) is = absurd (false≢true is)
-clashing Inc (LwwRemove z) is = absurd (false≢true is)
-clashing Inc (OrAdd z k) is = absurd (false≢true is)
-clashing Inc (TakeOut z ids) is = absurd (false≢true is)
-clashing Inc (After b z) is = absurd (false≢true is)
-clashing Inc (RgaRemove z) is = absurd (false≢true is)
-clashing Dec Inc is = absurd (false≢true is)
-clashing Dec Dec is = absurd (false≢true is)
-clashing Dec (Write other) is = absurd (false≢true is)
-clashing Dec (LwwAdd z) is = absurd (false≢true is)
-clashing Dec (LwwRemove z) is = absurd (false≢true is)
-clashing Dec (OrAdd z k) is = absurd (false≢true is)
-clashing Dec (TakeOut z ids) is = absurd (false≢true is)
-clashing Dec (After b z) is = absurd (false≢true is)
-clashing Dec (RgaRemove z) is = absurd (false≢true is)
-clashing (Write value) Inc is = absurd (false≢true is)
-clashing (Write value) Dec is = absurd (false≢true is)
-clashing (Write value) (Write other) is = absurd (false≢true is)
-clashing (Write value) (LwwAdd z) is = absurd (false≢true is)
-clashing (Write value) (LwwRemove z) is = absurd (false≢true is)
-clashing (Write value) (OrAdd z k) is = absurd (false≢true is)
-clashing (Write value) (TakeOut z ids) is = absurd (false≢true is)
-clashing (Write value) (After b z) is = absurd (false≢true is)
-clashing (Write value) (RgaRemove z) is = absurd (false≢true is)
-clashing (LwwAdd y) Inc is = absurd (false≢true is)
-clashing (LwwAdd y) Dec is = absurd (false≢true is)
-clashing (LwwAdd y) (Write other) is = absurd (false≢true is)
-clashing (LwwAdd y) (LwwAdd z) is = absurd (false≢true is)
-clashing (LwwAdd y) (LwwRemove z) is = absurd (false≢true is)
-clashing (LwwAdd y) (OrAdd z k) is = absurd (false≢true is)
-clashing (LwwAdd y) (TakeOut z ids) is = absurd (false≢true is)
-clashing (LwwAdd y) (After b z) is = absurd (false≢true is)
-clashing (LwwAdd y) (RgaRemove z) is = absurd (false≢true is)
-clashing (LwwRemove y) Inc is = absurd (false≢true is)
-clashing (LwwRemove y) Dec is = absurd (false≢true is)
-clashing (LwwRemove y) (Write other) is = absurd (false≢true is)
-clashing (LwwRemove y) (LwwAdd z) is = absurd (false≢true is)
-clashing (LwwRemove y) (LwwRemove z) is = absurd (false≢true is)
-clashing (LwwRemove y) (OrAdd z k) is = absurd (false≢true is)
-clashing (LwwRemove y) (TakeOut z ids) is = absurd (false≢true is)
-clashing (LwwRemove y) (After b z) is = absurd (false≢true is)
-clashing (LwwRemove y) (RgaRemove z) is = absurd (false≢true is)
-clashing (After a y) Inc is = absurd (false≢true is)
-clashing (After a y) Dec is = absurd (false≢true is)
-clashing (After a y) (Write other) is = absurd (false≢true is)
-clashing (After a y) (LwwAdd z) is = absurd (false≢true is)
-clashing (After a y) (LwwRemove z) is = absurd (false≢true is)
-clashing (After a y) (OrAdd z k) is = absurd (false≢true is)
-clashing (After a y) (TakeOut z ids) is = absurd (false≢true is)
-clashing (After a y) (After b z) is = absurd (false≢true is)
-clashing (After a y) (RgaRemove z) is = absurd (false≢true is)
-clashing (RgaRemove y) Inc is = absurd (false≢true is)
-clashing (RgaRemove y) Dec is = absurd (false≢true is)
-clashing (RgaRemove y) (Write other) is = absurd (false≢true is)
-clashing (RgaRemove y) (LwwAdd z) is = absurd (false≢true is)
-clashing (RgaRemove y) (LwwRemove z) is = absurd (false≢true is)
-clashing (RgaRemove y) (OrAdd z k) is = absurd (false≢true is)
-clashing (RgaRemove y) (TakeOut z ids) is = absurd (false≢true is)
-clashing (RgaRemove y) (After b z) is = absurd (false≢true is)
-clashing (RgaRemove y) (RgaRemove z) is = absurd (false≢true is)
+clashing _ Inc is = absurd (false≢true is)
+clashing _ _ is = absurd (false≢true is)
 
 pub clash-exactly : (u v : Update) → (clash u v ≡ true) ↔ (AddsWhatIsTakenOut u v ⊎ AddsWhatIsTakenOut v u)
 clash-exactly u v = (
@@ -294,69 +249,102 @@ clash-exactly u v = (
     taken_out x id ids listed = and_from (x == x) (is_among id ids) (eq-eqb x x refl) ((among-exactly id ids).1 listed)
 
 -- what a replica had of labels is an update of one of them
-had_from : (records : Records) (replica : ℕ) (labels : List Label) (u : Update) → Contains (updates_had_of records replica labels) u → (m : Label) × Contains labels m × (had records replica m.number ≡ true) × Makes m.op u
+had_from : (records : Records) (replica : ℕ) (labels : List Label) (u : Update)
+    → Contains (updates_had_of records replica labels) u → (m : Label) × Contains labels m
+    × (had records replica m.number ≡ true) × Makes m.op u
 had_from records replica labels u there =
-    let (p, found, does) = update_from (filter (λ (q : Part). had records replica q.label.number) (flat_map parts_of labels)) u there in
-    let (p_in, had_p) = there-kept (λ (q : Part). had records replica q.label.number) (flat_map parts_of labels) p found in
-    let (m, m_there, of_m) = piece_of parts_of labels p p_in in
-    (m, m_there, sym (ap (λ (n : Label). had records replica n.number) (part_is_of m p of_m)) ∙ had_p, part_makes m p u of_m does)
+    let (p, found, does) =
+    update_from (filter (λ (q : Part). had records replica q.label.number) (flat_map parts_of labels)) u there in
+    let (p_in, had_p) = there-kept (λ (q : Part). had records replica q.label.number)
+    (flat_map parts_of labels) p found in
+    let (m, m_there, of_m) = piece_of parts_of labels p p_in in (
+      m,
+      m_there,
+      sym (ap (λ (n : Label). had records replica n.number) (part_is_of m p of_m))
+          ∙ had_p,
+      part_makes m p u of_m does,
+    )
 
-pub sorted_from : (kind : Kind) (records : Records) (before behind : List Label) (label : Label) → IsSorted (label_cmp kind records) (before ++ label ∷ behind) → IsSorted (label_cmp kind records) (label ∷ behind)
+pub sorted_from : (kind : Kind) (records : Records) (before behind : List Label) (label : Label)
+    → IsSorted (label_cmp kind records) (before ++ label ∷ behind) → IsSorted (label_cmp kind records) (label ∷ behind)
 sorted_from kind records [] behind label sorted = sorted
 sorted_from kind records (x ∷ before) behind label sorted =
-    sorted_from kind records before behind label (sorted_behind (label_cmp kind records) (label_cmp-total kind records) x (before ++ label ∷ behind) sorted)
+    sorted_from kind records before behind label
+    (sorted_behind (label_cmp kind records) (label_cmp-total kind records) x (before ++ label ∷ behind) sorted)
 
 -- in order of execution, what stands behind a label was accepted later
-stands_later : (records : Records) (before behind : List Label) (label m : Label) → named_labels OrSet records ≡ before ++ label ∷ behind → Contains behind m → label.number < m.number
+stands_later : (records : Records) (before behind : List Label) (label m : Label)
+    → named_labels OrSet records ≡ before ++ label ∷ behind → Contains behind m → label.number < m.number
 stands_later records before behind label m is there =
-    let sorted = sorted_from OrSet records before behind label (subst (IsSorted (label_cmp OrSet records)) is (IsSorted-named_labels OrSet records)) in
-    let least = head_least (label_cmp OrSet records) (label_cmp-total OrSet records) label behind sorted m (behind_head label behind m there) in
-    let other = (differ_round before behind label (subst (IsDistinct have_one_number) is (named_differ OrSet records))).1 m there in
+    let sorted = sorted_from OrSet records before behind label
+    (subst (IsSorted (label_cmp OrSet records)) is (IsSorted-named_labels OrSet records)) in
+    let least = head_least (label_cmp OrSet records) (label_cmp-total OrSet records) label behind sorted m
+    (behind_head label behind m there) in
+    let other =
+    (differ_round before behind label (subst (IsDistinct have_one_number) is (named_differ OrSet records))).1 m
+    there in
     elim (cases_order m.number label.number) [
       | inl same ↦ absurd (other same)
-      | inr (inl below) ↦ absurd (true≢false (sym (ap is_lt ((label_below OrSet records m label).1 (inr (refl, below)))) ∙ least))
+      | inr (inl below) ↦
+          absurd (true≢false (sym (ap is_lt ((label_below OrSet records m label).1 (inr (refl, below)))) ∙ least))
       | inr (inr above) ↦ above
     ]
 
-pub counter-delivered : (records : Records) (to : ℕ) (label : Label) (update : Update) → Contains (labels_of records) label → Makes label.op update → had records to label.number ≡ false
-    → state_after Counter (updates_had Counter (Deliver to label.number ∷ records) to) ≡ then_step (state_after Counter (updates_had Counter records to)) update
+pub counter-delivered : (records : Records) (to : ℕ) (label : Label) (update : Update)
+    → Contains (labels_of records) label → Makes label.op update → had records to label.number ≡ false
+    → state_after Counter (updates_had Counter (Deliver to label.number ∷ records) to)
+    ≡ then_step (state_after Counter (updates_had Counter records to)) update
 counter-delivered records to label update there makes new =
     let (before, behind, is, was, now) = delivery-own Counter records to label update there makes new in
     ap (state_after Counter) now
     ∙ counter-late (updates_had_of records to before) (updates_had_of records to behind) update
     ∙ sym (ap (λ us. then_step (state_after Counter us) update) was)
 
-pub register-delivered : (records : Records) (to : ℕ) (label : Label) (value last : ℕ) → Contains (labels_of records) label → Makes label.op (Write value) → had records to label.number ≡ false
-    → is_admitted Register (updates_had Register (Deliver to label.number ∷ records) to) ≡ true → last_written (updates_had Register (Deliver to label.number ∷ records) to) ≡ Some last
-    → state_after Register (updates_had Register (Deliver to label.number ∷ records) to) ≡ then_step (state_after Register (updates_had Register records to)) (Write last)
+pub register-delivered : (records : Records) (to : ℕ) (label : Label) (value last : ℕ)
+    → Contains (labels_of records) label → Makes label.op (Write value) → had records to label.number ≡ false
+    → is_admitted Register (updates_had Register (Deliver to label.number ∷ records) to) ≡ true
+    → last_written (updates_had Register (Deliver to label.number ∷ records) to) ≡ Some last
+    → state_after Register (updates_had Register (Deliver to label.number ∷ records) to)
+    ≡ then_step (state_after Register (updates_had Register records to)) (Write last)
 register-delivered records to label value last there makes new admitted found =
     let (before, behind, is, was, now) = delivery-own Register records to label (Write value) there makes new in
     let first = updates_had_of records to before in
     let later = updates_had_of records to behind in
     ap (state_after Register) now
-    ∙ writes-late first later value last (subst (λ us. is_admitted Register us ≡ true) now admitted) (last_written-behind first later value last (subst (λ us. last_written us ≡ Some last) now found))
+    ∙ writes-late first later value last (subst (λ us. is_admitted Register us ≡ true) now admitted)
+    (last_written-behind first later value last (subst (λ us. last_written us ≡ Some last) now found))
     ∙ sym (ap (λ us. then_step (state_after Register us) (Write last)) was)
 
-pub set-delivered : (records : Records) (to : ℕ) (label : Label) (update last : Update) (x : ℕ) → Contains (labels_of records) label → Makes label.op update → had records to label.number ≡ false
-    → is_admitted LwwSet (updates_had LwwSet (Deliver to label.number ∷ records) to) ≡ true → acts_on x update ≡ true → last_on x (updates_had LwwSet (Deliver to label.number ∷ records) to) ≡ Some last
-    → state_after LwwSet (updates_had LwwSet (Deliver to label.number ∷ records) to) ≡ then_step (state_after LwwSet (updates_had LwwSet records to)) last
+pub set-delivered : (records : Records) (to : ℕ) (label : Label) (update last : Update) (x : ℕ)
+    → Contains (labels_of records) label → Makes label.op update → had records to label.number ≡ false
+    → is_admitted LwwSet (updates_had LwwSet (Deliver to label.number ∷ records) to) ≡ true → acts_on x update ≡ true
+    → last_on x (updates_had LwwSet (Deliver to label.number ∷ records) to) ≡ Some last
+    → state_after LwwSet (updates_had LwwSet (Deliver to label.number ∷ records) to)
+    ≡ then_step (state_after LwwSet (updates_had LwwSet records to)) last
 set-delivered records to label update last x there makes new admitted acts found =
     let (before, behind, is, was, now) = delivery-own LwwSet records to label update there makes new in
     let first = updates_had_of records to before in
     let later = updates_had_of records to behind in
     ap (state_after LwwSet) now
-    ∙ set-late first later update last x (subst (λ us. is_admitted LwwSet us ≡ true) now admitted) acts (last_on-behind first later update last x acts (subst (λ us. last_on x us ≡ Some last) now found))
+    ∙ set-late first later update last x (subst (λ us. is_admitted LwwSet us ≡ true) now admitted) acts
+    (last_on-behind first later update last x acts (subst (λ us. last_on x us ≡ Some last) now found))
     ∙ sym (ap (λ us. then_step (state_after LwwSet us) last) was)
 
-pub or_set-delivered : (records : Records) (to : ℕ) (label : Label) (update : Update) → Contains (labels_of records) label → Makes label.op update → Holds OrSet records → IdentifiersAreOneLabels records
-    → IsCausal (Deliver to label.number ∷ records) → state_after OrSet (updates_had OrSet (Deliver to label.number ∷ records) to) ≡ then_step (state_after OrSet (updates_had OrSet records to)) update
+pub or_set-delivered : (records : Records) (to : ℕ) (label : Label) (update : Update)
+    → Contains (labels_of records) label → Makes label.op update → Holds OrSet records → IdentifiersAreOneLabels records
+    → IsCausal (Deliver to label.number ∷ records) → state_after OrSet
+    (updates_had OrSet (Deliver to label.number ∷ records) to)
+    ≡ then_step (state_after OrSet (updates_had OrSet records to)) update
 or_set-delivered records to label update there makes holds once causal =
     let (before, behind, is, was, now) = delivery-own OrSet records to label update there makes causal.0 in
     let later = updates_had_of records to behind in
     let named_there : (m : Label) → Contains behind m → Contains (labels_of records) m = λ m found.
-    Contains-permutation (named_labels OrSet records) (labels_of records) m (IsPermutation-sym (labels_of records) (named_labels OrSet records) (IsPermutation-named_labels OrSet records))
-    (subst (λ ls. Contains ls m) (sym is) (Contains-append_right before (label ∷ behind) m (behind_head label behind m found))) in
-    let none : NoneClashes update later = list_all-from_contains (λ v. not (clash update v)) later (λ v v_there. not_from_false (clash update v) (false_from_ne_true (clash update v) (λ clashes.
+    Contains-permutation (named_labels OrSet records) (labels_of records) m
+    (IsPermutation-sym (labels_of records) (named_labels OrSet records) (IsPermutation-named_labels OrSet records))
+    (subst (λ ls. Contains ls m) (sym is)
+    (Contains-append_right before (label ∷ behind) m (behind_head label behind m found))) in
+    let none : NoneClashes update later = list_all-from_contains (λ v. not (clash update v)) later
+    (λ v v_there. not_from_false (clash update v) (false_from_ne_true (clash update v) (λ clashes.
     let (m, m_there, m_had, m_makes) = had_from records to behind v v_there in
     let (x, id, ids, listed, which) = clashing update v clashes in
     let m_op = made_by m.op v m_makes in
@@ -364,10 +352,12 @@ or_set-delivered records to label update there makes holds once causal =
     let m_in = named_there m m_there in
     elim which [
       | inl (adds, removes) ↦
-          let seen = removal-sees records m label x id ids holds once m_in there (m_op ∙ ap op_of removes) (l_op ∙ ap op_of adds) listed in
+          let seen = removal-sees records m label x id ids holds once m_in there (m_op ∙ ap op_of removes)
+          (l_op ∙ ap op_of adds) listed in
           false≢true (sym causal.0 ∙ had_closed records causal.2 to m.number label.number m_had seen)
       | inr (removes, adds) ↦
-          let seen = removal-sees records label m x id ids holds once there m_in (l_op ∙ ap op_of removes) (m_op ∙ ap op_of adds) listed in
+          let seen = removal-sees records label m x id ids holds once there m_in (l_op ∙ ap op_of removes)
+          (m_op ∙ ap op_of adds) listed in
           let earlier = (sees_earlier records label.number m.number seen).0 in
           let later_one = stands_later records before behind label m is m_there in
           absurd (omega (arith, earlier, later_one))

@@ -32,10 +32,12 @@ EndsAt x P list = (between behind : List ℕ) × (list ≡ between ++ x ∷ behi
 
 abbrev Between : ℕ → ℕ → (ℕ → Type 0) → List ℕ → Type 0
 Between anchor x P list =
-    (before between behind : List ℕ) × (list ≡ before ++ anchor ∷ (between ++ x ∷ behind)) × ((y : ℕ) → Contains between y → P y)
+    (before between behind : List ℕ) × (list ≡ before ++ anchor ∷ (between ++ x ∷ behind))
+    × ((y : ℕ) → Contains between y → P y)
 
 -- one more such element keeps that
-ends_on : (x b y : ℕ) (P : ℕ → Type 0) (between behind : List ℕ) → P y → ((z : ℕ) → Contains between z → P z) → EndsAt x P (insert_in b y (between ++ x ∷ behind))
+ends_on : (x b y : ℕ) (P : ℕ → Type 0) (between behind : List ℕ) → P y → ((z : ℕ) → Contains between z → P z)
+    → EndsAt x P (insert_in b y (between ++ x ∷ behind))
 ends_on x b y P [] behind it all = elim (cases_Bool (b == x)) [
   | inl here ↦ ([], y ∷ behind, cond-true (b == x) (x ∷ y ∷ behind) (x ∷ insert_in b y behind) here, all)
   | inr on ↦ ([], insert_in b y behind, cond-false (b == x) (x ∷ y ∷ behind) (x ∷ insert_in b y behind) on, all)
@@ -57,7 +59,8 @@ ends_on x b y P (z ∷ between) behind it all =
         ]),
       )
       | inr on ↦
-          let (more, others, is, known) = ends_on x b y P between behind it (λ w found. all w (behind_head z between w found)) in (
+          let (more, others, is, known) =
+          ends_on x b y P between behind it (λ w found. all w (behind_head z between w found)) in (
             z ∷ more,
             others,
             cond-false (b == z) (z ∷ y ∷ rest) (z ∷ insert_in b y rest) on ∙ ap (λ ws. z ∷ ws) is,
@@ -68,7 +71,9 @@ ends_on x b y P (z ∷ between) behind it all =
           )
     ]
 
-between_on : (anchor x b y : ℕ) (P : ℕ → Type 0) (before between behind : List ℕ) → P y → ((z : ℕ) → Contains between z → P z) → Between anchor x P (insert_in b y (before ++ anchor ∷ (between ++ x ∷ behind)))
+between_on : (anchor x b y : ℕ) (P : ℕ → Type 0) (before between behind : List ℕ) → P y
+    → ((z : ℕ) → Contains between z → P z)
+    → Between anchor x P (insert_in b y (before ++ anchor ∷ (between ++ x ∷ behind)))
 between_on anchor x b y P [] between behind it all =
     let rest = between ++ x ∷ behind in
     elim (cases_Bool (b == anchor)) [
@@ -83,32 +88,54 @@ between_on anchor x b y P [] between behind it all =
         ]),
       )
       | inr on ↦
-          let (more, others, is, known) = ends_on x b y P between behind it all in
-          ([], more, others, cond-false (b == anchor) (anchor ∷ y ∷ rest) (anchor ∷ insert_in b y rest) on ∙ ap (λ ws. anchor ∷ ws) is, known)
+          let (more, others, is, known) = ends_on x b y P between behind it all in (
+            [],
+            more,
+            others,
+            cond-false (b == anchor) (anchor ∷ y ∷ rest) (anchor ∷ insert_in b y rest) on
+                ∙ ap (λ ws. anchor ∷ ws) is,
+            known,
+          )
     ]
 between_on anchor x b y P (z ∷ before) between behind it all =
     let rest = before ++ anchor ∷ (between ++ x ∷ behind) in
     elim (cases_Bool (b == z)) [
-      | inl here ↦ (z ∷ y ∷ before, between, behind, cond-true (b == z) (z ∷ y ∷ rest) (z ∷ insert_in b y rest) here, all)
+      | inl here ↦
+          (z ∷ y ∷ before, between, behind, cond-true (b == z) (z ∷ y ∷ rest) (z ∷ insert_in b y rest) here, all)
       | inr on ↦
-          let (first, more, others, is, known) = between_on anchor x b y P before between behind it all in
-          (z ∷ first, more, others, cond-false (b == z) (z ∷ y ∷ rest) (z ∷ insert_in b y rest) on ∙ ap (λ ws. z ∷ ws) is, known)
+          let (first, more, others, is, known) = between_on anchor x b y P before between behind it all in (
+            z ∷ first,
+            more,
+            others,
+            cond-false (b == z) (z ∷ y ∷ rest) (z ∷ insert_in b y rest) on
+                ∙ ap (λ ws. z ∷ ws) is,
+            known,
+          )
     ]
 
-step_between : (anchor x : ℕ) (P : ℕ → Type 0) (ls next : List (ℕ × Bool)) (u : Update) → GoesIn ls u next ⊎ GoesOut ls u next → ((b y : ℕ) → u ≡ After b y → P y) → Between anchor x P (elements_in ls) → Between anchor x P (elements_in next)
+step_between : (anchor x : ℕ) (P : ℕ → Type 0) (ls next : List (ℕ × Bool)) (u : Update)
+    → GoesIn ls u next ⊎ GoesOut ls u next → ((b y : ℕ) → u ≡ After b y → P y) → Between anchor x P (elements_in ls)
+    → Between anchor x P (elements_in next)
 step_between anchor x P ls next u (inl (b, y, which, there, new, same)) puts (before, between, behind, is, all) =
-    subst (Between anchor x P) (sym (elements-inserted b y ls ∙ ap (insert_in b y) is) ∙ ap elements_in same) (between_on anchor x b y P before between behind (puts b y which) all)
-step_between anchor x P ls next u (inr (z, which, there, other, same)) puts known = subst (Between anchor x P) (sym (hide-places z ls) ∙ ap elements_in same) known
+    subst (Between anchor x P) (sym (elements-inserted b y ls ∙ ap (insert_in b y) is) ∙ ap elements_in same)
+    (between_on anchor x b y P before between behind (puts b y which) all)
+step_between anchor x P ls next u (inr (z, which, there, other, same)) puts known =
+    subst (Between anchor x P) (sym (hide-places z ls) ∙ ap elements_in same) known
 
-between_from : (anchor x : ℕ) (P : ℕ → Type 0) (us : List Update) (ls qs : List (ℕ × Bool)) → state_from (Some (Listed ls)) us ≡ Some (Listed qs) → ((b y : ℕ) → Contains us (After b y) → P y) → Between anchor x P (elements_in ls) → Between anchor x P (elements_in qs)
-between_from anchor x P [] ls qs is puts known = let same : ls ≡ qs = cc (is) in subst (λ es. Between anchor x P (elements_in es)) same known
+between_from : (anchor x : ℕ) (P : ℕ → Type 0) (us : List Update) (ls qs : List (ℕ × Bool))
+    → state_from (Some (Listed ls)) us ≡ Some (Listed qs) → ((b y : ℕ) → Contains us (After b y) → P y)
+    → Between anchor x P (elements_in ls) → Between anchor x P (elements_in qs)
+between_from anchor x P [] ls qs is puts known = let same : ls ≡ qs = cc (is) in
+    subst (λ es. Between anchor x P (elements_in es)) same known
 between_from anchor x P (u ∷ us) ls qs is puts known =
     let (next, step, rest) = one_step ls u us qs is in
     between_from anchor x P us next qs rest (λ b y found. puts b y (behind_head u us (After b y) found))
-    (step_between anchor x P ls next u (which_step ls next u step) (λ b y which. puts b y (at_head u us (After b y) which)) known)
+    (step_between anchor x P ls next u (which_step ls next u step)
+    (λ b y which. puts b y (at_head u us (After b y) which)) known)
 
 -- a list in which nothing stands twice splits at an element in one way
-one_split : (xs ys zs ws : List ℕ) (y : ℕ) → NoneTwice (xs ++ y ∷ ys) → xs ++ y ∷ ys ≡ zs ++ y ∷ ws → (xs ≡ zs) × (ys ≡ ws)
+one_split : (xs ys zs ws : List ℕ) (y : ℕ) → NoneTwice (xs ++ y ∷ ys) → xs ++ y ∷ ys ≡ zs ++ y ∷ ws
+    → (xs ≡ zs) × (ys ≡ ws)
 one_split [] ys [] ws y once is = (refl, cc (is))
 one_split [] ys (z ∷ zs) ws y once is =
     let rest : ys ≡ zs ++ y ∷ ws = cc (is) in
@@ -127,55 +154,83 @@ once_behind [] ys y once = once.1
 once_behind (x ∷ xs) ys y once = once_behind xs ys y once.1
 
 -- an insertion's anchor and its element are neighbours at first
-neighbours : (anchor x : ℕ) (P : ℕ → Type 0) (older mid : List (ℕ × Bool)) → step_of (Listed older) (After anchor x) ≡ Some (Listed mid) → Between anchor x P (elements_in mid)
+neighbours : (anchor x : ℕ) (P : ℕ → Type 0) (older mid : List (ℕ × Bool))
+    → step_of (Listed older) (After anchor x) ≡ Some (Listed mid) → Between anchor x P (elements_in mid)
 neighbours anchor x P older mid step =
-    let (before, behind, is_shown, was, now) = after-puts older mid anchor x step in
-    (elements_in before, [], elements_in behind, ap elements_in now ∙ in_append before ((anchor, is_shown) ∷ (x, true) ∷ behind), (λ y there. absurd (omega (arith, there.1))))
+    let (before, behind, is_shown, was, now) = after-puts older mid anchor x step in (
+      elements_in before,
+      [],
+      elements_in behind,
+      ap elements_in now
+          ∙ in_append before ((anchor, is_shown) ∷ (x, true) ∷ behind),
+      (λ y there. absurd (omega (arith, there.1))),
+    )
 
-known_between : (P : ℕ → Type 0) (list before between behind : List ℕ) (anchor x : ℕ) → NoneTwice list → list ≡ before ++ anchor ∷ (between ++ x ∷ behind) → Between anchor x P list → (y : ℕ) → Contains between y → P y
+known_between : (P : ℕ → Type 0) (list before between behind : List ℕ) (anchor x : ℕ) → NoneTwice list
+    → list ≡ before ++ anchor ∷ (between ++ x ∷ behind) → Between anchor x P list → (y : ℕ) → Contains between y → P y
 known_between P list before between behind anchor x once is (fronts, middle, backs, split, known) y stands =
     let once_there : NoneTwice (before ++ anchor ∷ (between ++ x ∷ behind)) = subst NoneTwice is once in
-    let tails = (one_split before (between ++ x ∷ behind) fronts (middle ++ x ∷ backs) anchor once_there (sym is ∙ split)).1 in
-    let same = (one_split between behind middle backs x (once_behind before (between ++ x ∷ behind) anchor once_there) tails).0 in
+    let tails =
+    (one_split before (between ++ x ∷ behind) fronts (middle ++ x ∷ backs) anchor once_there (sym is ∙ split)).1 in
+    let same =
+    (one_split between behind middle backs x
+    (once_behind before (between ++ x ∷ behind) anchor once_there) tails).0 in
     known y (subst (λ es. Contains es y) same stands)
 
 elements_between : (anchor x : ℕ) (before between behind : List (ℕ × Bool)) (is_shown was_shown : Bool)
-    → elements_in (before ++ (anchor, is_shown) ∷ between ++ (x, was_shown) ∷ behind) ≡ elements_in before ++ anchor ∷ (elements_in between ++ x ∷ elements_in behind)
+    → elements_in (before ++ (anchor, is_shown) ∷ between ++ (x, was_shown) ∷ behind)
+    ≡ elements_in before ++ anchor ∷ (elements_in between ++ x ∷ elements_in behind)
 elements_between anchor x before between behind is_shown was_shown =
     in_append (before ++ (anchor, is_shown) ∷ between) ((x, was_shown) ∷ behind)
     ∙ ap (λ es. es ++ x ∷ elements_in behind) (in_append before ((anchor, is_shown) ∷ between))
     ∙ append_assoc (elements_in before) (anchor ∷ elements_in between) (x ∷ elements_in behind)
 
 -- in a list that updates lead to, those between were put in behind the insertion
-put_between : (first later : List Update) (anchor x : ℕ) (before between behind : List (ℕ × Bool)) (is_shown was_shown : Bool)
-    → state_after Rga (first ++ After anchor x ∷ later) ≡ Some (Listed (before ++ (anchor, is_shown) ∷ between ++ (x, was_shown) ∷ behind)) → (y : ℕ) → Contains (elements_in between) y → WasPutIn y later
+put_between : (first later : List Update) (anchor x : ℕ) (before between behind : List (ℕ × Bool))
+    (is_shown was_shown : Bool)
+    → state_after Rga (first ++ After anchor x ∷ later)
+    ≡ Some (Listed (before ++ (anchor, is_shown) ∷ between ++ (x, was_shown) ∷ behind)) → (y : ℕ)
+    → Contains (elements_in between) y → WasPutIn y later
 put_between first later anchor x before between behind is_shown was_shown led y stands =
     let all : List (ℕ × Bool) = before ++ (anchor, is_shown) ∷ between ++ (x, was_shown) ∷ behind in
     let (older, led_first, goes) = split-led first (After anchor x ∷ later) all led in
     let (mid, step, rest) = one_step older (After anchor x) later all goes in
     let P : ℕ → Type 0 = λ z. WasPutIn z later in
     known_between P (elements_in all) (elements_in before) (elements_in between) (elements_in behind) anchor x
-    (list-once (first ++ After anchor x ∷ later) all led) (elements_between anchor x before between behind is_shown was_shown)
-    (between_from anchor x P later mid all rest (λ a z found. (a, found)) (neighbours anchor x P older mid step)) y stands
+    (list-once (first ++ After anchor x ∷ later) all led)
+    (elements_between anchor x before between behind is_shown was_shown)
+    (between_from anchor x P later mid all rest (λ a z found. (a, found)) (neighbours anchor x P older mid step))
+    y stands
 
 -- and so are of labels behind that of the insertion
-later_label : (records : Records) (first later : List Label) (label other : Label) (b y : ℕ) → updates_admitted Rga (named_sequence Rga records) ≡ true → named_labels Rga records ≡ first ++ label ∷ later → WasPutIn y (updates_among each later)
+later_label : (records : Records) (first later : List Label) (label other : Label) (b y : ℕ)
+    → updates_admitted Rga (named_sequence Rga records) ≡ true → named_labels Rga records ≡ first ++ label ∷ later
+    → WasPutIn y (updates_among each later)
     → Contains (labels_of records) other → Makes other.op (After b y) → label_cmp Rga records label other ≡ Less
 later_label records first later label other b y admitted is (a, put) other_there other_makes =
     let (k, k_there, it, k_makes) = among-from each later (After a y) put in
-    let k_in : Contains (labels_of records) k = in-labels Rga records k (subst (λ ls. Contains ls k) (sym is) (Contains-append_right first (label ∷ later) k (behind_head label later k k_there))) in
+    let k_in : Contains (labels_of records) k = in-labels Rga records k
+    (subst (λ ls. Contains ls k) (sym is)
+    (Contains-append_right first (label ∷ later) k (behind_head label later k k_there))) in
     let this : k ≡ other = put_in-once records k other a b y admitted k_in other_there k_makes other_makes in
     (stands-behind Rga records first later label other is other_there).0 (subst (Contains later) this k_there)
 
-pub between-later : (records : Records) (label other : Label) (anchor x b y : ℕ) (before between behind : List (ℕ × Bool)) (is_shown was_shown : Bool)
-    → state_after Rga (updates_of (named_sequence Rga records)) ≡ Some (Listed (before ++ (anchor, is_shown) ∷ between ++ (x, was_shown) ∷ behind)) → Contains (labels_of records) label → Makes label.op (After anchor x)
-    → Contains (labels_of records) other → Makes other.op (After b y) → Contains (elements_in between) y → label_cmp Rga records label other ≡ Less
-between-later records label other anchor x b y before between behind is_shown was_shown led there makes other_there other_makes stands =
+pub between-later : (records : Records) (label other : Label) (anchor x b y : ℕ)
+    (before between behind : List (ℕ × Bool)) (is_shown was_shown : Bool)
+    → state_after Rga (updates_of (named_sequence Rga records)) ≡ Some
+    (Listed (before ++ (anchor, is_shown) ∷ between ++ (x, was_shown) ∷ behind))
+    → Contains (labels_of records) label → Makes label.op (After anchor x)
+    → Contains (labels_of records) other → Makes other.op (After b y) → Contains (elements_in between) y
+    → label_cmp Rga records label other ≡ Less
+between-later records label other anchor x b y before between behind is_shown was_shown led there makes other_there
+    other_makes stands =
     let (first, later, is) = split_at (named_labels Rga records) label (in-named Rga records label there) in
     let older_us = updates_among each first in
     let later_us = updates_among each later in
     let pieces : updates_among each (named_labels Rga records) ≡ older_us ++ After anchor x ∷ later_us =
     ap (updates_among each) is ∙ among-append each first (label ∷ later)
-    ∙ ap (λ us. older_us ++ us) (among-append each (label ∷ []) later ∙ ap (λ us. us ++ later_us) (among-one each label (After anchor x) makes refl)) in
-    let put = put_between older_us later_us anchor x before between behind is_shown was_shown (ap (state_after Rga) (sym pieces ∙ each_passes (named_labels Rga records)) ∙ led) y stands in
+    ∙ ap (λ us. older_us ++ us) (among-append each (label ∷ []) later
+    ∙ ap (λ us. us ++ later_us) (among-one each label (After anchor x) makes refl)) in
+    let put = put_between older_us later_us anchor x before between behind is_shown was_shown
+    (ap (state_after Rga) (sym pieces ∙ each_passes (named_labels Rga records)) ∙ led) y stands in
     later_label records first later label other b y (ap is_some led) is put other_there other_makes

@@ -1,7 +1,9 @@
 -- In causal records, what a replica had of another's updates, and what a label sees of them, are the first ones.
 use Rattle.std.proofs.Common.{◌≡◌, ℕ, ◌+◌, ◌≤◌, Bool, true, false, eqb, [], ◌∷◌, Option, refl, sym, ap, ◌∙◌, subst, inl, inr, arith}
 use Rattle.std.specs.Prelude.{◌⊎◌, ◌==◌, ◌&&◌, ◌||◌, nat_lt}
-use Rattle.std.proofs.lemmas.Bool.{false≢true, cases_lt, cases_eq, cases_Bool, lt-ltb, le-ltb, ltb-true, ltb-false, eq-eqb, eqb-true, cond-true, cond-false, or_left, and_parts, and_from, false_from_ne_true}
+use Rattle.std.proofs.lemmas.Bool.{false≢true, cases_lt, cases_eq, cases_Bool, lt-ltb, le-ltb, ltb-true, ltb-false}
+use Rattle.std.proofs.lemmas.Bool.{eq-eqb, eqb-true, cond-true, cond-false, or_left, and_parts, and_from}
+use Rattle.std.proofs.lemmas.Bool.{false_from_ne_true}
 use Rattle.ra_labels.specs.declared.operation.Op.{Op}
 use Rattle.ra_labels.specs.declared.command.Command.TheVariants.{Operate, Deliver, Verdict}
 use Rattle.ra_labels.specs.Records.{Records, label_count}
@@ -16,32 +18,40 @@ none_first : (replica : ℕ) (test : ℕ → Bool) → AreFirstUpdates [] replic
 none_first replica test = (omega arith, λ n is. absurd (false≢true is.0))
 
 -- a test that says the same of the replica's updates
-same_first : (records : Records) (replica count : ℕ) (test other : ℕ → Bool) → ((n : ℕ) → IsUpdateOf records replica n → other n ≡ test n) → AreFirstUpdates records replica count test → AreFirstUpdates records replica count other
+same_first : (records : Records) (replica count : ℕ) (test other : ℕ → Bool)
+    → ((n : ℕ) → IsUpdateOf records replica n → other n ≡ test n) → AreFirstUpdates records replica count test
+    → AreFirstUpdates records replica count other
 same_first records replica count test other same first = (first.0, λ n is. same n is ∙ first.1 n is)
 
 -- one operation later, which does not pass
-later_first : (before : Records) (by : ℕ) (op : Op) (clock : Option ℕ) (replica count : ℕ) (test : ℕ → Bool) → test (label_count before) ≡ false → AreFirstUpdates before replica count test → AreFirstUpdates (Operate by op clock ∷ before) replica count test
+later_first : (before : Records) (by : ℕ) (op : Op) (clock : Option ℕ) (replica count : ℕ) (test : ℕ → Bool)
+    → test (label_count before) ≡ false → AreFirstUpdates before replica count test
+    → AreFirstUpdates (Operate by op clock ∷ before) replica count test
 later_first before by op clock replica count test fails first = (
   omega (arith, first.0, updates-more before by replica op clock),
   (λ n is. elim (newest_or_older before by op clock replica n is) [
     | inl new ↦
         ap test new.0 ∙ fails
-        ∙ sym (le-ltb (place_of (Operate by op clock ∷ before) n) count (omega (arith, first.0, place-here before by op clock replica n new)))
+        ∙ sym (le-ltb (place_of (Operate by op clock ∷ before) n) count
+        (omega (arith, first.0, place-here before by op clock replica n new)))
     | inr old ↦ first.1 n old.1 ∙ ap (λ at. nat_lt at count) (sym (place-older before by op clock n old.0))
   ]),
 )
 
 -- a replica had its own updates, all of them
-own_first : (records : Records) (replica : ℕ) → AreFirstUpdates records replica (updates_of records replica) (had records replica)
+own_first : (records : Records) (replica : ℕ)
+    → AreFirstUpdates records replica (updates_of records replica) (had records replica)
 own_first records replica = (
   omega arith,
-  (λ n is. had-own records replica n is ∙ sym (lt-ltb (place_of records n) (updates_of records replica) (place-below records replica n is))),
+  (λ n is. had-own records replica n is
+      ∙ sym (lt-ltb (place_of records n) (updates_of records replica) (place-below records replica n is))),
 )
 
 -- the next label is not among what a replica had, nor among what a label sees
 had-next : (before : Records) (replica : ℕ) → had before replica (label_count before) ≡ false
 had-next before replica = false_from_ne_true (had before replica (label_count before)) (λ had_it.
-    let below = is_update_at-below before (label_count before) (had_update before replica (label_count before) had_it) in
+    let below = is_update_at-below before (label_count before)
+    (had_update before replica (label_count before) had_it) in
     absurd (omega (arith, below)))
 
 pub sees-next : (before : Records) (n : ℕ) → sees before n (label_count before) ≡ false
@@ -55,31 +65,38 @@ or_not true y never = absurd (never refl)
 or_not false y never = refl
 
 -- an operation brings another replica none of the updates
-had-operation : (before : Records) (by : ℕ) (op : Op) (clock : Option ℕ) (replica of n : ℕ) → (replica ≡ of → ⊥) → IsUpdateOf (Operate by op clock ∷ before) of n → had (Operate by op clock ∷ before) replica n ≡ had before replica n
+had-operation : (before : Records) (by : ℕ) (op : Op) (clock : Option ℕ) (replica of n : ℕ) → (replica ≡ of → ⊥)
+    → IsUpdateOf (Operate by op clock ∷ before) of n
+    → had (Operate by op clock ∷ before) replica n ≡ had before replica n
 had-operation before by op clock replica of n other is =
     or_not (by == replica && n == label_count before && is_update op) (had before replica n) (λ own.
-    let place = and_parts (by == replica) (n == label_count before) (and_parts (by == replica && n == label_count before) (is_update op) own).0 in
+    let place = and_parts (by == replica) (n == label_count before)
+    (and_parts (by == replica && n == label_count before) (is_update op) own).0 in
     elim (newest_or_older before by op clock of n is) [
       | inl new ↦ other (sym (eqb-true by replica place.0) ∙ new.2)
       | inr old ↦ absurd (omega (arith, old.0, eqb-true n (label_count before) place.1))
     ])
 
 -- nor does a delivery of something else, or to someone else
-had-delivery : (before : Records) (to label replica of n : ℕ) → ((to ≡ replica) × IsUpdateOf before of label → ⊥) → IsUpdateOf before of n → had (Deliver to label ∷ before) replica n ≡ had before replica n
+had-delivery : (before : Records) (to label replica of n : ℕ) → ((to ≡ replica) × IsUpdateOf before of label → ⊥)
+    → IsUpdateOf before of n → had (Deliver to label ∷ before) replica n ≡ had before replica n
 had-delivery before to label replica of n other is =
     or_not (to == replica && n == label && is_update_at before n) (had before replica n) (λ got.
-    let place = and_parts (to == replica) (n == label) (and_parts (to == replica && n == label) (is_update_at before n) got).0 in
+    let place = and_parts (to == replica) (n == label)
+    (and_parts (to == replica && n == label) (is_update_at before n) got).0 in
     other (eqb-true to replica place.0, subst (λ m. IsUpdateOf before of m) (eqb-true n label place.1) is))
 
 -- a causal delivery brings the next of its replica's updates
-next_delivered : (before : Records) (to label of count : ℕ) → IsCausal (Deliver to label ∷ before) → IsUpdateOf before of label → AreFirstUpdates before of count (had before to) → place_of before label ≡ count
+next_delivered : (before : Records) (to label of count : ℕ) → IsCausal (Deliver to label ∷ before)
+    → IsUpdateOf before of label → AreFirstUpdates before of count (had before to) → place_of before label ≡ count
 next_delivered before to label of count causal is first =
     let above = ltb-false (place_of before label) count (sym (first.1 label is) ∙ causal.0) in
     elim (cases_lt count (place_of before label)) [
       | inl below ↦
           let missed = place-there before of count (omega (arith, below, place-below before of label is)) in
           let seen = sees-own before of label missed.0 is missed.1 (omega (arith, below, missed.2)) in
-          let passes : nat_lt (place_of before missed.0) count ≡ true = sym (first.1 missed.0 missed.1) ∙ causal.1 missed.0 seen in
+          let passes : nat_lt (place_of before missed.0) count ≡ true = sym (first.1 missed.0 missed.1)
+          ∙ causal.1 missed.0 seen in
           absurd (omega (arith, missed.2, ltb-true (place_of before missed.0) count passes))
       | inr within ↦ omega (arith, above, within)
     ]
@@ -89,12 +106,15 @@ lt-next : (at count : ℕ) → (at ≡ count → ⊥) → nat_lt at count ≡ na
 lt-next at count other = elim (cases_lt at count) [
   | inl below ↦ lt-ltb at count below ∙ sym (lt-ltb at (count + 1) (omega (arith, below)))
   | inr above ↦
-      let past : count + 1 ≤ at = elim (cases_eq at count) [ inl same ↦ absurd (other same) | inr more ↦ omega (arith, above, more) ] in
+      let past : count + 1 ≤ at =
+      elim (cases_eq at count) [ inl same ↦ absurd (other same) | inr more ↦ omega (arith, above, more) ] in
       le-ltb at count above ∙ sym (le-ltb at (count + 1) past)
 ]
 
 -- with the next one they are one more
-delivered_first : (before : Records) (to label of count : ℕ) → IsCausal (Deliver to label ∷ before) → IsUpdateOf before of label → AreFirstUpdates before of count (had before to) → AreFirstUpdates (Deliver to label ∷ before) of (count + 1) (had (Deliver to label ∷ before) to)
+delivered_first : (before : Records) (to label of count : ℕ) → IsCausal (Deliver to label ∷ before)
+    → IsUpdateOf before of label → AreFirstUpdates before of count (had before to)
+    → AreFirstUpdates (Deliver to label ∷ before) of (count + 1) (had (Deliver to label ∷ before) to)
 delivered_first before to label of count causal is first =
     let next = next_delivered before to label of count causal is first in (
       omega (arith, next, place-below before of label is),
@@ -106,14 +126,17 @@ delivered_first before to label of count causal is first =
             or_left _ (had before to n) got ∙ sym (lt-ltb (place_of before n) (count + 1) (omega (arith, at)))
         | inr other ↦
             or_not (to == to && n == label && is_update_at before n) (had before to n) (λ got.
-            other (eqb-true n label (and_parts (to == to) (n == label) (and_parts (to == to && n == label) (is_update_at before n) got).0).1))
+            other (eqb-true n label
+            (and_parts (to == to) (n == label)
+            (and_parts (to == to && n == label) (is_update_at before n) got).0).1))
             ∙ first.1 n also
             ∙ lt-next (place_of before n) count (λ at. other (place-only before of n label also is (at ∙ sym next)))
       ]),
     )
 
 -- is the delivered label one of the replica's updates?
-is_its : (before : Records) (to label replica of : ℕ) → ((to ≡ replica) × IsUpdateOf before of label) ⊎ ((to ≡ replica) × IsUpdateOf before of label → ⊥)
+is_its : (before : Records) (to label replica of : ℕ) → ((to ≡ replica) × IsUpdateOf before of label)
+    ⊎ ((to ≡ replica) × IsUpdateOf before of label → ⊥)
 is_its before to label replica of = elim (cases_eq to replica) [
   | inr other ↦ inr (λ is. other is.0)
   | inl same ↦ elim (cases_Bool (is_update_at before label)) [
@@ -126,12 +149,14 @@ is_its before to label replica of = elim (cases_eq to replica) [
 ]
 
 -- the law of counts, of another replica's updates
-others_first : (records : Records) → IsCausal records → (replica of : ℕ) → (replica ≡ of → ⊥) → (count : ℕ) × AreFirstUpdates records of count (had records replica)
+others_first : (records : Records) → IsCausal records → (replica of : ℕ) → (replica ≡ of → ⊥)
+    → (count : ℕ) × AreFirstUpdates records of count (had records replica)
 others_first [] causal replica of other = (0, none_first of (had [] replica))
 others_first (Operate by op clock ∷ before) causal replica of other =
     let rest = others_first before causal replica of other in (
       rest.0,
-      same_first (Operate by op clock ∷ before) of rest.0 (had before replica) (had (Operate by op clock ∷ before) replica)
+      same_first (Operate by op clock ∷ before) of rest.0 (had before replica)
+          (had (Operate by op clock ∷ before) replica)
           (λ n is. had-operation before by op clock replica of n other is)
           (later_first before by op clock of rest.0 (had before replica) (had-next before replica) rest.1),
     )
@@ -140,7 +165,8 @@ others_first (Deliver to label ∷ before) causal replica of other =
     elim (is_its before to label replica of) [
       | inl its ↦ (
         rest.0 + 1,
-        subst (λ r. AreFirstUpdates (Deliver to label ∷ before) of (rest.0 + 1) (had (Deliver to label ∷ before) r)) its.0
+        subst (λ r. AreFirstUpdates (Deliver to label ∷ before) of (rest.0 + 1) (had (Deliver to label ∷ before) r))
+            its.0
             (delivered_first before to label of rest.0 causal its.1
             (subst (λ r. AreFirstUpdates before of rest.0 (had before r)) (sym its.0) rest.1)),
       )
@@ -149,7 +175,8 @@ others_first (Deliver to label ∷ before) causal replica of other =
 others_first (Verdict ∷ before) causal replica of other = others_first before causal replica of other
 
 -- and of any replica's
-pub had-first : (records : Records) → IsCausal records → (replica of : ℕ) → (count : ℕ) × AreFirstUpdates records of count (had records replica)
+pub had-first : (records : Records) → IsCausal records → (replica of : ℕ)
+    → (count : ℕ) × AreFirstUpdates records of count (had records replica)
 had-first records causal replica of = elim (cases_eq replica of) [
   | inl same ↦ (
     updates_of records of,
@@ -159,7 +186,8 @@ had-first records causal replica of = elim (cases_eq replica of) [
 ]
 
 -- and of what a label sees
-pub sees-first : (records : Records) → IsCausal records → (n of : ℕ) → (count : ℕ) × AreFirstUpdates records of count (sees records n)
+pub sees-first : (records : Records) → IsCausal records → (n of : ℕ)
+    → (count : ℕ) × AreFirstUpdates records of count (sees records n)
 sees-first [] causal n of = (0, none_first of (sees [] n))
 sees-first (Operate by op clock ∷ before) causal n of = elim (cases_Bool (eqb n (label_count before))) [
   | inl newest ↦

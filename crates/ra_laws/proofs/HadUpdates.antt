@@ -3,7 +3,8 @@ use Rattle.std.proofs.Common.{◌≡◌, ℕ, ◌<◌, Bool, true, false, List, 
 use Rattle.std.specs.Prelude.{◌==◌, ◌&&◌, ◌||◌, Contains, flat_map, map, is_some, cond}
 use Rattle.std.specs.List.{IsDistinct, list_any}
 use Rattle.std.specs.Option.{option_map_or}
-use Rattle.std.proofs.lemmas.Bool.{true≢false, cond-true, cond-false, and_from, and_left, and_right, or_from, or_left, or_right, eq-eqb, ne_eqb, false_from_ne_true}
+use Rattle.std.proofs.lemmas.Bool.{true≢false, cond-true, cond-false, and_from, and_left, and_right, or_from, or_left}
+use Rattle.std.proofs.lemmas.Bool.{or_right, eq-eqb, ne_eqb, false_from_ne_true}
 use Rattle.std.proofs.lemmas.Grind.{flat_map-append}
 use Rattle.std.proofs.lemmas.List.{append-nil}
 use Rattle.std.proofs.lemmas.List.Elements.{filter-append, All-contains, Contains-append_left, Contains-append_right}
@@ -33,30 +34,22 @@ use Rattle.ra_laws.proofs.Ranks.{named_differ, have_one_number}
 use Rattle.ra_laws.proofs.Insertion.{order-inserted, order_later}
 
 -- an operation that does an update does just this one
-one_act : (label : Label) (half : Half) (act : Act) (which : Half) (u : Update) → Contains {X = Half × Act} ((half, act) ∷ []) (which, Does u) → updates_of (map (part_of label) ((half, act) ∷ [])) ≡ u ∷ []
+one_act : (label : Label) (half : Half) (act : Act) (which : Half) (u : Update)
+    → Contains {X = Half × Act} ((half, act) ∷ []) (which, Does u)
+    → updates_of (map (part_of label) ((half, act) ∷ [])) ≡ u ∷ []
 one_act label half act which u there = elim (head_or_behind (half, act) [] (which, Does u) there) [
   | inl same ↦ ap (λ (a : Half × Act). updates_of (map (part_of label) ((half, a.1) ∷ []))) same
   | inr none ↦ absurd (omega (arith, none.1))
 ]
 
-pub makes_one : (label : Label) (operation : Op) (u : Update) → Makes operation u → updates_of (map (part_of label) (acts_of operation)) ≡ u ∷ []
-makes_one label op.Inc u (half, there) = one_act label _ _ half u there
-makes_one label op.Dec u (half, there) = one_act label _ _ half u there
-makes_one label (op.Count v) u (half, there) = one_act label _ _ half u there
-makes_one label (op.Write value) u (half, there) = one_act label _ _ half u there
-makes_one label (op.Last value) u (half, there) = one_act label _ _ half u there
-makes_one label (op.LwwAdd x) u (half, there) = one_act label _ _ half u there
-makes_one label (op.LwwRemove x) u (half, there) = one_act label _ _ half u there
-makes_one label (op.LwwRead list) u (half, there) = one_act label _ _ half u there
-makes_one label (op.OrAdd x id) u (half, there) = one_act label _ _ half u there
-makes_one label (op.OrRead list) u (half, there) = one_act label _ _ half u there
-makes_one label (op.After anchor x) u (half, there) = one_act label _ _ half u there
-makes_one label (op.RgaRemove x) u (half, there) = one_act label _ _ half u there
-makes_one label (op.RgaRead list) u (half, there) = one_act label _ _ half u there
-makes_one label (op.OrRemove x ids) u (half, there) = elim (head_or_behind (QueryHalf, Asks (ReadIds x ids)) ((UpdateHalf, Does (TakeOut x ids)) ∷ []) (half, Does u) there) [
-  | inl same ↦ let wrong : Asks (ReadIds x ids) ≡ Does u = ap (λ (a : Half × Act). a.1) same in absurd (cc wrong)
-  | inr later ↦ one_act label UpdateHalf (Does (TakeOut x ids)) half u later
-]
+pub makes_one : (label : Label) (operation : Op) (u : Update) → Makes operation u
+    → updates_of (map (part_of label) (acts_of operation)) ≡ u ∷ []
+makes_one label (op.OrRemove x ids) u (half, there) = elim
+    (head_or_behind (QueryHalf, Asks (ReadIds x ids)) ((UpdateHalf, Does (TakeOut x ids)) ∷ []) (half, Does u) there) [
+      | inl same ↦ let wrong : Asks (ReadIds x ids) ≡ Does u = ap (λ (a : Half × Act). a.1) same in absurd (cc wrong)
+      | inr later ↦ one_act label UpdateHalf (Does (TakeOut x ids)) half u later
+    ]
+makes_one label _ u (half, there) = one_act label _ _ half u there
 
 pub any_at : {A : Type 0} (p : A → Bool) (xs : List A) (y : A) → Contains xs y → p y ≡ true → list_any p xs ≡ true
 any_at p [] y there is = absurd (omega (arith, there.1))
@@ -66,10 +59,12 @@ any_at p (x ∷ xs) y there is = elim (head_or_behind x xs y there) [
 ]
 
 pub makes_update : (operation : Op) (u : Update) → Makes operation u → is_update operation ≡ true
-makes_update operation u (half, there) = is_update-acts operation ∙ any_at (λ (a : Half × Act). is_some (update_of a.1)) (acts_of operation) (half, Does u) there refl
+makes_update operation u (half, there) = is_update-acts operation
+    ∙ any_at (λ (a : Half × Act). is_some (update_of a.1)) (acts_of operation) (half, Does u) there refl
 
 -- filters by tests that agree on the elements
-pub filter_same : {A : Type 0} (p q : A → Bool) (xs : List A) → ((y : A) → Contains xs y → p y ≡ q y) → filter p xs ≡ filter q xs
+pub filter_same : {A : Type 0} (p q : A → Bool) (xs : List A) → ((y : A) → Contains xs y → p y ≡ q y)
+    → filter p xs ≡ filter q xs
 filter_same p q [] same = refl
 filter_same p q (x ∷ xs) same =
     ap (λ b. cond b (x ∷ filter p xs) (filter p xs)) (same x (at_head x xs x refl))
@@ -78,57 +73,75 @@ filter_same p q (x ∷ xs) same =
 pub filter_all : {A : Type 0} (p : A → Bool) (xs : List A) → ((y : A) → Contains xs y → p y ≡ true) → filter p xs ≡ xs
 filter_all p [] pass = refl
 filter_all p (x ∷ xs) pass =
-    cond-true (p x) (x ∷ filter p xs) (filter p xs) (pass x (at_head x xs x refl)) ∙ ap (λ ys. x ∷ ys) (filter_all p xs (λ y there. pass y (behind_head x xs y there)))
+    cond-true (p x) (x ∷ filter p xs) (filter p xs) (pass x (at_head x xs x refl))
+    ∙ ap (λ ys. x ∷ ys) (filter_all p xs (λ y there. pass y (behind_head x xs y there)))
 
 pub filter_none : {A : Type 0} (p : A → Bool) (xs : List A) → ((y : A) → Contains xs y → p y ≡ false) → filter p xs ≡ []
 filter_none p [] fail = refl
 filter_none p (x ∷ xs) fail =
-    cond-false (p x) (x ∷ filter p xs) (filter p xs) (fail x (at_head x xs x refl)) ∙ filter_none p xs (λ y there. fail y (behind_head x xs y there))
+    cond-false (p x) (x ∷ filter p xs) (filter p xs) (fail x (at_head x xs x refl))
+    ∙ filter_none p xs (λ y there. fail y (behind_head x xs y there))
 
 -- the updates of labels that pass, piece by piece
-pub among-append : (passes : ℕ → Bool) (xs ys : List Label) → updates_among passes (xs ++ ys) ≡ updates_among passes xs ++ updates_among passes ys
+pub among-append : (passes : ℕ → Bool) (xs ys : List Label)
+    → updates_among passes (xs ++ ys) ≡ updates_among passes xs ++ updates_among passes ys
 among-append passes xs ys =
     let keep = λ (p : Part). passes p.label.number in
     ap (λ ps. updates_of (filter keep ps)) (flat_map-append parts_of xs ys)
     ∙ ap updates_of (filter-append keep (flat_map parts_of xs) (flat_map parts_of ys))
     ∙ updates_of-append (filter keep (flat_map parts_of xs)) (filter keep (flat_map parts_of ys))
 
-pub among-same : (passes others : ℕ → Bool) (xs : List Label) → ((l : Label) → Contains xs l → passes l.number ≡ others l.number) → updates_among passes xs ≡ updates_among others xs
+pub among-same : (passes others : ℕ → Bool) (xs : List Label)
+    → ((l : Label) → Contains xs l → passes l.number ≡ others l.number)
+    → updates_among passes xs ≡ updates_among others xs
 among-same passes others xs same =
-    ap updates_of (filter_same (λ (p : Part). passes p.label.number) (λ (p : Part). others p.label.number) (flat_map parts_of xs) (λ p there.
+    ap updates_of
+    (filter_same (λ (p : Part). passes p.label.number) (λ (p : Part). others p.label.number)
+    (flat_map parts_of xs) (λ p there.
     let (l, found, part) = piece_of parts_of xs p there in
     let of_l = part_is_of l p part in
     ap (λ (m : Label). passes m.number) of_l ∙ same l found ∙ sym (ap (λ (m : Label). others m.number) of_l)))
 
-pub among-one : (passes : ℕ → Bool) (label : Label) (u : Update) → Makes label.op u → passes label.number ≡ true → updates_among passes (label ∷ []) ≡ u ∷ []
+pub among-one : (passes : ℕ → Bool) (label : Label) (u : Update) → Makes label.op u → passes label.number ≡ true
+    → updates_among passes (label ∷ []) ≡ u ∷ []
 among-one passes label u makes is =
     ap (λ ps. updates_of (filter (λ (p : Part). passes p.label.number) ps)) (append-nil (parts_of label))
-    ∙ ap updates_of (filter_all (λ (p : Part). passes p.label.number) (parts_of label) (λ p there. ap (λ (m : Label). passes m.number) (part_is_of label p there) ∙ is))
+    ∙ ap updates_of
+    (filter_all (λ (p : Part). passes p.label.number) (parts_of label)
+    (λ p there. ap (λ (m : Label). passes m.number) (part_is_of label p there) ∙ is))
     ∙ makes_one label label.op u makes
 
-pub among-none : (passes : ℕ → Bool) (labels : List Label) → ((l : Label) → Contains labels l → passes l.number ≡ false) → updates_among passes labels ≡ []
+pub among-none : (passes : ℕ → Bool) (labels : List Label) → ((l : Label) → Contains labels l → passes l.number ≡ false)
+    → updates_among passes labels ≡ []
 among-none passes labels fail =
     ap updates_of (filter_none (λ (p : Part). passes p.label.number) (flat_map parts_of labels) (λ p there.
     let (l, found, part) = piece_of parts_of labels p there in
     ap (λ (m : Label). passes m.number) (part_is_of l p part) ∙ fail l found))
 
-pub among-not : (passes : ℕ → Bool) (label : Label) → passes label.number ≡ false → updates_among passes (label ∷ []) ≡ []
+pub among-not : (passes : ℕ → Bool) (label : Label) → passes label.number ≡ false
+    → updates_among passes (label ∷ []) ≡ []
 among-not passes label fails = among-none passes (label ∷ []) (λ l found. elim (head_or_behind label [] l found) [
   | inl here ↦ ap (λ (m : Label). passes m.number) (sym here) ∙ fails
   | inr none ↦ absurd (omega (arith, none.1))
 ])
 
 -- a label of a list in which numbers differ, and those round it
-pub differ_round : (before behind : List Label) (x : Label) → IsDistinct have_one_number (before ++ x ∷ behind) → ((y : Label) → Contains before y → ¬ (y.number ≡ x.number)) × ((y : Label) → Contains behind y → ¬ (y.number ≡ x.number))
+pub differ_round : (before behind : List Label) (x : Label) → IsDistinct have_one_number (before ++ x ∷ behind)
+    → ((y : Label) → Contains before y → ¬ (y.number ≡ x.number))
+    × ((y : Label) → Contains behind y → ¬ (y.number ≡ x.number))
 unfolding IsDistinct
 differ_round [] behind x differ = (
   (λ y there. absurd (omega (arith, there.1))),
-  (λ y there same. true≢false (sym (eq-eqb x.number y.number (sym same)) ∙ everyone (λ l. have_one_number x l ≡ false) behind y differ.0 there)),
+  (λ y there same. true≢false (sym (eq-eqb x.number y.number (sym same))
+      ∙ everyone (λ l. have_one_number x l ≡ false) behind y differ.0 there)),
 )
 differ_round (z ∷ before) behind x differ =
     let rest = differ_round before behind x differ.1 in (
       (λ y there. elim (head_or_behind z before y there) [
-        | inl here ↦ λ same. true≢false (sym (eq-eqb z.number x.number (ap (λ (l : Label). l.number) here ∙ same)) ∙ everyone (λ l. have_one_number z l ≡ false) (before ++ x ∷ behind) x differ.0 (Contains-append_right before (x ∷ behind) x (at_head x behind x refl)))
+        | inl here ↦
+            λ same. true≢false (sym (eq-eqb z.number x.number (ap (λ (l : Label). l.number) here ∙ same))
+            ∙ everyone (λ l. have_one_number z l ≡ false) (before ++ x ∷ behind) x differ.0
+            (Contains-append_right before (x ∷ behind) x (at_head x behind x refl)))
         | inr further ↦ rest.0 y further
       ]),
       rest.1,
@@ -142,82 +155,144 @@ module _ (kind : Kind) (records : Records) (by : ℕ) (op : Op) (clock : Option 
   label = next_label records by op clock
 
   -- of the labels before, a replica had the same
-  pub had_before : (replica : ℕ) (l : Label) → Contains (labels_of records) l → had now replica l.number ≡ had records replica l.number
+  pub had_before : (replica : ℕ) (l : Label) → Contains (labels_of records) l
+      → had now replica l.number ≡ had records replica l.number
   had_before replica l there =
-      let below = All-contains (λ m. m.number < label_count records) (labels_of records) l (numbers_below_count records) there in
-      ap (λ b. b || had records replica l.number) (and_left (by == replica && l.number == label_count records) (is_update op) (and_right (by == replica) (l.number == label_count records) (ne_eqb l.number (label_count records) (λ is. absurd (omega (arith, below))))))
+      let below = All-contains (λ m. m.number < label_count records) (labels_of records) l
+      (numbers_below_count records) there in
+      ap (λ b. b || had records replica l.number)
+      (and_left (by == replica && l.number == label_count records) (is_update op)
+      (and_right (by == replica) (l.number == label_count records)
+      (ne_eqb l.number (label_count records) (λ is. absurd (omega (arith, below))))))
 
   named_there : (l : Label) → Contains (named_labels kind records) l → Contains (labels_of records) l
-  named_there l there = Contains-permutation (named_labels kind records) (labels_of records) l (IsPermutation-sym (labels_of records) (named_labels kind records) (IsPermutation-named_labels kind records)) there
+  named_there l there = Contains-permutation (named_labels kind records) (labels_of records) l
+      (IsPermutation-sym (labels_of records) (named_labels kind records) (IsPermutation-named_labels kind records))
+      there
 
   had_not_yet : (replica : ℕ) → had records replica (label_count records) ≡ false
-  had_not_yet replica = false_from_ne_true (had records replica (label_count records)) (λ is. let below = is_update_at-below records (label_count records) (had_update records replica (label_count records) is) in absurd (omega (arith, below)))
+  had_not_yet replica = false_from_ne_true (had records replica (label_count records))
+      (λ is. let below = is_update_at-below records (label_count records)
+      (had_update records replica (label_count records) is) in absurd (omega (arith, below)))
 
-  same_pieces : (replica : ℕ) (before behind : List Label) → named_labels kind records ≡ before ++ behind → named_labels kind now ≡ before ++ label ∷ behind
-      → (updates_had kind records replica ≡ updates_had_of records replica before ++ updates_had_of records replica behind)
-      × (updates_had kind now replica ≡ updates_had_of records replica before ++ (updates_had_of now replica (label ∷ []) ++ updates_had_of records replica behind))
+  same_pieces : (replica : ℕ) (before behind : List Label) → named_labels kind records ≡ before ++ behind
+      → named_labels kind now ≡ before ++ label ∷ behind
+      → (updates_had kind records replica ≡ updates_had_of records replica before
+      ++ updates_had_of records replica behind)
+      × (updates_had kind now replica ≡ updates_had_of records replica before
+      ++ (updates_had_of now replica (label ∷ []) ++ updates_had_of records replica behind))
   same_pieces replica before behind was is =
-      let there : (l : Label) → Contains (before ++ behind) l → Contains (labels_of records) l = λ l found. named_there l (subst (λ ls. Contains ls l) (sym was) found) in
-      let first = among-same (had now replica) (had records replica) before (λ l found. had_before replica l (there l (Contains-append_left before behind l found))) in
-      let later = among-same (had now replica) (had records replica) behind (λ l found. had_before replica l (there l (Contains-append_right before behind l found))) in (
+      let there : (l : Label) → Contains (before ++ behind) l → Contains (labels_of records) l =
+      λ l found. named_there l (subst (λ ls. Contains ls l) (sym was) found) in
+      let first = among-same (had now replica) (had records replica) before
+      (λ l found. had_before replica l (there l (Contains-append_left before behind l found))) in
+      let later = among-same (had now replica) (had records replica) behind
+      (λ l found. had_before replica l (there l (Contains-append_right before behind l found))) in (
         ap (updates_had_of records replica) was ∙ among-append (had records replica) before behind,
         ap (updates_had_of now replica) is ∙ among-append (had now replica) before (label ∷ behind)
-            ∙ (λ i. first i ++ (among-append (had now replica) (label ∷ []) behind ∙ ap (λ us. updates_had_of now replica (label ∷ []) ++ us) later) i),
+            ∙ (λ i. first i ++ (among-append (had now replica) (label ∷ []) behind
+            ∙ ap (λ us. updates_had_of now replica (label ∷ []) ++ us) later) i),
       )
 
-  pub operation-own : (u : Update) → Makes op u → (before behind : List Label) × (named_labels kind records ≡ before ++ behind) × (named_labels kind now ≡ before ++ label ∷ behind)
-      × (updates_had kind records by ≡ updates_had_of records by before ++ updates_had_of records by behind) × (updates_had kind now by ≡ updates_had_of records by before ++ u ∷ updates_had_of records by behind)
+  pub operation-own : (u : Update) → Makes op u → (before behind : List Label)
+      × (named_labels kind records ≡ before ++ behind) × (named_labels kind now ≡ before ++ label ∷ behind)
+      × (updates_had kind records by ≡ updates_had_of records by before ++ updates_had_of records by behind)
+      × (updates_had kind now by ≡ updates_had_of records by before ++ u ∷ updates_had_of records by behind)
   operation-own u makes =
       let (before, behind, was, is) = order-inserted kind records by op clock in
       let pieces = same_pieces by before behind was is in
       let own : had now by (label_count records) ≡ true =
-      or_left (by == by && label_count records == label_count records && is_update op) (had records by (label_count records))
-      (and_from (by == by && label_count records == label_count records) (is_update op) (and_from (by == by) (label_count records == label_count records) (eq-eqb by by refl) (eq-eqb (label_count records) (label_count records) refl)) (makes_update op u makes)) in
-      (before, behind, was, is, pieces.0, pieces.1 ∙ ap (λ us. updates_had_of records by before ++ (us ++ updates_had_of records by behind)) (among-one (had now by) label u makes own))
+      or_left (by == by && label_count records == label_count records && is_update op)
+      (had records by (label_count records))
+      (and_from (by == by && label_count records == label_count records) (is_update op)
+      (and_from (by == by) (label_count records == label_count records) (eq-eqb by by refl)
+      (eq-eqb (label_count records) (label_count records) refl)) (makes_update op u makes)) in (
+        before,
+        behind,
+        was,
+        is,
+        pieces.0,
+        pieces.1
+            ∙ ap (λ us. updates_had_of records by before ++ (us ++ updates_had_of records by behind))
+            (among-one (had now by) label u makes own),
+      )
 
-  without_it : (replica : ℕ) → had now replica (label_count records) ≡ false → updates_had kind now replica ≡ updates_had kind records replica
+  without_it : (replica : ℕ) → had now replica (label_count records) ≡ false
+      → updates_had kind now replica ≡ updates_had kind records replica
   without_it replica fails =
       let (before, behind, was, is) = order-inserted kind records by op clock in
       let pieces = same_pieces replica before behind was is in
-      pieces.1 ∙ ap (λ us. updates_had_of records replica before ++ (us ++ updates_had_of records replica behind)) (among-not (had now replica) label fails) ∙ sym pieces.0
+      pieces.1 ∙ ap (λ us. updates_had_of records replica before ++ (us ++ updates_had_of records replica behind))
+      (among-not (had now replica) label fails) ∙ sym pieces.0
 
   pub operation-query : is_update op ≡ false → updates_had kind now by ≡ updates_had kind records by
   operation-query none =
-      without_it by (or_from (by == by && label_count records == label_count records && is_update op) (had records by (label_count records)) (and_right (by == by && label_count records == label_count records) (is_update op) none) (had_not_yet by))
+      without_it by
+      (or_from (by == by && label_count records == label_count records && is_update op)
+      (had records by (label_count records))
+      (and_right (by == by && label_count records == label_count records) (is_update op) none) (had_not_yet by))
 
-  pub operation-others : (replica : ℕ) → ¬ (by ≡ replica) → updates_had kind now replica ≡ updates_had kind records replica
+  pub operation-others : (replica : ℕ) → ¬ (by ≡ replica)
+      → updates_had kind now replica ≡ updates_had kind records replica
   operation-others replica other =
-      without_it replica (or_from (by == replica && label_count records == label_count records && is_update op) (had records replica (label_count records)) (and_left (by == replica && label_count records == label_count records) (is_update op) (and_left (by == replica) (label_count records == label_count records) (ne_eqb by replica other))) (had_not_yet replica))
+      without_it replica
+      (or_from (by == replica && label_count records == label_count records && is_update op)
+      (had records replica (label_count records))
+      (and_left (by == replica && label_count records == label_count records) (is_update op)
+      (and_left (by == replica) (label_count records == label_count records) (ne_eqb by replica other)))
+      (had_not_yet replica))
 
 -- a delivery
-pub delivery-order : (kind : Kind) (records : Records) (to n : ℕ) → named_labels kind (Deliver to n ∷ records) ≡ named_labels kind records
+pub delivery-order : (kind : Kind) (records : Records) (to n : ℕ)
+    → named_labels kind (Deliver to n ∷ records) ≡ named_labels kind records
 delivery-order kind records to n = order_later kind (Deliver to n) records
 
-pub delivery-others : (kind : Kind) (records : Records) (to n replica : ℕ) → ¬ (to ≡ replica) → updates_had kind (Deliver to n ∷ records) replica ≡ updates_had kind records replica
+pub delivery-others : (kind : Kind) (records : Records) (to n replica : ℕ) → ¬ (to ≡ replica)
+    → updates_had kind (Deliver to n ∷ records) replica ≡ updates_had kind records replica
 delivery-others kind records to n replica other =
     ap (updates_had_of (Deliver to n ∷ records) replica) (delivery-order kind records to n)
     ∙ among-same (had (Deliver to n ∷ records) replica) (had records replica) (named_labels kind records) (λ l there.
-    ap (λ b. b || had records replica l.number) (and_left (to == replica && l.number == n) (is_update_at records l.number) (and_left (to == replica) (l.number == n) (ne_eqb to replica other))))
+    ap (λ b. b || had records replica l.number)
+    (and_left (to == replica && l.number == n) (is_update_at records l.number)
+    (and_left (to == replica) (l.number == n) (ne_eqb to replica other))))
 
-pub delivery-own : (kind : Kind) (records : Records) (to : ℕ) (label : Label) (u : Update) → Contains (labels_of records) label → Makes label.op u → had records to label.number ≡ false
+pub delivery-own : (kind : Kind) (records : Records) (to : ℕ) (label : Label) (u : Update)
+    → Contains (labels_of records) label → Makes label.op u → had records to label.number ≡ false
     → (before behind : List Label) × (named_labels kind records ≡ before ++ label ∷ behind)
-    × (updates_had kind records to ≡ updates_had_of records to before ++ updates_had_of records to behind) × (updates_had kind (Deliver to label.number ∷ records) to ≡ updates_had_of records to before ++ u ∷ updates_had_of records to behind)
+    × (updates_had kind records to ≡ updates_had_of records to before ++ updates_had_of records to behind)
+    × (updates_had kind (Deliver to label.number ∷ records) to ≡ updates_had_of records to before
+    ++ u ∷ updates_had_of records to behind)
 delivery-own kind records to label u there makes new =
     let now = Deliver to label.number ∷ records in
-    let (before, behind, is) = split_at (named_labels kind records) label (Contains-permutation (labels_of records) (named_labels kind records) label (IsPermutation-named_labels kind records) there) in
+    let (before, behind, is) = split_at (named_labels kind records) label
+    (Contains-permutation (labels_of records) (named_labels kind records) label
+    (IsPermutation-named_labels kind records) there) in
     let round = differ_round before behind label (subst (IsDistinct have_one_number) is (named_differ kind records)) in
-    let as_before : (l : Label) → ¬ (l.number ≡ label.number) → had now to l.number ≡ had records to l.number = λ l other.
-    ap (λ b. b || had records to l.number) (and_left (to == to && l.number == label.number) (is_update_at records l.number) (and_right (to == to) (l.number == label.number) (ne_eqb l.number label.number other))) in
-    let update : is_update_at records label.number ≡ true = ap (λ l. option_map_or (λ (m : Label). is_update m.op) l false) (label_found records label there) ∙ makes_update label.op u makes in
+    let as_before : (l : Label) → ¬ (l.number ≡ label.number)
+    → had now to l.number ≡ had records to l.number = λ l other.
+    ap (λ b. b || had records to l.number)
+    (and_left (to == to && l.number == label.number) (is_update_at records l.number)
+    (and_right (to == to) (l.number == label.number) (ne_eqb l.number label.number other))) in
+    let update : is_update_at records label.number ≡ true =
+    ap (λ l. option_map_or (λ (m : Label). is_update m.op) l false) (label_found records label there)
+    ∙ makes_update label.op u makes in
     let own : had now to label.number ≡ true =
-    or_left (to == to && label.number == label.number && is_update_at records label.number) (had records to label.number)
-    (and_from (to == to && label.number == label.number) (is_update_at records label.number) (and_from (to == to) (label.number == label.number) (eq-eqb to to refl) (eq-eqb label.number label.number refl)) update) in (
+    or_left (to == to && label.number == label.number && is_update_at records label.number)
+    (had records to label.number)
+    (and_from (to == to && label.number == label.number) (is_update_at records label.number)
+    (and_from (to == to) (label.number == label.number) (eq-eqb to to refl) (eq-eqb label.number label.number refl))
+    update) in (
       before,
       behind,
       is,
       ap (updates_had_of records to) is ∙ among-append (had records to) before (label ∷ behind)
-          ∙ ap (λ us. updates_had_of records to before ++ us) (among-append (had records to) (label ∷ []) behind ∙ ap (λ us. us ++ updates_had_of records to behind) (among-not (had records to) label new)),
-      ap (updates_had_of now to) (delivery-order kind records to label.number ∙ is) ∙ among-append (had now to) before (label ∷ behind)
+          ∙ ap (λ us. updates_had_of records to before ++ us)
+          (among-append (had records to) (label ∷ []) behind
+          ∙ ap (λ us. us ++ updates_had_of records to behind) (among-not (had records to) label new)),
+      ap (updates_had_of now to) (delivery-order kind records to label.number ∙ is)
+          ∙ among-append (had now to) before (label ∷ behind)
           ∙ (λ i. among-same (had now to) (had records to) before (λ l found. as_before l (round.0 l found)) i
-          ++ (among-append (had now to) (label ∷ []) behind ∙ (λ j. among-one (had now to) label u makes own j ++ among-same (had now to) (had records to) behind (λ l found. as_before l (round.1 l found)) j)) i),
+          ++ (among-append (had now to) (label ∷ []) behind
+          ∙ (λ j. among-one (had now to) label u makes own j ++ among-same (had now to) (had records to) behind
+          (λ l found. as_before l (round.1 l found)) j)) i),
     )

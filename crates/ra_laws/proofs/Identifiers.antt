@@ -6,7 +6,7 @@ use Rattle.std.proofs.lemmas.Bool.{false≢true, eqb-true, eq-eqb}
 use Rattle.std.proofs.lemmas.Option.{none-some, same_Some}
 use Rattle.ra_labels.specs.declared.kind.Kind.{Kind}
 use Rattle.ra_labels.specs.declared.operation.Op.{Op}
-use Rattle.ra_labels.specs.declared.operation.Op.TheVariants.{Inc, Dec, Count, Write, Last, LwwAdd, LwwRemove, LwwRead, OrAdd, OrRemove, OrRead, After, RgaRemove, RgaRead}
+use Rattle.ra_labels.specs.declared.operation.Op.TheVariants.{OrAdd}
 use Rattle.ra_labels.specs.declared.label.Label.{Label}
 use Rattle.ra_labels.specs.declared.command.Command.{Command}
 use Rattle.ra_labels.specs.declared.command.Command.TheVariants.{Operate, Deliver, Verdict}
@@ -19,19 +19,7 @@ use Rattle.ra_laws.proofs.Stamps.{any_one, one_any, operated-exactly, kept_by_an
 -- what gives an identifier
 gives : (op : Op) (id : ℕ) → (identifier_of op ≡ Some id) ↔ Gives op id
 gives (OrAdd x own) id = ((λ is. (x, ap (OrAdd x) (same_Some own id is))), (λ known. ap identifier_of known.1))
-gives Inc id = ((λ is. absurd (none-some id is)), (λ known. absurd (cc (known.1))))
-gives Dec id = ((λ is. absurd (none-some id is)), (λ known. absurd (cc (known.1))))
-gives (Count v) id = ((λ is. absurd (none-some id is)), (λ known. absurd (cc (known.1))))
-gives (Write value) id = ((λ is. absurd (none-some id is)), (λ known. absurd (cc (known.1))))
-gives (Last value) id = ((λ is. absurd (none-some id is)), (λ known. absurd (cc (known.1))))
-gives (LwwAdd x) id = ((λ is. absurd (none-some id is)), (λ known. absurd (cc (known.1))))
-gives (LwwRemove x) id = ((λ is. absurd (none-some id is)), (λ known. absurd (cc (known.1))))
-gives (LwwRead list) id = ((λ is. absurd (none-some id is)), (λ known. absurd (cc (known.1))))
-gives (OrRemove x ids) id = ((λ is. absurd (none-some id is)), (λ known. absurd (cc (known.1))))
-gives (OrRead list) id = ((λ is. absurd (none-some id is)), (λ known. absurd (cc (known.1))))
-gives (After anchor x) id = ((λ is. absurd (none-some id is)), (λ known. absurd (cc (known.1))))
-gives (RgaRemove x) id = ((λ is. absurd (none-some id is)), (λ known. absurd (cc (known.1))))
-gives (RgaRead list) id = ((λ is. absurd (none-some id is)), (λ known. absurd (cc (known.1))))
+gives _ id = ((λ is. absurd (none-some id is)), (λ known. absurd (cc (known.1))))
 
 -- and which it is
 of_label : (own : Option ℕ) (id : ℕ) → (option_map_or (λ k. k == id) own false ≡ true) ↔ (own ≡ Some id)
@@ -39,34 +27,44 @@ of_label None id = (λ is. absurd (false≢true is), λ is. absurd (none-some id
 of_label (Some own) id = ((λ is. ap Some (eqb-true own id is)), (λ is. eq-eqb own id (same_Some own id is)))
 
 -- an identifier is taken where an addition has it
-pub identifier-exactly : (records : Records) (id : ℕ) → (is_identifier_taken records id ≡ true) ↔ IsOwnIdentifier records id
+pub identifier-exactly : (records : Records) (id : ℕ) → (is_identifier_taken records id ≡ true)
+    ↔ IsOwnIdentifier records id
 identifier-exactly records id = (
   (λ is.
       let one = any_one (has_identifier id) (labels_of records) is in
       (one.0, one.1, (gives one.0.op id).0 ((of_label (identifier_of one.0.op) id).0 one.2))),
-  (λ (label, there, is). one_any (has_identifier id) (labels_of records) label there ((of_label (identifier_of label.op) id).1 ((gives label.op id).1 is))),
+  (λ (label, there, is). one_any (has_identifier id) (labels_of records) label there
+      ((of_label (identifier_of label.op) id).1 ((gives label.op id).1 is))),
 )
 
-given : (records : Records) (own : Option ℕ) → (option_map_or (is_identifier_taken records) own false ≡ true) ↔ ((id : ℕ) × (own ≡ Some id) × IsOwnIdentifier records id)
+given : (records : Records) (own : Option ℕ) → (option_map_or (is_identifier_taken records) own false ≡ true)
+    ↔ ((id : ℕ) × (own ≡ Some id) × IsOwnIdentifier records id)
 given records None = (λ is. absurd (false≢true is), λ known. absurd (none-some known.0 known.1))
 given records (Some id) = (
   (λ is. (id, refl, (identifier-exactly records id).0 is)),
-  (λ known. ap (is_identifier_taken records) (same_Some id known.0 known.1) ∙ (identifier-exactly records known.0).1 known.2),
+  (λ known. ap (is_identifier_taken records) (same_Some id known.0 known.1)
+      ∙ (identifier-exactly records known.0).1 known.2),
 )
 
-pub gives-exactly : (records : Records) (op : Op) → (gives_taken records op ≡ true) ↔ ((id : ℕ) × Gives op id × IsOwnIdentifier records id)
+pub gives-exactly : (records : Records) (op : Op) → (gives_taken records op ≡ true)
+    ↔ ((id : ℕ) × Gives op id × IsOwnIdentifier records id)
 gives-exactly records op = (
   (λ is. let known = (given records (identifier_of op)).0 is in (known.0, (gives op known.0).0 known.1, known.2)),
   (λ (id, is, taken). (given records (identifier_of op)).1 (id, (gives op id).1 is, taken)),
 )
 
 -- no identifier is given twice
-once_accepted : (kind : Kind) (replicas : ℕ) (records : Records) (command : Command) → refusal_of kind replicas records command ≡ None → IdentifiersAreOneLabels records → IdentifiersAreOneLabels (with_accepted records command)
+once_accepted : (kind : Kind) (replicas : ℕ) (records : Records) (command : Command)
+    → refusal_of kind replicas records command ≡ None → IdentifiersAreOneLabels records
+    → IdentifiersAreOneLabels (with_accepted records command)
 once_accepted kind replicas records (Operate by op clock) accepted once l m id l_there m_there l_gives m_gives =
     let free = ((operated-exactly kind replicas records by op clock).0 accepted).3 in
     let next = next_label records by op clock in
-    let new : (label : Label) → next ≡ label → Gives label.op id → Gives op id = λ label here is. (is.0, ap (λ (n : Label). n.op) here ∙ is.1) in
-    let never : Gives op id → (other : Label) → Contains (labels_of records) other → Gives other.op id → ⊥ = λ own other there is. false≢true (sym free ∙ (gives-exactly records op).1 (id, own, (other, there, is))) in
+    let new : (label : Label) → next ≡ label → Gives label.op id
+    → Gives op id = λ label here is. (is.0, ap (λ (n : Label). n.op) here ∙ is.1) in
+    let never : Gives op id → (other : Label) → Contains (labels_of records) other → Gives other.op id
+    → ⊥ = λ own other there is. false≢true
+    (sym free ∙ (gives-exactly records op).1 (id, own, (other, there, is))) in
     elim (head_or_behind next (labels_of records) l l_there) [
       | inl l_here ↦ elim (head_or_behind next (labels_of records) m m_there) [
         | inl m_here ↦ sym l_here ∙ m_here
@@ -77,12 +75,17 @@ once_accepted kind replicas records (Operate by op clock) accepted once l m id l
         | inr m_further ↦ once l m id l_further m_further l_gives m_gives
       ]
     ]
-once_accepted kind replicas records (Deliver to n) accepted once l m id l_there m_there l_gives m_gives = once l m id l_there m_there l_gives m_gives
-once_accepted kind replicas records Verdict accepted once l m id l_there m_there l_gives m_gives = once l m id l_there m_there l_gives m_gives
+once_accepted kind replicas records (Deliver to n) accepted once l m id l_there m_there l_gives m_gives =
+    once l m id l_there m_there l_gives m_gives
+once_accepted kind replicas records Verdict accepted once l m id l_there m_there l_gives m_gives =
+    once l m id l_there m_there l_gives m_gives
 
-pub identifiers-once : (kind : Kind) (replicas : ℕ) (records : Records) (command : Command) → IdentifiersAreOneLabels records → IdentifiersAreOneLabels (records_after kind replicas records command)
+pub identifiers-once : (kind : Kind) (replicas : ℕ) (records : Records) (command : Command)
+    → IdentifiersAreOneLabels records → IdentifiersAreOneLabels (records_after kind replicas records command)
 identifiers-once kind replicas = kept_by_answers IdentifiersAreOneLabels kind replicas (once_accepted kind replicas)
 
-pub identifiers-once_all : (kind : Kind) (replicas : ℕ) (commands : List Command) → IdentifiersAreOneLabels (records_after_all kind replicas [] commands)
+pub identifiers-once_all : (kind : Kind) (replicas : ℕ) (commands : List Command)
+    → IdentifiersAreOneLabels (records_after_all kind replicas [] commands)
 identifiers-once_all kind replicas commands =
-    kept_by_all IdentifiersAreOneLabels kind replicas (identifiers-once kind replicas) [] commands (λ l m id there. absurd (omega (arith, there.1)))
+    kept_by_all IdentifiersAreOneLabels kind replicas (identifiers-once kind replicas) [] commands
+    (λ l m id there. absurd (omega (arith, there.1)))

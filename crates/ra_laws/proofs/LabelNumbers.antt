@@ -9,7 +9,8 @@ use Rattle.ra_labels.specs.Records.{Records, label_count, labels_of, label_at, n
 use Rattle.ra_labels.specs.Laws.{numbers_below}
 
 -- the labels are numbered from the number of labels down to 0
-pub numbers_of_labels : (records : Records) → map (λ label. label.number) (labels_of records) ≡ numbers_below (label_count records)
+pub numbers_of_labels : (records : Records) → map (λ label. label.number) (labels_of records)
+    ≡ numbers_below (label_count records)
 numbers_of_labels [] = refl
 numbers_of_labels (Operate by op clock ∷ before) =
     rw (add-one (label_count before)) (ap (λ ns. label_count before ∷ ns) (numbers_of_labels before))
@@ -22,7 +23,8 @@ label_count-append (Operate by op clock ∷ later) records = let rest = label_co
 label_count-append (_ ∷ later) records = label_count-append later records
 
 -- there is a label at each number below their count
-pub label_there : (records : Records) (n : ℕ) → n < label_count records → (label : Label) × (label_at records n ≡ Some label) × (label.number ≡ n)
+pub label_there : (records : Records) (n : ℕ) → n < label_count records
+    → (label : Label) × (label_at records n ≡ Some label) × (label.number ≡ n)
 label_there [] n below = absurd (omega arith)
 label_there (Operate by op clock ∷ before) n below = elim (cases_eq (label_count before) n) [
   | inl is ↦ (next_label before by op clock, cond-true (eqb (label_count before) n) _ _ (eq-eqb _ _ is), is)
@@ -41,7 +43,8 @@ no_label_there (Operate by op clock ∷ before) n above =
 no_label_there (_ ∷ before) n above = no_label_there before n above
 
 -- later records leave a label as it is
-pub label_at-append : (later records : Records) (n : ℕ) → n < label_count records → label_at (later ++ records) n ≡ label_at records n
+pub label_at-append : (later records : Records) (n : ℕ) → n < label_count records
+    → label_at (later ++ records) n ≡ label_at records n
 label_at-append [] records n below = refl
 label_at-append (Operate by op clock ∷ later) records n below =
     let grows = label_count-append later records in
@@ -50,13 +53,15 @@ label_at-append (Operate by op clock ∷ later) records n below =
 label_at-append (_ ∷ later) records n below = label_at-append later records n below
 
 -- an operation is found as its label
-pub label_at-operation : (later before : Records) (by : ℕ) (op : Op) (clock : Option ℕ) → label_at (later ++ Operate by op clock ∷ before) (label_count before) ≡ Some (next_label before by op clock)
+pub label_at-operation : (later before : Records) (by : ℕ) (op : Op) (clock : Option ℕ)
+    → label_at (later ++ Operate by op clock ∷ before) (label_count before) ≡ Some (next_label before by op clock)
 label_at-operation later before by op clock =
     label_at-append later (Operate by op clock ∷ before) (label_count before) (omega arith)
     ∙ cond-true (eqb (label_count before) (label_count before)) _ _ (eq-eqb _ _ refl)
 
 -- the records up to a label end with its operation
-records_to-append : (later records : Records) (n : ℕ) → n < label_count records → records_to (later ++ records) n ≡ records_to records n
+records_to-append : (later records : Records) (n : ℕ) → n < label_count records
+    → records_to (later ++ records) n ≡ records_to records n
 records_to-append [] records n below = refl
 records_to-append (Operate by op clock ∷ later) records n below =
     let grows = label_count-append later records in
@@ -64,7 +69,8 @@ records_to-append (Operate by op clock ∷ later) records n below =
     cond-false (eqb n (label_count (later ++ records))) _ _ (ne_eqb _ _ other) ∙ records_to-append later records n below
 records_to-append (_ ∷ later) records n below = records_to-append later records n below
 
-pub records_to-operation : (later before : Records) (by : ℕ) (op : Op) (clock : Option ℕ) → records_to (later ++ Operate by op clock ∷ before) (label_count before) ≡ Operate by op clock ∷ before
+pub records_to-operation : (later before : Records) (by : ℕ) (op : Op) (clock : Option ℕ)
+    → records_to (later ++ Operate by op clock ∷ before) (label_count before) ≡ Operate by op clock ∷ before
 records_to-operation later before by op clock =
     records_to-append later (Operate by op clock ∷ before) (label_count before) (omega arith)
     ∙ cond-true (eqb (label_count before) (label_count before)) _ _ (eq-eqb _ _ refl)

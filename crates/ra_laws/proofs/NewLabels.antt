@@ -27,28 +27,40 @@ use Rattle.ra_laws.proofs.LastUpdates.{among-does}
 use Rattle.ra_laws.proofs.Arrivals.{stands-before, all-with}
 
 -- what is there by those before a label is the root, or was put in by one that is below it
-below_from : (records : Records) (before behind : List Label) (label : Label) (x : ℕ) → named_labels Rga records ≡ before ++ label ∷ behind → is_there x (updates_of (flat_map parts_of before)) ≡ true → (x ≡ 0) ⊎ WasPutInBelow records label x
-below_from records before behind label x is there = elim ((there-exactly x (updates_of (flat_map parts_of before))).0 there) [
-  | inl root ↦ inl root
-  | inr (anchor, found) ↦
-      let (m, m_there, it, makes) = among-from each before (After anchor x) (subst (λ us. Contains us (After anchor x)) (sym (each_passes before)) found) in
-      let m_in = in-labels Rga records m (subst (λ ls. Contains ls m) (sym is) (Contains-append_left before (label ∷ behind) m m_there)) in
-      inr (m, anchor, m_in, makes, (stands-before Rga records before behind label m is m_in).0 m_there)
-]
+below_from : (records : Records) (before behind : List Label) (label : Label) (x : ℕ)
+    → named_labels Rga records ≡ before ++ label ∷ behind → is_there x (updates_of (flat_map parts_of before)) ≡ true
+    → (x ≡ 0) ⊎ WasPutInBelow records label x
+below_from records before behind label x is there =
+    elim ((there-exactly x (updates_of (flat_map parts_of before))).0 there) [
+      | inl root ↦ inl root
+      | inr (anchor, found) ↦
+          let (m, m_there, it, makes) = among-from each before (After anchor x)
+          (subst (λ us. Contains us (After anchor x)) (sym (each_passes before)) found) in
+          let m_in = in-labels Rga records m
+          (subst (λ ls. Contains ls m) (sym is) (Contains-append_left before (label ∷ behind) m m_there)) in
+          inr (m, anchor, m_in, makes, (stands-before Rga records before behind label m is m_in).0 m_there)
+    ]
 
-from_below : (records : Records) (before behind : List Label) (label : Label) (x : ℕ) → named_labels Rga records ≡ before ++ label ∷ behind → WasPutInBelow records label x → is_there x (updates_of (flat_map parts_of before)) ≡ true
+from_below : (records : Records) (before behind : List Label) (label : Label) (x : ℕ)
+    → named_labels Rga records ≡ before ++ label ∷ behind → WasPutInBelow records label x
+    → is_there x (updates_of (flat_map parts_of before)) ≡ true
 from_below records before behind label x is (m, anchor, m_in, makes, less) =
     let m_there = (stands-before Rga records before behind label m is m_in).1 less in
-    let found = subst (λ us. Contains us (After anchor x)) (each_passes before) (among-does each before m (After anchor x) m_there makes refl) in
+    let found = subst (λ us. Contains us (After anchor x)) (each_passes before)
+    (among-does each before m (After anchor x) m_there makes refl) in
     (there-exactly x (updates_of (flat_map parts_of before))).1 (inr (anchor, found))
 
-pub offered-insertion : (records : Records) (by : ℕ) (operation : Op) (clock : Option ℕ) (anchor x : ℕ) → Makes operation (After anchor x) → updates_admitted Rga (named_sequence Rga records) ≡ true
+pub offered-insertion : (records : Records) (by : ℕ) (operation : Op) (clock : Option ℕ) (anchor x : ℕ)
+    → Makes operation (After anchor x) → updates_admitted Rga (named_sequence Rga records) ≡ true
     → (updates_admitted Rga (named_sequence Rga (Operate by operation clock ∷ records)) ≡ true)
-    ↔ ((is_there x (updates_of (named_sequence Rga records)) ≡ false) × ((anchor ≡ 0) ⊎ WasPutInBelow (Operate by operation clock ∷ records) (next_label records by operation clock) anchor))
+    ↔ ((is_there x (updates_of (named_sequence Rga records)) ≡ false)
+    × ((anchor ≡ 0) ⊎ WasPutInBelow (Operate by operation clock ∷ records)
+    (next_label records by operation clock) anchor))
 offered-insertion records by operation clock anchor x makes admitted =
     let now : Records = Operate by operation clock ∷ records in
     let label = next_label records by operation clock in
-    let (before, behind, was_named, is_named, was, is) = all-with Rga records by operation clock (After anchor x) makes in
+    let (before, behind, was_named, is_named, was, is) =
+    all-with Rga records by operation clock (After anchor x) makes in
     let first = updates_of (flat_map parts_of before) in
     let later = updates_of (flat_map parts_of behind) in
     let exactly = inserted-admitted first later anchor x (ap (is_admitted Rga) (sym was) ∙ admitted) in (
@@ -63,7 +75,8 @@ offered-insertion records by operation clock anchor x makes admitted =
           ap (is_admitted Rga) is ∙ exactly.1 (there, ap (is_there x) (sym was) ∙ known.0)),
     )
 
-pub offered-removal : (records : Records) (by : ℕ) (operation : Op) (clock : Option ℕ) (x : ℕ) → Makes operation (RgaRemove x) → updates_admitted Rga (named_sequence Rga records) ≡ true
+pub offered-removal : (records : Records) (by : ℕ) (operation : Op) (clock : Option ℕ) (x : ℕ)
+    → Makes operation (RgaRemove x) → updates_admitted Rga (named_sequence Rga records) ≡ true
     → (updates_admitted Rga (named_sequence Rga (Operate by operation clock ∷ records)) ≡ true)
     ↔ ((¬ (x ≡ 0)) × WasPutInBelow (Operate by operation clock ∷ records) (next_label records by operation clock) x)
 offered-removal records by operation clock x makes admitted =
@@ -74,15 +87,20 @@ offered-removal records by operation clock x makes admitted =
     let later = updates_of (flat_map parts_of behind) in
     let exactly = removed-admitted first later x (ap (is_admitted Rga) (sym was) ∙ admitted) in (
       (λ holds.
-          let (there, other) = exactly.0 (ap (is_admitted Rga) (sym is) ∙ holds) in
-          (other, elim (below_from now before behind label x is_named there) [ inl root ↦ absurd (other root) | inr put ↦ put ])),
+          let (there, other) = exactly.0 (ap (is_admitted Rga) (sym is) ∙ holds) in (
+            other,
+            elim (below_from now before behind label x is_named there)
+                [ inl root ↦ absurd (other root) | inr put ↦ put ],
+          )),
       (λ known. ap (is_admitted Rga) is ∙ exactly.1 (from_below now before behind label x is_named known.1, known.0)),
     )
 
 -- behind all that pass, one more is one step of its own update
-pub behind-all : (kind : Kind) (records : Records) (passes : ℕ → Bool) (before behind : List Label) (label : Label) (u : Update) → named_labels kind records ≡ before ++ label ∷ behind → Makes label.op u → passes label.number ≡ false
+pub behind-all : (kind : Kind) (records : Records) (passes : ℕ → Bool) (before behind : List Label) (label : Label)
+    (u : Update) → named_labels kind records ≡ before ++ label ∷ behind → Makes label.op u → passes label.number ≡ false
     → ((other : Label) → Contains behind other → passes other.number ≡ false)
-    → state_after kind (updates_passing kind records (or_label passes label.number)) ≡ then_step (state_after kind (updates_passing kind records passes)) u
+    → state_after kind (updates_passing kind records (or_label passes label.number))
+    ≡ then_step (state_after kind (updates_passing kind records passes)) u
 behind-all kind records passes before behind label u is makes new none =
     let (was, now) = one-more_at kind records passes before behind label u is makes new in
     let first = updates_among passes before in

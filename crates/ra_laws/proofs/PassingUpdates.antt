@@ -5,6 +5,7 @@ use Rattle.std.specs.List.{IsDistinct, cons_option}
 use Rattle.std.proofs.lemmas.Bool.{false≢true, and_parts, and_from, or_right, eqb-true, eq-eqb, ne_eqb}
 use Rattle.std.proofs.lemmas.Option.{none-some, same_Some}
 use Rattle.std.proofs.lemmas.List.Sorted.{Contains-permutation, IsPermutation-sym}
+use Rattle.std.proofs.Math.Bool.{or-false, or_comm}
 use Rattle.ra_labels.specs.declared.kind.Kind.{Kind}
 use Rattle.ra_labels.specs.declared.kind.Kind.TheVariants.{Rga}
 use Rattle.ra_labels.specs.declared.operation.Op.{Op}
@@ -37,28 +38,31 @@ use Rattle.ra_laws.proofs.ShownElements.{list-shown_by, shown_by-same}
 use Rattle.ra_laws.proofs.Deliveries.{update_from, part_makes}
 use Rattle.ra_laws.proofs.KeptUpdates.{all_marked, kept_marked, marked_as, marked-is_there, mark-kept, kept-goes, there-list, needed-in}
 
-pub in-named : (kind : Kind) (records : Records) (label : Label) → Contains (labels_of records) label → Contains (named_labels kind records) label
-in-named kind records label there = Contains-permutation (labels_of records) (named_labels kind records) label (IsPermutation-named_labels kind records) there
+pub in-named : (kind : Kind) (records : Records) (label : Label) → Contains (labels_of records) label
+    → Contains (named_labels kind records) label
+in-named kind records label there = Contains-permutation (labels_of records) (named_labels kind records) label
+    (IsPermutation-named_labels kind records) there
 
-pub in-labels : (kind : Kind) (records : Records) (label : Label) → Contains (named_labels kind records) label → Contains (labels_of records) label
+pub in-labels : (kind : Kind) (records : Records) (label : Label) → Contains (named_labels kind records) label
+    → Contains (labels_of records) label
 in-labels kind records label there =
-    Contains-permutation (named_labels kind records) (labels_of records) label (IsPermutation-sym (labels_of records) (named_labels kind records) (IsPermutation-named_labels kind records)) there
-
-or_false : (b : Bool) → (b || false) ≡ b
-or_false true = refl
-or_false false = refl
+    Contains-permutation (named_labels kind records) (labels_of records) label
+    (IsPermutation-sym (labels_of records) (named_labels kind records) (IsPermutation-named_labels kind records))
+    there
 
 -- of the labels but one, the same pass together with it
 pub others-pass : (passes : ℕ → Bool) (n m : ℕ) → ¬ (m ≡ n) → or_label passes n m ≡ passes m
-others-pass passes n m other = ap (λ b. passes m || b) (ne_eqb m n other) ∙ or_false (passes m)
+others-pass passes n m other = ap (λ b. passes m || b) (ne_eqb m n other) ∙ or-false (passes m)
 
 pub one-passes : (passes : ℕ → Bool) (n : ℕ) → or_label passes n n ≡ true
 one-passes passes n = or_right (passes n) (n == n) (eq-eqb n n refl)
 
 -- one more label that passes, at its place in the named order
-pub one-more_at : (kind : Kind) (records : Records) (passes : ℕ → Bool) (before behind : List Label) (label : Label) (u : Update) → named_labels kind records ≡ before ++ label ∷ behind → Makes label.op u → passes label.number ≡ false
+pub one-more_at : (kind : Kind) (records : Records) (passes : ℕ → Bool) (before behind : List Label) (label : Label)
+    (u : Update) → named_labels kind records ≡ before ++ label ∷ behind → Makes label.op u → passes label.number ≡ false
     → (updates_passing kind records passes ≡ updates_among passes before ++ updates_among passes behind)
-    × (updates_passing kind records (or_label passes label.number) ≡ updates_among passes before ++ u ∷ updates_among passes behind)
+    × (updates_passing kind records (or_label passes label.number)
+    ≡ updates_among passes before ++ u ∷ updates_among passes behind)
 one-more_at kind records passes before behind label u is makes new =
     let more : ℕ → Bool = or_label passes label.number in
     let round = differ_round before behind label (subst (IsDistinct have_one_number) is (named_differ kind records)) in
@@ -66,50 +70,61 @@ one-more_at kind records passes before behind label u is makes new =
     let later = among-same more passes behind (λ l found. others-pass passes label.number l.number (round.1 l found)) in
     let own = among-one more label u makes (one-passes passes label.number) in (
       ap (updates_among passes) is ∙ among-append passes before (label ∷ behind)
-          ∙ ap (λ us. updates_among passes before ++ us) (among-append passes (label ∷ []) behind ∙ ap (λ us. us ++ updates_among passes behind) (among-not passes label new)),
-      ap (updates_among more) is ∙ among-append more before (label ∷ behind) ∙ (λ i. first i ++ (among-append more (label ∷ []) behind ∙ (λ j. own j ++ later j)) i),
+          ∙ ap (λ us. updates_among passes before ++ us)
+          (among-append passes (label ∷ []) behind
+          ∙ ap (λ us. us ++ updates_among passes behind) (among-not passes label new)),
+      ap (updates_among more) is ∙ among-append more before (label ∷ behind)
+          ∙ (λ i. first i ++ (among-append more (label ∷ []) behind ∙ (λ j. own j ++ later j)) i),
     )
 
-pub one-more : (kind : Kind) (records : Records) (passes : ℕ → Bool) (label : Label) (u : Update) → Contains (labels_of records) label → Makes label.op u → passes label.number ≡ false
-    → (before behind : List Label) × (named_labels kind records ≡ before ++ label ∷ behind) × (updates_passing kind records passes ≡ updates_among passes before ++ updates_among passes behind)
-    × (updates_passing kind records (or_label passes label.number) ≡ updates_among passes before ++ u ∷ updates_among passes behind)
+pub one-more : (kind : Kind) (records : Records) (passes : ℕ → Bool) (label : Label) (u : Update)
+    → Contains (labels_of records) label → Makes label.op u → passes label.number ≡ false
+    → (before behind : List Label) × (named_labels kind records ≡ before ++ label ∷ behind)
+    × (updates_passing kind records passes ≡ updates_among passes before ++ updates_among passes behind)
+    × (updates_passing kind records (or_label passes label.number)
+    ≡ updates_among passes before ++ u ∷ updates_among passes behind)
 one-more kind records passes label u there makes new =
     let (before, behind, is) = split_at (named_labels kind records) label (in-named kind records label there) in
     let pieces = one-more_at kind records passes before behind label u is makes new in
     (before, behind, is, pieces.0, pieces.1)
 
 -- commands that come later leave the updates of labels before them as they were
-pub passing-delivery : (kind : Kind) (records : Records) (to n : ℕ) (passes : ℕ → Bool) → updates_passing kind (Deliver to n ∷ records) passes ≡ updates_passing kind records passes
+pub passing-delivery : (kind : Kind) (records : Records) (to n : ℕ) (passes : ℕ → Bool)
+    → updates_passing kind (Deliver to n ∷ records) passes ≡ updates_passing kind records passes
 passing-delivery kind records to n passes = ap (updates_among passes) (delivery-order kind records to n)
 
-pub passing-operation : (kind : Kind) (records : Records) (by : ℕ) (op : Op) (clock : Option ℕ) (passes : ℕ → Bool) → passes (label_count records) ≡ false → updates_passing kind (Operate by op clock ∷ records) passes ≡ updates_passing kind records passes
+pub passing-operation : (kind : Kind) (records : Records) (by : ℕ) (op : Op) (clock : Option ℕ) (passes : ℕ → Bool)
+    → passes (label_count records) ≡ false → updates_passing kind (Operate by op clock ∷ records) passes
+    ≡ updates_passing kind records passes
 passing-operation kind records by op clock passes fails =
     let label = next_label records by op clock in
     let (before, behind, was, is) = order-inserted kind records by op clock in
     ap (updates_among passes) is ∙ among-append passes before (label ∷ behind)
-    ∙ ap (λ us. updates_among passes before ++ us) (among-append passes (label ∷ []) behind ∙ ap (λ us. us ++ updates_among passes behind) (among-not passes label fails))
+    ∙ ap (λ us. updates_among passes before ++ us)
+    (among-append passes (label ∷ []) behind
+    ∙ ap (λ us. us ++ updates_among passes behind) (among-not passes label fails))
     ∙ sym (ap (updates_among passes) was ∙ among-append passes before behind)
 
 -- a replica that gets or issues an update had that too
-one_or : (b c : Bool) → (c || b) ≡ (b || c)
-one_or true true = refl
-one_or true false = refl
-one_or false true = refl
-one_or false false = refl
-
-pub had-delivery : (records : Records) (to n m : ℕ) → is_update_at records n ≡ true → had (Deliver to n ∷ records) to m ≡ or_label (had records to) n m
+pub had-delivery : (records : Records) (to n m : ℕ) → is_update_at records n ≡ true
+    → had (Deliver to n ∷ records) to m ≡ or_label (had records to) n m
 had-delivery records to n m update =
     ap (λ b. b || had records to m) (bool_same (to == to && m == n && is_update_at records m) (m == n)
     (λ both. (and_parts (to == to) (m == n) (and_parts (to == to && m == n) (is_update_at records m) both).0).1)
-    (λ is. and_from (to == to && m == n) (is_update_at records m) (and_from (to == to) (m == n) (eq-eqb to to refl) is) (ap (is_update_at records) (eqb-true m n is) ∙ update)))
-    ∙ one_or (had records to m) (m == n)
+    (λ is. and_from (to == to && m == n) (is_update_at records m) (and_from (to == to) (m == n) (eq-eqb to to refl) is)
+    (ap (is_update_at records) (eqb-true m n is) ∙ update)))
+    ∙ or_comm (m == n) (had records to m)
 
-pub had-operation : (records : Records) (by : ℕ) (op : Op) (clock : Option ℕ) (m : ℕ) → is_update op ≡ true → had (Operate by op clock ∷ records) by m ≡ or_label (had records by) (label_count records) m
+pub had-operation : (records : Records) (by : ℕ) (op : Op) (clock : Option ℕ) (m : ℕ) → is_update op ≡ true
+    → had (Operate by op clock ∷ records) by m ≡ or_label (had records by) (label_count records) m
 had-operation records by op clock m update =
-    ap (λ b. b || had records by m) (bool_same (by == by && m == label_count records && is_update op) (m == label_count records)
-    (λ both. (and_parts (by == by) (m == label_count records) (and_parts (by == by && m == label_count records) (is_update op) both).0).1)
-    (λ is. and_from (by == by && m == label_count records) (is_update op) (and_from (by == by) (m == label_count records) (eq-eqb by by refl) is) update))
-    ∙ one_or (had records by m) (m == label_count records)
+    ap (λ b. b || had records by m)
+    (bool_same (by == by && m == label_count records && is_update op) (m == label_count records)
+    (λ both. (and_parts (by == by) (m == label_count records)
+    (and_parts (by == by && m == label_count records) (is_update op) both).0).1)
+    (λ is. and_from (by == by && m == label_count records) (is_update op)
+    (and_from (by == by) (m == label_count records) (eq-eqb by by refl) is) update))
+    ∙ or_comm (m == label_count records) (had records by m)
 
 -- the updates among parts, each with whether its label passes
 abbrev mark_one : Bool → Option Update → List (Bool × Update) → List (Bool × Update)
@@ -120,16 +135,19 @@ abbrev pub mark : (ℕ → Bool) → List Part → List (Bool × Update)
 mark passes [] = []
 mark passes (part ∷ parts) = mark_one (passes part.label.number) (update_of part.act) (mark passes parts)
 
-all_one : (b : Bool) (o : Option Update) (rest : List (Bool × Update)) → all_marked (mark_one b o rest) ≡ cons_option o (all_marked rest)
+all_one : (b : Bool) (o : Option Update) (rest : List (Bool × Update))
+    → all_marked (mark_one b o rest) ≡ cons_option o (all_marked rest)
 all_one b None rest = refl
 all_one b (Some u) rest = refl
 
 all_parts : (passes : ℕ → Bool) (parts : List Part) → all_marked (mark passes parts) ≡ updates_of parts
 all_parts passes [] = refl
 all_parts passes (part ∷ parts) =
-    all_one (passes part.label.number) (update_of part.act) (mark passes parts) ∙ ap (cons_option (update_of part.act)) (all_parts passes parts)
+    all_one (passes part.label.number) (update_of part.act) (mark passes parts)
+    ∙ ap (cons_option (update_of part.act)) (all_parts passes parts)
 
-kept_one : (o : Option Update) (rest : List (Bool × Update)) → kept_marked (mark_one true o rest) ≡ cons_option o (kept_marked rest)
+kept_one : (o : Option Update) (rest : List (Bool × Update))
+    → kept_marked (mark_one true o rest) ≡ cons_option o (kept_marked rest)
 kept_one None rest = refl
 kept_one (Some u) rest = refl
 
@@ -137,55 +155,73 @@ kept_not : (o : Option Update) (rest : List (Bool × Update)) → kept_marked (m
 kept_not None rest = refl
 kept_not (Some u) rest = refl
 
-kept_part : (b : Bool) (part : Part) (parts : List Part) (rest : List (Bool × Update)) → kept_marked rest ≡ updates_of parts → kept_marked (mark_one b (update_of part.act) rest) ≡ updates_of (cond b (part ∷ parts) parts)
+kept_part : (b : Bool) (part : Part) (parts : List Part) (rest : List (Bool × Update))
+    → kept_marked rest ≡ updates_of parts → kept_marked (mark_one b (update_of part.act) rest)
+    ≡ updates_of (cond b (part ∷ parts) parts)
 kept_part true part parts rest is = kept_one (update_of part.act) rest ∙ ap (cons_option (update_of part.act)) is
 kept_part false part parts rest is = kept_not (update_of part.act) rest ∙ is
 
-pub kept_parts : (passes : ℕ → Bool) (parts : List Part) → kept_marked (mark passes parts) ≡ updates_of (filter (λ p. passes p.label.number) parts)
+pub kept_parts : (passes : ℕ → Bool) (parts : List Part)
+    → kept_marked (mark passes parts) ≡ updates_of (filter (λ p. passes p.label.number) parts)
 kept_parts passes [] = refl
 kept_parts passes (part ∷ parts) =
-    kept_part (passes part.label.number) part (filter (λ (p : Part). passes p.label.number) parts) (mark passes parts) (kept_parts passes parts)
+    kept_part (passes part.label.number) part (filter (λ (p : Part). passes p.label.number) parts) (mark passes parts)
+    (kept_parts passes parts)
 
-one_there : (b : Bool) (o : Option Update) (rest : List (Bool × Update)) (u : Update) → o ≡ Some u → Contains (mark_one b o rest) (b, u)
+one_there : (b : Bool) (o : Option Update) (rest : List (Bool × Update)) (u : Update) → o ≡ Some u
+    → Contains (mark_one b o rest) (b, u)
 one_there b None rest u is = absurd (none-some u is)
 one_there b (Some v) rest u is = at_head (marked_as b v) rest (b, u) (ap (marked_as b) (same_Some v u is))
 
-rest_there : (b : Bool) (o : Option Update) (rest : List (Bool × Update)) (m : Bool × Update) → Contains rest m → Contains (mark_one b o rest) m
+rest_there : (b : Bool) (o : Option Update) (rest : List (Bool × Update)) (m : Bool × Update) → Contains rest m
+    → Contains (mark_one b o rest) m
 rest_there b None rest m there = there
 rest_there b (Some v) rest m there = behind_head (marked_as b v) rest m there
 
-mark_there : (passes : ℕ → Bool) (parts : List Part) (part : Part) (u : Update) → Contains parts part → update_of part.act ≡ Some u → Contains (mark passes parts) (passes part.label.number, u)
+mark_there : (passes : ℕ → Bool) (parts : List Part) (part : Part) (u : Update) → Contains parts part
+    → update_of part.act ≡ Some u → Contains (mark passes parts) (passes part.label.number, u)
 mark_there passes [] part u there is = absurd (omega (arith, there.1))
 mark_there passes (q ∷ parts) part u there is = elim (head_or_behind q parts part there) [
   | inl here ↦
       subst (λ (p : Part). Contains (mark passes (q ∷ parts)) (passes p.label.number, u)) here
-      (one_there (passes q.label.number) (update_of q.act) (mark passes parts) u (ap (λ (p : Part). update_of p.act) here ∙ is))
+      (one_there (passes q.label.number) (update_of q.act) (mark passes parts) u
+      (ap (λ (p : Part). update_of p.act) here ∙ is))
   | inr further ↦
-      rest_there (passes q.label.number) (update_of q.act) (mark passes parts) (passes part.label.number, u) (mark_there passes parts part u further is)
+      rest_there (passes q.label.number) (update_of q.act) (mark passes parts) (passes part.label.number, u)
+      (mark_there passes parts part u further is)
 ]
 
 -- a label's update is marked by whether it passes
-label_marked : (kind : Kind) (records : Records) (passes : ℕ → Bool) (label : Label) (u : Update) → Contains (labels_of records) label → Makes label.op u → Contains (mark passes (named_sequence kind records)) (passes label.number, u)
+label_marked : (kind : Kind) (records : Records) (passes : ℕ → Bool) (label : Label) (u : Update)
+    → Contains (labels_of records) label → Makes label.op u
+    → Contains (mark passes (named_sequence kind records)) (passes label.number, u)
 label_marked kind records passes label u there (half, made) =
     let part : Part = part_of label (half, Does u) in
     let of_label : Contains (parts_of label) part = reached (part_of label) (acts_of label.op) (half, Does u) made in
-    mark_there passes (named_sequence kind records) part u (in_piece parts_of (named_labels kind records) label part (in-named kind records label there) of_label) refl
+    mark_there passes (named_sequence kind records) part u
+    (in_piece parts_of (named_labels kind records) label part (in-named kind records label there) of_label) refl
 
 -- so it is there where it passes, and what is there is of such a label
-pub label-passes : (kind : Kind) (records : Records) (passes : ℕ → Bool) (label : Label) (u : Update) → Contains (labels_of records) label → Makes label.op u → passes label.number ≡ true → Contains (updates_passing kind records passes) u
+pub label-passes : (kind : Kind) (records : Records) (passes : ℕ → Bool) (label : Label) (u : Update)
+    → Contains (labels_of records) label → Makes label.op u → passes label.number ≡ true
+    → Contains (updates_passing kind records passes) u
 label-passes kind records passes label u there makes is =
     let marked = mark passes (named_sequence kind records) in
     subst (λ us. Contains us u) (kept_parts passes (named_sequence kind records))
     (mark-kept marked u (subst (λ b. Contains marked (b, u)) is (label_marked kind records passes label u there makes)))
 
-pub among-from : (passes : ℕ → Bool) (labels : List Label) (u : Update) → Contains (updates_among passes labels) u → (m : Label) × Contains labels m × (passes m.number ≡ true) × Makes m.op u
+pub among-from : (passes : ℕ → Bool) (labels : List Label) (u : Update) → Contains (updates_among passes labels) u
+    → (m : Label) × Contains labels m × (passes m.number ≡ true) × Makes m.op u
 among-from passes labels u there =
-    let (p, found, does) = update_from (filter (λ (q : Part). passes q.label.number) (flat_map parts_of labels)) u there in
+    let (p, found, does) =
+    update_from (filter (λ (q : Part). passes q.label.number) (flat_map parts_of labels)) u there in
     let (p_in, passed) = there-kept (λ (q : Part). passes q.label.number) (flat_map parts_of labels) p found in
     let (m, m_there, of_m) = piece_of parts_of labels p p_in in
     (m, m_there, sym (ap (λ (l : Label). passes l.number) (part_is_of m p of_m)) ∙ passed, part_makes m p u of_m does)
 
-pub passing-from : (kind : Kind) (records : Records) (passes : ℕ → Bool) (u : Update) → Contains (updates_passing kind records passes) u → (m : Label) × Contains (labels_of records) m × (passes m.number ≡ true) × Makes m.op u
+pub passing-from : (kind : Kind) (records : Records) (passes : ℕ → Bool) (u : Update)
+    → Contains (updates_passing kind records passes) u → (m : Label) × Contains (labels_of records) m
+    × (passes m.number ≡ true) × Makes m.op u
 passing-from kind records passes u there =
     let (m, found, passed, makes) = among-from passes (named_labels kind records) u there in
     (m, in-labels kind records m found, passed, makes)
@@ -195,10 +231,13 @@ abbrev pub each : ℕ → Bool
 each n = true
 
 pub each_passes : (labels : List Label) → updates_among each labels ≡ updates_of (flat_map parts_of labels)
-each_passes labels = ap updates_of (filter_all (λ (p : Part). each p.label.number) (flat_map parts_of labels) (λ p there. refl))
+each_passes labels =
+    ap updates_of (filter_all (λ (p : Part). each p.label.number) (flat_map parts_of labels) (λ p there. refl))
 
 -- of a kind but an RGA, those that pass are admitted where all are
-pub passing-of_kind : (kind : Kind) (records : Records) (passes : ℕ → Bool) → ¬ (kind ≡ Rga) → updates_admitted kind (named_sequence kind records) ≡ true → is_admitted kind (updates_passing kind records passes) ≡ true
+pub passing-of_kind : (kind : Kind) (records : Records) (passes : ℕ → Bool) → ¬ (kind ≡ Rga)
+    → updates_admitted kind (named_sequence kind records) ≡ true
+    → is_admitted kind (updates_passing kind records passes) ≡ true
 passing-of_kind kind records passes other admitted =
     let of_kind : Update → Bool = λ u. is_kind kind (kind_of_update u) in
     let all = admitted-only kind (updates_of (named_sequence kind records)) admitted in
@@ -206,10 +245,12 @@ passing-of_kind kind records passes other admitted =
     ∙ list_all-from_contains of_kind (updates_passing kind records passes) (λ u found.
     let (m, m_there, passed, makes) = passing-from kind records passes u found in
     list_all-contains of_kind (updates_of (named_sequence kind records)) u all
-    (subst (λ us. Contains us u) (each_passes (named_labels kind records)) (label-passes kind records each m u m_there makes refl)))
+    (subst (λ us. Contains us u) (each_passes (named_labels kind records))
+    (label-passes kind records each m u m_there makes refl)))
 
 -- what the list is that updates lead to
-pub listed-after : (us : List Update) → is_admitted Rga us ≡ true → (list : List (ℕ × Bool)) × (state_after Rga us ≡ Some (Listed list))
+pub listed-after : (us : List Update) → is_admitted Rga us ≡ true
+    → (list : List (ℕ × Bool)) × (state_after Rga us ≡ Some (Listed list))
 listed-after us is =
     let found = (some-exactly (state_after Rga us)).0 is in
     let listed = is_listed found.0 (state-of_kind Rga us found.0 found.1) in
@@ -218,38 +259,51 @@ listed-after us is =
 abbrev start : List (ℕ × Bool)
 start = (0, false) ∷ []
 
-marked_all : (records : Records) (passes : ℕ → Bool) (all : List (ℕ × Bool)) → state_after Rga (updates_of (named_sequence Rga records)) ≡ Some (Listed all) → state_after Rga (all_marked (mark passes (named_sequence Rga records))) ≡ Some (Listed all)
+marked_all : (records : Records) (passes : ℕ → Bool) (all : List (ℕ × Bool))
+    → state_after Rga (updates_of (named_sequence Rga records)) ≡ Some (Listed all)
+    → state_after Rga (all_marked (mark passes (named_sequence Rga records))) ≡ Some (Listed all)
 marked_all records passes all led = ap (state_after Rga) (all_parts passes (named_sequence Rga records)) ∙ led
 
 -- an element is there exactly where the label that puts it in passes
-pub there-label : (records : Records) (passes : ℕ → Bool) (label : Label) (anchor x : ℕ) → updates_admitted Rga (named_sequence Rga records) ≡ true → Contains (labels_of records) label → Makes label.op (After anchor x)
+pub there-label : (records : Records) (passes : ℕ → Bool) (label : Label) (anchor x : ℕ)
+    → updates_admitted Rga (named_sequence Rga records) ≡ true → Contains (labels_of records) label
+    → Makes label.op (After anchor x)
     → is_there x (updates_passing Rga records passes) ≡ passes label.number
 there-label records passes label anchor x admitted there makes =
     let (all, led) = listed-after (updates_of (named_sequence Rga records)) admitted in
     let marked = mark passes (named_sequence Rga records) in
     sym (ap (is_there x) (kept_parts passes (named_sequence Rga records)))
-    ∙ marked-is_there marked all (marked_all records passes all led) (passes label.number) anchor x (label_marked Rga records passes label (After anchor x) there makes)
+    ∙ marked-is_there marked all (marked_all records passes all led) (passes label.number) anchor x
+    (label_marked Rga records passes label (After anchor x) there makes)
 
 -- where what those need that pass is there, they lead to the list of all, of which they keep their elements
-passing_goes : (records : Records) (passes : ℕ → Bool) (all : List (ℕ × Bool)) → state_after Rga (updates_of (named_sequence Rga records)) ≡ Some (Listed all)
-    → ((u : Update) → Contains (updates_passing Rga records passes) u → is_there (needed_by u) (updates_passing Rga records passes) ≡ true)
-    → (list : List (ℕ × Bool)) × (state_after Rga (updates_passing Rga records passes) ≡ Some (Listed list)) × (elements_in list ≡ elements_in (kept_entries (λ x. is_there x (updates_passing Rga records passes)) all))
+passing_goes : (records : Records) (passes : ℕ → Bool) (all : List (ℕ × Bool))
+    → state_after Rga (updates_of (named_sequence Rga records)) ≡ Some (Listed all)
+    → ((u : Update) → Contains (updates_passing Rga records passes) u
+    → is_there (needed_by u) (updates_passing Rga records passes) ≡ true)
+    → (list : List (ℕ × Bool)) × (state_after Rga (updates_passing Rga records passes) ≡ Some (Listed list))
+    × (elements_in list ≡ elements_in (kept_entries (λ x. is_there x (updates_passing Rga records passes)) all))
 passing_goes records passes all led needs =
     let us = updates_passing Rga records passes in
     let marked = mark passes (named_sequence Rga records) in
     let same : kept_marked marked ≡ us = kept_parts passes (named_sequence Rga records) in
-    let (list, goes, is) = kept-goes (λ x. is_there x us) marked start all start (marked_all records passes all led) refl
-    (λ kept anchor x there. sym (ap (is_there x) same) ∙ marked-is_there marked all (marked_all records passes all led) kept anchor x there)
+    let (list, goes, is) = kept-goes (λ x. is_there x us) marked start all start
+    (marked_all records passes all led) refl
+    (λ kept anchor x there. sym (ap (is_there x) same)
+    ∙ marked-is_there marked all (marked_all records passes all led) kept anchor x there)
     (λ u there. needs u (subst (λ vs. Contains vs u) same there)) in
     (list, sym (ap (state_after Rga) same) ∙ goes, is)
 
 -- updates are admitted exactly where none of them waits
-pub passing-admitted : (records : Records) (passes : ℕ → Bool) → updates_admitted Rga (named_sequence Rga records) ≡ true → (is_admitted Rga (updates_passing Rga records passes) ≡ true) ↔ NoneWaits records passes
+pub passing-admitted : (records : Records) (passes : ℕ → Bool)
+    → updates_admitted Rga (named_sequence Rga records) ≡ true
+    → (is_admitted Rga (updates_passing Rga records passes) ≡ true) ↔ NoneWaits records passes
 passing-admitted records passes admitted =
     let us = updates_passing Rga records passes in (
       (λ is label u there makes passed.
           let (list, led) = listed-after us is in
-          (there-list us list (needed_by u) led).1 (needed-in start list us u led (label-passes Rga records passes label u there makes passed))),
+          (there-list us list (needed_by u) led).1
+          (needed-in start list us u led (label-passes Rga records passes label u there makes passed))),
       (λ none.
           let (all, led) = listed-after (updates_of (named_sequence Rga records)) admitted in
           let (list, goes, is) = passing_goes records passes all led (λ u found.
@@ -259,66 +313,92 @@ passing-admitted records passes admitted =
     )
 
 -- and their list is that of all, of which they keep their elements
-pub passing-list : (records : Records) (passes : ℕ → Bool) (list all : List (ℕ × Bool)) → state_after Rga (updates_of (named_sequence Rga records)) ≡ Some (Listed all) → state_after Rga (updates_passing Rga records passes) ≡ Some (Listed list)
+pub passing-list : (records : Records) (passes : ℕ → Bool) (list all : List (ℕ × Bool))
+    → state_after Rga (updates_of (named_sequence Rga records)) ≡ Some (Listed all)
+    → state_after Rga (updates_passing Rga records passes) ≡ Some (Listed list)
     → elements_in list ≡ elements_in (kept_entries (λ x. is_there x (updates_passing Rga records passes)) all)
 passing-list records passes list all led_all led =
     let us = updates_passing Rga records passes in
-    let (qs, goes, is) = passing_goes records passes all led_all (λ u found. (there-list us list (needed_by u) led).1 (needed-in start list us u led found)) in
+    let (qs, goes, is) = passing_goes records passes all led_all
+    (λ u found. (there-list us list (needed_by u) led).1 (needed-in start list us u led found)) in
     let both : Some (Listed list) ≡ Some (Listed qs) = sym led ∙ goes in
     let same : list ≡ qs = cc (both) in
     ap elements_in same ∙ is
 
 -- it shows those that they do not remove
-pub passing-shown : (records : Records) (passes : ℕ → Bool) (list all : List (ℕ × Bool)) → state_after Rga (updates_of (named_sequence Rga records)) ≡ Some (Listed all) → state_after Rga (updates_passing Rga records passes) ≡ Some (Listed list)
-    → list ≡ shown_by (updates_passing Rga records passes) (kept_entries (λ x. is_there x (updates_passing Rga records passes)) all)
+pub passing-shown : (records : Records) (passes : ℕ → Bool) (list all : List (ℕ × Bool))
+    → state_after Rga (updates_of (named_sequence Rga records)) ≡ Some (Listed all)
+    → state_after Rga (updates_passing Rga records passes) ≡ Some (Listed list)
+    → list ≡ shown_by (updates_passing Rga records passes)
+    (kept_entries (λ x. is_there x (updates_passing Rga records passes)) all)
 passing-shown records passes list all led_all led =
     let us = updates_passing Rga records passes in
-    list-shown_by us list led ∙ shown_by-same us list (kept_entries (λ x. is_there x us) all) (passing-list records passes list all led_all led)
+    list-shown_by us list led ∙ shown_by-same us list (kept_entries (λ x. is_there x us) all)
+    (passing-list records passes list all led_all led)
 
 -- the updates of labels that pass are those of other ones, where on updates the tests agree
-mark_same : (passes others : ℕ → Bool) (parts : List Part) → ((p : Part) (u : Update) → Contains parts p → p.act ≡ Does u → passes p.label.number ≡ others p.label.number) → mark passes parts ≡ mark others parts
+mark_same : (passes others : ℕ → Bool) (parts : List Part) →
+    ((p : Part) (u : Update) → Contains parts p → p.act ≡ Does u → passes p.label.number ≡ others p.label.number)
+    → mark passes parts ≡ mark others parts
 mark_same passes others [] same = refl
 mark_same passes others (part ∷ parts) same =
-    one_same (passes part.label.number) (others part.label.number) part.act (mark passes parts) (mark others parts) (λ u does. same part u (at_head part parts part refl) does)
+    one_same (passes part.label.number) (others part.label.number) part.act (mark passes parts) (mark others parts)
+    (λ u does. same part u (at_head part parts part refl) does)
     (mark_same passes others parts (λ p u there does. same p u (behind_head part parts p there) does))
   where
-    one_same : (b c : Bool) (act : Act) (rest others : List (Bool × Update)) → ((u : Update) → act ≡ Does u → b ≡ c) → rest ≡ others → mark_one b (update_of act) rest ≡ mark_one c (update_of act) others
+    one_same : (b c : Bool) (act : Act) (rest others : List (Bool × Update)) → ((u : Update) → act ≡ Does u → b ≡ c)
+        → rest ≡ others → mark_one b (update_of act) rest ≡ mark_one c (update_of act) others
     one_same b c (Does u) rest others same is = λ i. marked_as (same u refl i) u ∷ is i
     one_same b c (Asks query) rest others same is = is
 
-pub among-alike : (passes others : ℕ → Bool) (labels : List Label) → ((l : Label) (u : Update) → Contains labels l → Makes l.op u → passes l.number ≡ others l.number) → updates_among passes labels ≡ updates_among others labels
+pub among-alike : (passes others : ℕ → Bool) (labels : List Label)
+    → ((l : Label) (u : Update) → Contains labels l → Makes l.op u → passes l.number ≡ others l.number)
+    → updates_among passes labels ≡ updates_among others labels
 among-alike passes others labels same =
     let parts = flat_map parts_of labels in
     sym (kept_parts passes parts)
     ∙ ap kept_marked (mark_same passes others parts (λ p u there does.
     let (l, found, of_l) = piece_of parts_of labels p there in
     let is = part_is_of l p of_l in
-    ap (λ (m : Label). passes m.number) is ∙ same l u found (part_makes l p u of_l does) ∙ sym (ap (λ (m : Label). others m.number) is)))
+    ap (λ (m : Label). passes m.number) is ∙ same l u found (part_makes l p u of_l does)
+    ∙ sym (ap (λ (m : Label). others m.number) is)))
     ∙ kept_parts others parts
 
-pub passing-alike : (kind : Kind) (records : Records) (passes others : ℕ → Bool) → ((l : Label) (u : Update) → Contains (labels_of records) l → Makes l.op u → passes l.number ≡ others l.number) → updates_passing kind records passes ≡ updates_passing kind records others
+pub passing-alike : (kind : Kind) (records : Records) (passes others : ℕ → Bool)
+    → ((l : Label) (u : Update) → Contains (labels_of records) l → Makes l.op u → passes l.number ≡ others l.number)
+    → updates_passing kind records passes ≡ updates_passing kind records others
 passing-alike kind records passes others same =
-    among-alike passes others (named_labels kind records) (λ l u found makes. same l u (in-labels kind records l found) makes)
+    among-alike passes others (named_labels kind records)
+    (λ l u found makes. same l u (in-labels kind records l found) makes)
 
 -- and no more of them than of those that let more labels pass
-fewer_one : (b c : Bool) (o : Option Update) (rest others : List (Bool × Update)) → (b ≡ true → c ≡ true) → length (kept_marked rest) ≤ length (kept_marked others) → length (kept_marked (mark_one b o rest)) ≤ length (kept_marked (mark_one c o others))
+fewer_one : (b c : Bool) (o : Option Update) (rest others : List (Bool × Update)) → (b ≡ true → c ≡ true)
+    → length (kept_marked rest) ≤ length (kept_marked others)
+    → length (kept_marked (mark_one b o rest)) ≤ length (kept_marked (mark_one c o others))
 fewer_one b c None rest others more fewer = fewer
 fewer_one true true (Some u) rest others more fewer = omega arith
 fewer_one true false (Some u) rest others more fewer = absurd (false≢true (more refl))
 fewer_one false true (Some u) rest others more fewer = omega arith
 fewer_one false false (Some u) rest others more fewer = fewer
 
-fewer_marked : (passes others : ℕ → Bool) (parts : List Part) → ((p : Part) → Contains parts p → passes p.label.number ≡ true → others p.label.number ≡ true) → length (kept_marked (mark passes parts)) ≤ length (kept_marked (mark others parts))
+fewer_marked : (passes others : ℕ → Bool) (parts : List Part)
+    → ((p : Part) → Contains parts p → passes p.label.number ≡ true → others p.label.number ≡ true)
+    → length (kept_marked (mark passes parts)) ≤ length (kept_marked (mark others parts))
 fewer_marked passes others [] more = omega arith
 fewer_marked passes others (part ∷ parts) more =
-    fewer_one (passes part.label.number) (others part.label.number) (update_of part.act) (mark passes parts) (mark others parts)
-    (λ is. more part (at_head part parts part refl) is) (fewer_marked passes others parts (λ p there is. more p (behind_head part parts p there) is))
+    fewer_one (passes part.label.number) (others part.label.number) (update_of part.act) (mark passes parts)
+    (mark others parts)
+    (λ is. more part (at_head part parts part refl) is)
+    (fewer_marked passes others parts (λ p there is. more p (behind_head part parts p there) is))
 
-pub among-fewer : (passes others : ℕ → Bool) (labels : List Label) → ((l : Label) → Contains labels l → passes l.number ≡ true → others l.number ≡ true) → length (updates_among passes labels) ≤ length (updates_among others labels)
+pub among-fewer : (passes others : ℕ → Bool) (labels : List Label)
+    → ((l : Label) → Contains labels l → passes l.number ≡ true → others l.number ≡ true)
+    → length (updates_among passes labels) ≤ length (updates_among others labels)
 among-fewer passes others labels more =
     let parts = flat_map parts_of labels in
     let fewer = fewer_marked passes others parts (λ p there is.
     let (l, found, of_l) = piece_of parts_of labels p there in
     let same = part_is_of l p of_l in
     ap (λ (m : Label). others m.number) same ∙ more l found (sym (ap (λ (m : Label). passes m.number) same) ∙ is)) in
-    subst (λ us. length (updates_among passes labels) ≤ length us) (kept_parts others parts) (subst (λ us. length us ≤ length (kept_marked (mark others parts))) (kept_parts passes parts) fewer)
+    subst (λ us. length (updates_among passes labels) ≤ length us) (kept_parts others parts)
+    (subst (λ us. length us ≤ length (kept_marked (mark others parts))) (kept_parts passes parts) fewer)

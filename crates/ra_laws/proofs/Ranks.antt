@@ -33,11 +33,14 @@ use Rattle.ra_laws.proofs.UniqueOrder.{head_least, sorted_behind, label_found}
 use Rattle.ra_laws.proofs.Meanings.{acts, must_precede-exactly}
 
 -- a label that is there, and an update, has a part that is one
-update_part : (records : Records) (label : Label) → Contains (labels_of records) label → is_update_at records label.number ≡ true
+update_part : (records : Records) (label : Label) → Contains (labels_of records) label
+    → is_update_at records label.number ≡ true
     → (part : Part) × Contains (parts_of label) part × (is_some (update_of part.act) ≡ true)
 update_part records label there is =
-    let update : is_update label.op ≡ true = sym (ap (λ l. option_map_or (λ (m : Label). is_update m.op) l false) (label_found records label there)) ∙ is in
-    let act = what_passes (λ (a : Half × Act). is_some (update_of a.1)) (acts_of label.op) (sym (is_update-acts label.op) ∙ update) in
+    let update : is_update label.op ≡ true =
+    sym (ap (λ l. option_map_or (λ (m : Label). is_update m.op) l false) (label_found records label there)) ∙ is in
+    let act = what_passes (λ (a : Half × Act). is_some (update_of a.1)) (acts_of label.op)
+    (sym (is_update-acts label.op) ∙ update) in
     (part_of label act.0, reached (part_of label) (acts_of label.op) act.0 act.1, act.2)
 
 -- a label that must stand before another is numbered before it
@@ -46,7 +49,8 @@ must_stand-earlier records m n (inl seen) = (sees_earlier records n.number m.num
 must_stand-earlier records m n (inr earlier) = earlier.1
 
 -- where a part must stand before one of another label, its label must
-pub label_must : (records : Records) (p q : Part) (m n : Label) → p.label ≡ m → q.label ≡ n → ¬ (m.number ≡ n.number) → must_precede records p q ≡ true → MustStandBefore records m n
+pub label_must : (records : Records) (p q : Part) (m n : Label) → p.label ≡ m → q.label ≡ n → ¬ (m.number ≡ n.number)
+    → must_precede records p q ≡ true → MustStandBefore records m n
 label_must records p q m n is_m is_n other must = elim ((must_precede-exactly records p q).0 must) [
   | inl seen ↦ inl (sym (λ i. sees records (is_n i).number (is_m i).number) ∙ seen.1)
   | inr (inl earlier) ↦
@@ -55,16 +59,22 @@ label_must records p q m n is_m is_n other must = elim ((must_precede-exactly re
         sym (ap (λ (l : Label). l.replica) is_m) ∙ earlier.0 ∙ ap (λ (l : Label). l.replica) is_n,
         omega (arith, lower, ap (λ (l : Label). l.number) is_m, ap (λ (l : Label). l.number) is_n),
       )
-  | inr (inr halves) ↦ absurd (other (sym (ap (λ (l : Label). l.number) is_m) ∙ halves.0 ∙ ap (λ (l : Label). l.number) is_n))
+  | inr (inr halves) ↦
+      absurd (other (sym (ap (λ (l : Label). l.number) is_m) ∙ halves.0 ∙ ap (λ (l : Label). l.number) is_n))
 ]
 
 -- and where its label must, one of its parts must
-pub part_must : (records : Records) (m n : Label) → Contains (labels_of records) m → MustStandBefore records m n → (q : Part) → q.label ≡ n → (p : Part) × Contains (parts_of m) p × (must_precede records p q ≡ true)
+pub part_must : (records : Records) (m n : Label) → Contains (labels_of records) m → MustStandBefore records m n
+    → (q : Part) → q.label ≡ n → (p : Part) × Contains (parts_of m) p × (must_precede records p q ≡ true)
 part_must records m n there (inl seen) q is_n =
     let part = update_part records m there (sees_earlier records n.number m.number seen).1 in
     let p = part.0 in
-    let is_m = part_is_of m p part.1 in
-    (p, part.1, (must_precede-exactly records p q).1 (inl ((acts p.act).0 part.2, (λ i. sees records (is_n i).number (is_m i).number) ∙ seen)))
+    let is_m = part_is_of m p part.1 in (
+      p,
+      part.1,
+      (must_precede-exactly records p q).1
+          (inl ((acts p.act).0 part.2, (λ i. sees records (is_n i).number (is_m i).number) ∙ seen)),
+    )
 part_must records m n there (inr earlier) q is_n =
     let part = some_part m in
     let p = part.0 in
@@ -91,14 +101,17 @@ unfolding IsDistinct
 labels_differ [] = tt
 labels_differ (Operate by op clock ∷ before) = (
   for_everyone (λ l. (label_count before == l.number) ≡ false) (labels_of before)
-      (All-weaker (λ l. l.number < label_count before) (λ l. (label_count before == l.number) ≡ false) (λ l below. ne_eqb (label_count before) l.number (λ is. absurd (omega arith))) (labels_of before) (numbers_below_count before)),
+      (All-weaker (λ l. l.number < label_count before) (λ l. (label_count before == l.number) ≡ false)
+      (λ l below. ne_eqb (label_count before) l.number (λ is. absurd (omega arith))) (labels_of before)
+      (numbers_below_count before)),
   labels_differ before,
 )
 labels_differ (_ ∷ before) = labels_differ before
 
 pub named_differ : (kind : Kind) (records : Records) → IsDistinct have_one_number (named_labels kind records)
 named_differ kind records =
-    IsDistinct-IsPermutation have_one_number (λ l m. eqb-comm l.number m.number) (labels_of records) (named_labels kind records) (IsPermutation-named_labels kind records) (labels_differ records)
+    IsDistinct-IsPermutation have_one_number (λ l m. eqb-comm l.number m.number) (labels_of records)
+    (named_labels kind records) (IsPermutation-named_labels kind records) (labels_differ records)
 
 module _ (records : Records) where
   -- no label of the list must stand before one that it stands behind
@@ -106,18 +119,24 @@ module _ (records : Records) where
   NoneMisplaced [] = Unit {0}
   NoneMisplaced (x ∷ xs) = ((y : Label) → Contains xs y → ¬ MustStandBefore records y x) × NoneMisplaced xs
 
-  pub none_misplaced : (xs : List Label) → All (Contains (labels_of records)) xs → extends (must_precede records) (flat_map parts_of xs) ≡ true → NoneMisplaced xs
+  pub none_misplaced : (xs : List Label) → All (Contains (labels_of records)) xs
+      → extends (must_precede records) (flat_map parts_of xs) ≡ true → NoneMisplaced xs
   none_misplaced [] there extended = tt
   none_misplaced (x ∷ xs) there extended = (
     (λ y found must.
         let q = some_part x in
-        let known = All-contains (Contains (labels_of records)) xs y (All-tail (Contains (labels_of records)) x xs there) found in
+        let known = All-contains (Contains (labels_of records)) xs y
+        (All-tail (Contains (labels_of records)) x xs there) found in
         let p = part_must records y x known must q.0 (part_is_of x q.0 q.1) in
-        true≢false (sym p.2 ∙ extends-apart (must_precede records) (parts_of x) (flat_map parts_of xs) extended q.0 p.0 q.1 (in_piece parts_of xs y p.0 found p.1))),
-    none_misplaced xs (All-tail (Contains (labels_of records)) x xs there) (extends-behind (must_precede records) (parts_of x) (flat_map parts_of xs) extended),
+        true≢false
+        (sym p.2 ∙ extends-apart (must_precede records) (parts_of x) (flat_map parts_of xs) extended q.0 p.0 q.1
+        (in_piece parts_of xs y p.0 found p.1))),
+    none_misplaced xs (All-tail (Contains (labels_of records)) x xs there)
+        (extends-behind (must_precede records) (parts_of x) (flat_map parts_of xs) extended),
   )
 
-  pub none_misplaced-extends : (xs : List Label) → IsDistinct have_one_number xs → NoneMisplaced xs → extends (must_precede records) (flat_map parts_of xs) ≡ true
+  pub none_misplaced-extends : (xs : List Label) → IsDistinct have_one_number xs → NoneMisplaced xs
+      → extends (must_precede records) (flat_map parts_of xs) ≡ true
   unfolding IsDistinct
   none_misplaced-extends [] differ clear = refl
   none_misplaced-extends (x ∷ xs) differ clear =
@@ -127,8 +146,12 @@ module _ (records : Records) where
       (λ p q p_there q_there.
       let of_y = piece_of parts_of xs q q_there in
       let y = of_y.0 in
-      let other : ¬ (y.number ≡ x.number) = λ same. true≢false (sym (eq-eqb x.number y.number (sym same)) ∙ everyone (λ l. have_one_number x l ≡ false) xs y differ.0 of_y.1) in
-      false_from_ne_true (must_precede records q p) (λ must. clear.0 y of_y.1 (label_must records q p y x (part_is_of y q of_y.2) (part_is_of x p p_there) other must)))
+      let other : ¬ (y.number ≡ x.number) =
+      λ same. true≢false (sym (eq-eqb x.number y.number (sym same))
+      ∙ everyone (λ l. have_one_number x l ≡ false) xs y differ.0 of_y.1) in
+      false_from_ne_true (must_precede records q p)
+      (λ must. clear.0 y of_y.1
+      (label_must records q p y x (part_is_of y q of_y.2) (part_is_of x p p_there) other must)))
 
 module _ (kind : Kind) (records : Records) where
   abbrev rank : Label → Stamp
@@ -138,23 +161,32 @@ module _ (kind : Kind) (records : Records) where
   not_below_ranks m n not_lt below = true≢false (sym (ap is_lt ((label_below kind records n m).1 (inl below))) ∙ not_lt)
 
   -- an earlier label of no greater rank is below
-  below_by_ranks : (m n : Label) (o : Ordering) → o ≡ stamp_cmp (rank m) (rank n) → m.number < n.number → ¬ IsStampBelow (rank n) (rank m) → is_lt (label_cmp kind records m n) ≡ true
-  below_by_ranks m n Less is earlier not_above = ap is_lt ((label_below kind records m n).1 (inl ((stamp_below (rank m) (rank n)).0 (sym is))))
-  below_by_ranks m n Equal is earlier not_above = ap is_lt ((label_below kind records m n).1 (inr ((stamp_same (rank m) (rank n)).0 (sym is), earlier)))
+  below_by_ranks : (m n : Label) (o : Ordering) → o ≡ stamp_cmp (rank m) (rank n) → m.number < n.number
+      → ¬ IsStampBelow (rank n) (rank m) → is_lt (label_cmp kind records m n) ≡ true
+  below_by_ranks m n Less is earlier not_above =
+      ap is_lt ((label_below kind records m n).1 (inl ((stamp_below (rank m) (rank n)).0 (sym is))))
+  below_by_ranks m n Equal is earlier not_above =
+      ap is_lt ((label_below kind records m n).1 (inr ((stamp_same (rank m) (rank n)).0 (sym is), earlier)))
   below_by_ranks m n Greater is earlier not_above =
-      absurd (not_above ((stamp_below (rank n) (rank m)).0 (stamp_cmp-total.antisymm (rank n) (rank m) ∙ ap ordering_reverse (sym is))))
+      absurd (not_above
+      ((stamp_below (rank n) (rank m)).0
+      (stamp_cmp-total.antisymm (rank n) (rank m) ∙ ap ordering_reverse (sym is))))
 
   abbrev RanksAllow : List Label → Type 0
-  RanksAllow xs = (m n : Label) → Contains xs m → Contains xs n → MustStandBefore records m n → ¬ IsStampBelow (rank n) (rank m)
+  RanksAllow xs = (m n : Label) → Contains xs m → Contains xs n → MustStandBefore records m n
+      → ¬ IsStampBelow (rank n) (rank m)
 
   ranks_allow : (xs : List Label) → IsSorted (label_cmp kind records) xs → NoneMisplaced records xs → RanksAllow xs
   ranks_allow [] sorted clear m n m_there n_there must = absurd (omega (arith, m_there.1))
   ranks_allow (x ∷ xs) sorted clear m n m_there n_there must = elim (head_or_behind x xs m m_there) [
     | inl here ↦
-        not_below_ranks m n (subst (λ l. is_lt (label_cmp kind records n l) ≡ false) here (head_least (label_cmp kind records) (label_cmp-total kind records) x xs sorted n n_there))
+        not_below_ranks m n
+        (subst (λ l. is_lt (label_cmp kind records n l) ≡ false) here
+        (head_least (label_cmp kind records) (label_cmp-total kind records) x xs sorted n n_there))
     | inr further ↦ elim (head_or_behind x xs n n_there) [
       | inl first ↦ absurd (clear.0 m further (subst (MustStandBefore records m) (sym first) must))
-      | inr behind ↦ ranks_allow xs (sorted_behind (label_cmp kind records) (label_cmp-total kind records) x xs sorted) clear.1 m n further behind must
+      | inr behind ↦ ranks_allow xs (sorted_behind (label_cmp kind records) (label_cmp-total kind records) x xs sorted)
+          clear.1 m n further behind must
     ]
   ]
 
@@ -162,13 +194,18 @@ module _ (kind : Kind) (records : Records) where
   allowed_by_ranks [] sorted allow = tt
   allowed_by_ranks (x ∷ xs) sorted allow = (
     (λ y found must.
-        let above = head_least (label_cmp kind records) (label_cmp-total kind records) x xs sorted y (behind_head x xs y found) in
-        let below = below_by_ranks y x (stamp_cmp (rank y) (rank x)) refl (must_stand-earlier records y x must) (allow y x (behind_head x xs y found) (at_head x xs x refl) must) in
+        let above = head_least (label_cmp kind records) (label_cmp-total kind records) x xs sorted y
+        (behind_head x xs y found) in
+        let below = below_by_ranks y x (stamp_cmp (rank y) (rank x)) refl (must_stand-earlier records y x must)
+        (allow y x (behind_head x xs y found) (at_head x xs x refl) must) in
         true≢false (sym below ∙ above)),
-    allowed_by_ranks xs (sorted_behind (label_cmp kind records) (label_cmp-total kind records) x xs sorted) (λ m n m_there n_there. allow m n (behind_head x xs m m_there) (behind_head x xs n n_there)),
+    allowed_by_ranks xs (sorted_behind (label_cmp kind records) (label_cmp-total kind records) x xs sorted)
+        (λ m n m_there n_there. allow m n (behind_head x xs m m_there) (behind_head x xs n n_there)),
   )
 
-  pub ranks-extend : (extends_visibility records (named_sequence kind records) ≡ true) ↔ ((m n : Label) → Contains (labels_of records) m → Contains (labels_of records) n → MustStandBefore records m n → ¬ IsStampBelow (rank_of kind records n) (rank_of kind records m))
+  pub ranks-extend : (extends_visibility records (named_sequence kind records) ≡ true)
+      ↔ ((m n : Label) → Contains (labels_of records) m → Contains (labels_of records) n → MustStandBefore records m n
+      → ¬ IsStampBelow (rank_of kind records n) (rank_of kind records m))
   ranks-extend =
       let labels = labels_of records in
       let named = named_labels kind records in
@@ -176,12 +213,15 @@ module _ (kind : Kind) (records : Records) where
       let sorted = IsSorted-named_labels kind records in (
         (λ extended m n m_there n_there.
             ranks_allow named sorted
-            (none_misplaced records named (All-permutation (Contains labels) labels named same (All-contains_itself labels)) extended)
+            (none_misplaced records named
+            (All-permutation (Contains labels) labels named same (All-contains_itself labels)) extended)
             m n (Contains-permutation labels named m same m_there) (Contains-permutation labels named n same n_there)),
         (λ allow.
             let back = IsPermutation-sym labels named same in
             none_misplaced-extends records named (named_differ kind records)
-            (allowed_by_ranks named sorted (λ m n m_there n_there. allow m n (Contains-permutation named labels m back m_there) (Contains-permutation named labels n back n_there)))),
+            (allowed_by_ranks named sorted
+            (λ m n m_there n_there. allow m n (Contains-permutation named labels m back m_there)
+            (Contains-permutation named labels n back n_there)))),
       )
 
 not_below_itself : (s : Stamp) → ¬ IsStampBelow s s
@@ -191,9 +231,11 @@ not_below_itself s below = elim below [
 ]
 
 -- where all ranks are the lowest, none is greater
-pub execution-extends : (kind : Kind) (records : Records) → ((label : Label) → rank_of kind records label ≡ lowest_rank) → extends_visibility records (named_sequence kind records) ≡ true
+pub execution-extends : (kind : Kind) (records : Records) → ((label : Label) → rank_of kind records label ≡ lowest_rank)
+    → extends_visibility records (named_sequence kind records) ≡ true
 execution-extends kind records lowest =
-    (ranks-extend kind records).1 (λ m n m_there n_there must below. not_below_itself lowest_rank (rw (lowest n, lowest m) at below))
+    (ranks-extend kind records).1
+    (λ m n m_there n_there must below. not_below_itself lowest_rank (rw (lowest n, lowest m) at below))
 
 pub counter-extends : (records : Records) → extends_visibility records (named_sequence Counter records) ≡ true
 counter-extends records = execution-extends Counter records (λ label. refl)

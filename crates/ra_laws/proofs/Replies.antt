@@ -1,4 +1,4 @@
--- What the answers say of the records.
+-- What replies say of the records, and how commands are answered one after another.
 use Rattle.std.proofs.Common.{◌≡◌, ℕ, ◌<◌, List, [], ◌∷◌, ◌++◌, Option, Some, None, refl, sym, ap, ◌∙◌, subst}
 use Rattle.std.specs.Prelude.{◌↔◌}
 use Rattle.std.specs.Option.{option_map_or}
@@ -23,86 +23,132 @@ use Rattle.ra_laws.proofs.Faults.{holds_from_no_fault}
 
 module _ (kind : Kind) (replicas : ℕ) (records : Records) (command : Command) where
   -- after a fault each answer is the fault, and the records stay
-  pub answer_of-fault : (fault : Fault) → fault_of kind records ≡ Some fault → answer_of kind replicas records command ≡ no_at fault
+  pub answer_of-fault : (fault : Fault) → fault_of kind records ≡ Some fault
+      → answer_of kind replicas records command ≡ no_at fault
   answer_of-fault fault is = rw is
 
-  pub records_after-fault : (fault : Fault) → fault_of kind records ≡ Some fault → records_after kind replicas records command ≡ records
+  pub records_after-fault : (fault : Fault) → fault_of kind records ≡ Some fault
+      → records_after kind replicas records command ≡ records
   records_after-fault fault is = rw is
 
-  answer_of-refused : (why : Refusal) → fault_of kind records ≡ None → refusal_of kind replicas records command ≡ Some why → answer_of kind replicas records command ≡ reply.Refused why
+  answer_of-refused : (why : Refusal) → fault_of kind records ≡ None
+      → refusal_of kind replicas records command ≡ Some why
+      → answer_of kind replicas records command ≡ reply.Refused why
   answer_of-refused why none is = rw (none, is)
 
-  records_after-refused : (why : Refusal) → fault_of kind records ≡ None → refusal_of kind replicas records command ≡ Some why → records_after kind replicas records command ≡ records
+  records_after-refused : (why : Refusal) → fault_of kind records ≡ None
+      → refusal_of kind replicas records command ≡ Some why → records_after kind replicas records command ≡ records
   records_after-refused why none is = rw (none, is)
 
-  answer_of-accepted : fault_of kind records ≡ None → refusal_of kind replicas records command ≡ None → answer_of kind replicas records command ≡ answer_to_accepted kind records command
+  answer_of-accepted : fault_of kind records ≡ None → refusal_of kind replicas records command ≡ None
+      → answer_of kind replicas records command ≡ answer_to_accepted kind records command
   answer_of-accepted none fine = rw (none, fine)
 
-  records_after-accepted : fault_of kind records ≡ None → refusal_of kind replicas records command ≡ None → records_after kind replicas records command ≡ with_accepted records command
+  records_after-accepted : fault_of kind records ≡ None → refusal_of kind replicas records command ≡ None
+      → records_after kind replicas records command ≡ with_accepted records command
   records_after-accepted none fine = rw (none, fine)
 
 -- the answer to an accepted operation
-operation_says : (kind : Kind) (replicas : ℕ) (records : Records) (by : ℕ) (op : Op) (clock : Option ℕ) (fault : Option Fault) → fault_of kind (Operate by op clock ∷ records) ≡ fault → records_after kind replicas records (Operate by op clock) ≡ Operate by op clock ∷ records → ReplySays kind replicas records (Operate by op clock) (option_map_or no_at fault (reply.Ok (label_count records)))
+operation_says : (kind : Kind) (replicas : ℕ) (records : Records) (by : ℕ) (op : Op) (clock : Option ℕ)
+    (fault : Option Fault) → fault_of kind (Operate by op clock ∷ records) ≡ fault
+    → records_after kind replicas records (Operate by op clock) ≡ Operate by op clock ∷ records
+    → ReplySays kind replicas records (Operate by op clock) (option_map_or no_at fault (reply.Ok (label_count records)))
 operation_says kind replicas records by op clock None is after = (refl, after, is, (by, op, clock, refl))
 operation_says kind replicas records by op clock (Some fault) is after = ap (fault_of kind) after ∙ is
 
 -- the answer to an accepted command
-accepted_says : (kind : Kind) (replicas : ℕ) (records : Records) (command : Command) → fault_of kind records ≡ None → records_after kind replicas records command ≡ with_accepted records command → ReplySays kind replicas records command (answer_to_accepted kind records command)
-accepted_says kind replicas records (Operate by op clock) none after = operation_says kind replicas records by op clock _ refl after
+accepted_says : (kind : Kind) (replicas : ℕ) (records : Records) (command : Command) → fault_of kind records ≡ None
+    → records_after kind replicas records command ≡ with_accepted records command
+    → ReplySays kind replicas records command (answer_to_accepted kind records command)
+accepted_says kind replicas records (Operate by op clock) none after =
+    operation_says kind replicas records by op clock _ refl after
 accepted_says kind replicas records (Deliver to label) none after = (after, none, (to, refl))
 accepted_says kind replicas records Verdict none after = (refl, after, none, refl)
 
 -- what each reply says
-says : (kind : Kind) (replicas : ℕ) (records : Records) (command : Command) (fault : Option Fault) (refused : Option Refusal) → fault_of kind records ≡ fault → refusal_of kind replicas records command ≡ refused → ReplySays kind replicas records command (answer_of kind replicas records command)
+says : (kind : Kind) (replicas : ℕ) (records : Records) (command : Command) (fault : Option Fault)
+    (refused : Option Refusal) → fault_of kind records ≡ fault → refusal_of kind replicas records command ≡ refused
+    → ReplySays kind replicas records command (answer_of kind replicas records command)
 says kind replicas records command (Some fault) refused is_fault is_refused =
     subst (ReplySays kind replicas records command) (sym (answer_of-fault kind replicas records command fault is_fault))
     (ap (fault_of kind) (records_after-fault kind replicas records command fault is_fault) ∙ is_fault)
 says kind replicas records command None (Some why) is_fault is_refused =
-    subst (ReplySays kind replicas records command) (sym (answer_of-refused kind replicas records command why is_fault is_refused))
+    subst (ReplySays kind replicas records command)
+    (sym (answer_of-refused kind replicas records command why is_fault is_refused))
     (is_refused, records_after-refused kind replicas records command why is_fault is_refused, is_fault)
 says kind replicas records command None None is_fault is_refused =
-    subst (ReplySays kind replicas records command) (sym (answer_of-accepted kind replicas records command is_fault is_refused))
-    (accepted_says kind replicas records command is_fault (records_after-accepted kind replicas records command is_fault is_refused))
+    subst (ReplySays kind replicas records command)
+    (sym (answer_of-accepted kind replicas records command is_fault is_refused))
+    (accepted_says kind replicas records command is_fault
+    (records_after-accepted kind replicas records command is_fault is_refused))
 
-pub reply_says : (kind : Kind) (replicas : ℕ) (records : Records) (command : Command) → ReplySays kind replicas records command (answer_of kind replicas records command)
+pub reply_says : (kind : Kind) (replicas : ℕ) (records : Records) (command : Command)
+    → ReplySays kind replicas records command (answer_of kind replicas records command)
 reply_says kind replicas records command = says kind replicas records command _ _ refl refl
 
 -- a reply that is no fault leaves records without one
-no_from_fault : (kind : Kind) (replicas : ℕ) (records : Records) (command : Command) (answer : Reply) (fault : Fault) → ReplySays kind replicas records command answer → fault_of kind (records_after kind replicas records command) ≡ Some fault → answer ≡ no_at fault
-no_from_fault kind replicas records command (reply.Ok n) fault known is = absurd (none-some fault (sym (ap (fault_of kind) known.1 ∙ known.2) ∙ is))
-no_from_fault kind replicas records command (reply.Got n) fault known is = absurd (none-some fault (sym (ap (fault_of kind) known.0 ∙ known.1) ∙ is))
-no_from_fault kind replicas records command (reply.Yes n) fault known is = absurd (none-some fault (sym (ap (fault_of kind) known.1 ∙ known.2) ∙ is))
-no_from_fault kind replicas records command (reply.Refused why) fault known is = absurd (none-some fault (sym (ap (fault_of kind) known.1 ∙ known.2) ∙ is))
-no_from_fault kind replicas records command (reply.No n why) fault known is = ap no_at (same_Some (fault_at n why) fault (sym known ∙ is))
+no_from_fault : (kind : Kind) (replicas : ℕ) (records : Records) (command : Command) (answer : Reply) (fault : Fault)
+    → ReplySays kind replicas records command answer → fault_of kind (records_after kind replicas records command)
+    ≡ Some fault → answer ≡ no_at fault
+no_from_fault kind replicas records command (reply.Ok n) fault known is =
+    absurd (none-some fault (sym (ap (fault_of kind) known.1 ∙ known.2) ∙ is))
+no_from_fault kind replicas records command (reply.Got n) fault known is =
+    absurd (none-some fault (sym (ap (fault_of kind) known.0 ∙ known.1) ∙ is))
+no_from_fault kind replicas records command (reply.Yes n) fault known is =
+    absurd (none-some fault (sym (ap (fault_of kind) known.1 ∙ known.2) ∙ is))
+no_from_fault kind replicas records command (reply.Refused why) fault known is =
+    absurd (none-some fault (sym (ap (fault_of kind) known.1 ∙ known.2) ∙ is))
+no_from_fault kind replicas records command (reply.No n why) fault known is =
+    ap no_at (same_Some (fault_at n why) fault (sym known ∙ is))
 
 -- the reply is no exactly where the records that the command leaves have a fault
-pub no_at_fault : (kind : Kind) (replicas : ℕ) (records : Records) (command : Command) (fault : Fault) → (fault_of kind (records_after kind replicas records command) ≡ Some fault) ↔ (answer_of kind replicas records command ≡ no_at fault)
+pub no_at_fault : (kind : Kind) (replicas : ℕ) (records : Records) (command : Command) (fault : Fault)
+    → (fault_of kind (records_after kind replicas records command) ≡ Some fault)
+    ↔ (answer_of kind replicas records command ≡ no_at fault)
 no_at_fault kind replicas records command fault = (
   no_from_fault kind replicas records command _ fault (reply_says kind replicas records command),
   (λ is. subst (ReplySays kind replicas records command) is (reply_says kind replicas records command)),
 )
 
 -- commands one after another are answered one after another
-pub answers_to-append : (kind : Kind) (replicas : ℕ) (records : Records) (first then : List Command) → answers_to kind replicas records (first ++ then) ≡ answers_to kind replicas records first ++ answers_to kind replicas (records_after_all kind replicas records first) then
+pub answers_to-append : (kind : Kind) (replicas : ℕ) (records : Records) (first then : List Command)
+    → answers_to kind replicas records (first ++ then) ≡ answers_to kind replicas records first
+    ++ answers_to kind replicas (records_after_all kind replicas records first) then
 answers_to-append kind replicas records [] then = refl
 answers_to-append kind replicas records (command ∷ first) then =
-    ap (λ answers. answer_of kind replicas records command ∷ answers) (answers_to-append kind replicas (records_after kind replicas records command) first then)
+    ap (λ answers. answer_of kind replicas records command ∷ answers)
+    (answers_to-append kind replicas (records_after kind replicas records command) first then)
 
-pub records_after_all-append : (kind : Kind) (replicas : ℕ) (records : Records) (first then : List Command) → records_after_all kind replicas records (first ++ then) ≡ records_after_all kind replicas (records_after_all kind replicas records first) then
+pub records_after_all-append : (kind : Kind) (replicas : ℕ) (records : Records) (first then : List Command)
+    → records_after_all kind replicas records (first ++ then)
+    ≡ records_after_all kind replicas (records_after_all kind replicas records first) then
 records_after_all-append kind replicas records [] then = refl
-records_after_all-append kind replicas records (command ∷ first) then = records_after_all-append kind replicas (records_after kind replicas records command) first then
+records_after_all-append kind replicas records (command ∷ first) then =
+    records_after_all-append kind replicas (records_after kind replicas records command) first then
 
 -- where the replica is known, what the command's own form deserves is the first refusal
-pub misfit_refuses : (kind : Kind) (replicas : ℕ) (records : Records) (by : ℕ) (op : Op) (clock : Option ℕ) (why : Refusal) → by < replicas → misfit_of kind (Operate by op clock) ≡ Some why → refusal_of kind replicas records (Operate by op clock) ≡ Some why
+pub misfit_refuses : (kind : Kind) (replicas : ℕ) (records : Records) (by : ℕ) (op : Op) (clock : Option ℕ)
+    (why : Refusal) → by < replicas → misfit_of kind (Operate by op clock) ≡ Some why
+    → refusal_of kind replicas records (Operate by op clock) ≡ Some why
 misfit_refuses kind replicas records by op clock why below is = rw (lt-ltb by replicas below, is)
 
 -- a reply Ok or Yes is given where some sequence is an RA-linearization of the records that the command leaves
-pub ok_is_evidence : (kind : Kind) (replicas : ℕ) (records : Records) (command : Command) (n : ℕ) → answer_of kind replicas records command ≡ reply.Ok n → (sequence : List Part) × IsRaLinearization kind (records_after kind replicas records command) sequence
+pub ok_is_evidence : (kind : Kind) (replicas : ℕ) (records : Records) (command : Command) (n : ℕ)
+    → answer_of kind replicas records command ≡ reply.Ok n → (sequence : List Part)
+    × IsRaLinearization kind (records_after kind replicas records command) sequence
 ok_is_evidence kind replicas records command n is =
-    let known = subst (ReplySays kind replicas records command) is (reply_says kind replicas records command) in
-    (named_sequence kind (records_after kind replicas records command), holds_from_no_fault kind (records_after kind replicas records command) (ap (fault_of kind) known.1 ∙ known.2))
+    let known = subst (ReplySays kind replicas records command) is (reply_says kind replicas records command) in (
+      named_sequence kind (records_after kind replicas records command),
+      holds_from_no_fault kind
+          (records_after kind replicas records command) (ap (fault_of kind) known.1 ∙ known.2),
+    )
 
-pub yes_is_evidence : (kind : Kind) (replicas : ℕ) (records : Records) (command : Command) (n : ℕ) → answer_of kind replicas records command ≡ reply.Yes n → (sequence : List Part) × IsRaLinearization kind (records_after kind replicas records command) sequence
+pub yes_is_evidence : (kind : Kind) (replicas : ℕ) (records : Records) (command : Command) (n : ℕ)
+    → answer_of kind replicas records command ≡ reply.Yes n → (sequence : List Part)
+    × IsRaLinearization kind (records_after kind replicas records command) sequence
 yes_is_evidence kind replicas records command n is =
-    let known = subst (ReplySays kind replicas records command) is (reply_says kind replicas records command) in
-    (named_sequence kind (records_after kind replicas records command), holds_from_no_fault kind (records_after kind replicas records command) (ap (fault_of kind) known.1 ∙ known.2))
+    let known = subst (ReplySays kind replicas records command) is (reply_says kind replicas records command) in (
+      named_sequence kind (records_after kind replicas records command),
+      holds_from_no_fault kind
+          (records_after kind replicas records command) (ap (fault_of kind) known.1 ∙ known.2),
+    )

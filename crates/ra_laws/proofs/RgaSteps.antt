@@ -46,25 +46,32 @@ or_moves false false true false = refl
 or_moves false false false true = refl
 or_moves false false false false = refl
 
-there_more : (y : ℕ) (first later : List Update) (u : Update) → is_there y (first ++ u ∷ later) ≡ (is_there y (first ++ later) || puts_in y u)
+there_more : (y : ℕ) (first later : List Update) (u : Update)
+    → is_there y (first ++ u ∷ later) ≡ (is_there y (first ++ later) || puts_in y u)
 there_more y first later u =
     ap (λ b. y == 0 || b) (list_any-append (puts_in y) first (u ∷ later))
     ∙ or_moves (y == 0) (list_any (puts_in y) first) (puts_in y u) (list_any (puts_in y) later)
     ∙ sym (ap (λ b. (y == 0 || b) || puts_in y u) (list_any-append (puts_in y) first later))
 
-pub there-more : (kind : Kind) (records : Records) (passes : ℕ → Bool) (label : Label) (u : Update) (y : ℕ) → Contains (labels_of records) label → Makes label.op u → passes label.number ≡ false
-    → is_there y (updates_passing kind records (or_label passes label.number)) ≡ (is_there y (updates_passing kind records passes) || puts_in y u)
+pub there-more : (kind : Kind) (records : Records) (passes : ℕ → Bool) (label : Label) (u : Update) (y : ℕ)
+    → Contains (labels_of records) label → Makes label.op u → passes label.number ≡ false
+    → is_there y (updates_passing kind records (or_label passes label.number))
+    ≡ (is_there y (updates_passing kind records passes) || puts_in y u)
 there-more kind records passes label u y there makes new =
     let (before, behind, is, was, now) = one-more kind records passes label u there makes new in
-    ap (is_there y) now ∙ there_more y (updates_among passes before) (updates_among passes behind) u ∙ sym (ap (λ us. is_there y us || puts_in y u) was)
+    ap (is_there y) now ∙ there_more y (updates_among passes before) (updates_among passes behind) u
+    ∙ sym (ap (λ us. is_there y us || puts_in y u) was)
 
-pub length-more : (kind : Kind) (records : Records) (passes : ℕ → Bool) (label : Label) (u : Update) → Contains (labels_of records) label → Makes label.op u → passes label.number ≡ false
-    → length (updates_passing kind records (or_label passes label.number)) ≡ length (updates_passing kind records passes) + 1
+pub length-more : (kind : Kind) (records : Records) (passes : ℕ → Bool) (label : Label) (u : Update)
+    → Contains (labels_of records) label → Makes label.op u → passes label.number ≡ false
+    → length (updates_passing kind records (or_label passes label.number))
+    ≡ length (updates_passing kind records passes) + 1
 length-more kind records passes label u there makes new =
     let (before, behind, is, was, now) = one-more kind records passes label u there makes new in
     let first = updates_among passes before in
     let later = updates_among passes behind in
-    let more : length (first ++ u ∷ later) ≡ length (first ++ later) + 1 = omega (arith, length-append first (u ∷ later), length-append first later) in
+    let more : length (first ++ u ∷ later) ≡ length (first ++ later) + 1 =
+    omega (arith, length-append first (u ∷ later), length-append first later) in
     ap length now ∙ more ∙ sym (ap (λ us. length us + 1) was)
 
 -- a label makes one update, and has a number of its own
@@ -74,52 +81,68 @@ makes_same label operation u v makes also =
     cc (both)
 
 pub made-once : (operation : Op) (u v : Update) → Makes operation u → Makes operation v → u ≡ v
-made-once operation u v makes also = makes_same (record { number = 0; replica = 0; op = operation; stamp = None }) operation u v makes also
+made-once operation u v makes also =
+    makes_same (record { number = 0; replica = 0; op = operation; stamp = None }) operation u v makes also
 
 pub made-exactly : (operation : Op) → (is_update operation ≡ true) ↔ ((u : Update) × Makes operation u)
 made-exactly operation = (
   (λ is.
-      let (act, found, does) = what_passes (λ (a : Half × Act). is_some (update_of a.1)) (acts_of operation) (sym (is_update-acts operation) ∙ is) in
+      let (act, found, does) = what_passes (λ (a : Half × Act). is_some (update_of a.1)) (acts_of operation)
+      (sym (is_update-acts operation) ∙ is) in
       let (u, same) = (acts act.1).0 does in
       (u, (act.0, subst (λ a. Contains (acts_of operation) (act.0, a)) same found))),
   (λ (u, makes). makes_update operation u makes),
 )
 
-pub same_number : (records : Records) (l m : Label) → Contains (labels_of records) l → Contains (labels_of records) m → l.number ≡ m.number → l ≡ m
-same_number records l m l_there m_there is = same_Some l m (sym (label_found records l l_there) ∙ ap (label_at records) is ∙ label_found records m m_there)
+pub same_number : (records : Records) (l m : Label) → Contains (labels_of records) l → Contains (labels_of records) m
+    → l.number ≡ m.number → l ≡ m
+same_number records l m l_there m_there is =
+    same_Some l m (sym (label_found records l l_there) ∙ ap (label_at records) is ∙ label_found records m m_there)
 
 -- an element is put in by one label alone, and is not the root
-pub put_in-once : (records : Records) (k l : Label) (a b x : ℕ) → updates_admitted Rga (named_sequence Rga records) ≡ true → Contains (labels_of records) k → Contains (labels_of records) l → Makes k.op (After a x) → Makes l.op (After b x) → k ≡ l
+pub put_in-once : (records : Records) (k l : Label) (a b x : ℕ)
+    → updates_admitted Rga (named_sequence Rga records) ≡ true → Contains (labels_of records) k
+    → Contains (labels_of records) l → Makes k.op (After a x) → Makes l.op (After b x) → k ≡ l
 put_in-once records k l a b x admitted k_there l_there makes also =
     let passes : ℕ → Bool = λ n. n == k.number in
     let is : (l.number == k.number) ≡ true =
-    sym (there-label records passes l b x admitted l_there also) ∙ there-label records passes k a x admitted k_there makes ∙ eq-eqb k.number k.number refl in
+    sym (there-label records passes l b x admitted l_there also)
+    ∙ there-label records passes k a x admitted k_there makes ∙ eq-eqb k.number k.number refl in
     sym (same_number records l k l_there k_there (eqb-true l.number k.number is))
 
-pub put_in-other : (records : Records) (k : Label) (a x : ℕ) → updates_admitted Rga (named_sequence Rga records) ≡ true → Contains (labels_of records) k → Makes k.op (After a x) → ¬ (x ≡ 0)
+pub put_in-other : (records : Records) (k : Label) (a x : ℕ) → updates_admitted Rga (named_sequence Rga records) ≡ true
+    → Contains (labels_of records) k → Makes k.op (After a x) → ¬ (x ≡ 0)
 put_in-other records k a x admitted there makes root =
     let none : ℕ → Bool = λ n. false in
     false≢true (sym (there-label records none k a x admitted there makes) ∙ or_left (x == 0) _ (eq-eqb x 0 root))
 
 -- none waits with one more whose need is there
-pub none-waits_more : (records : Records) (passes : ℕ → Bool) (label : Label) (u : Update) → Contains (labels_of records) label → Makes label.op u → passes label.number ≡ false
-    → NoneWaits records passes → is_there (needed_by u) (updates_passing Rga records passes) ≡ true → NoneWaits records (or_label passes label.number)
+pub none-waits_more : (records : Records) (passes : ℕ → Bool) (label : Label) (u : Update)
+    → Contains (labels_of records) label → Makes label.op u → passes label.number ≡ false
+    → NoneWaits records passes → is_there (needed_by u) (updates_passing Rga records passes) ≡ true
+    → NoneWaits records (or_label passes label.number)
 none-waits_more records passes label u there makes new none needs l v l_there l_makes l_passes =
     let us = updates_passing Rga records passes in
-    let needed : is_there (needed_by v) us ≡ true = elim (or_cases (passes l.number) (l.number == label.number) l_passes) [
+    let needed : is_there (needed_by v) us ≡ true =
+    elim (or_cases (passes l.number) (l.number == label.number) l_passes) [
       | inl old ↦ none l v l_there l_makes old
       | inr is ↦
           let same : l ≡ label = same_number records l label l_there there (eqb-true l.number label.number is) in
           let one : u ≡ v = makes_same label label.op u v makes (subst (λ (m : Label). Makes m.op v) same l_makes) in
           ap (λ w. is_there (needed_by w) us) (sym one) ∙ needs
     ] in
-    there-more Rga records passes label u (needed_by v) there makes new ∙ or_left (is_there (needed_by v) us) (puts_in (needed_by v) u) needed
+    there-more Rga records passes label u (needed_by v) there makes new
+    ∙ or_left (is_there (needed_by v) us) (puts_in (needed_by v) u) needed
 
 -- where updates lead to a list, the first of them do
-pub split-led : (first later : List Update) (list : List (ℕ × Bool)) → state_after Rga (first ++ later) ≡ Some (Listed list) → (older : List (ℕ × Bool)) × (state_after Rga first ≡ Some (Listed older)) × (state_from (Some (Listed older)) later ≡ Some (Listed list))
+pub split-led : (first later : List Update) (list : List (ℕ × Bool))
+    → state_after Rga (first ++ later) ≡ Some (Listed list) → (older : List (ℕ × Bool))
+    × (state_after Rga first ≡ Some (Listed older)) × (state_from (Some (Listed older)) later ≡ Some (Listed list))
 split-led first later list led = by (state_after Rga first) refl (sym (from_first first later) ∙ led)
   where
-    by : (o : Option State) → state_after Rga first ≡ o → state_from o later ≡ Some (Listed list) → (older : List (ℕ × Bool)) × (state_after Rga first ≡ Some (Listed older)) × (state_from (Some (Listed older)) later ≡ Some (Listed list))
+    by : (o : Option State) → state_after Rga first ≡ o → state_from o later ≡ Some (Listed list)
+        → (older : List (ℕ × Bool)) × (state_after Rga first ≡ Some (Listed older))
+        × (state_from (Some (Listed older)) later ≡ Some (Listed list))
     by None is goes = absurd (none-some (Listed list) (sym (stuck later) ∙ goes))
     by (Some state) is goes =
         let (older, same) = is_listed state (state-of_kind Rga first state is) in
@@ -128,15 +151,21 @@ split-led first later list led = by (state_after Rga first) refl (sym (from_firs
 -- an insertion among others: its anchor is in the list before it, and its element in none
 abbrev pub Fits : List Update → List Update → ℕ → ℕ → List (ℕ × Bool) → Type 0
 Fits first later anchor x list =
-    (older : List (ℕ × Bool)) × (state_after Rga first ≡ Some (Listed older)) × Contains (elements_in older) anchor × (¬ Contains (elements_in list) x)
+    (older : List (ℕ × Bool)) × (state_after Rga first ≡ Some (Listed older)) × Contains (elements_in older) anchor
+    × (¬ Contains (elements_in list) x)
 
-pub inserted_fits : (first later : List Update) (anchor x : ℕ) (list next : List (ℕ × Bool)) → state_after Rga (first ++ later) ≡ Some (Listed list) → state_after Rga (first ++ After anchor x ∷ later) ≡ Some (Listed next) → Fits first later anchor x list
+pub inserted_fits : (first later : List Update) (anchor x : ℕ) (list next : List (ℕ × Bool))
+    → state_after Rga (first ++ later) ≡ Some (Listed list)
+    → state_after Rga (first ++ After anchor x ∷ later) ≡ Some (Listed next) → Fits first later anchor x list
 inserted_fits first later anchor x list next led also =
     let (older, led_first, goes) = split-led first (After anchor x ∷ later) next also in
-    let further : state_from (Some (Listed older)) later ≡ Some (Listed list) = ap (λ o. state_from o later) (sym led_first) ∙ sym (from_first first later) ∙ led in
+    let further : state_from (Some (Listed older)) later ≡ Some (Listed list) =
+    ap (λ o. state_from o later) (sym led_first) ∙ sym (from_first first later) ∙ led in
     let (mid, step, rest) = one_step older (After anchor x) later next goes in
     let (anchored, new, same) = after_is older mid anchor x step in
-    let x_in = (comes_in older (After anchor x ∷ []) mid anchor x step (at_head (After anchor x) [] (After anchor x) refl)).0 in (
+    let x_in =
+    (comes_in older (After anchor x ∷ []) mid anchor x step
+    (at_head (After anchor x) [] (After anchor x) refl)).0 in (
       older,
       led_first,
       (in-exactly anchor older).0 anchored,
@@ -147,29 +176,40 @@ inserted_fits first later anchor x list next led also =
     )
 
 -- there it goes past what is put in later
-inserted_late : (first later : List Update) (anchor x : ℕ) (list : List (ℕ × Bool)) → state_after Rga (first ++ later) ≡ Some (Listed list) → Fits first later anchor x list
-    → state_after Rga (first ++ After anchor x ∷ later) ≡ Some (Listed (put_after (λ y z. list_any (puts_in z) later) anchor x list))
+inserted_late : (first later : List Update) (anchor x : ℕ) (list : List (ℕ × Bool))
+    → state_after Rga (first ++ later) ≡ Some (Listed list) → Fits first later anchor x list
+    → state_after Rga (first ++ After anchor x ∷ later)
+    ≡ Some (Listed (put_after (λ y z. list_any (puts_in z) later) anchor x list))
 inserted_late first later anchor x list led (older, led_first, anchor_in, out) =
     let below : ℕ → ℕ → Bool = λ y z. list_any (puts_in z) later in
-    let further : state_from (Some (Listed older)) later ≡ Some (Listed list) = ap (λ o. state_from o later) (sym led_first) ∙ sym (from_first first later) ∙ led in
+    let further : state_from (Some (Listed older)) later ≡ Some (Listed list) =
+    ap (λ o. state_from o later) (sym led_first) ∙ sym (from_first first later) ∙ led in
     let none : list_all (λ entry. not (below x entry.0)) older ≡ true =
-    list_all-from_contains (λ (entry : ℕ × Bool). not (list_any (puts_in entry.0) later)) older (λ entry found. not_from_false (list_any (puts_in entry.0) later) (false_from_ne_true (list_any (puts_in entry.0) later) (λ some.
+    list_all-from_contains (λ (entry : ℕ × Bool). not (list_any (puts_in entry.0) later)) older
+    (λ entry found. not_from_false (list_any (puts_in entry.0) later)
+    (false_from_ne_true (list_any (puts_in entry.0) later) (λ some.
     let (a, put) = any-put entry.0 later some in
     (comes_in older later list a entry.0 further put).1 (reached (λ (e : ℕ × Bool). e.0) older entry found)))) in
-    late-insertion below first later anchor x older list led_first led anchor_in out none (λ behind y found. put-any y behind later found)
+    late-insertion below first later anchor x older list led_first led anchor_in out none
+    (λ behind y found. put-any y behind later found)
 
 -- so it stands directly behind one element
 abbrev StandsBehind : ℕ → List (ℕ × Bool) → List (ℕ × Bool) → Type 0
 StandsBehind x list next = (q : ℕ) × Contains (elements_in list) q × (next ≡ insert_after q x list)
 
-inserted_one : (first later : List Update) (anchor x : ℕ) (list next : List (ℕ × Bool)) → state_after Rga (first ++ later) ≡ Some (Listed list) → state_after Rga (first ++ After anchor x ∷ later) ≡ Some (Listed next)
+inserted_one : (first later : List Update) (anchor x : ℕ) (list next : List (ℕ × Bool))
+    → state_after Rga (first ++ later) ≡ Some (Listed list)
+    → state_after Rga (first ++ After anchor x ∷ later) ≡ Some (Listed next)
     → Fits first later anchor x list → StandsBehind x list next
 inserted_one first later anchor x list next led also (older, led_first, anchor_in, out) =
-    let further : state_from (Some (Listed older)) later ≡ Some (Listed list) = ap (λ o. state_from o later) (sym led_first) ∙ sym (from_first first later) ∙ led in
+    let further : state_from (Some (Listed older)) later ≡ Some (Listed list) =
+    ap (λ o. state_from o later) (sym led_first) ∙ sym (from_first first later) ∙ led in
     let below : ℕ → ℕ → Bool = λ y z. list_any (puts_in z) later in
-    let both : Some (Listed next) ≡ Some (Listed (put_after below anchor x list)) = sym also ∙ inserted_late first later anchor x list led (older, led_first, anchor_in, out) in
+    let both : Some (Listed next) ≡ Some (Listed (put_after below anchor x list)) = sym also
+    ∙ inserted_late first later anchor x list led (older, led_first, anchor_in, out) in
     let same : next ≡ put_after below anchor x list = cc (both) in
-    let (q, q_in, is) = late-one below anchor x list (list-once (first ++ later) list led) (stays_in anchor older later list further anchor_in) in
+    let (q, q_in, is) = late-one below anchor x list (list-once (first ++ later) list led)
+    (stays_in anchor older later list further anchor_in) in
     (q, q_in, same ∙ is)
 
 -- the elements say behind which one
@@ -179,7 +219,8 @@ first_stays p x y ys zs is = elim (cases_Bool (p == y)) [
       let both : y ∷ x ∷ ys ≡ x ∷ zs = sym (cond-true (p == y) (y ∷ x ∷ ys) (y ∷ insert_in p x ys) here) ∙ is in
       cc (both)
   | inr other ↦
-      let both : y ∷ insert_in p x ys ≡ x ∷ zs = sym (cond-false (p == y) (y ∷ x ∷ ys) (y ∷ insert_in p x ys) other) ∙ is in
+      let both : y ∷ insert_in p x ys ≡ x ∷ zs =
+      sym (cond-false (p == y) (y ∷ x ∷ ys) (y ∷ insert_in p x ys) other) ∙ is in
       cc (both)
 ]
 
@@ -187,12 +228,16 @@ would_be_there : (p x : ℕ) (ys zs : List ℕ) → Contains ys p → insert_in 
 would_be_there p x [] zs there is = absurd (omega (arith, there.1))
 would_be_there p x (y ∷ ys) zs there is = at_head y ys x (first_stays p x y ys zs is)
 
-one_place : (q p x : ℕ) (ys : List ℕ) → Contains ys q → Contains ys p → ¬ Contains ys x → insert_in q x ys ≡ insert_in p x ys → q ≡ p
+one_place : (q p x : ℕ) (ys : List ℕ) → Contains ys q → Contains ys p → ¬ Contains ys x
+    → insert_in q x ys ≡ insert_in p x ys → q ≡ p
 one_place q p x [] q_in p_in out same = absurd (omega (arith, q_in.1))
 one_place q p x (y ∷ ys) q_in p_in out same =
-    let here : (r : ℕ) → (r == y) ≡ true → insert_in r x (y ∷ ys) ≡ y ∷ x ∷ ys = λ r is. cond-true (r == y) (y ∷ x ∷ ys) (y ∷ insert_in r x ys) is in
-    let on : (r : ℕ) → (r == y) ≡ false → insert_in r x (y ∷ ys) ≡ y ∷ insert_in r x ys = λ r is. cond-false (r == y) (y ∷ x ∷ ys) (y ∷ insert_in r x ys) is in
-    let behind : (r : ℕ) → (r == y) ≡ false → Contains (y ∷ ys) r → Contains ys r = λ r is there. elim (head_or_behind y ys r there) [
+    let here : (r : ℕ) → (r == y) ≡ true → insert_in r x (y ∷ ys) ≡ y ∷ x ∷ ys =
+    λ r is. cond-true (r == y) (y ∷ x ∷ ys) (y ∷ insert_in r x ys) is in
+    let on : (r : ℕ) → (r == y) ≡ false → insert_in r x (y ∷ ys) ≡ y ∷ insert_in r x ys =
+    λ r is. cond-false (r == y) (y ∷ x ∷ ys) (y ∷ insert_in r x ys) is in
+    let behind : (r : ℕ) → (r == y) ≡ false → Contains (y ∷ ys) r
+    → Contains ys r = λ r is there. elim (head_or_behind y ys r there) [
       | inl first ↦ absurd (false≢true (sym is ∙ eq-eqb r y (sym first)))
       | inr later ↦ later
     ] in
@@ -217,56 +262,79 @@ one_place q p x (y ∷ ys) q_in p_in out same =
     ]
 
 -- one more insertion is one step, behind the nearest before it, in the list of all, that is there
-pub insertion-step : (records : Records) (passes : ℕ → Bool) (label : Label) (anchor x p : ℕ) (before between behind : List (ℕ × Bool)) (is_shown was_shown : Bool)
-    → state_after Rga (updates_of (named_sequence Rga records)) ≡ Some (Listed (before ++ (p, is_shown) ∷ between ++ (x, was_shown) ∷ behind)) → Contains (labels_of records) label → Makes label.op (After anchor x)
-    → passes label.number ≡ false → is_admitted Rga (updates_passing Rga records passes) ≡ true → is_there anchor (updates_passing Rga records passes) ≡ true
-    → is_there p (updates_passing Rga records passes) ≡ true → list_all (λ entry. not (is_there entry.0 (updates_passing Rga records passes))) between ≡ true
-    → state_after Rga (updates_passing Rga records (or_label passes label.number)) ≡ then_step (state_after Rga (updates_passing Rga records passes)) (After p x)
-insertion-step records passes label anchor x p before between behind is_shown was_shown led_all there makes new is needs p_there none =
+pub insertion-step : (records : Records) (passes : ℕ → Bool) (label : Label) (anchor x p : ℕ)
+    (before between behind : List (ℕ × Bool)) (is_shown was_shown : Bool)
+    → state_after Rga (updates_of (named_sequence Rga records)) ≡ Some
+    (Listed (before ++ (p, is_shown) ∷ between ++ (x, was_shown) ∷ behind)) → Contains (labels_of records) label
+    → Makes label.op (After anchor x)
+    → passes label.number ≡ false → is_admitted Rga (updates_passing Rga records passes) ≡ true
+    → is_there anchor (updates_passing Rga records passes) ≡ true
+    → is_there p (updates_passing Rga records passes) ≡ true
+    → list_all (λ entry. not (is_there entry.0 (updates_passing Rga records passes))) between ≡ true
+    → state_after Rga (updates_passing Rga records (or_label passes label.number))
+    ≡ then_step (state_after Rga (updates_passing Rga records passes)) (After p x)
+insertion-step records passes label anchor x p before between behind is_shown was_shown led_all there makes new is needs
+    p_there none =
     let all : List (ℕ × Bool) = before ++ (p, is_shown) ∷ between ++ (x, was_shown) ∷ behind in
     let more : ℕ → Bool = or_label passes label.number in
     let us = updates_passing Rga records passes in
     let keep : ℕ → Bool = λ y. is_there y us in
     let all_led : updates_admitted Rga (named_sequence Rga records) ≡ true = ap is_some led_all in
     let (list, led) = listed-after us is in
-    let (next, now_led) = listed-after (updates_passing Rga records more) ((passing-admitted records more all_led).1 (none-waits_more records passes label (After anchor x) there makes new ((passing-admitted records passes all_led).0 is) needs)) in
+    let (next, now_led) = listed-after (updates_passing Rga records more)
+    ((passing-admitted records more all_led).1
+    (none-waits_more records passes label (After anchor x) there makes new
+    ((passing-admitted records passes all_led).0 is) needs)) in
     let (fronts, backs, split, was, now) = one-more Rga records passes label (After anchor x) there makes new in
     let first = updates_among passes fronts in
     let later = updates_among passes backs in
     let led_was : state_after Rga (first ++ later) ≡ Some (Listed list) = ap (state_after Rga) (sym was) ∙ led in
-    let led_now : state_after Rga (first ++ After anchor x ∷ later) ≡ Some (Listed next) = ap (state_after Rga) (sym now) ∙ now_led in
+    let led_now : state_after Rga (first ++ After anchor x ∷ later) ≡ Some (Listed next) =
+    ap (state_after Rga) (sym now) ∙ now_led in
     let fits = inserted_fits first later anchor x list next led_was led_now in
     let out : ¬ Contains (elements_in list) x = fits.3 in
     let (q, q_in, at_q) = inserted_one first later anchor x list next led_was led_now fits in
     let x_new : keep x ≡ false = false_from_ne_true (keep x) (λ found. out ((there-list us list x led).0 found)) in
     let p_in : Contains (elements_in list) p = (there-list us list p led).0 p_there in
-    let alike : kept_entries (λ y. is_there y (updates_passing Rga records more)) all ≡ kept_entries (λ y. keep y || x == y) all =
-    filter_same (λ (entry : ℕ × Bool). is_there entry.0 (updates_passing Rga records more)) (λ (entry : ℕ × Bool). keep entry.0 || x == entry.0) all
+    let alike : kept_entries (λ y. is_there y (updates_passing Rga records more)) all
+    ≡ kept_entries (λ y. keep y || x == y) all =
+    filter_same (λ (entry : ℕ × Bool). is_there entry.0 (updates_passing Rga records more))
+    (λ (entry : ℕ × Bool). keep entry.0 || x == entry.0) all
     (λ entry found. there-more Rga records passes label (After anchor x) entry.0 there makes new) in
     let elements : elements_in (insert_after q x list) ≡ elements_in (insert_after p x list) =
     ap elements_in (sym at_q)
     ∙ passing-list records more next all led_all now_led
     ∙ ap elements_in alike
-    ∙ kept-nearest keep before between behind p x is_shown was_shown (list-once (updates_of (named_sequence Rga records)) all led_all) p_there none x_new
+    ∙ kept-nearest keep before between behind p x is_shown was_shown
+    (list-once (updates_of (named_sequence Rga records)) all led_all) p_there none x_new
     ∙ sym (inserted-same p x list (kept_entries keep all) (passing-list records passes list all led_all led)) in
-    let place : q ≡ p = one_place q p x (elements_in list) q_in p_in out (sym (elements-inserted q x list) ∙ elements ∙ elements-inserted p x list) in
+    let place : q ≡ p = one_place q p x (elements_in list) q_in p_in out
+    (sym (elements-inserted q x list) ∙ elements ∙ elements-inserted p x list) in
     now_led
     ∙ ap (λ es. Some (Listed es)) (at_q ∙ ap (λ r. insert_after r x list) place)
     ∙ sym (ap (λ o. then_step o (After p x)) led ∙ after_goes list p x p_in out)
 
 -- one more removal is one step
-pub removal-step : (records : Records) (passes : ℕ → Bool) (label : Label) (x : ℕ) → updates_admitted Rga (named_sequence Rga records) ≡ true → Contains (labels_of records) label → Makes label.op (RgaRemove x)
-    → passes label.number ≡ false → is_admitted Rga (updates_passing Rga records passes) ≡ true → is_there x (updates_passing Rga records passes) ≡ true
-    → state_after Rga (updates_passing Rga records (or_label passes label.number)) ≡ then_step (state_after Rga (updates_passing Rga records passes)) (RgaRemove x)
+pub removal-step : (records : Records) (passes : ℕ → Bool) (label : Label) (x : ℕ)
+    → updates_admitted Rga (named_sequence Rga records) ≡ true → Contains (labels_of records) label
+    → Makes label.op (RgaRemove x)
+    → passes label.number ≡ false → is_admitted Rga (updates_passing Rga records passes) ≡ true
+    → is_there x (updates_passing Rga records passes) ≡ true
+    → state_after Rga (updates_passing Rga records (or_label passes label.number))
+    ≡ then_step (state_after Rga (updates_passing Rga records passes)) (RgaRemove x)
 removal-step records passes label x all_led there makes new is needs =
     let more : ℕ → Bool = or_label passes label.number in
     let us = updates_passing Rga records passes in
     let (list, led) = listed-after us is in
-    let (next, now_led) = listed-after (updates_passing Rga records more) ((passing-admitted records more all_led).1 (none-waits_more records passes label (RgaRemove x) there makes new ((passing-admitted records passes all_led).0 is) needs)) in
+    let (next, now_led) = listed-after (updates_passing Rga records more)
+    ((passing-admitted records more all_led).1
+    (none-waits_more records passes label (RgaRemove x) there makes new
+    ((passing-admitted records passes all_led).0 is) needs)) in
     let (fronts, backs, split, was, now) = one-more Rga records passes label (RgaRemove x) there makes new in
     let first = updates_among passes fronts in
     let later = updates_among passes backs in
-    let (older, led_first, goes) = split-led first (RgaRemove x ∷ later) next (ap (state_after Rga) (sym now) ∙ now_led) in
+    let (older, led_first, goes) =
+    split-led first (RgaRemove x ∷ later) next (ap (state_after Rga) (sym now) ∙ now_led) in
     let (mid, step, rest) = one_step older (RgaRemove x) later next goes in
     let (x_in, other, same) = removed_is older mid x step in
     ap (state_after Rga) now
@@ -275,16 +343,27 @@ removal-step records passes label x all_led there makes new is needs =
 
 -- an insertion among others is admitted exactly where its anchor is there by those before it, and its element by none
 pub inserted-admitted : (first later : List Update) (anchor x : ℕ) → is_admitted Rga (first ++ later) ≡ true
-    → (is_admitted Rga (first ++ After anchor x ∷ later) ≡ true) ↔ ((is_there anchor first ≡ true) × (is_there x (first ++ later) ≡ false))
+    → (is_admitted Rga (first ++ After anchor x ∷ later) ≡ true)
+    ↔ ((is_there anchor first ≡ true) × (is_there x (first ++ later) ≡ false))
 inserted-admitted first later anchor x is =
     let (list, led) = listed-after (first ++ later) is in (
       (λ also.
           let (next, led_now) = listed-after (first ++ After anchor x ∷ later) also in
-          let (older, led_first, anchor_in, out) = inserted_fits first later anchor x list next led led_now in
-          ((there-list first older anchor led_first).1 anchor_in, false_from_ne_true (is_there x (first ++ later)) (λ found. out ((there-list (first ++ later) list x led).0 found)))),
+          let (older, led_first, anchor_in, out) = inserted_fits first later anchor x list next led led_now in (
+            (there-list first older anchor led_first).1 anchor_in,
+            false_from_ne_true (is_there x (first ++ later))
+                (λ found. out ((there-list (first ++ later) list x led).0 found)),
+          )),
       (λ known.
           let (older, led_first, goes) = split-led first later list led in
-          ap is_some (inserted_late first later anchor x list led (older, led_first, (there-list first older anchor led_first).0 known.0, (λ found. false≢true (sym known.1 ∙ (there-list (first ++ later) list x led).1 found))))),
+          ap is_some
+          (inserted_late first later anchor x list led (
+            older,
+            led_first,
+            (there-list first older anchor led_first).0
+                known.0,
+            (λ found. false≢true (sym known.1 ∙ (there-list (first ++ later) list x led).1 found)),
+          ))),
     )
 
 -- and a removal exactly where its element is there by those before it, and is not the root
@@ -300,5 +379,7 @@ removed-admitted first later x is =
           ((there-list first older x led_first).1 x_in, other)),
       (λ known.
           let (older, led_first, goes) = split-led first later list led in
-          ap is_some (late-removal first later x older list led_first led ((there-list first older x led_first).0 known.0) known.1)),
+          ap is_some
+          (late-removal first later x older list led_first led
+          ((there-list first older x led_first).0 known.0) known.1)),
     )

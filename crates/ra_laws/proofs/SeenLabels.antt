@@ -10,7 +10,8 @@ use Rattle.ra_labels.specs.Laws.{IsCausalDelivery}
 use Rattle.ra_laws.proofs.LabelNumbers.{label_count-append, label_at-append, no_label_there}
 
 -- a label that is there sees the same in later records
-pub sees-append : (later records : Records) (n m : ℕ) → n < label_count records → sees (later ++ records) n m ≡ sees records n m
+pub sees-append : (later records : Records) (n m : ℕ) → n < label_count records
+    → sees (later ++ records) n m ≡ sees records n m
 sees-append [] records n m below = refl
 sees-append (Operate by op clock ∷ later) records n m below =
     let grows = label_count-append later records in
@@ -19,14 +20,18 @@ sees-append (Operate by op clock ∷ later) records n m below =
 sees-append (_ ∷ later) records n m below = sees-append later records n m below
 
 -- what a replica had it keeps
-pub had-append : (later records : Records) (replica m : ℕ) → had records replica m ≡ true → had (later ++ records) replica m ≡ true
+pub had-append : (later records : Records) (replica m : ℕ) → had records replica m ≡ true
+    → had (later ++ records) replica m ≡ true
 had-append [] records replica m had_it = had_it
-had-append (Operate by op clock ∷ later) records replica m had_it = or_right _ _ (had-append later records replica m had_it)
-had-append (Deliver to label ∷ later) records replica m had_it = or_right _ _ (had-append later records replica m had_it)
+had-append (Operate by op clock ∷ later) records replica m had_it =
+    or_right _ _ (had-append later records replica m had_it)
+had-append (Deliver to label ∷ later) records replica m had_it =
+    or_right _ _ (had-append later records replica m had_it)
 had-append (_ ∷ later) records replica m had_it = had-append later records replica m had_it
 
 -- a label that is there is an update in later records where it was one before
-pub is_update_at-append : (later records : Records) (n : ℕ) → n < label_count records → is_update_at (later ++ records) n ≡ is_update_at records n
+pub is_update_at-append : (later records : Records) (n : ℕ) → n < label_count records
+    → is_update_at (later ++ records) n ≡ is_update_at records n
 is_update_at-append later records n below =
     ap (λ label. option_map_or (λ l. is_update l.op) label false) (label_at-append later records n below)
 
@@ -40,24 +45,30 @@ is_update_at-below records n is = elim (cases_lt n (label_count records)) [
 ]
 
 -- and still is one, one record later
-is_update_at-next : (command : _) (before : Records) (n : ℕ) → is_update_at before n ≡ true → is_update_at (command ∷ before) n ≡ true
-is_update_at-next command before n is = is_update_at-append (command ∷ []) before n (is_update_at-below before n is) ∙ is
+is_update_at-next : (command : _) (before : Records) (n : ℕ) → is_update_at before n ≡ true
+    → is_update_at (command ∷ before) n ≡ true
+is_update_at-next command before n is =
+    is_update_at-append (command ∷ []) before n (is_update_at-below before n is) ∙ is
 
 -- what a replica had is an update
 pub had_update : (records : Records) (replica m : ℕ) → had records replica m ≡ true → is_update_at records m ≡ true
 had_update [] replica m had_it = absurd (false≢true had_it)
-had_update (Operate by op clock ∷ before) replica m had_it = elim (or_cases (by == replica && m == label_count before && is_update op) (had before replica m) had_it) [
-  | inl own ↦
-      let parts = and_parts (by == replica && m == label_count before) (is_update op) own in
-      let same : label_count before ≡ m = sym (eqb-true m (label_count before) (and_parts (by == replica) (m == label_count before) parts.0).1) in
-      ap (λ label. option_map_or (λ l. is_update l.op) label false) (cond-true (eqb (label_count before) m) _ _ (eq-eqb _ _ same))
-      ∙ parts.1
-  | inr older ↦ is_update_at-next (Operate by op clock) before m (had_update before replica m older)
-]
-had_update (Deliver to label ∷ before) replica m had_it = elim (or_cases (to == replica && m == label && is_update_at before m) (had before replica m) had_it) [
-  | inl got ↦ (and_parts (to == replica && m == label) (is_update_at before m) got).1
-  | inr older ↦ had_update before replica m older
-]
+had_update (Operate by op clock ∷ before) replica m had_it =
+    elim (or_cases (by == replica && m == label_count before && is_update op) (had before replica m) had_it) [
+      | inl own ↦
+          let parts = and_parts (by == replica && m == label_count before) (is_update op) own in
+          let same : label_count before ≡ m =
+          sym (eqb-true m (label_count before) (and_parts (by == replica) (m == label_count before) parts.0).1) in
+          ap (λ label. option_map_or (λ l. is_update l.op) label false)
+          (cond-true (eqb (label_count before) m) _ _ (eq-eqb _ _ same))
+          ∙ parts.1
+      | inr older ↦ is_update_at-next (Operate by op clock) before m (had_update before replica m older)
+    ]
+had_update (Deliver to label ∷ before) replica m had_it =
+    elim (or_cases (to == replica && m == label && is_update_at before m) (had before replica m) had_it) [
+      | inl got ↦ (and_parts (to == replica && m == label) (is_update_at before m) got).1
+      | inr older ↦ had_update before replica m older
+    ]
 had_update (_ ∷ before) replica m had_it = had_update before replica m had_it
 
 -- what a label sees are updates before it
@@ -78,28 +89,37 @@ sees_earlier (Operate by op clock ∷ before) n m seen =
 sees_earlier (_ ∷ before) n m seen = sees_earlier before n m seen
 
 -- in causal records a replica that had a label had all that the label sees
-pub had_closed : (records : Records) → IsCausal records → (replica m k : ℕ) → had records replica m ≡ true → sees records m k ≡ true → had records replica k ≡ true
+pub had_closed : (records : Records) → IsCausal records → (replica m k : ℕ) → had records replica m ≡ true
+    → sees records m k ≡ true → had records replica k ≡ true
 had_closed [] causal replica m k had_it seen = absurd (false≢true had_it)
-had_closed (Operate by op clock ∷ before) causal replica m k had_it seen = elim (or_cases (by == replica && m == label_count before && is_update op) (had before replica m) had_it) [
-  | inl own ↦
-      let parts = and_parts (by == replica) (m == label_count before) (and_parts (by == replica && m == label_count before) (is_update op) own).0 in
-      let known : had before by k ≡ true = sym (cond-true (eqb m (label_count before)) (had before by k) (sees before m k) parts.1) ∙ seen in
-      or_right _ (had before replica k) (subst (λ r. had before r k ≡ true) (eqb-true by replica parts.0) known)
-  | inr older ↦
-      let below = is_update_at-below before m (had_update before replica m older) in
-      or_right _ (had before replica k) (had_closed before causal replica m k older (sym (sees-append (Operate by op clock ∷ []) before m k below) ∙ seen))
-]
-had_closed (Deliver to label ∷ before) causal replica m k had_it seen = elim (or_cases (to == replica && m == label && is_update_at before m) (had before replica m) had_it) [
-  | inl got ↦
-      let parts = and_parts (to == replica) (m == label) (and_parts (to == replica && m == label) (is_update_at before m) got).0 in
-      let known = causal.1 k (subst (λ l. sees before l k ≡ true) (eqb-true m label parts.1) seen) in
-      or_right _ (had before replica k) (subst (λ r. had before r k ≡ true) (eqb-true to replica parts.0) known)
-  | inr older ↦ or_right _ (had before replica k) (had_closed before causal.2 replica m k older seen)
-]
+had_closed (Operate by op clock ∷ before) causal replica m k had_it seen =
+    elim (or_cases (by == replica && m == label_count before && is_update op) (had before replica m) had_it) [
+      | inl own ↦
+          let parts = and_parts (by == replica) (m == label_count before)
+          (and_parts (by == replica && m == label_count before) (is_update op) own).0 in
+          let known : had before by k ≡ true =
+          sym (cond-true (eqb m (label_count before)) (had before by k) (sees before m k) parts.1) ∙ seen in
+          or_right _ (had before replica k) (subst (λ r. had before r k ≡ true) (eqb-true by replica parts.0) known)
+      | inr older ↦
+          let below = is_update_at-below before m (had_update before replica m older) in
+          or_right _ (had before replica k)
+          (had_closed before causal replica m k older
+          (sym (sees-append (Operate by op clock ∷ []) before m k below) ∙ seen))
+    ]
+had_closed (Deliver to label ∷ before) causal replica m k had_it seen =
+    elim (or_cases (to == replica && m == label && is_update_at before m) (had before replica m) had_it) [
+      | inl got ↦
+          let parts = and_parts (to == replica) (m == label)
+          (and_parts (to == replica && m == label) (is_update_at before m) got).0 in
+          let known = causal.1 k (subst (λ l. sees before l k ≡ true) (eqb-true m label parts.1) seen) in
+          or_right _ (had before replica k) (subst (λ r. had before r k ≡ true) (eqb-true to replica parts.0) known)
+      | inr older ↦ or_right _ (had before replica k) (had_closed before causal.2 replica m k older seen)
+    ]
 had_closed (Verdict ∷ before) causal replica m k had_it seen = had_closed before causal replica m k had_it seen
 
 -- and a label sees what the labels see that it sees
-pub sees_through : (records : Records) → IsCausal records → (n m k : ℕ) → sees records n m ≡ true → sees records m k ≡ true → sees records n k ≡ true
+pub sees_through : (records : Records) → IsCausal records → (n m k : ℕ) → sees records n m ≡ true
+    → sees records m k ≡ true → sees records n k ≡ true
 sees_through [] causal n m k first then = absurd (false≢true first)
 sees_through (Operate by op clock ∷ before) causal n m k first then =
     cond_both (eqb n (label_count before)) (had before by m) (sees before n m)
@@ -124,16 +144,21 @@ IsCausal-append (_ ∷ later) records causal = IsCausal-append later records cau
 
 abbrev EachDeliveryIsCausal : Records → Type 0
 EachDeliveryIsCausal records =
-    (later before : Records) (replica n : ℕ) → records ≡ later ++ Deliver replica n ∷ before → IsCausalDelivery before replica n
+    (later before : Records) (replica n : ℕ) → records ≡ later ++ Deliver replica n ∷ before
+    → IsCausalDelivery before replica n
 
 causal-from_deliveries : (records : Records) → EachDeliveryIsCausal records → IsCausal records
 causal-from_deliveries [] each = tt
 causal-from_deliveries (Deliver to label ∷ before) each =
     let this = each [] before to label refl in
-    let older = causal-from_deliveries before (λ later earlier replica n is. each (Deliver to label ∷ later) earlier replica n (ap (λ rs. Deliver to label ∷ rs) is)) in
+    let older =
+    causal-from_deliveries before
+    (λ later earlier replica n is. each (Deliver to label ∷ later) earlier replica n
+    (ap (λ rs. Deliver to label ∷ rs) is)) in
     (this.0, this.1, older)
 causal-from_deliveries (command ∷ before) each =
-    causal-from_deliveries before (λ later earlier replica n is. each (command ∷ later) earlier replica n (ap (λ rs. command ∷ rs) is))
+    causal-from_deliveries before
+    (λ later earlier replica n is. each (command ∷ later) earlier replica n (ap (λ rs. command ∷ rs) is))
 
 -- records are causal where each delivery is
 pub causal-exactly : (records : Records) → IsCausal records ↔ EachDeliveryIsCausal records

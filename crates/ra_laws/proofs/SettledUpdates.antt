@@ -25,11 +25,15 @@ use Rattle.ra_laws.proofs.HadUpdates.{differ_round, among-append, among-one, amo
 use Rattle.ra_laws.proofs.Rgas.{list-exactly}
 use Rattle.ra_laws.proofs.LateUpdates.{one_step}
 use Rattle.ra_laws.proofs.KeptUpdates.{needed-now}
-use Rattle.ra_laws.proofs.PassingUpdates.{in-named, in-labels, others-pass, each, each_passes, passing-delivery, passing-operation, passing-admitted, listed-after, there-label, among-from, among-alike, among-fewer}
+use Rattle.ra_laws.proofs.PassingUpdates.{in-named, in-labels, others-pass, each, each_passes, passing-delivery}
+use Rattle.ra_laws.proofs.PassingUpdates.{passing-operation, passing-admitted, listed-after, there-label, among-from}
+use Rattle.ra_laws.proofs.PassingUpdates.{among-alike, among-fewer}
 use Rattle.ra_laws.proofs.RgaSteps.{split-led, same_number, makes_same}
 
 -- what an update needs was put in before it
-pub needed-before : (records : Records) → updates_admitted Rga (named_sequence Rga records) ≡ true → (first later : List Label) (label : Label) (u : Update) → named_labels Rga records ≡ first ++ label ∷ later → Makes label.op u
+pub needed-before : (records : Records) → updates_admitted Rga (named_sequence Rga records) ≡ true
+    → (first later : List Label) (label : Label) (u : Update) → named_labels Rga records ≡ first ++ label ∷ later
+    → Makes label.op u
     → (needed_by u ≡ 0) ⊎ OnePutsIn (needed_by u) first
 needed-before records admitted first later label u is makes =
     let (all, led) = listed-after (updates_of (named_sequence Rga records)) admitted in
@@ -37,8 +41,10 @@ needed-before records admitted first later label u is makes =
     let later_us = updates_among each later in
     let pieces : updates_among each (named_labels Rga records) ≡ older_us ++ u ∷ later_us =
     ap (updates_among each) is ∙ among-append each first (label ∷ later)
-    ∙ ap (λ us. older_us ++ us) (among-append each (label ∷ []) later ∙ ap (λ us. us ++ later_us) (among-one each label u makes refl)) in
-    let (older, led_first, goes) = split-led older_us (u ∷ later_us) all (ap (state_after Rga) (sym pieces ∙ each_passes (named_labels Rga records)) ∙ led) in
+    ∙ ap (λ us. older_us ++ us)
+    (among-append each (label ∷ []) later ∙ ap (λ us. us ++ later_us) (among-one each label u makes refl)) in
+    let (older, led_first, goes) = split-led older_us (u ∷ later_us) all
+    (ap (state_after Rga) (sym pieces ∙ each_passes (named_labels Rga records)) ∙ led) in
     let (mid, step, rest) = one_step older u later_us all goes in
     elim ((list-exactly older_us older (needed_by u) led_first).0 (needed-now older mid u step)) [
       | inl root ↦ inl root
@@ -49,19 +55,26 @@ needed-before records admitted first later label u is makes =
 
 -- what holds of a label wherever it holds of the label that puts in what it needs, holds of each
 abbrev pub NeedHolds : Records → (Label → Type 0) → ℕ → Type 0
-NeedHolds records P x = (label : Label) × (anchor : ℕ) × Contains (labels_of records) label × Makes label.op (After anchor x) × P label
+NeedHolds records P x = (label : Label) × (anchor : ℕ) × Contains (labels_of records) label
+    × Makes label.op (After anchor x) × P label
 
-pub by-needs : (records : Records) → updates_admitted Rga (named_sequence Rga records) ≡ true → (P : Label → Type 0) (done rest behind : List Label) → named_labels Rga records ≡ done ++ (rest ++ behind)
-    → ((label : Label) (u : Update) → Contains rest label → Makes label.op u → (needed_by u ≡ 0) ⊎ NeedHolds records P (needed_by u) → P label)
+pub by-needs : (records : Records) → updates_admitted Rga (named_sequence Rga records) ≡ true
+    → (P : Label → Type 0) (done rest behind : List Label) → named_labels Rga records ≡ done ++ (rest ++ behind)
+    → ((label : Label) (u : Update) → Contains rest label → Makes label.op u
+    → (needed_by u ≡ 0) ⊎ NeedHolds records P (needed_by u) → P label)
     → ((label : Label) (u : Update) → Contains done label → Makes label.op u → P label)
     → (label : Label) (u : Update) → Contains (done ++ rest) label → Makes label.op u → P label
-by-needs records admitted P done [] behind is goes known label u there makes = known label u (subst (λ ls. Contains ls label) (append-nil done) there) makes
+by-needs records admitted P done [] behind is goes known label u there makes =
+    known label u (subst (λ ls. Contains ls label) (append-nil done) there) makes
 by-needs records admitted P done (n ∷ rest) behind is goes known label u there makes =
     let in_records : (k : Label) → Contains done k → Contains (labels_of records) k = λ k found.
-    in-labels Rga records k (subst (λ ls. Contains ls k) (sym is) (Contains-append_left done (n ∷ (rest ++ behind)) k found)) in
-    let own : (v : Update) → Makes n.op v → P n = λ v n_makes. goes n v (at_head n rest n refl) n_makes (elim (needed-before records admitted done (rest ++ behind) n v is n_makes) [
+    in-labels Rga records k
+    (subst (λ ls. Contains ls k) (sym is) (Contains-append_left done (n ∷ (rest ++ behind)) k found)) in
+    let own : (v : Update) → Makes n.op v → P n = λ v n_makes. goes n v (at_head n rest n refl) n_makes
+    (elim (needed-before records admitted done (rest ++ behind) n v is n_makes) [
       | inl root ↦ inl root
-      | inr (k, anchor, k_there, k_makes) ↦ inr (k, anchor, in_records k k_there, k_makes, known k (After anchor (needed_by v)) k_there k_makes)
+      | inr (k, anchor, k_there, k_makes) ↦
+          inr (k, anchor, in_records k k_there, k_makes, known k (After anchor (needed_by v)) k_there k_makes)
     ]) in
     by-needs records admitted P (done ++ n ∷ []) rest behind (is ∙ sym (append_assoc done (n ∷ []) (rest ++ behind)))
     (λ m v m_there m_makes needs. goes m v (behind_head n rest m m_there) m_makes needs)
@@ -78,54 +91,74 @@ root_there : (y : ℕ) (us : List Update) → y ≡ 0 → is_there y us ≡ true
 root_there y us root = or_left (y == 0) _ (eq-eqb y 0 root)
 
 -- settled labels are settled whatever stands behind them
-agree : (records : Records) (had also settled now : ℕ → Bool) (rest behind : List Label) → updates_admitted Rga (named_sequence Rga records) ≡ true → named_labels Rga records ≡ rest ++ behind
-    → ((label : Label) → Contains rest label → also label.number ≡ had label.number) → IsSettled records had settled → IsSettled records also now
+agree : (records : Records) (had also settled now : ℕ → Bool) (rest behind : List Label)
+    → updates_admitted Rga (named_sequence Rga records) ≡ true → named_labels Rga records ≡ rest ++ behind
+    → ((label : Label) → Contains rest label → also label.number ≡ had label.number) → IsSettled records had settled
+    → IsSettled records also now
     → (label : Label) (u : Update) → Contains rest label → Makes label.op u → now label.number ≡ settled label.number
 agree records had also settled now rest behind admitted is same was_settled now_settled =
     by-needs records admitted (λ (l : Label). now l.number ≡ settled l.number) [] rest behind is
     (λ l u l_there makes needs.
-    let l_in = in-labels Rga records l (subst (λ ls. Contains ls l) (sym is) (Contains-append_left rest behind l l_there)) in
+    let l_in =
+    in-labels Rga records l (subst (λ ls. Contains ls l) (sym is) (Contains-append_left rest behind l l_there)) in
     elim (cases_Bool (had l.number)) [
       | inl it ↦
           now_settled.where_needed l u l_in makes (same l l_there ∙ it)
           ∙ elim needs [
-            | inl root ↦ root_there (needed_by u) (updates_passing Rga records now) root ∙ sym (root_there (needed_by u) (updates_passing Rga records settled) root)
+            | inl root ↦ root_there (needed_by u) (updates_passing Rga records now) root
+                ∙ sym (root_there (needed_by u) (updates_passing Rga records settled) root)
             | inr (k, anchor, k_in, k_makes, k_same) ↦
                 there-label records now k anchor (needed_by u) admitted k_in k_makes ∙ k_same
                 ∙ sym (there-label records settled k anchor (needed_by u) admitted k_in k_makes)
           ]
           ∙ sym (was_settled.where_needed l u l_in makes it)
       | inr other ↦
-          false_from_ne_true (now l.number) (λ it. false≢true (sym (same l l_there ∙ other) ∙ now_settled.had_them l.number it))
-          ∙ sym (false_from_ne_true (settled l.number) (λ it. false≢true (sym other ∙ was_settled.had_them l.number it)))
+          false_from_ne_true (now l.number)
+          (λ it. false≢true (sym (same l l_there ∙ other) ∙ now_settled.had_them l.number it))
+          ∙ sym (false_from_ne_true (settled l.number)
+          (λ it. false≢true (sym other ∙ was_settled.had_them l.number it)))
     ])
     (λ l u l_there makes. absurd (omega (arith, l_there.1)))
 
-pub settled-once : (records : Records) (had settled others : ℕ → Bool) → updates_admitted Rga (named_sequence Rga records) ≡ true → IsSettled records had settled → IsSettled records had others
-    → (label : Label) (u : Update) → Contains (labels_of records) label → Makes label.op u → settled label.number ≡ others label.number
+pub settled-once : (records : Records) (had settled others : ℕ → Bool)
+    → updates_admitted Rga (named_sequence Rga records) ≡ true → IsSettled records had settled
+    → IsSettled records had others
+    → (label : Label) (u : Update) → Contains (labels_of records) label → Makes label.op u
+    → settled label.number ≡ others label.number
 settled-once records had settled others admitted one other label u there makes =
-    sym (agree records had had settled others (named_labels Rga records) [] admitted (sym (append-nil (named_labels Rga records))) (λ l found. refl) one other label u (in-named Rga records label there) makes)
+    sym (agree records had had settled others (named_labels Rga records) [] admitted
+    (sym (append-nil (named_labels Rga records))) (λ l found. refl) one other label u
+    (in-named Rga records label there) makes)
 
 -- one more label that was had leaves those before it as they were
-pub settled-before : (records : Records) (had settled now : ℕ → Bool) (before behind : List Label) (label : Label) → updates_admitted Rga (named_sequence Rga records) ≡ true → named_labels Rga records ≡ before ++ label ∷ behind
-    → IsSettled records had settled → IsSettled records (or_label had label.number) now → (l : Label) (u : Update) → Contains before l → Makes l.op u → now l.number ≡ settled l.number
+pub settled-before : (records : Records) (had settled now : ℕ → Bool) (before behind : List Label) (label : Label)
+    → updates_admitted Rga (named_sequence Rga records) ≡ true → named_labels Rga records ≡ before ++ label ∷ behind
+    → IsSettled records had settled → IsSettled records (or_label had label.number) now → (l : Label) (u : Update)
+    → Contains before l → Makes l.op u → now l.number ≡ settled l.number
 settled-before records had settled now before behind label admitted is was_settled now_settled =
     let round = differ_round before behind label (subst (IsDistinct have_one_number) is (named_differ Rga records)) in
-    agree records had (or_label had label.number) settled now before (label ∷ behind) admitted is (λ l found. others-pass had label.number l.number (round.0 l found)) was_settled now_settled
+    agree records had (or_label had label.number) settled now before (label ∷ behind) admitted is
+    (λ l found. others-pass had label.number l.number (round.0 l found)) was_settled now_settled
 
 -- so at most itself and those behind it are settled anew
-pub settled-count : (records : Records) (had settled now : ℕ → Bool) (before behind : List Label) (label : Label) (u : Update) → updates_admitted Rga (named_sequence Rga records) ≡ true → named_labels Rga records ≡ before ++ label ∷ behind
+pub settled-count : (records : Records) (had settled now : ℕ → Bool) (before behind : List Label) (label : Label)
+    (u : Update) → updates_admitted Rga (named_sequence Rga records) ≡ true
+    → named_labels Rga records ≡ before ++ label ∷ behind
     → Makes label.op u → IsSettled records had settled → IsSettled records (or_label had label.number) now
-    → length (updates_passing Rga records now) ≤ length (updates_passing Rga records settled) + 1 + length (updates_among had behind)
+    → length (updates_passing Rga records now) ≤ length (updates_passing Rga records settled) + 1 + length
+    (updates_among had behind)
 settled-count records had settled now before behind label u admitted is makes was_settled now_settled =
     let round = differ_round before behind label (subst (IsDistinct have_one_number) is (named_differ Rga records)) in
     let firsts = updates_among settled before in
     let own = updates_among now (label ∷ []) in
     let laters = updates_among now behind in
     let first : updates_among now before ≡ firsts =
-    among-alike now settled before (λ l v found v_makes. settled-before records had settled now before behind label admitted is was_settled now_settled l v found v_makes) in
+    among-alike now settled before
+    (λ l v found v_makes. settled-before records had settled now before behind label admitted is was_settled
+    now_settled l v found v_makes) in
     let pieces : updates_passing Rga records now ≡ firsts ++ (own ++ laters) =
-    ap (updates_among now) is ∙ among-append now before (label ∷ behind) ∙ (λ i. first i ++ among-append now (label ∷ []) behind i) in
+    ap (updates_among now) is ∙ among-append now before (label ∷ behind)
+    ∙ (λ i. first i ++ among-append now (label ∷ []) behind i) in
     let before_them : updates_passing Rga records settled ≡ firsts ++ updates_among settled (label ∷ behind) =
     ap (updates_among settled) is ∙ among-append settled before (label ∷ behind) in
     let one : length own ≤ 1 = elim (cases_Bool (now label.number)) [
@@ -146,22 +179,30 @@ settled-count records had settled now before behind label u admitted is makes wa
     )
 
 -- what is settled is admitted
-pub settled-admitted : (records : Records) (had settled : ℕ → Bool) → updates_admitted Rga (named_sequence Rga records) ≡ true → IsSettled records had settled → is_admitted Rga (updates_passing Rga records settled) ≡ true
+pub settled-admitted : (records : Records) (had settled : ℕ → Bool)
+    → updates_admitted Rga (named_sequence Rga records) ≡ true → IsSettled records had settled
+    → is_admitted Rga (updates_passing Rga records settled) ≡ true
 settled-admitted records had settled admitted is_settled =
-    (passing-admitted records settled admitted).1 (λ l u there makes it. sym (is_settled.where_needed l u there makes (is_settled.had_them l.number it)) ∙ it)
+    (passing-admitted records settled admitted).1
+    (λ l u there makes it. sym (is_settled.where_needed l u there makes (is_settled.had_them l.number it)) ∙ it)
 
 -- and what a replica had is admitted exactly where all of it is settled
-all_alike : (records : Records) (had settled : ℕ → Bool) → IsSettled records had settled → AllSettled records had settled → updates_passing Rga records settled ≡ updates_passing Rga records had
+all_alike : (records : Records) (had settled : ℕ → Bool) → IsSettled records had settled
+    → AllSettled records had settled → updates_passing Rga records settled ≡ updates_passing Rga records had
 all_alike records had settled is_settled all =
-    among-alike settled had (named_labels Rga records) (λ l u found makes. bool_same (settled l.number) (had l.number) (is_settled.had_them l.number) (all l u (in-labels Rga records l found) makes))
+    among-alike settled had (named_labels Rga records)
+    (λ l u found makes. bool_same (settled l.number) (had l.number) (is_settled.had_them l.number)
+    (all l u (in-labels Rga records l found) makes))
 
-pub settled-all : (records : Records) (had settled : ℕ → Bool) → updates_admitted Rga (named_sequence Rga records) ≡ true → IsSettled records had settled
+pub settled-all : (records : Records) (had settled : ℕ → Bool)
+    → updates_admitted Rga (named_sequence Rga records) ≡ true → IsSettled records had settled
     → (is_admitted Rga (updates_passing Rga records had) ≡ true) ↔ AllSettled records had settled
 settled-all records had settled admitted is_settled = (
   (λ is.
       let none = (passing-admitted records had admitted).0 is in
       let named = named_labels Rga records in
-      let known = by-needs records admitted (λ (l : Label). had l.number ≡ true → settled l.number ≡ true) [] named [] (sym (append-nil named))
+      let known = by-needs records admitted (λ (l : Label). had l.number ≡ true → settled l.number ≡ true) [] named []
+      (sym (append-nil named))
       (λ l u l_there makes needs it.
       let l_in = in-labels Rga records l l_there in
       is_settled.where_needed l u l_in makes it
@@ -169,19 +210,26 @@ settled-all records had settled admitted is_settled = (
         | inl root ↦ root_there (needed_by u) (updates_passing Rga records settled) root
         | inr (k, anchor, k_in, k_makes, k_settled) ↦
             there-label records settled k anchor (needed_by u) admitted k_in k_makes
-            ∙ k_settled (sym (there-label records had k anchor (needed_by u) admitted k_in k_makes) ∙ none l u l_in makes it)
+            ∙ k_settled
+            (sym (there-label records had k anchor (needed_by u) admitted k_in k_makes) ∙ none l u l_in makes it)
       ])
       (λ l u l_there makes. absurd (omega (arith, l_there.1))) in
       λ l u l_in makes it. known l u (in-named Rga records l l_in) makes it),
-  (λ all. ap (is_admitted Rga) (sym (all_alike records had settled is_settled all)) ∙ settled-admitted records had settled admitted is_settled),
+  (λ all. ap (is_admitted Rga) (sym (all_alike records had settled is_settled all))
+      ∙ settled-admitted records had settled admitted is_settled),
 )
 
-pub settled-same : (records : Records) (had settled : ℕ → Bool) → updates_admitted Rga (named_sequence Rga records) ≡ true → IsSettled records had settled → is_admitted Rga (updates_passing Rga records had) ≡ true
+pub settled-same : (records : Records) (had settled : ℕ → Bool)
+    → updates_admitted Rga (named_sequence Rga records) ≡ true → IsSettled records had settled
+    → is_admitted Rga (updates_passing Rga records had) ≡ true
     → updates_passing Rga records settled ≡ updates_passing Rga records had
-settled-same records had settled admitted is_settled is = all_alike records had settled is_settled ((settled-all records had settled admitted is_settled).0 is)
+settled-same records had settled admitted is_settled is =
+    all_alike records had settled is_settled ((settled-all records had settled admitted is_settled).0 is)
 
 -- what is settled does not wait, and what else was had does
-pub settled-exactly : (records : Records) (had settled : ℕ → Bool) → IsSettled records had settled ↔ (((n : ℕ) → settled n ≡ true → had n ≡ true) × NoneWaits records settled × OthersWait records had settled)
+pub settled-exactly : (records : Records) (had settled : ℕ → Bool)
+    → IsSettled records had settled
+    ↔ (((n : ℕ) → settled n ≡ true → had n ≡ true) × NoneWaits records settled × OthersWait records had settled)
 settled-exactly records had settled = (
   (λ is_settled. (
     is_settled.had_them,
@@ -198,8 +246,10 @@ settled-exactly records had settled = (
 )
 
 -- a label that waits leaves the settled ones as they were
-pub settled-waiting : (records : Records) (had settled : ℕ → Bool) (label : Label) (u : Update) → Contains (labels_of records) label → Makes label.op u → had label.number ≡ false → IsSettled records had settled
-    → is_there (needed_by u) (updates_passing Rga records settled) ≡ false → IsSettled records (or_label had label.number) settled
+pub settled-waiting : (records : Records) (had settled : ℕ → Bool) (label : Label) (u : Update)
+    → Contains (labels_of records) label → Makes label.op u → had label.number ≡ false → IsSettled records had settled
+    → is_there (needed_by u) (updates_passing Rga records settled) ≡ false
+    → IsSettled records (or_label had label.number) settled
 settled-waiting records had settled label u there makes new is_settled waits = record {
   had_them = λ n it. or_left (had n) (n == label.number) (is_settled.had_them n it);
   where_needed = λ l v l_there l_makes had_it. elim (or_cases (had l.number) (l.number == label.number) had_it) [
@@ -214,28 +264,37 @@ settled-waiting records had settled label u there makes new is_settled waits = r
 }
 
 -- later commands leave it so
-pub settled-delivery : (records : Records) (to n : ℕ) (had settled : ℕ → Bool) → IsSettled records had settled → IsSettled (Deliver to n ∷ records) had settled
+pub settled-delivery : (records : Records) (to n : ℕ) (had settled : ℕ → Bool) → IsSettled records had settled
+    → IsSettled (Deliver to n ∷ records) had settled
 settled-delivery records to n had settled is_settled = record {
   had_them = is_settled.had_them;
-  where_needed = λ l u there makes had_it. is_settled.where_needed l u there makes had_it ∙ sym (ap (is_there (needed_by u)) (passing-delivery Rga records to n settled));
+  where_needed = λ l u there makes had_it. is_settled.where_needed l u there makes had_it
+      ∙ sym (ap (is_there (needed_by u)) (passing-delivery Rga records to n settled));
 }
 
-pub settled-operation : (records : Records) (by : ℕ) (op : Op) (clock : Option ℕ) (had settled : ℕ → Bool) → had (label_count records) ≡ false → IsSettled records had settled → IsSettled (Operate by op clock ∷ records) had settled
+pub settled-operation : (records : Records) (by : ℕ) (op : Op) (clock : Option ℕ) (had settled : ℕ → Bool)
+    → had (label_count records) ≡ false → IsSettled records had settled
+    → IsSettled (Operate by op clock ∷ records) had settled
 settled-operation records by op clock had settled new is_settled =
-    let not_yet : settled (label_count records) ≡ false = false_from_ne_true (settled (label_count records)) (λ it. false≢true (sym new ∙ is_settled.had_them (label_count records) it)) in
+    let not_yet : settled (label_count records) ≡ false = false_from_ne_true (settled (label_count records))
+    (λ it. false≢true (sym new ∙ is_settled.had_them (label_count records) it)) in
     let same = passing-operation Rga records by op clock settled not_yet in
     record {
       had_them = is_settled.had_them;
-      where_needed = λ l u there makes had_it. elim (head_or_behind (next_label records by op clock) (labels_of records) l there) [
-        | inl here ↦ absurd (false≢true (sym new ∙ ap (λ (m : Label). had m.number) here ∙ had_it))
-        | inr older ↦ is_settled.where_needed l u older makes had_it ∙ sym (ap (is_there (needed_by u)) same)
-      ];
+      where_needed =
+          λ l u there makes had_it. elim (head_or_behind (next_label records by op clock) (labels_of records) l there) [
+            | inl here ↦ absurd (false≢true (sym new ∙ ap (λ (m : Label). had m.number) here ∙ had_it))
+            | inr older ↦ is_settled.where_needed l u older makes had_it ∙ sym (ap (is_there (needed_by u)) same)
+          ];
     }
 
-pub settled-alike : (records : Records) (had more settled others : ℕ → Bool) → ((n : ℕ) → had n ≡ more n) → ((n : ℕ) → settled n ≡ others n) → IsSettled records had settled → IsSettled records more others
+pub settled-alike : (records : Records) (had more settled others : ℕ → Bool) → ((n : ℕ) → had n ≡ more n)
+    → ((n : ℕ) → settled n ≡ others n) → IsSettled records had settled → IsSettled records more others
 settled-alike records had more settled others same_had same is_settled =
-    let updates : updates_passing Rga records settled ≡ updates_passing Rga records others = among-alike settled others (named_labels Rga records) (λ l u found makes. same l.number) in
+    let updates : updates_passing Rga records settled ≡ updates_passing Rga records others =
+    among-alike settled others (named_labels Rga records) (λ l u found makes. same l.number) in
     record {
       had_them = λ n it. sym (same_had n) ∙ is_settled.had_them n (same n ∙ it);
-      where_needed = λ l u there makes had_it. sym (same l.number) ∙ is_settled.where_needed l u there makes (same_had l.number ∙ had_it) ∙ ap (is_there (needed_by u)) updates;
+      where_needed = λ l u there makes had_it. sym (same l.number)
+          ∙ is_settled.where_needed l u there makes (same_had l.number ∙ had_it) ∙ ap (is_there (needed_by u)) updates;
     }

@@ -6,7 +6,8 @@ use Rattle.std.specs.declared.cmp.Ordering.TheVariants.{Less, Equal, Greater}
 use Rattle.std.specs.Cmp.{IsTotalOrder}
 use Rattle.std.proofs.lemmas.Bool.{cond_both, cond-false, true≢false}
 use Rattle.std.proofs.lemmas.List.Elements.{All-head, All-tail}
-use Rattle.std.proofs.lemmas.List.Sorted.{IsPermutation-refl, IsPermutation-trans, IsPermutation-append_left, IsPermutation-append_right, IsPermutation-append_comm}
+use Rattle.std.proofs.lemmas.List.Sorted.{IsPermutation-refl, IsPermutation-trans, IsPermutation-append_left}
+use Rattle.std.proofs.lemmas.List.Sorted.{IsPermutation-append_right, IsPermutation-append_comm}
 use Rattle.ra_labels.specs.NamedOrder.{insert_by, sort_by}
 
 -- the first two blocks change places
@@ -23,23 +24,28 @@ not_above o Greater e h = refl
 
 module _ {A : Type 0} (cmp : A → A → Ordering) where
   -- an insertion stops at the head, or goes on behind it
-  insert_cases : (P : List A → Type 0) (x y : A) (ys : List A) → (is_lt (cmp x y) ≡ true → P (x ∷ y ∷ ys)) → (is_lt (cmp x y) ≡ false → P (y ∷ insert_by cmp x ys)) → P (insert_by cmp x (y ∷ ys))
+  insert_cases : (P : List A → Type 0) (x y : A) (ys : List A) → (is_lt (cmp x y) ≡ true → P (x ∷ y ∷ ys))
+      → (is_lt (cmp x y) ≡ false → P (y ∷ insert_by cmp x ys)) → P (insert_by cmp x (y ∷ ys))
   insert_cases P x y ys here further = cond_both (is_lt (cmp x y)) _ _ P here further
 
   -- an insertion of an element adds what it is mapped to
-  flat_map-insert_by : {B : Type 0} (f : A → List B) (x : A) (xs : List A) → IsPermutation (f x ++ flat_map f xs) (flat_map f (insert_by cmp x xs))
+  flat_map-insert_by : {B : Type 0} (f : A → List B) (x : A) (xs : List A)
+      → IsPermutation (f x ++ flat_map f xs) (flat_map f (insert_by cmp x xs))
   flat_map-insert_by f x [] = IsPermutation-refl _
   flat_map-insert_by f x (y ∷ ys) =
       insert_cases
       (λ zs. IsPermutation (f x ++ (f y ++ flat_map f ys)) (flat_map f zs)) x y ys
       (λ _. IsPermutation-refl _)
-      (λ _. IsPermutation-trans _ _ _ (IsPermutation-blocks (f x) (f y) (flat_map f ys)) (IsPermutation-append_right (f y) _ _ (flat_map-insert_by f x ys)))
+      (λ _. IsPermutation-trans _ _ _ (IsPermutation-blocks (f x) (f y) (flat_map f ys))
+      (IsPermutation-append_right (f y) _ _ (flat_map-insert_by f x ys)))
 
   -- a sort keeps what the elements are mapped to
-  pub flat_map-sort_by : {B : Type 0} (f : A → List B) (xs : List A) → IsPermutation (flat_map f xs) (flat_map f (sort_by cmp xs))
+  pub flat_map-sort_by : {B : Type 0} (f : A → List B) (xs : List A)
+      → IsPermutation (flat_map f xs) (flat_map f (sort_by cmp xs))
   flat_map-sort_by f [] = IsPermutation-refl _
   flat_map-sort_by f (x ∷ xs) =
-      IsPermutation-trans _ _ _ (IsPermutation-append_right (f x) _ _ (flat_map-sort_by f xs)) (flat_map-insert_by f x (sort_by cmp xs))
+      IsPermutation-trans _ _ _ (IsPermutation-append_right (f x) _ _ (flat_map-sort_by f xs))
+      (flat_map-insert_by f x (sort_by cmp xs))
 
   -- no element is below the one before it, from x on
   Rises : A → List A → Type 0
@@ -97,7 +103,8 @@ module _ {A : Type 0} (cmp : A → A → Ordering) where
   -- a sort keeps the elements
   pub IsPermutation-sort_by : (xs : List A) → IsPermutation xs (sort_by cmp xs)
   IsPermutation-sort_by xs =
-      let mapped : IsPermutation (flat_map (λ x. x ∷ []) xs) (flat_map (λ x. x ∷ []) (sort_by cmp xs)) = flat_map-sort_by (λ x. x ∷ []) xs in
+      let mapped : IsPermutation (flat_map (λ x. x ∷ []) xs) (flat_map (λ x. x ∷ []) (sort_by cmp xs)) =
+      flat_map-sort_by (λ x. x ∷ []) xs in
       rw (flat_map-units xs, flat_map-units (sort_by cmp xs)) at mapped
 
   -- what is below nothing is inserted at the end

@@ -8,6 +8,7 @@ use Rattle.std.specs.declared.cmp.Ordering.{Ordering}
 use Rattle.std.specs.declared.cmp.Ordering.TheVariants.{Less, Equal, Greater}
 use Rattle.std.proofs.lemmas.Bool.{false≢true, cond_both, ne_eqb, lt-ltb, ltb-true, or_cases, or_left, or_right, or_parts}
 use Rattle.std.proofs.lemmas.Option.{none-some, same_Some}
+use Rattle.ra_laws.proofs.Faults.{not_some}
 use Rattle.ra_labels.specs.declared.kind.Kind.{Kind}
 use Rattle.ra_labels.specs.declared.operation.Op.{Op}
 use Rattle.ra_labels.specs.declared.label.Stamp.{Stamp}
@@ -19,7 +20,9 @@ use Rattle.ra_labels.specs.declared.refusal.Refusal.TheVariants.{UnknownReplica,
 use Rattle.ra_labels.specs.Records.{Records, labels_of, next_label, stamp_at}
 use Rattle.ra_labels.specs.NamedOrder.{stamp_cmp}
 use Rattle.ra_labels.specs.Fault.{fault_of}
-use Rattle.ra_labels.specs.Answer.{when, first_of, kind_of, is_kind, has_rising_list, carries_stamp, has_clock, misfit_of, has_stamp, is_taken, comes_with_taken, gives_taken, refusal_of, with_accepted, records_after, records_after_all}
+use Rattle.ra_labels.specs.Answer.{when, first_of, kind_of, is_kind, has_rising_list, carries_stamp, has_clock}
+use Rattle.ra_labels.specs.Answer.{misfit_of, has_stamp, is_taken, comes_with_taken, gives_taken, refusal_of}
+use Rattle.ra_labels.specs.Answer.{with_accepted, records_after, records_after_all}
 use Rattle.ra_labels.specs.Laws.{IsOwnStamp, HasItsClock, IsFit, EachLabelFits, StampsAreOneLabels}
 use Rattle.ra_labels.proofs.Members.{head_or_behind}
 use Rattle.ra_labels.proofs.StampOrder.{stamp_same}
@@ -33,10 +36,12 @@ pub any_one : (p : Label → Bool) (labels : List Label) → list_any p labels �
 any_one p [] is = absurd (false≢true is)
 any_one p (first ∷ labels) is = elim (or_cases (p first) (list_any p labels) is) [
   | inl here ↦ (first, (zero, omega arith, refl), here)
-  | inr further ↦ let rest = any_one p labels further in (rest.0, (suc rest.1.0, omega (arith, rest.1.1), rest.1.2), rest.2)
+  | inr further ↦ let rest = any_one p labels further in
+      (rest.0, (suc rest.1.0, omega (arith, rest.1.1), rest.1.2), rest.2)
 ]
 
-pub one_any : (p : Label → Bool) (labels : List Label) (label : Label) → Contains labels label → p label ≡ true → list_any p labels ≡ true
+pub one_any : (p : Label → Bool) (labels : List Label) (label : Label) → Contains labels label → p label ≡ true
+    → list_any p labels ≡ true
 one_any p [] label there passes = absurd (omega (arith, there.1))
 one_any p (first ∷ labels) label there passes = elim (head_or_behind first labels label there) [
   | inl here ↦ or_left (p first) (list_any p labels) (ap p here ∙ passes)
@@ -49,7 +54,8 @@ equal_from Equal is = refl
 equal_from Greater is = absurd (false≢true is)
 
 -- whose own stamp it is
-own_stamp : (own : Option Stamp) (stamp : Stamp) → (option_map_or (λ s. is_eq (stamp_cmp s stamp)) own false ≡ true) ↔ (own ≡ Some stamp)
+own_stamp : (own : Option Stamp) (stamp : Stamp) → (option_map_or (λ s. is_eq (stamp_cmp s stamp)) own false ≡ true)
+    ↔ (own ≡ Some stamp)
 own_stamp None stamp = (λ is. absurd (false≢true is), λ is. absurd (none-some stamp is))
 own_stamp (Some s) stamp = (
   (λ is. ap Some ((stamp_same s stamp).0 (equal_from (stamp_cmp s stamp) is))),
@@ -58,22 +64,27 @@ own_stamp (Some s) stamp = (
 
 pub taken-exactly : (records : Records) (stamp : Stamp) → (is_taken records stamp ≡ true) ↔ IsOwnStamp records stamp
 taken-exactly records stamp = (
-  (λ is. let one = any_one (has_stamp stamp) (labels_of records) is in (one.0, one.1, (own_stamp one.0.stamp stamp).0 one.2)),
-  (λ (label, there, is). one_any (has_stamp stamp) (labels_of records) label there ((own_stamp label.stamp stamp).1 is)),
+  (λ is. let one = any_one (has_stamp stamp) (labels_of records) is in
+      (one.0, one.1, (own_stamp one.0.stamp stamp).0 one.2)),
+  (λ (label, there, is). one_any (has_stamp stamp) (labels_of records) label there
+      ((own_stamp label.stamp stamp).1 is)),
 )
 
 -- the refusals of an operation's form, over what they test
 abbrev form : Bool → Bool → Bool → Bool → Option Refusal
-form wrong bad missing unwanted = first_of (when wrong WrongKind ∷ when bad BadList ∷ when missing StampMissing ∷ when unwanted StampUnwanted ∷ [])
+form wrong bad missing unwanted =
+    first_of (when wrong WrongKind ∷ when bad BadList ∷ when missing StampMissing ∷ when unwanted StampUnwanted ∷ [])
 
-form-none : (wrong bad missing unwanted : Bool) → form wrong bad missing unwanted ≡ None → (wrong ≡ false) × (bad ≡ false) × (missing ≡ false) × (unwanted ≡ false)
+form-none : (wrong bad missing unwanted : Bool) → form wrong bad missing unwanted ≡ None
+    → (wrong ≡ false) × (bad ≡ false) × (missing ≡ false) × (unwanted ≡ false)
 form-none true bad missing unwanted is = absurd (cc (is))
 form-none false true missing unwanted is = absurd (cc (is))
 form-none false false true unwanted is = absurd (cc (is))
 form-none false false false true is = absurd (cc (is))
 form-none false false false false is = (refl, refl, refl, refl)
 
-form-not_taken : (wrong bad missing unwanted : Bool) → (form wrong bad missing unwanted ≡ Some StampTaken → ⊥) × (form wrong bad missing unwanted ≡ Some IdTaken → ⊥)
+form-not_taken : (wrong bad missing unwanted : Bool) → (form wrong bad missing unwanted ≡ Some StampTaken → ⊥)
+    × (form wrong bad missing unwanted ≡ Some IdTaken → ⊥)
 form-not_taken true bad missing unwanted = ((λ is. cc is), (λ is. cc is))
 form-not_taken false true missing unwanted = ((λ is. cc is), (λ is. cc is))
 form-not_taken false false true unwanted = ((λ is. cc is), (λ is. cc is))
@@ -85,10 +96,13 @@ from_not : (b : Bool) → not b ≡ false → b ≡ true
 from_not true is = refl
 from_not false is = absurd (false≢true (sym is))
 
-to_clock : (carries : Bool) (clock : Option ℕ) → (carries && not (has_clock clock)) ≡ false → (not carries && is_some clock) ≡ false → (carries ≡ true → (at : ℕ) × (1 ≤ at) × (clock ≡ Some at)) × (carries ≡ false → clock ≡ None)
+to_clock : (carries : Bool) (clock : Option ℕ) → (carries && not (has_clock clock)) ≡ false
+    → (not carries && is_some clock) ≡ false → (carries ≡ true → (at : ℕ) × (1 ≤ at) × (clock ≡ Some at))
+    × (carries ≡ false → clock ≡ None)
 to_clock true None missing unwanted = absurd (false≢true (sym missing))
 to_clock true (Some zero) missing unwanted = absurd (false≢true (sym missing))
-to_clock true (Some (suc at)) missing unwanted = ((λ is. (suc at, omega arith, refl)), (λ is. absurd (false≢true (sym is))))
+to_clock true (Some (suc at)) missing unwanted =
+    ((λ is. (suc at, omega arith, refl)), (λ is. absurd (false≢true (sym is))))
 to_clock false None missing unwanted = ((λ is. absurd (false≢true is)), (λ is. refl))
 to_clock false (Some at) missing unwanted = absurd (false≢true (sym unwanted))
 
@@ -96,47 +110,62 @@ from_one : (at : ℕ) → 1 ≤ at → not (has_clock (Some at)) ≡ false
 from_one zero above = absurd (omega arith)
 from_one (suc at) above = ap (λ b. not (not b)) (ne_eqb (suc at) 0 (λ is. absurd (omega arith)))
 
-no_missing : (carries : Bool) (clock : Option ℕ) → (carries ≡ true → (at : ℕ) × (1 ≤ at) × (clock ≡ Some at)) → (carries && not (has_clock clock)) ≡ false
+no_missing : (carries : Bool) (clock : Option ℕ) → (carries ≡ true → (at : ℕ) × (1 ≤ at) × (clock ≡ Some at))
+    → (carries && not (has_clock clock)) ≡ false
 no_missing false clock its = refl
 no_missing true clock its = let known = its refl in ap (λ c. not (has_clock c)) known.2 ∙ from_one known.0 known.1
 
-no_unwanted : (carries : Bool) (clock : Option ℕ) → (carries ≡ false → clock ≡ None) → (not carries && is_some clock) ≡ false
+no_unwanted : (carries : Bool) (clock : Option ℕ) → (carries ≡ false → clock ≡ None)
+    → (not carries && is_some clock) ≡ false
 no_unwanted true clock its = refl
 no_unwanted false clock its = ap is_some (its refl)
 
 -- a form that deserves no refusal
-pub fits-exactly : (kind : Kind) (by : ℕ) (op : Op) (clock : Option ℕ) → (misfit_of kind (Operate by op clock) ≡ None) ↔ ((kind_of op ≡ kind) × (has_rising_list op ≡ true) × HasItsClock op clock)
+pub fits-exactly : (kind : Kind) (by : ℕ) (op : Op) (clock : Option ℕ)
+    → (misfit_of kind (Operate by op clock) ≡ None)
+    ↔ ((kind_of op ≡ kind) × (has_rising_list op ≡ true) × HasItsClock op clock)
 fits-exactly kind by op clock = (
   (λ none.
-      let tests = form-none (not (is_kind kind (kind_of op))) (not (has_rising_list op)) (carries_stamp op && not (has_clock clock)) (not (carries_stamp op) && is_some clock) none in (
+      let tests = form-none (not (is_kind kind (kind_of op))) (not (has_rising_list op))
+      (carries_stamp op && not (has_clock clock)) (not (carries_stamp op) && is_some clock) none in (
         same_kind kind (kind_of op) (from_not (is_kind kind (kind_of op)) tests.0),
         from_not (has_rising_list op) tests.1,
         to_clock (carries_stamp op) clock tests.2 tests.3,
       )),
   (λ known.
       let right : is_kind kind (kind_of op) ≡ true = ap (is_kind kind) known.0 ∙ kind_itself kind in
-      rw (right, known.1, no_missing (carries_stamp op) clock known.2.0, no_unwanted (carries_stamp op) clock known.2.1)),
+      rw (
+        right,
+        known.1,
+        no_missing (carries_stamp op) clock known.2.0,
+        no_unwanted
+            (carries_stamp op) clock known.2.1,
+      )),
 )
 
 -- the refusals of an operation, over what they test
 abbrev all : Bool → Option Refusal → Bool → Bool → Option Refusal
-all known misfit stamp id = first_of (when (not known) UnknownReplica ∷ misfit ∷ when stamp StampTaken ∷ when id IdTaken ∷ [])
+all known misfit stamp id =
+    first_of (when (not known) UnknownReplica ∷ misfit ∷ when stamp StampTaken ∷ when id IdTaken ∷ [])
 
-all-stamp : (known : Bool) (misfit : Option Refusal) (stamp id : Bool) → (misfit ≡ Some StampTaken → ⊥) → all known misfit stamp id ≡ Some StampTaken → (known ≡ true) × (misfit ≡ None) × (stamp ≡ true)
+all-stamp : (known : Bool) (misfit : Option Refusal) (stamp id : Bool) → (misfit ≡ Some StampTaken → ⊥)
+    → all known misfit stamp id ≡ Some StampTaken → (known ≡ true) × (misfit ≡ None) × (stamp ≡ true)
 all-stamp false misfit stamp id other is = absurd (cc (is))
 all-stamp true (Some why) stamp id other is = absurd (other is)
 all-stamp true None true id other is = (refl, refl, refl)
 all-stamp true None false true other is = absurd (cc (is))
 all-stamp true None false false other is = absurd (cc (is))
 
-all-id : (known : Bool) (misfit : Option Refusal) (stamp id : Bool) → (misfit ≡ Some IdTaken → ⊥) → all known misfit stamp id ≡ Some IdTaken → (known ≡ true) × (misfit ≡ None) × (stamp ≡ false) × (id ≡ true)
+all-id : (known : Bool) (misfit : Option Refusal) (stamp id : Bool) → (misfit ≡ Some IdTaken → ⊥)
+    → all known misfit stamp id ≡ Some IdTaken → (known ≡ true) × (misfit ≡ None) × (stamp ≡ false) × (id ≡ true)
 all-id false misfit stamp id other is = absurd (cc (is))
 all-id true (Some why) stamp id other is = absurd (other is)
 all-id true None true id other is = absurd (cc (is))
 all-id true None false true other is = (refl, refl, refl, refl)
 all-id true None false false other is = absurd (cc (is))
 
-all-none : (known : Bool) (misfit : Option Refusal) (stamp id : Bool) → all known misfit stamp id ≡ None → (known ≡ true) × (misfit ≡ None) × (stamp ≡ false) × (id ≡ false)
+all-none : (known : Bool) (misfit : Option Refusal) (stamp id : Bool) → all known misfit stamp id ≡ None
+    → (known ≡ true) × (misfit ≡ None) × (stamp ≡ false) × (id ≡ false)
 all-none false misfit stamp id is = absurd (cc (is))
 all-none true (Some why) stamp id is = absurd (cc (is))
 all-none true None true id is = absurd (cc (is))
@@ -148,96 +177,125 @@ module _ (kind : Kind) (replicas : ℕ) (records : Records) (by : ℕ) (op : Op)
       ↔ ((by < replicas) × (misfit_of kind (Operate by op clock) ≡ None) × (comes_with_taken records by clock ≡ true))
   stamp_taken-exactly = (
     (λ refused.
-        let never = form-not_taken (not (is_kind kind (kind_of op))) (not (has_rising_list op)) (carries_stamp op && not (has_clock clock)) (not (carries_stamp op) && is_some clock) in
-        let tests = all-stamp (nat_lt by replicas) (misfit_of kind (Operate by op clock)) (comes_with_taken records by clock) (gives_taken records op) never.0 refused in
+        let never = form-not_taken (not (is_kind kind (kind_of op))) (not (has_rising_list op))
+        (carries_stamp op && not (has_clock clock)) (not (carries_stamp op) && is_some clock) in
+        let tests = all-stamp (nat_lt by replicas) (misfit_of kind (Operate by op clock))
+        (comes_with_taken records by clock) (gives_taken records op) never.0 refused in
         (ltb-true by replicas tests.0, tests.1, tests.2)),
     (λ known. rw (lt-ltb by replicas known.0, known.1, known.2)),
   )
 
   pub id_taken-exactly : (refusal_of kind replicas records (Operate by op clock) ≡ Some IdTaken)
-      ↔ ((by < replicas) × (misfit_of kind (Operate by op clock) ≡ None) × (comes_with_taken records by clock ≡ false) × (gives_taken records op ≡ true))
+      ↔ ((by < replicas) × (misfit_of kind (Operate by op clock) ≡ None) × (comes_with_taken records by clock ≡ false)
+      × (gives_taken records op ≡ true))
   id_taken-exactly = (
     (λ refused.
-        let never = form-not_taken (not (is_kind kind (kind_of op))) (not (has_rising_list op)) (carries_stamp op && not (has_clock clock)) (not (carries_stamp op) && is_some clock) in
-        let tests = all-id (nat_lt by replicas) (misfit_of kind (Operate by op clock)) (comes_with_taken records by clock) (gives_taken records op) never.1 refused in
+        let never = form-not_taken (not (is_kind kind (kind_of op))) (not (has_rising_list op))
+        (carries_stamp op && not (has_clock clock)) (not (carries_stamp op) && is_some clock) in
+        let tests = all-id (nat_lt by replicas) (misfit_of kind (Operate by op clock))
+        (comes_with_taken records by clock) (gives_taken records op) never.1 refused in
         (ltb-true by replicas tests.0, tests.1, tests.2, tests.3)),
     (λ known. rw (lt-ltb by replicas known.0, known.1, known.2, known.3)),
   )
 
   pub operated-exactly : (refusal_of kind replicas records (Operate by op clock) ≡ None)
-      ↔ ((by < replicas) × (misfit_of kind (Operate by op clock) ≡ None) × (comes_with_taken records by clock ≡ false) × (gives_taken records op ≡ false))
+      ↔ ((by < replicas) × (misfit_of kind (Operate by op clock) ≡ None) × (comes_with_taken records by clock ≡ false)
+      × (gives_taken records op ≡ false))
   operated-exactly = (
     (λ accepted.
-        let tests = all-none (nat_lt by replicas) (misfit_of kind (Operate by op clock)) (comes_with_taken records by clock) (gives_taken records op) accepted in
+        let tests = all-none (nat_lt by replicas) (misfit_of kind (Operate by op clock))
+        (comes_with_taken records by clock) (gives_taken records op) accepted in
         (ltb-true by replicas tests.0, tests.1, tests.2, tests.3)),
     (λ known. rw (lt-ltb by replicas known.0, known.1, known.2, known.3)),
   )
 
-not_some : {A : Type 0} (o : Option A) → is_some o ≡ false → o ≡ None
-not_some None is = refl
-not_some (Some x) is = absurd (false≢true (sym is))
-
 -- a property of the records that each command which is accepted keeps
-pub kept_by_answers : (P : Records → Type 0) (kind : Kind) (replicas : ℕ) → ((records : Records) (command : Command) → refusal_of kind replicas records command ≡ None → P records → P (with_accepted records command))
+pub kept_by_answers : (P : Records → Type 0) (kind : Kind) (replicas : ℕ)
+    → ((records : Records) (command : Command) → refusal_of kind replicas records command ≡ None → P records
+    → P (with_accepted records command))
     → (records : Records) (command : Command) → P records → P (records_after kind replicas records command)
 kept_by_answers P kind replicas keeps records command before =
-    cond_both (is_some (fault_of kind records) || is_some (refusal_of kind replicas records command)) records (with_accepted records command) P
+    cond_both (is_some (fault_of kind records) || is_some (refusal_of kind replicas records command)) records
+    (with_accepted records command) P
     (λ stays. before)
-    (λ goes. keeps records command (not_some (refusal_of kind replicas records command) (or_parts (is_some (fault_of kind records)) (is_some (refusal_of kind replicas records command)) goes).1) before)
+    (λ goes. keeps records command
+    (not_some (refusal_of kind replicas records command)
+    (or_parts (is_some (fault_of kind records)) (is_some (refusal_of kind replicas records command)) goes).1)
+    before)
 
-pub kept_by_all : (P : Records → Type 0) (kind : Kind) (replicas : ℕ) → ((records : Records) (command : Command) → P records → P (records_after kind replicas records command))
+pub kept_by_all : (P : Records → Type 0) (kind : Kind) (replicas : ℕ)
+    → ((records : Records) (command : Command) → P records → P (records_after kind replicas records command))
     → (records : Records) (commands : List Command) → P records → P (records_after_all kind replicas records commands)
 kept_by_all P kind replicas keeps records [] before = before
 kept_by_all P kind replicas keeps records (command ∷ commands) before =
-    kept_by_all P kind replicas keeps (records_after kind replicas records command) commands (keeps records command before)
+    kept_by_all P kind replicas keeps (records_after kind replicas records command) commands
+    (keeps records command before)
 
 -- each accepted label fits
-fits_accepted : (kind : Kind) (replicas : ℕ) (records : Records) (command : Command) → refusal_of kind replicas records command ≡ None → EachLabelFits kind replicas records → EachLabelFits kind replicas (with_accepted records command)
-fits_accepted kind replicas records (Operate by op clock) accepted each label there = elim (head_or_behind (next_label records by op clock) (labels_of records) label there) [
-  | inl here ↦
-      let known = (operated-exactly kind replicas records by op clock).0 accepted in
-      let form = (fits-exactly kind by op clock).0 known.1 in
-      subst (IsFit kind replicas) here (record { of_kind = form.0; list = form.1; replica = known.0; stamp = (clock, form.2, refl) })
-  | inr further ↦ each label further
-]
+fits_accepted : (kind : Kind) (replicas : ℕ) (records : Records) (command : Command)
+    → refusal_of kind replicas records command ≡ None → EachLabelFits kind replicas records
+    → EachLabelFits kind replicas (with_accepted records command)
+fits_accepted kind replicas records (Operate by op clock) accepted each label there =
+    elim (head_or_behind (next_label records by op clock) (labels_of records) label there) [
+      | inl here ↦
+          let known = (operated-exactly kind replicas records by op clock).0 accepted in
+          let form = (fits-exactly kind by op clock).0 known.1 in
+          subst (IsFit kind replicas) here
+          (record { of_kind = form.0; list = form.1; replica = known.0; stamp = (clock, form.2, refl) })
+      | inr further ↦ each label further
+    ]
 fits_accepted kind replicas records (Deliver to n) accepted each label there = each label there
 fits_accepted kind replicas records Verdict accepted each label there = each label there
 
-pub labels-fit : (kind : Kind) (replicas : ℕ) (records : Records) (command : Command) → EachLabelFits kind replicas records → EachLabelFits kind replicas (records_after kind replicas records command)
+pub labels-fit : (kind : Kind) (replicas : ℕ) (records : Records) (command : Command)
+    → EachLabelFits kind replicas records → EachLabelFits kind replicas (records_after kind replicas records command)
 labels-fit kind replicas = kept_by_answers (EachLabelFits kind replicas) kind replicas (fits_accepted kind replicas)
 
-pub labels-fit_all : (kind : Kind) (replicas : ℕ) (commands : List Command) → EachLabelFits kind replicas (records_after_all kind replicas [] commands)
+pub labels-fit_all : (kind : Kind) (replicas : ℕ) (commands : List Command)
+    → EachLabelFits kind replicas (records_after_all kind replicas [] commands)
 labels-fit_all kind replicas commands =
-    kept_by_all (EachLabelFits kind replicas) kind replicas (labels-fit kind replicas) [] commands (λ label there. absurd (omega (arith, there.1)))
+    kept_by_all (EachLabelFits kind replicas) kind replicas (labels-fit kind replicas) [] commands
+    (λ label there. absurd (omega (arith, there.1)))
 
 -- no stamp is given twice
-newly_given : (records : Records) (by : ℕ) (op : Op) (clock : Option ℕ) (label : Label) (stamp : Stamp) → comes_with_taken records by clock ≡ false
-    → (next_label records by op clock).stamp ≡ Some stamp → Contains (labels_of records) label → label.stamp ≡ Some stamp → ⊥
+newly_given : (records : Records) (by : ℕ) (op : Op) (clock : Option ℕ) (label : Label) (stamp : Stamp)
+    → comes_with_taken records by clock ≡ false
+    → (next_label records by op clock).stamp ≡ Some stamp → Contains (labels_of records) label
+    → label.stamp ≡ Some stamp → ⊥
 newly_given records by op None label stamp free own there is = none-some stamp own
 newly_given records by op (Some at) label stamp free own there is =
     let same : stamp_at by at ≡ stamp = same_Some (stamp_at by at) stamp own in
     false≢true (sym free ∙ (taken-exactly records (stamp_at by at)).1 (label, there, is ∙ ap Some (sym same)))
 
-once_accepted : (kind : Kind) (replicas : ℕ) (records : Records) (command : Command) → refusal_of kind replicas records command ≡ None → StampsAreOneLabels records → StampsAreOneLabels (with_accepted records command)
+once_accepted : (kind : Kind) (replicas : ℕ) (records : Records) (command : Command)
+    → refusal_of kind replicas records command ≡ None → StampsAreOneLabels records
+    → StampsAreOneLabels (with_accepted records command)
 once_accepted kind replicas records (Operate by op clock) accepted once l m stamp l_there m_there l_is m_is =
     let free = ((operated-exactly kind replicas records by op clock).0 accepted).2 in
     let next = next_label records by op clock in
     elim (head_or_behind next (labels_of records) l l_there) [
       | inl l_here ↦ elim (head_or_behind next (labels_of records) m m_there) [
         | inl m_here ↦ sym l_here ∙ m_here
-        | inr m_further ↦ absurd (newly_given records by op clock m stamp free (ap (λ (n : Label). n.stamp) l_here ∙ l_is) m_further m_is)
+        | inr m_further ↦ absurd
+            (newly_given records by op clock m stamp free (ap (λ (n : Label). n.stamp) l_here ∙ l_is) m_further m_is)
       ]
       | inr l_further ↦ elim (head_or_behind next (labels_of records) m m_there) [
-        | inl m_here ↦ absurd (newly_given records by op clock l stamp free (ap (λ (n : Label). n.stamp) m_here ∙ m_is) l_further l_is)
+        | inl m_here ↦ absurd
+            (newly_given records by op clock l stamp free (ap (λ (n : Label). n.stamp) m_here ∙ m_is) l_further l_is)
         | inr m_further ↦ once l m stamp l_further m_further l_is m_is
       ]
     ]
-once_accepted kind replicas records (Deliver to n) accepted once l m stamp l_there m_there l_is m_is = once l m stamp l_there m_there l_is m_is
-once_accepted kind replicas records Verdict accepted once l m stamp l_there m_there l_is m_is = once l m stamp l_there m_there l_is m_is
+once_accepted kind replicas records (Deliver to n) accepted once l m stamp l_there m_there l_is m_is =
+    once l m stamp l_there m_there l_is m_is
+once_accepted kind replicas records Verdict accepted once l m stamp l_there m_there l_is m_is =
+    once l m stamp l_there m_there l_is m_is
 
-pub stamps-once : (kind : Kind) (replicas : ℕ) (records : Records) (command : Command) → StampsAreOneLabels records → StampsAreOneLabels (records_after kind replicas records command)
+pub stamps-once : (kind : Kind) (replicas : ℕ) (records : Records) (command : Command) → StampsAreOneLabels records
+    → StampsAreOneLabels (records_after kind replicas records command)
 stamps-once kind replicas = kept_by_answers StampsAreOneLabels kind replicas (once_accepted kind replicas)
 
-pub stamps-once_all : (kind : Kind) (replicas : ℕ) (commands : List Command) → StampsAreOneLabels (records_after_all kind replicas [] commands)
+pub stamps-once_all : (kind : Kind) (replicas : ℕ) (commands : List Command)
+    → StampsAreOneLabels (records_after_all kind replicas [] commands)
 stamps-once_all kind replicas commands =
-    kept_by_all StampsAreOneLabels kind replicas (stamps-once kind replicas) [] commands (λ l m stamp there. absurd (omega (arith, there.1)))
+    kept_by_all StampsAreOneLabels kind replicas (stamps-once kind replicas) [] commands
+    (λ l m stamp there. absurd (omega (arith, there.1)))

@@ -26,7 +26,8 @@ not_both a b c d (inr first) (inl second) = absurd (omega (arith, first.0))
 not_both a b c d (inr first) (inr second) = absurd (omega (arith, first.1, second.1))
 
 -- what is below the greater and not below the lesser
-through : (a b c d e f : ℕ) → (((a < c) ⊎ ((a ≡ c) × (b < d))) → ⊥) → (((c < e) ⊎ ((c ≡ e) × (d < f))) → ⊥) → ((a < e) ⊎ ((a ≡ e) × (b < f))) → ⊥
+through : (a b c d e f : ℕ) → (((a < c) ⊎ ((a ≡ c) × (b < d))) → ⊥) → (((c < e) ⊎ ((c ≡ e) × (d < f))) → ⊥)
+    → ((a < e) ⊎ ((a ≡ e) × (b < f))) → ⊥
 through a b c d e f first second below = elim (cases_order a c) [
   | inr (inl less) ↦ first (inl less)
   | inr (inr more) ↦ elim below [
@@ -66,31 +67,39 @@ greater-one s t = elim (cases_Bool (is_lt (stamp_cmp s t))) [
 ]
 
 -- one more label
-with_stamp : (label : Label) (labels : List Label) (s : Stamp) → label.stamp ≡ Some s → greatest_stamp (label ∷ labels) ≡ greater_of (greatest_stamp labels) s
+with_stamp : (label : Label) (labels : List Label) (s : Stamp) → label.stamp ≡ Some s
+    → greatest_stamp (label ∷ labels) ≡ greater_of (greatest_stamp labels) s
 with_stamp label labels s is = ap (λ o. option_map_or (greater_of (greatest_stamp labels)) o (greatest_stamp labels)) is
 
-without_stamp : (label : Label) (labels : List Label) → label.stamp ≡ None → greatest_stamp (label ∷ labels) ≡ greatest_stamp labels
-without_stamp label labels is = ap (λ o. option_map_or (greater_of (greatest_stamp labels)) o (greatest_stamp labels)) is
+without_stamp : (label : Label) (labels : List Label) → label.stamp ≡ None
+    → greatest_stamp (label ∷ labels) ≡ greatest_stamp labels
+without_stamp label labels is =
+    ap (λ o. option_map_or (greater_of (greatest_stamp labels)) o (greatest_stamp labels)) is
 
 -- a stamp is there or not
 stamp_or_none : (o : Option Stamp) → (o ≡ None) ⊎ ((s : Stamp) × (o ≡ Some s))
 stamp_or_none None = inl refl
 stamp_or_none (Some s) = inr (s, refl)
 
-no_less : (label : Label) (labels : List Label) → ¬ IsStampBelow (greatest_stamp (label ∷ labels)) (greatest_stamp labels)
+no_less : (label : Label) (labels : List Label)
+    → ¬ IsStampBelow (greatest_stamp (label ∷ labels)) (greatest_stamp labels)
 no_less label labels = elim (stamp_or_none label.stamp) [
-  | inl none ↦ subst (λ u. ¬ IsStampBelow u (greatest_stamp labels)) (sym (without_stamp label labels none)) (not_below-itself (greatest_stamp labels))
-  | inr some ↦ subst (λ u. ¬ IsStampBelow u (greatest_stamp labels)) (sym (with_stamp label labels some.0 some.1)) (greater-left (greatest_stamp labels) some.0)
+  | inl none ↦ subst (λ u. ¬ IsStampBelow u (greatest_stamp labels)) (sym (without_stamp label labels none))
+      (not_below-itself (greatest_stamp labels))
+  | inr some ↦ subst (λ u. ¬ IsStampBelow u (greatest_stamp labels)) (sym (with_stamp label labels some.0 some.1))
+      (greater-left (greatest_stamp labels) some.0)
 ]
 
-greatest-bounds : (labels : List Label) (label : Label) (s : Stamp) → Contains labels label → label.stamp ≡ Some s → ¬ IsStampBelow (greatest_stamp labels) s
+greatest-bounds : (labels : List Label) (label : Label) (s : Stamp) → Contains labels label → label.stamp ≡ Some s
+    → ¬ IsStampBelow (greatest_stamp labels) s
 greatest-bounds [] label s there is = absurd (omega (arith, there.1))
 greatest-bounds (first ∷ labels) label s there is = elim (head_or_behind first labels label there) [
   | inl here ↦
       let own : first.stamp ≡ Some s = ap (λ (l : Label). l.stamp) here ∙ is in
       subst (λ u. ¬ IsStampBelow u s) (sym (with_stamp first labels s own)) (greater-right (greatest_stamp labels) s)
   | inr further ↦
-      not_below-through (greatest_stamp (first ∷ labels)) (greatest_stamp labels) s (no_less first labels) (greatest-bounds labels label s further is)
+      not_below-through (greatest_stamp (first ∷ labels)) (greatest_stamp labels) s (no_less first labels)
+      (greatest-bounds labels label s further is)
 ]
 
 -- it is one of theirs, or none has one
@@ -113,13 +122,15 @@ lowest_unless_below s fails =
     let replica : s.replica ≡ 0 = none_below s.replica (λ more. fails (inr (sym clock, more))) in
     λ i. record { clock = clock i; replica = replica i }
 
-greatest-reached : (labels : List Label) → HasStamp labels (greatest_stamp labels) ⊎ ((greatest_stamp labels ≡ lowest_rank) × ((label : Label) → Contains labels label → label.stamp ≡ None))
+greatest-reached : (labels : List Label) → HasStamp labels (greatest_stamp labels)
+    ⊎ ((greatest_stamp labels ≡ lowest_rank) × ((label : Label) → Contains labels label → label.stamp ≡ None))
 greatest-reached [] = inr (refl, λ label there. absurd (omega (arith, there.1)))
 greatest-reached (first ∷ labels) = elim (stamp_or_none first.stamp) [
   | inl none ↦
       let same = without_stamp first labels none in
       elim (greatest-reached labels) [
-        | inl one ↦ inl (subst (HasStamp (first ∷ labels)) (sym same) (further_on first labels (greatest_stamp labels) one))
+        | inl one ↦
+            inl (subst (HasStamp (first ∷ labels)) (sym same) (further_on first labels (greatest_stamp labels) one))
         | inr lowest ↦ inr (
           same ∙ lowest.0,
           (λ label there. elim (head_or_behind first labels label there) [
@@ -133,61 +144,87 @@ greatest-reached (first ∷ labels) = elim (stamp_or_none first.stamp) [
       elim (greater-one (greatest_stamp labels) some.0) [
         | inl own ↦ inl (at_head first labels (greatest_stamp (first ∷ labels)) (some.1 ∙ ap Some (sym (same ∙ own))))
         | inr older ↦ elim (greatest-reached labels) [
-          | inl one ↦ inl (subst (HasStamp (first ∷ labels)) (sym (same ∙ older.0)) (further_on first labels (greatest_stamp labels) one))
+          | inl one ↦
+              inl (subst (HasStamp (first ∷ labels)) (sym (same ∙ older.0))
+              (further_on first labels (greatest_stamp labels) one))
           | inr lowest ↦
-              let is : some.0 ≡ lowest_rank = lowest_unless_below some.0 (subst (λ u. ¬ IsStampBelow u some.0) lowest.0 older.1) in
-              inl (at_head first labels (greatest_stamp (first ∷ labels)) (some.1 ∙ ap Some (is ∙ sym (same ∙ older.0 ∙ lowest.0))))
+              let is : some.0 ≡ lowest_rank =
+              lowest_unless_below some.0 (subst (λ u. ¬ IsStampBelow u some.0) lowest.0 older.1) in
+              inl (at_head first labels (greatest_stamp (first ∷ labels))
+              (some.1 ∙ ap Some (is ∙ sym (same ∙ older.0 ∙ lowest.0))))
         ]
       ]
 ]
 
 -- the own stamp
-pub timestamp-own : (records : Records) (label : Label) (s : Stamp) → label.stamp ≡ Some s → timestamp_of records label ≡ s
-timestamp-own records label s is = ap (λ o. unwrap_or o (greatest_stamp (filter (λ other. sees records label.number other.number) (labels_of records)))) is
+pub timestamp-own : (records : Records) (label : Label) (s : Stamp) → label.stamp ≡ Some s
+    → timestamp_of records label ≡ s
+timestamp-own records label s is =
+    ap (λ o. unwrap_or o
+    (greatest_stamp (filter (λ other. sees records label.number other.number) (labels_of records)))) is
 
 abbrev seen_by : Records → Label → List Label
 seen_by records label = filter (λ other. sees records label.number other.number) (labels_of records)
 
-timestamp-seen : (records : Records) (label : Label) → label.stamp ≡ None → timestamp_of records label ≡ greatest_stamp (seen_by records label)
+timestamp-seen : (records : Records) (label : Label) → label.stamp ≡ None
+    → timestamp_of records label ≡ greatest_stamp (seen_by records label)
 timestamp-seen records label none = ap (λ o. unwrap_or o (greatest_stamp (seen_by records label))) none
 
 -- else no seen stamp is above it
-pub timestamp-bounds : (records : Records) (label : Label) (s : Stamp) → label.stamp ≡ None → SeesStamp records label s → ¬ IsStampBelow (timestamp_of records label) s
+pub timestamp-bounds : (records : Records) (label : Label) (s : Stamp) → label.stamp ≡ None → SeesStamp records label s
+    → ¬ IsStampBelow (timestamp_of records label) s
 timestamp-bounds records label s none (other, there, seen, is) =
     subst (λ u. ¬ IsStampBelow u s) (sym (timestamp-seen records label none))
-    (greatest-bounds (seen_by records label) other s (kept-there (λ m. sees records label.number m.number) (labels_of records) other there seen) is)
+    (greatest-bounds (seen_by records label) other s
+    (kept-there (λ m. sees records label.number m.number) (labels_of records) other there seen) is)
 
 -- and it is one that is seen, or none is
-pub timestamp-reached : (records : Records) (label : Label) → label.stamp ≡ None → SeesStamp records label (timestamp_of records label) ⊎ ((timestamp_of records label ≡ lowest_rank) × ((s : Stamp) → ¬ SeesStamp records label s))
+pub timestamp-reached : (records : Records) (label : Label) → label.stamp ≡ None
+    → SeesStamp records label (timestamp_of records label)
+    ⊎ ((timestamp_of records label ≡ lowest_rank) × ((s : Stamp) → ¬ SeesStamp records label s))
 timestamp-reached records label none =
     let same = timestamp-seen records label none in
     elim (greatest-reached (seen_by records label)) [
       | inl (other, there, is) ↦
           let known = there-kept (λ m. sees records label.number m.number) (labels_of records) other there in
           inl (other, known.0, known.1, is ∙ ap Some (sym same))
-      | inr lowest ↦ inr (same ∙ lowest.0, (λ s (other, there, seen, is). none-some s (sym (lowest.1 other (kept-there (λ m. sees records label.number m.number) (labels_of records) other there seen)) ∙ is)))
+      | inr lowest ↦
+          inr (
+            same ∙ lowest.0,
+            (λ s (other, there, seen, is). none-some s
+                (sym (lowest.1 other
+                (kept-there (λ m. sees records label.number m.number) (labels_of records) other there seen)) ∙ is)),
+          )
     ]
 
 -- later records leave it
-filter_as : (p q : Label → Bool) (labels : List Label) → ((label : Label) → p label ≡ q label) → filter p labels ≡ filter q labels
+filter_as : (p q : Label → Bool) (labels : List Label) → ((label : Label) → p label ≡ q label)
+    → filter p labels ≡ filter q labels
 filter_as p q [] same = refl
 filter_as p q (label ∷ labels) same =
     ap (λ b. cond b (label ∷ filter p labels) (filter p labels)) (same label)
     ∙ ap (λ rest. cond (q label) (label ∷ rest) rest) (filter_as p q labels same)
 
-seen_by-next : (before : Records) (by : ℕ) (op : Op) (clock : Option ℕ) (label : Label) → label.number < label_count before → seen_by (Operate by op clock ∷ before) label ≡ seen_by before label
+seen_by-next : (before : Records) (by : ℕ) (op : Op) (clock : Option ℕ) (label : Label)
+    → label.number < label_count before → seen_by (Operate by op clock ∷ before) label ≡ seen_by before label
 seen_by-next before by op clock label below =
     let other : label.number ≡ label_count before → ⊥ = λ is. absurd (omega arith) in
-    let same : (m : Label) → sees (Operate by op clock ∷ before) label.number m.number ≡ sees before label.number m.number = λ m. cond-false (eqb label.number (label_count before)) _ _ (ne_eqb _ _ other) in
+    let same : (m : Label) → sees (Operate by op clock ∷ before) label.number m.number
+    ≡ sees before label.number m.number =
+    λ m. cond-false (eqb label.number (label_count before)) _ _ (ne_eqb _ _ other) in
     cond-false (sees (Operate by op clock ∷ before) label.number (label_count before)) _ _
-    (cond-false (eqb label.number (label_count before)) (had before by (label_count before)) (sees before label.number (label_count before)) (ne_eqb _ _ other) ∙ sees-next before label.number)
-    ∙ filter_as (λ m. sees (Operate by op clock ∷ before) label.number m.number) (λ m. sees before label.number m.number) (labels_of before) same
+    (cond-false (eqb label.number (label_count before)) (had before by (label_count before))
+    (sees before label.number (label_count before)) (ne_eqb _ _ other) ∙ sees-next before label.number)
+    ∙ filter_as (λ m. sees (Operate by op clock ∷ before) label.number m.number)
+    (λ m. sees before label.number m.number) (labels_of before) same
 
-pub timestamp-append : (later records : Records) (label : Label) → label.number < label_count records → timestamp_of (later ++ records) label ≡ timestamp_of records label
+pub timestamp-append : (later records : Records) (label : Label) → label.number < label_count records
+    → timestamp_of (later ++ records) label ≡ timestamp_of records label
 timestamp-append [] records label below = refl
 timestamp-append (Operate by op clock ∷ later) records label below =
     let grows = label_count-append later records in
-    ap (λ seen. unwrap_or label.stamp (greatest_stamp seen)) (seen_by-next (later ++ records) by op clock label (omega (arith, grows, below)))
+    ap (λ seen. unwrap_or label.stamp (greatest_stamp seen))
+    (seen_by-next (later ++ records) by op clock label (omega (arith, grows, below)))
     ∙ timestamp-append later records label below
 timestamp-append (Deliver to n ∷ later) records label below = timestamp-append later records label below
 timestamp-append (Verdict ∷ later) records label below = timestamp-append later records label below

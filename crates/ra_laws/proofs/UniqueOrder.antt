@@ -49,9 +49,11 @@ module _ {A : Type 0} (cmp : A → A → Ordering) (total : IsTotalOrder cmp) wh
   ]
 
   -- in a list in order nothing is below the head
-  pub head_least : (x : A) (xs : List A) → IsSorted cmp (x ∷ xs) → (w : A) → Contains (x ∷ xs) w → is_lt (cmp w x) ≡ false
+  pub head_least : (x : A) (xs : List A) → IsSorted cmp (x ∷ xs) → (w : A) → Contains (x ∷ xs) w
+      → is_lt (cmp w x) ≡ false
   head_least x xs sorted w (k, within, is) =
-      subst (λ v. is_lt (cmp v x) ≡ false) is (sorted_far (λ v u. is_lt (cmp v u)) (ranks_by total (λ v. v)) (x ∷ xs) sorted 0 k w (omega arith) within)
+      subst (λ v. is_lt (cmp v x) ≡ false) is
+      (sorted_far (λ v u. is_lt (cmp v u)) (ranks_by total (λ v. v)) (x ∷ xs) sorted 0 k w (omega arith) within)
 
   pub sorted_behind : (x : A) (xs : List A) → IsSorted cmp (x ∷ xs) → IsSorted cmp xs
   sorted_behind x xs sorted k d low high =
@@ -60,14 +62,16 @@ module _ {A : Type 0} (cmp : A → A → Ordering) (total : IsTotalOrder cmp) wh
       rw further at next
 
   -- the head of the one is not below the head of the other
-  head_not_below : (x y : A) (xs ys : List A) → ((z : A) → ties z (x ∷ xs) ≡ ties z (y ∷ ys)) → IsSorted cmp (y ∷ ys) → is_lt (cmp x y) ≡ false
+  head_not_below : (x y : A) (xs ys : List A) → ((z : A) → ties z (x ∷ xs) ≡ ties z (y ∷ ys)) → IsSorted cmp (y ∷ ys)
+      → is_lt (cmp x y) ≡ false
   head_not_below x y xs ys same sorted =
       let itself : weight x x ≡ 1 = rw (tied_itself total x) in
       let there = tie_found x (y ∷ ys) (omega (arith, ties-cons x x xs, same x, itself)) in
       ap is_lt (total.congr x there.0 y there.2) ∙ head_least y ys sorted there.0 there.1
 
   -- two lists in order in which each element is counted as often are the same, where equal ranks mean equal elements
-  same_order : (P : A → Type 0) → ((v w : A) → P v → P w → cmp v w ≡ Equal → v ≡ w) → (xs ys : List A) → All P xs → All P ys → IsSorted cmp xs → IsSorted cmp ys → ((z : A) → ties z xs ≡ ties z ys) → xs ≡ ys
+  same_order : (P : A → Type 0) → ((v w : A) → P v → P w → cmp v w ≡ Equal → v ≡ w) → (xs ys : List A) → All P xs
+      → All P ys → IsSorted cmp xs → IsSorted cmp ys → ((z : A) → ties z xs ≡ ties z ys) → xs ≡ ys
   same_order P alike [] [] all_xs all_ys up_xs up_ys same = refl
   same_order P alike [] (y ∷ ys) all_xs all_ys up_xs up_ys same =
       let itself : weight y y ≡ 1 = rw (tied_itself total y) in
@@ -80,20 +84,25 @@ module _ {A : Type 0} (cmp : A → A → Ordering) (total : IsTotalOrder cmp) wh
       let not_above = head_not_below y x ys xs (λ z. sym (same z)) up_xs in
       let tie = (Equal-is (cmp x y)).0 (neither_below (cmp x y) (cmp y x) (total.antisymm x y) not_below not_above) in
       let heads : x ≡ y = alike x y (All-head P x xs all_xs) (All-head P y ys all_ys) tie in
-      let rest = same_order P alike xs ys (All-tail P x xs all_xs) (All-tail P y ys all_ys) (sorted_behind x xs up_xs) (sorted_behind y ys up_ys) (λ z.
+      let rest = same_order P alike xs ys (All-tail P x xs all_xs) (All-tail P y ys all_ys) (sorted_behind x xs up_xs)
+      (sorted_behind y ys up_ys) (λ z.
       let weights : weight z x ≡ weight z y = ap (weight z) heads in
       omega (arith, same z, ties-cons z x xs, ties-cons z y ys, weights)) in
       λ i. heads i ∷ rest i
 
 -- a label is found at its number
-pub label_found : (records : Records) (label : Label) → Contains (labels_of records) label → label_at records label.number ≡ Some label
+pub label_found : (records : Records) (label : Label) → Contains (labels_of records) label
+    → label_at records label.number ≡ Some label
 label_found [] label (k, within, is) = absurd (omega arith)
-label_found (Operate by op clock ∷ before) label found = elim (head_or_behind (next_label before by op clock) (labels_of before) label found) [
-  | inl newest ↦ cond-true (eqb (label_count before) label.number) _ _ (eq-eqb _ _ (ap (λ (l : Label). l.number) newest)) ∙ ap Some newest
-  | inr older ↦
-      let below = All-contains (λ l. l.number < label_count before) (labels_of before) label (numbers_below_count before) older in
-      label_at-append (Operate by op clock ∷ []) before label.number below ∙ label_found before label older
-]
+label_found (Operate by op clock ∷ before) label found =
+    elim (head_or_behind (next_label before by op clock) (labels_of before) label found) [
+      | inl newest ↦ cond-true (eqb (label_count before) label.number) _ _
+          (eq-eqb _ _ (ap (λ (l : Label). l.number) newest)) ∙ ap Some newest
+      | inr older ↦
+          let below = All-contains (λ l. l.number < label_count before) (labels_of before) label
+          (numbers_below_count before) older in
+          label_at-append (Operate by op clock ∷ []) before label.number below ∙ label_found before label older
+    ]
 label_found (_ ∷ before) label found = label_found before label found
 
 same_number : (x y : ℕ) (o : Ordering) → o ≡ nat_cmp x y → is_eq o ≡ true → x ≡ y
@@ -107,21 +116,29 @@ second_eq Equal p eq = eq
 second_eq Greater p eq = absurd (false≢true eq)
 
 -- labels of the same place in the named order are the same label
-pub same_label : (kind : Kind) (records : Records) (l m : Label) → Contains (labels_of records) l → Contains (labels_of records) m → label_cmp kind records l m ≡ Equal → l ≡ m
+pub same_label : (kind : Kind) (records : Records) (l m : Label) → Contains (labels_of records) l
+    → Contains (labels_of records) m → label_cmp kind records l m ≡ Equal → l ≡ m
 same_label kind records l m there_l there_m tie =
-    let numbers = same_number l.number m.number (nat_cmp l.number m.number) refl (second_eq (stamp_cmp (rank_of kind records l) (rank_of kind records m)) (nat_cmp l.number m.number) (ap is_eq tie)) in
+    let numbers = same_number l.number m.number (nat_cmp l.number m.number) refl
+    (second_eq (stamp_cmp (rank_of kind records l) (rank_of kind records m)) (nat_cmp l.number m.number)
+    (ap is_eq tie)) in
     same_Some l m (sym (label_found records l there_l) ∙ ap (label_at records) numbers ∙ label_found records m there_m)
 
 -- the labels, each once, in the named order are the named labels
-pub named_labels-only : (kind : Kind) (records : Records) (labels : List Label) → IsPermutation (labels_of records) labels → IsSorted (label_cmp kind records) labels → labels ≡ named_labels kind records
+pub named_labels-only : (kind : Kind) (records : Records) (labels : List Label)
+    → IsPermutation (labels_of records) labels → IsSorted (label_cmp kind records) labels
+    → labels ≡ named_labels kind records
 named_labels-only kind records labels same sorted =
     let named = IsPermutation-named_labels kind records in
     same_order
     (label_cmp kind records) (label_cmp-total kind records) (Contains (labels_of records)) (same_label kind records)
     labels
     (named_labels kind records)
-    (All-permutation (Contains (labels_of records)) (labels_of records) labels same (All-contains_itself (labels_of records)))
-    (All-permutation (Contains (labels_of records)) (labels_of records) (named_labels kind records) named (All-contains_itself (labels_of records)))
+    (All-permutation (Contains (labels_of records)) (labels_of records) labels same
+    (All-contains_itself (labels_of records)))
+    (All-permutation (Contains (labels_of records)) (labels_of records) (named_labels kind records) named
+    (All-contains_itself (labels_of records)))
     sorted
     (IsSorted-named_labels kind records)
-    (λ z. sum_by-IsPermutation _ (labels_of records) labels same ∙ sym (sum_by-IsPermutation _ (labels_of records) (named_labels kind records) named))
+    (λ z. sum_by-IsPermutation _ (labels_of records) labels same
+    ∙ sym (sum_by-IsPermutation _ (labels_of records) (named_labels kind records) named))

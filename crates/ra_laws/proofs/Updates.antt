@@ -2,7 +2,8 @@
 use Rattle.std.proofs.Common.{◌≡◌, ℕ, ◌+◌, ◌<◌, ◌≤◌, true, false, eqb, [], ◌∷◌, ◌++◌, length, filter, Option, refl, sym, ap, ◌∙◌, subst, inl, inr, arith}
 use Rattle.std.specs.Prelude.{◌⊎◌, ◌==◌, ◌&&◌}
 use Rattle.std.specs.Option.{option_map_or}
-use Rattle.std.proofs.lemmas.Bool.{false≢true, cases_lt, cases_Bool, eq-eqb, ne_eqb, eqb-true, cond-true, cond-false, cond_both, or_left, or_right, and_parts, and_from}
+use Rattle.std.proofs.lemmas.Bool.{false≢true, cases_lt, cases_Bool, eq-eqb, ne_eqb, eqb-true, cond-true, cond-false}
+use Rattle.std.proofs.lemmas.Bool.{cond_both, or_left, or_right, and_parts, and_from}
 use Rattle.ra_labels.specs.declared.operation.Op.{Op}
 use Rattle.ra_labels.specs.declared.label.Label.{Label}
 use Rattle.ra_labels.specs.declared.command.Command.TheVariants.{Operate, Deliver, Verdict}
@@ -14,28 +15,34 @@ use Rattle.ra_laws.proofs.LabelNumbers.{label_count-append, label_at-append, lab
 use Rattle.ra_laws.proofs.SeenLabels.{is_update_at-append, is_update_at-below, sees-append}
 
 -- the newest operation
-pub issuer_of-operation : (later before : Records) (by : ℕ) (op : Op) (clock : Option ℕ) → issuer_of (later ++ Operate by op clock ∷ before) (label_count before) ≡ by
+pub issuer_of-operation : (later before : Records) (by : ℕ) (op : Op) (clock : Option ℕ)
+    → issuer_of (later ++ Operate by op clock ∷ before) (label_count before) ≡ by
 issuer_of-operation later before by op clock =
     ap (λ label. option_map_or (λ (l : Label). l.replica) label 0) (label_at-operation later before by op clock)
 
-issuer-newest : (before : Records) (by n : ℕ) (op : Op) (clock : Option ℕ) → n ≡ label_count before → issuer_of (Operate by op clock ∷ before) n ≡ by
+issuer-newest : (before : Records) (by n : ℕ) (op : Op) (clock : Option ℕ) → n ≡ label_count before
+    → issuer_of (Operate by op clock ∷ before) n ≡ by
 issuer-newest before by n op clock here =
     ap (issuer_of (Operate by op clock ∷ before)) here ∙ issuer_of-operation [] before by op clock
 
-update-newest : (before : Records) (by n : ℕ) (op : Op) (clock : Option ℕ) → n ≡ label_count before → is_update_at (Operate by op clock ∷ before) n ≡ is_update op
+update-newest : (before : Records) (by n : ℕ) (op : Op) (clock : Option ℕ) → n ≡ label_count before
+    → is_update_at (Operate by op clock ∷ before) n ≡ is_update op
 update-newest before by n op clock here =
     ap (is_update_at (Operate by op clock ∷ before)) here
     ∙ ap (λ label. option_map_or (λ (l : Label). is_update l.op) label false) (label_at-operation [] before by op clock)
 
-place-newest : (before : Records) (by n : ℕ) (op : Op) (clock : Option ℕ) → n ≡ label_count before → place_of (Operate by op clock ∷ before) n ≡ updates_of before by
+place-newest : (before : Records) (by n : ℕ) (op : Op) (clock : Option ℕ) → n ≡ label_count before
+    → place_of (Operate by op clock ∷ before) n ≡ updates_of before by
 place-newest before by n op clock here = cond-true (eqb n (label_count before)) _ _ (eq-eqb _ _ here)
 
 -- later records leave a label its replica and its place
-issuer_of-append : (later records : Records) (n : ℕ) → n < label_count records → issuer_of (later ++ records) n ≡ issuer_of records n
+issuer_of-append : (later records : Records) (n : ℕ) → n < label_count records
+    → issuer_of (later ++ records) n ≡ issuer_of records n
 issuer_of-append later records n below =
     ap (λ label. option_map_or (λ (l : Label). l.replica) label 0) (label_at-append later records n below)
 
-place_of-append : (later records : Records) (n : ℕ) → n < label_count records → place_of (later ++ records) n ≡ place_of records n
+place_of-append : (later records : Records) (n : ℕ) → n < label_count records
+    → place_of (later ++ records) n ≡ place_of records n
 place_of-append [] records n below = refl
 place_of-append (Operate by op clock ∷ later) records n below =
     let grows = label_count-append later records in
@@ -43,23 +50,28 @@ place_of-append (Operate by op clock ∷ later) records n below =
     cond-false (eqb n (label_count (later ++ records))) _ _ (ne_eqb _ _ other) ∙ place_of-append later records n below
 place_of-append (_ ∷ later) records n below = place_of-append later records n below
 
-pub place_of-operation : (later before : Records) (by : ℕ) (op : Op) (clock : Option ℕ) → place_of (later ++ Operate by op clock ∷ before) (label_count before) ≡ updates_of before by
+pub place_of-operation : (later before : Records) (by : ℕ) (op : Op) (clock : Option ℕ)
+    → place_of (later ++ Operate by op clock ∷ before) (label_count before) ≡ updates_of before by
 place_of-operation later before by op clock =
     place_of-append later (Operate by op clock ∷ before) (label_count before) (omega arith)
     ∙ place-newest before by (label_count before) op clock refl
 
 -- how many updates a replica issued, one operation later
-pub updates-more : (before : Records) (by replica : ℕ) (op : Op) (clock : Option ℕ) → updates_of before replica ≤ updates_of (Operate by op clock ∷ before) replica
+pub updates-more : (before : Records) (by replica : ℕ) (op : Op) (clock : Option ℕ)
+    → updates_of before replica ≤ updates_of (Operate by op clock ∷ before) replica
 updates-more before by replica op clock =
     cond_both (by == replica && is_update op) (updates_of before replica + 1) (updates_of before replica)
     (λ count. updates_of before replica ≤ count) (λ is. omega arith) (λ no. omega arith)
 
-updates-one_more : (before : Records) (by replica : ℕ) (op : Op) (clock : Option ℕ) → by ≡ replica → is_update op ≡ true → updates_of (Operate by op clock ∷ before) replica ≡ updates_of before replica + 1
+updates-one_more : (before : Records) (by replica : ℕ) (op : Op) (clock : Option ℕ) → by ≡ replica → is_update op ≡ true
+    → updates_of (Operate by op clock ∷ before) replica ≡ updates_of before replica + 1
 updates-one_more before by replica op clock same update =
-    cond-true (by == replica && is_update op) _ _ (and_from (by == replica) (is_update op) (eq-eqb by replica same) update)
+    cond-true (by == replica && is_update op) _ _
+    (and_from (by == replica) (is_update op) (eq-eqb by replica same) update)
 
 -- they are counted among the labels
-pub updates_of-counted : (records : Records) (replica : ℕ) → updates_of records replica ≡ length (filter (λ label. label.replica == replica && is_update label.op) (labels_of records))
+pub updates_of-counted : (records : Records) (replica : ℕ) → updates_of records replica
+    ≡ length (filter (λ label. label.replica == replica && is_update label.op) (labels_of records))
 updates_of-counted [] replica = refl
 updates_of-counted (Operate by op clock ∷ before) replica = elim (cases_Bool (by == replica && is_update op)) [
   | inl is ↦ rw (is) (omega (arith, updates_of-counted before replica))
@@ -74,68 +86,129 @@ IsNewest before by op replica n = (n ≡ label_count before) × (is_update op �
 abbrev pub WasThere : Records → ℕ → ℕ → Type 0
 WasThere before replica n = (n < label_count before) × IsUpdateOf before replica n
 
-pub newest_or_older : (before : Records) (by : ℕ) (op : Op) (clock : Option ℕ) (replica n : ℕ) → IsUpdateOf (Operate by op clock ∷ before) replica n → IsNewest before by op replica n ⊎ WasThere before replica n
+pub newest_or_older : (before : Records) (by : ℕ) (op : Op) (clock : Option ℕ) (replica n : ℕ)
+    → IsUpdateOf (Operate by op clock ∷ before) replica n → IsNewest before by op replica n ⊎ WasThere before replica n
 newest_or_older before by op clock replica n is = elim (cases_lt n (label_count before)) [
   | inl below ↦
-      inr (below, (sym (is_update_at-append (Operate by op clock ∷ []) before n below) ∙ is.0, sym (issuer_of-append (Operate by op clock ∷ []) before n below) ∙ is.1))
+      inr (
+        below,
+        (
+          sym (is_update_at-append (Operate by op clock ∷ []) before n below)
+              ∙ is.0,
+          sym (issuer_of-append (Operate by op clock ∷ []) before n below) ∙ is.1,
+        ),
+      )
   | inr above ↦
       let there = is_update_at-below (Operate by op clock ∷ before) n is.0 in
       let here : n ≡ label_count before = omega (arith, there) in
-      inl (here, sym (update-newest before by n op clock here) ∙ is.0, sym (issuer-newest before by n op clock here) ∙ is.1)
+      inl (
+        here,
+        sym (update-newest before by n op clock here)
+            ∙ is.0,
+        sym (issuer-newest before by n op clock here) ∙ is.1,
+      )
 ]
 
 -- what was there still is
-later_too : (before : Records) (by : ℕ) (op : Op) (clock : Option ℕ) (replica n : ℕ) → IsUpdateOf before replica n → IsUpdateOf (Operate by op clock ∷ before) replica n
+later_too : (before : Records) (by : ℕ) (op : Op) (clock : Option ℕ) (replica n : ℕ) → IsUpdateOf before replica n
+    → IsUpdateOf (Operate by op clock ∷ before) replica n
 later_too before by op clock replica n is =
-    let below = is_update_at-below before n is.0 in
-    (is_update_at-append (Operate by op clock ∷ []) before n below ∙ is.0, issuer_of-append (Operate by op clock ∷ []) before n below ∙ is.1)
+    let below = is_update_at-below before n is.0 in (
+      is_update_at-append (Operate by op clock ∷ []) before n below
+          ∙ is.0,
+      issuer_of-append (Operate by op clock ∷ []) before n below ∙ is.1,
+    )
 
-pub place-older : (before : Records) (by : ℕ) (op : Op) (clock : Option ℕ) (n : ℕ) → n < label_count before → place_of (Operate by op clock ∷ before) n ≡ place_of before n
+pub place-older : (before : Records) (by : ℕ) (op : Op) (clock : Option ℕ) (n : ℕ) → n < label_count before
+    → place_of (Operate by op clock ∷ before) n ≡ place_of before n
 place-older before by op clock n below = place_of-append (Operate by op clock ∷ []) before n below
 
-pub place-here : (before : Records) (by : ℕ) (op : Op) (clock : Option ℕ) (replica n : ℕ) → IsNewest before by op replica n → place_of (Operate by op clock ∷ before) n ≡ updates_of before replica
+pub place-here : (before : Records) (by : ℕ) (op : Op) (clock : Option ℕ) (replica n : ℕ)
+    → IsNewest before by op replica n → place_of (Operate by op clock ∷ before) n ≡ updates_of before replica
 place-here before by op clock replica n new = place-newest before by n op clock new.0 ∙ ap (updates_of before) new.2
 
 -- an update's place is below the number of its replica's updates
-pub place-below : (records : Records) (replica n : ℕ) → IsUpdateOf records replica n → place_of records n < updates_of records replica
+pub place-below : (records : Records) (replica n : ℕ) → IsUpdateOf records replica n
+    → place_of records n < updates_of records replica
 place-below [] replica n is = absurd (false≢true is.0)
 place-below (Operate by op clock ∷ before) replica n is = elim (newest_or_older before by op clock replica n is) [
-  | inl new ↦ omega (arith, place-here before by op clock replica n new, updates-one_more before by replica op clock new.2 new.1)
-  | inr old ↦ omega (arith, place-older before by op clock n old.0, place-below before replica n old.1, updates-more before by replica op clock)
+  | inl new ↦ omega
+      (arith, place-here before by op clock replica n new, updates-one_more before by replica op clock new.2 new.1)
+  | inr old ↦
+      omega (
+        arith,
+        place-older before by op clock n old.0,
+        place-below before replica n old.1,
+        updates-more before
+            by replica op clock,
+      )
 ]
 place-below (_ ∷ before) replica n is = place-below before replica n is
 
 -- no two updates of a replica have one place
-pub place-only : (records : Records) (replica n m : ℕ) → IsUpdateOf records replica n → IsUpdateOf records replica m → place_of records n ≡ place_of records m → n ≡ m
+pub place-only : (records : Records) (replica n m : ℕ) → IsUpdateOf records replica n → IsUpdateOf records replica m
+    → place_of records n ≡ place_of records m → n ≡ m
 place-only [] replica n m is also same = absurd (false≢true is.0)
-place-only (Operate by op clock ∷ before) replica n m is also same = elim (newest_or_older before by op clock replica n is) [
-  | inl new ↦ elim (newest_or_older before by op clock replica m also) [
-    | inl newer ↦ new.0 ∙ sym newer.0
-    | inr older ↦ absurd (omega (arith, same, place-here before by op clock replica n new, place-older before by op clock m older.0, place-below before replica m older.1))
-  ]
-  | inr old ↦ elim (newest_or_older before by op clock replica m also) [
-    | inl newer ↦ absurd (omega (arith, same, place-here before by op clock replica m newer, place-older before by op clock n old.0, place-below before replica n old.1))
-    | inr older ↦ place-only before replica n m old.1 older.1 (sym (place-older before by op clock n old.0) ∙ same ∙ place-older before by op clock m older.0)
-  ]
-]
+place-only (Operate by op clock ∷ before) replica n m is also same =
+    elim (newest_or_older before by op clock replica n is) [
+      | inl new ↦ elim (newest_or_older before by op clock replica m also) [
+        | inl newer ↦ new.0 ∙ sym newer.0
+        | inr older ↦
+            absurd (omega (
+              arith,
+              same,
+              place-here before by op clock replica n new,
+              place-older before by op clock m older.0,
+              place-below
+                  before replica m older.1,
+            ))
+      ]
+      | inr old ↦ elim (newest_or_older before by op clock replica m also) [
+        | inl newer ↦
+            absurd (omega (
+              arith,
+              same,
+              place-here before by op clock replica m newer,
+              place-older before by op clock n old.0,
+              place-below
+                  before replica n old.1,
+            ))
+        | inr older ↦ place-only before replica n m old.1 older.1
+            (sym (place-older before by op clock n old.0) ∙ same ∙ place-older before by op clock m older.0)
+      ]
+    ]
 place-only (_ ∷ before) replica n m is also same = place-only before replica n m is also same
 
 -- each place below that number is an update's
-pub place-there : (records : Records) (replica k : ℕ) → k < updates_of records replica → (n : ℕ) × IsUpdateOf records replica n × (place_of records n ≡ k)
+pub place-there : (records : Records) (replica k : ℕ) → k < updates_of records replica
+    → (n : ℕ) × IsUpdateOf records replica n × (place_of records n ≡ k)
 place-there [] replica k below = absurd (omega arith)
 place-there (Operate by op clock ∷ before) replica k below = elim (cases_lt k (updates_of before replica)) [
   | inl older ↦
-      let known = place-there before replica k older in
-      (known.0, later_too before by op clock replica known.0 known.1, place-older before by op clock known.0 (is_update_at-below before known.0 known.1.0) ∙ known.2)
+      let known = place-there before replica k older in (
+        known.0,
+        later_too before by op clock replica known.0 known.1,
+        place-older before by op clock known.0
+            (is_update_at-below before known.0 known.1.0) ∙ known.2,
+      )
   | inr above ↦ elim (cases_Bool (by == replica && is_update op)) [
     | inl is ↦
         let parts = and_parts (by == replica) (is_update op) is in
         let same = eqb-true by replica parts.0 in
-        let here : k ≡ updates_of before replica = omega (arith, updates-one_more before by replica op clock same parts.1) in
-        let n = label_count before in
-        (n, (update-newest before by n op clock refl ∙ parts.1, issuer-newest before by n op clock refl ∙ same), place-here before by op clock replica n (refl, parts.1, same) ∙ sym here)
+        let here : k ≡ updates_of before replica =
+        omega (arith, updates-one_more before by replica op clock same parts.1) in
+        let n = label_count before in (
+          n,
+          (
+            update-newest before by n op clock refl ∙ parts.1,
+            issuer-newest before by n op clock refl
+                ∙ same,
+          ),
+          place-here before by op clock replica n (refl, parts.1, same) ∙ sym here,
+        )
     | inr foreign ↦
-        let kept : updates_of (Operate by op clock ∷ before) replica ≡ updates_of before replica = cond-false (by == replica && is_update op) _ _ foreign in
+        let kept : updates_of (Operate by op clock ∷ before) replica ≡ updates_of before replica =
+        cond-false (by == replica && is_update op) _ _ foreign in
         absurd (omega (arith, kept))
   ]
 ]
@@ -146,7 +219,8 @@ pub had-own : (records : Records) (replica n : ℕ) → IsUpdateOf records repli
 had-own [] replica n is = absurd (false≢true is.0)
 had-own (Operate by op clock ∷ before) replica n is = elim (newest_or_older before by op clock replica n is) [
   | inl new ↦
-      let place = and_from (by == replica) (n == label_count before) (eq-eqb by replica new.2) (eq-eqb n (label_count before) new.0) in
+      let place = and_from (by == replica) (n == label_count before) (eq-eqb by replica new.2)
+      (eq-eqb n (label_count before) new.0) in
       or_left _ (had before replica n) (and_from (by == replica && n == label_count before) (is_update op) place new.1)
   | inr old ↦ or_right _ (had before replica n) (had-own before replica n old.1)
 ]
@@ -154,20 +228,34 @@ had-own (Deliver to label ∷ before) replica n is = or_right _ (had before repl
 had-own (Verdict ∷ before) replica n is = had-own before replica n is
 
 -- an update sees those of its replica that have a place before its own
-pub sees-own : (records : Records) (replica n m : ℕ) → IsUpdateOf records replica n → IsUpdateOf records replica m → place_of records m < place_of records n → sees records n m ≡ true
+pub sees-own : (records : Records) (replica n m : ℕ) → IsUpdateOf records replica n → IsUpdateOf records replica m
+    → place_of records m < place_of records n → sees records n m ≡ true
 sees-own [] replica n m is also before = absurd (false≢true is.0)
-sees-own (Operate by op clock ∷ before) replica n m is also first = elim (newest_or_older before by op clock replica n is) [
-  | inl new ↦ elim (newest_or_older before by op clock replica m also) [
-    | inl newer ↦ absurd (omega (arith, first, place-here before by op clock replica n new, place-here before by op clock replica m newer))
-    | inr older ↦
-        cond-true (eqb n (label_count before)) (had before by m) (sees before n m) (eq-eqb n (label_count before) new.0)
-        ∙ subst (λ r. had before r m ≡ true) (sym new.2) (had-own before replica m older.1)
-  ]
-  | inr old ↦ elim (newest_or_older before by op clock replica m also) [
-    | inl newer ↦ absurd (omega (arith, first, place-here before by op clock replica m newer, place-older before by op clock n old.0, place-below before replica n old.1))
-    | inr older ↦
-        sees-append (Operate by op clock ∷ []) before n m old.0
-        ∙ sees-own before replica n m old.1 older.1 (omega (arith, first, place-older before by op clock n old.0, place-older before by op clock m older.0))
-  ]
-]
+sees-own (Operate by op clock ∷ before) replica n m is also first =
+    elim (newest_or_older before by op clock replica n is) [
+      | inl new ↦ elim (newest_or_older before by op clock replica m also) [
+        | inl newer ↦
+            absurd (omega
+            (arith, first, place-here before by op clock replica n new, place-here before by op clock replica m newer))
+        | inr older ↦
+            cond-true (eqb n (label_count before)) (had before by m) (sees before n m)
+            (eq-eqb n (label_count before) new.0)
+            ∙ subst (λ r. had before r m ≡ true) (sym new.2) (had-own before replica m older.1)
+      ]
+      | inr old ↦ elim (newest_or_older before by op clock replica m also) [
+        | inl newer ↦
+            absurd (omega (
+              arith,
+              first,
+              place-here before by op clock replica m newer,
+              place-older before by op clock n
+                  old.0,
+              place-below before replica n old.1,
+            ))
+        | inr older ↦
+            sees-append (Operate by op clock ∷ []) before n m old.0
+            ∙ sees-own before replica n m old.1 older.1
+            (omega (arith, first, place-older before by op clock n old.0, place-older before by op clock m older.0))
+      ]
+    ]
 sees-own (_ ∷ before) replica n m is also first = sees-own before replica n m is also first

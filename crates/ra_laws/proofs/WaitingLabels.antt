@@ -5,7 +5,7 @@ use Rattle.std.proofs.lemmas.Bool.{false≢true, cases_Bool, or_cases, or_left, 
 use Rattle.std.proofs.lemmas.List.Elements.{Contains-append_left, Contains-append_right, Contains-append_cases}
 use Rattle.ra_labels.specs.declared.kind.Kind.TheVariants.{Rga}
 use Rattle.ra_labels.specs.declared.operation.Update.{Update}
-use Rattle.ra_labels.specs.declared.operation.Update.TheVariants.{Inc, Dec, Write, LwwAdd, LwwRemove, OrAdd, TakeOut, After, RgaRemove}
+use Rattle.ra_labels.specs.declared.operation.Update.TheVariants.{After}
 use Rattle.ra_labels.specs.declared.label.Label.{Label}
 use Rattle.ra_labels.specs.Records.{Records, labels_of}
 use Rattle.ra_labels.specs.Insertion.{updates_passing, or_label, Makes}
@@ -20,56 +20,50 @@ puts_it x (After anchor y) found = elim (head_or_behind y [] x found) [
   | inl is ↦ eq-eqb y x is
   | inr none ↦ absurd (omega (arith, none.1))
 ]
-puts_it x Inc found = absurd (omega (arith, found.1))
-puts_it x Dec found = absurd (omega (arith, found.1))
-puts_it x (Write value) found = absurd (omega (arith, found.1))
-puts_it x (LwwAdd y) found = absurd (omega (arith, found.1))
-puts_it x (LwwRemove y) found = absurd (omega (arith, found.1))
-puts_it x (OrAdd y id) found = absurd (omega (arith, found.1))
-puts_it x (TakeOut y ids) found = absurd (omega (arith, found.1))
-puts_it x (RgaRemove y) found = absurd (omega (arith, found.1))
+puts_it x _ found = absurd (omega (arith, found.1))
 
 it_puts : (x : ℕ) (u : Update) → puts_in x u ≡ true → Contains (put_in_by u) x
 it_puts x (After anchor y) puts = at_head y [] x (eqb-true y x puts)
-it_puts x Inc puts = absurd (false≢true puts)
-it_puts x Dec puts = absurd (false≢true puts)
-it_puts x (Write value) puts = absurd (false≢true puts)
-it_puts x (LwwAdd y) puts = absurd (false≢true puts)
-it_puts x (LwwRemove y) puts = absurd (false≢true puts)
-it_puts x (OrAdd y id) puts = absurd (false≢true puts)
-it_puts x (TakeOut y ids) puts = absurd (false≢true puts)
-it_puts x (RgaRemove y) puts = absurd (false≢true puts)
+it_puts x _ puts = absurd (false≢true puts)
 
 pub puts-exactly : (x : ℕ) (u : Update) → Contains (put_in_by u) x ↔ (puts_in x u ≡ true)
 puts-exactly x u = (puts_it x u, it_puts x u)
 
 -- who does not pass with one more label did not before, and is another
 not_before : (passes : ℕ → Bool) (n m : ℕ) → or_label passes n m ≡ false → passes m ≡ false
-not_before passes n m fails = false_from_ne_true (passes m) (λ it. false≢true (sym fails ∙ or_left (passes m) (m == n) it))
+not_before passes n m fails =
+    false_from_ne_true (passes m) (λ it. false≢true (sym fails ∙ or_left (passes m) (m == n) it))
 
 not_it : (passes : ℕ → Bool) (n m : ℕ) → or_label passes n m ≡ false → (m == n) ≡ false
 not_it passes n m fails = false_from_ne_true (m == n) (λ is. false≢true (sym fails ∙ or_right (passes m) (m == n) is))
 
 -- whoever waited waits with one more label, or needs what it puts in
-waits_more : (records : Records) (passes : ℕ → Bool) (label : Label) (u : Update) (x : ℕ) → Contains (labels_of records) label → Makes label.op u → passes label.number ≡ false
+waits_more : (records : Records) (passes : ℕ → Bool) (label : Label) (u : Update) (x : ℕ)
+    → Contains (labels_of records) label → Makes label.op u → passes label.number ≡ false
     → is_there x (updates_passing Rga records passes) ≡ false
     → (is_there x (updates_passing Rga records (or_label passes label.number)) ≡ false) ⊎ Contains (put_in_by u) x
 waits_more records passes label u x there makes new waits = elim (cases_Bool (puts_in x u)) [
   | inl puts ↦ inr (it_puts x u puts)
   | inr other ↦
-      inl (there-more Rga records passes label u x there makes new ∙ or_from (is_there x (updates_passing Rga records passes)) (puts_in x u) waits other)
+      inl (there-more Rga records passes label u x there makes new
+      ∙ or_from (is_there x (updates_passing Rga records passes)) (puts_in x u) waits other)
 ]
 
-there_now : (records : Records) (passes : ℕ → Bool) (label : Label) (u : Update) (x : ℕ) → Contains (labels_of records) label → Makes label.op u → passes label.number ≡ false
+there_now : (records : Records) (passes : ℕ → Bool) (label : Label) (u : Update) (x : ℕ)
+    → Contains (labels_of records) label → Makes label.op u → passes label.number ≡ false
     → Contains (put_in_by u) x → is_there x (updates_passing Rga records (or_label passes label.number)) ≡ true
 there_now records passes label u x there makes new found =
-    there-more Rga records passes label u x there makes new ∙ or_right (is_there x (updates_passing Rga records passes)) (puts_in x u) (puts_it x u found)
+    there-more Rga records passes label u x there makes new
+    ∙ or_right (is_there x (updates_passing Rga records passes)) (puts_in x u) (puts_it x u found)
 
-pub settling-starts : (records : Records) (had settled : ℕ → Bool) (label : Label) (u : Update) → Contains (labels_of records) label → Makes label.op u → had label.number ≡ false → IsSettled records had settled
-    → is_there (needed_by u) (updates_passing Rga records settled) ≡ true → IsSettling records (or_label had label.number) (or_label settled label.number) (put_in_by u)
+pub settling-starts : (records : Records) (had settled : ℕ → Bool) (label : Label) (u : Update)
+    → Contains (labels_of records) label → Makes label.op u → had label.number ≡ false → IsSettled records had settled
+    → is_there (needed_by u) (updates_passing Rga records settled) ≡ true
+    → IsSettling records (or_label had label.number) (or_label settled label.number) (put_in_by u)
 settling-starts records had settled label u there makes new is_settled needs =
     let (had_them, none, others) = (settled-exactly records had settled).0 is_settled in
-    let not_yet : settled label.number ≡ false = false_from_ne_true (settled label.number) (λ it. false≢true (sym new ∙ had_them label.number it)) in
+    let not_yet : settled label.number ≡ false =
+    false_from_ne_true (settled label.number) (λ it. false≢true (sym new ∙ had_them label.number it)) in
     record {
       had_them = λ n it. elim (or_cases (settled n) (n == label.number) it) [
         | inl old ↦ or_left (had n) (n == label.number) (had_them n old)
@@ -78,32 +72,37 @@ settling-starts records had settled label u there makes new is_settled needs =
       none_waits = none-waits_more records settled label u there makes not_yet none needs;
       there = λ x found. there_now records settled label u x there makes not_yet found;
       others = λ l v l_there l_makes had_it fails. elim (or_cases (had l.number) (l.number == label.number) had_it) [
-        | inl old ↦ waits_more records settled label u (needed_by v) there makes not_yet (others l v l_there l_makes old (not_before settled label.number l.number fails))
+        | inl old ↦ waits_more records settled label u (needed_by v) there makes not_yet
+            (others l v l_there l_makes old (not_before settled label.number l.number fails))
         | inr is ↦ absurd (false≢true (sym (not_it settled label.number l.number fails) ∙ is))
       ];
     }
 
-pub settling-follows : (records : Records) (had passes : ℕ → Bool) (arrived : List ℕ) (label : Label) (u : Update) → IsSettling records had passes arrived → Contains (labels_of records) label → Makes label.op u
-    → had label.number ≡ true → passes label.number ≡ false → Contains arrived (needed_by u) → IsSettling records had (or_label passes label.number) (arrived ++ put_in_by u)
+pub settling-follows : (records : Records) (had passes : ℕ → Bool) (arrived : List ℕ) (label : Label) (u : Update)
+    → IsSettling records had passes arrived → Contains (labels_of records) label → Makes label.op u
+    → had label.number ≡ true → passes label.number ≡ false → Contains arrived (needed_by u)
+    → IsSettling records had (or_label passes label.number) (arrived ++ put_in_by u)
 settling-follows records had passes arrived label u settling there makes was_had new needs = record {
   had_them = λ n it. elim (or_cases (passes n) (n == label.number) it) [
     | inl old ↦ settling.had_them n old
     | inr is ↦ ap had (eqb-true n label.number is) ∙ was_had
   ];
-  none_waits = none-waits_more records passes label u there makes new settling.none_waits (settling.there (needed_by u) needs);
+  none_waits = none-waits_more records passes label u there makes new settling.none_waits
+      (settling.there (needed_by u) needs);
   there = λ x found. elim (Contains-append_cases arrived (put_in_by u) x found) [
     | inl old ↦
         there-more Rga records passes label u x there makes new
         ∙ or_left (is_there x (updates_passing Rga records passes)) (puts_in x u) (settling.there x old)
     | inr now ↦ there_now records passes label u x there makes new now
   ];
-  others = λ l v l_there l_makes had_it fails. elim (settling.others l v l_there l_makes had_it (not_before passes label.number l.number fails)) [
-    | inl waits ↦ elim (waits_more records passes label u (needed_by v) there makes new waits) [
-      | inl still ↦ inl still
-      | inr now ↦ inr (Contains-append_right arrived (put_in_by u) (needed_by v) now)
-    ]
-    | inr old ↦ inr (Contains-append_left arrived (put_in_by u) (needed_by v) old)
-  ];
+  others = λ l v l_there l_makes had_it fails. elim
+      (settling.others l v l_there l_makes had_it (not_before passes label.number l.number fails)) [
+        | inl waits ↦ elim (waits_more records passes label u (needed_by v) there makes new waits) [
+          | inl still ↦ inl still
+          | inr now ↦ inr (Contains-append_right arrived (put_in_by u) (needed_by v) now)
+        ]
+        | inr old ↦ inr (Contains-append_left arrived (put_in_by u) (needed_by v) old)
+      ];
 }
 
 -- an element that none waits for any more is done with
@@ -122,8 +121,10 @@ with_it first later x y found = elim (Contains-append_cases first later y found)
   | inr late ↦ Contains-append_right first (x ∷ later) y (behind_head x later y late)
 ]
 
-pub settling-done : (records : Records) (had passes : ℕ → Bool) (first later : List ℕ) (x : ℕ) → IsSettling records had passes (first ++ x ∷ later)
-    → ((label : Label) (u : Update) → Contains (labels_of records) label → Makes label.op u → had label.number ≡ true → passes label.number ≡ false → ¬ (needed_by u ≡ x)) → IsSettling records had passes (first ++ later)
+pub settling-done : (records : Records) (had passes : ℕ → Bool) (first later : List ℕ) (x : ℕ)
+    → IsSettling records had passes (first ++ x ∷ later)
+    → ((label : Label) (u : Update) → Contains (labels_of records) label → Makes label.op u → had label.number ≡ true
+    → passes label.number ≡ false → ¬ (needed_by u ≡ x)) → IsSettling records had passes (first ++ later)
 settling-done records had passes first later x settling none = record {
   had_them = settling.had_them;
   none_waits = settling.none_waits;
@@ -137,7 +138,8 @@ settling-done records had passes first later x settling none = record {
   ];
 }
 
-pub settling-ends : (records : Records) (had passes : ℕ → Bool) → IsSettling records had passes [] → IsSettled records had passes
+pub settling-ends : (records : Records) (had passes : ℕ → Bool) → IsSettling records had passes []
+    → IsSettled records had passes
 settling-ends records had passes settling = (settled-exactly records had passes).1 (
   settling.had_them,
   settling.none_waits,

@@ -1,4 +1,6 @@
-use Rattle.ra_laws.proofs.TheLaws.{a_label_stands_before_those_that_it_is_below-before, a_label_stands_before_those_that_it_is_below-behind, a_label_stands_before_those_that_it_is_below-place}
+use Rattle.ra_laws.proofs.TheLaws.{a_label_stands_before_those_that_it_is_below-before}
+use Rattle.ra_laws.proofs.TheLaws.{a_label_stands_before_those_that_it_is_below-behind}
+use Rattle.ra_laws.proofs.TheLaws.{a_label_stands_before_those_that_it_is_below-place}
 use Rattle.ra_laws.proofs.laws.arriving.a_label_stands_before_those_that_it_is_below.Goals as goal
 
 pub returns-clause-before : goal.returns-clause-before

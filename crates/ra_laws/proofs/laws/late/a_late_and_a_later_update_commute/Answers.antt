@@ -1,4 +1,7 @@
-use Rattle.ra_laws.proofs.TheLaws.{a_late_and_a_later_update_commute-insertions, a_late_and_a_later_update_commute-late_removed, a_late_and_a_later_update_commute-removed, a_late_and_a_later_update_commute-removals}
+use Rattle.ra_laws.proofs.TheLaws.{a_late_and_a_later_update_commute-insertions}
+use Rattle.ra_laws.proofs.TheLaws.{a_late_and_a_later_update_commute-late_removed}
+use Rattle.ra_laws.proofs.TheLaws.{a_late_and_a_later_update_commute-removed}
+use Rattle.ra_laws.proofs.TheLaws.{a_late_and_a_later_update_commute-removals}
 use Rattle.ra_laws.proofs.laws.late.a_late_and_a_later_update_commute.Goals as goal
 
 pub returns-clause-insertions : goal.returns-clause-insertions

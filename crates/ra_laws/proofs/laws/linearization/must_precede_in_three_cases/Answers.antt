@@ -1,4 +1,5 @@
-use Rattle.ra_laws.proofs.TheLaws.{must_precede_in_three_cases-visible, must_precede_in_three_cases-earlier, must_precede_in_three_cases-halves, must_precede_in_three_cases-cases}
+use Rattle.ra_laws.proofs.TheLaws.{must_precede_in_three_cases-visible, must_precede_in_three_cases-earlier}
+use Rattle.ra_laws.proofs.TheLaws.{must_precede_in_three_cases-halves, must_precede_in_three_cases-cases}
 use Rattle.ra_laws.proofs.laws.linearization.must_precede_in_three_cases.Goals as goal
 
 pub returns-clause-visible : goal.returns-clause-visible

@@ -1,4 +1,5 @@
-use Rattle.ra_laws.proofs.TheLaws.{a_delivery_is_one_step-counter, a_delivery_is_one_step-register, a_delivery_is_one_step-lww_set, a_delivery_is_one_step-or_set}
+use Rattle.ra_laws.proofs.TheLaws.{a_delivery_is_one_step-counter, a_delivery_is_one_step-register}
+use Rattle.ra_laws.proofs.TheLaws.{a_delivery_is_one_step-lww_set, a_delivery_is_one_step-or_set}
 use Rattle.ra_laws.proofs.laws.one_step.a_delivery_is_one_step.Goals as goal
 
 pub returns-clause-counter : goal.returns-clause-counter

@@ -1,4 +1,6 @@
-use Rattle.ra_laws.proofs.TheLaws.{of_each_element_the_last_update_counts-has, of_each_element_the_last_update_counts-same, of_each_element_the_last_update_counts-late}
+use Rattle.ra_laws.proofs.TheLaws.{of_each_element_the_last_update_counts-has}
+use Rattle.ra_laws.proofs.TheLaws.{of_each_element_the_last_update_counts-same}
+use Rattle.ra_laws.proofs.TheLaws.{of_each_element_the_last_update_counts-late}
 use Rattle.ra_laws.proofs.laws.overriding.of_each_element_the_last_update_counts.Goals as goal
 
 pub returns-clause-has : goal.returns-clause-has

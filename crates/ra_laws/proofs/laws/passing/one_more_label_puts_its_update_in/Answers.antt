@@ -1,4 +1,5 @@
-use Rattle.ra_laws.proofs.TheLaws.{one_more_label_puts_its_update_in-place, one_more_label_puts_its_update_in-at, one_more_label_puts_its_update_in-count, one_more_label_puts_its_update_in-there}
+use Rattle.ra_laws.proofs.TheLaws.{one_more_label_puts_its_update_in-place, one_more_label_puts_its_update_in-at}
+use Rattle.ra_laws.proofs.TheLaws.{one_more_label_puts_its_update_in-count, one_more_label_puts_its_update_in-there}
 use Rattle.ra_laws.proofs.laws.passing.one_more_label_puts_its_update_in.Goals as goal
 
 pub returns-clause-place : goal.returns-clause-place

@@ -1,4 +1,5 @@
-use Rattle.ra_laws.proofs.TheLaws.{an_operation_is_found_as_its_label-found, an_operation_is_found_as_its_label-stamped, an_operation_is_found_as_its_label-unstamped}
+use Rattle.ra_laws.proofs.TheLaws.{an_operation_is_found_as_its_label-found, an_operation_is_found_as_its_label-stamped}
+use Rattle.ra_laws.proofs.TheLaws.{an_operation_is_found_as_its_label-unstamped}
 use Rattle.ra_laws.proofs.laws.records.an_operation_is_found_as_its_label.Goals as goal
 
 pub returns-clause-found : goal.returns-clause-found

@@ -1,4 +1,6 @@
-use Rattle.ra_laws.proofs.TheLaws.{a_list_has_what_was_put_in-elements, a_list_has_what_was_put_in-shown, a_list_has_what_was_put_in-root, a_list_has_what_was_put_in-once, a_list_has_what_was_put_in-stays}
+use Rattle.ra_laws.proofs.TheLaws.{a_list_has_what_was_put_in-elements, a_list_has_what_was_put_in-shown}
+use Rattle.ra_laws.proofs.TheLaws.{a_list_has_what_was_put_in-root, a_list_has_what_was_put_in-once}
+use Rattle.ra_laws.proofs.TheLaws.{a_list_has_what_was_put_in-stays}
 use Rattle.ra_laws.proofs.laws.rga.a_list_has_what_was_put_in.Goals as goal
 
 pub returns-clause-elements : goal.returns-clause-elements

@@ -1,4 +1,6 @@
-use Rattle.ra_laws.proofs.TheLaws.{an_element_is_removed_that_is_there-admitted, an_element_is_removed_that_is_there-places, an_element_is_removed_that_is_there-shown}
+use Rattle.ra_laws.proofs.TheLaws.{an_element_is_removed_that_is_there-admitted}
+use Rattle.ra_laws.proofs.TheLaws.{an_element_is_removed_that_is_there-places}
+use Rattle.ra_laws.proofs.TheLaws.{an_element_is_removed_that_is_there-shown}
 use Rattle.ra_laws.proofs.laws.rga.an_element_is_removed_that_is_there.Goals as goal
 
 pub returns-clause-admitted : goal.returns-clause-admitted

@@ -1,4 +1,5 @@
-use Rattle.ra_laws.proofs.TheLaws.{stamps_by_clock_and_then_by_replica-less, stamps_by_clock_and_then_by_replica-equal, stamps_by_clock_and_then_by_replica-derived}
+use Rattle.ra_laws.proofs.TheLaws.{stamps_by_clock_and_then_by_replica-less, stamps_by_clock_and_then_by_replica-equal}
+use Rattle.ra_laws.proofs.TheLaws.{stamps_by_clock_and_then_by_replica-derived}
 use Rattle.ra_laws.proofs.laws.sequence.stamps_by_clock_and_then_by_replica.Goals as goal
 
 pub returns-clause-less : goal.returns-clause-less

@@ -1,4 +1,6 @@
-use Rattle.ra_laws.proofs.TheLaws.{the_order_of_execution_extends_visibility-labels, the_order_of_execution_extends_visibility-counter, the_order_of_execution_extends_visibility-or_set}
+use Rattle.ra_laws.proofs.TheLaws.{the_order_of_execution_extends_visibility-labels}
+use Rattle.ra_laws.proofs.TheLaws.{the_order_of_execution_extends_visibility-counter}
+use Rattle.ra_laws.proofs.TheLaws.{the_order_of_execution_extends_visibility-or_set}
 use Rattle.ra_laws.proofs.laws.sequence.the_order_of_execution_extends_visibility.Goals as goal
 
 pub returns-clause-labels : goal.returns-clause-labels

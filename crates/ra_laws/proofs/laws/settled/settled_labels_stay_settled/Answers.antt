@@ -1,4 +1,5 @@
-use Rattle.ra_laws.proofs.TheLaws.{settled_labels_stay_settled-waiting, settled_labels_stay_settled-delivery, settled_labels_stay_settled-operation, settled_labels_stay_settled-alike}
+use Rattle.ra_laws.proofs.TheLaws.{settled_labels_stay_settled-waiting, settled_labels_stay_settled-delivery}
+use Rattle.ra_laws.proofs.TheLaws.{settled_labels_stay_settled-operation, settled_labels_stay_settled-alike}
 use Rattle.ra_laws.proofs.laws.settled.settled_labels_stay_settled.Goals as goal
 
 pub returns-clause-waiting : goal.returns-clause-waiting

@@ -1,4 +1,6 @@
-use Rattle.ra_laws.proofs.TheLaws.{those_that_waited_follow-starts, those_that_waited_follow-follows, those_that_waited_follow-done, those_that_waited_follow-ends, those_that_waited_follow-element}
+use Rattle.ra_laws.proofs.TheLaws.{those_that_waited_follow-starts, those_that_waited_follow-follows}
+use Rattle.ra_laws.proofs.TheLaws.{those_that_waited_follow-done, those_that_waited_follow-ends}
+use Rattle.ra_laws.proofs.TheLaws.{those_that_waited_follow-element}
 use Rattle.ra_laws.proofs.laws.settled.those_that_waited_follow.Goals as goal
 
 pub returns-clause-starts : goal.returns-clause-starts

@@ -1,4 +1,5 @@
-use Rattle.ra_laws.proofs.TheLaws.{a_set_has_what_was_put_in_last-added, a_set_has_what_was_put_in_last-removed, a_set_has_what_was_put_in_last-never, a_set_has_what_was_put_in_last-rises}
+use Rattle.ra_laws.proofs.TheLaws.{a_set_has_what_was_put_in_last-added, a_set_has_what_was_put_in_last-removed}
+use Rattle.ra_laws.proofs.TheLaws.{a_set_has_what_was_put_in_last-never, a_set_has_what_was_put_in_last-rises}
 use Rattle.ra_laws.proofs.laws.specification.a_set_has_what_was_put_in_last.Goals as goal
 
 pub returns-clause-added : goal.returns-clause-added

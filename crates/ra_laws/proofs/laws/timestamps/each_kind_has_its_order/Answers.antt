@@ -1,4 +1,6 @@
-use Rattle.ra_laws.proofs.TheLaws.{each_kind_has_its_order-counter, each_kind_has_its_order-register, each_kind_has_its_order-lww_set, each_kind_has_its_order-or_set, each_kind_has_its_order-rga}
+use Rattle.ra_laws.proofs.TheLaws.{each_kind_has_its_order-counter, each_kind_has_its_order-register}
+use Rattle.ra_laws.proofs.TheLaws.{each_kind_has_its_order-lww_set, each_kind_has_its_order-or_set}
+use Rattle.ra_laws.proofs.TheLaws.{each_kind_has_its_order-rga}
 use Rattle.ra_laws.proofs.laws.timestamps.each_kind_has_its_order.Goals as goal
 
 pub returns-clause-counter : goal.returns-clause-counter

@@ -1,4 +1,6 @@
-use Rattle.ra_laws.proofs.TheLaws.{updates_are_admitted_where_none_waits-exactly, updates_are_admitted_where_none_waits-list, updates_are_admitted_where_none_waits-shown}
+use Rattle.ra_laws.proofs.TheLaws.{updates_are_admitted_where_none_waits-exactly}
+use Rattle.ra_laws.proofs.TheLaws.{updates_are_admitted_where_none_waits-list}
+use Rattle.ra_laws.proofs.TheLaws.{updates_are_admitted_where_none_waits-shown}
 use Rattle.ra_laws.proofs.laws.waiting.updates_are_admitted_where_none_waits.Goals as goal
 
 pub returns-clause-exactly : goal.returns-clause-exactly
