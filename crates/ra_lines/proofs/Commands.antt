@@ -1,5 +1,6 @@
 -- A line is read as a command just where it spells that command.
-use Rattle.std.proofs.Common.{◌≡◌, ℕ, ◌+◌, ◌<◌, inl, inr, eqb, List, [], ◌∷◌, ◌++◌, length, Option, Some, None, Result, Ok, Err, refl, sym, ap, subst, ◌∙◌, arith}
+use Rattle.std.proofs.Common.{◌≡◌, ℕ, ◌+◌, ◌<◌, inl, inr, eqb, List, [], ◌∷◌, ◌++◌, length, Option, Some, None, Result}
+use Rattle.std.proofs.Common.{Ok, Err, refl, sym, ap, subst, ◌∙◌, arith}
 use Rattle.std.specs.Prelude.{bytes_eq, codes, decimal, IfSome, IfOk, option_map, option_and_then}
 use Rattle.std.specs.List.{join_with_byte}
 use Rattle.std.proofs.lemmas.Bool.{eqb-true, cases_Bool}
@@ -8,9 +9,11 @@ use Rattle.ra_labels.specs.declared.kind.Kind.{Kind}
 use Rattle.ra_labels.specs.declared.operation.Op.{Op}
 use Rattle.ra_labels.specs.declared.command.Command.{Command}
 use Rattle.ra_labels.specs.declared.command.Command.TheVariants.{Operate, Deliver, Verdict}
-use Rattle.ra_lines.specs.Grammar.{IsSmall, is_name, place_of, fields_of, operation_fields, clock_fields, NamesReplica, AreFieldsOfOperation, AreFieldsOf, Spells, IsAtReplica}
-use Rattle.ra_lines.specs.Reading.{number_read, mark_first, clock_read, clock_last, delivery_read, operation_read, word_first, replica_command_read, command_read}
-use Rattle.ra_lines.proofs.Cuts.{pieces-joined}
+use Rattle.ra_lines.specs.Grammar.{IsSmall, is_name, place_of, fields_of, operation_fields, clock_fields, NamesReplica}
+use Rattle.ra_lines.specs.Grammar.{AreFieldsOfOperation, AreFieldsOf, Spells, IsAtReplica}
+use Rattle.ra_lines.specs.Reading.{number_read, mark_first, clock_read, clock_last, delivery_read, operation_read}
+use Rattle.ra_lines.specs.Reading.{word_first, replica_command_read, command_read}
+use Rattle.ra_lines.proofs.Pieces.{pieces-joined}
 use Rattle.ra_lines.proofs.Lists.{mapped}
 use Rattle.ra_lines.proofs.Numbers.{number_read-Some, number_read-decimal}
 use Rattle.ra_lines.proofs.Operations.{same_bytes, chosen, word_found, word_of, behind_word, word_is, word_only}
@@ -28,18 +31,22 @@ clock_found (mark ∷ digits) at e =
       | inr none ↦ absurd (let never = none.1 in cc)
     ]
 
-clock_last_found : (fields : List (List ℕ)) (clock : Option ℕ) → clock_last fields ≡ Some clock → (fields ≡ clock_fields clock) × IfSome clock IsSmall
+clock_last_found : (fields : List (List ℕ)) (clock : Option ℕ) → clock_last fields ≡ Some clock
+    → (fields ≡ clock_fields clock) × IfSome clock IsSmall
 clock_last_found [] clock e =
     let is : None ≡ clock = cc in
     subst (λ (c : Option ℕ). ([] ≡ clock_fields c) × IfSome c IsSmall) is (refl, tt)
 clock_last_found (field ∷ []) clock e =
     let m = mapped (λ at. Some at) (clock_read field) clock e in
     let says = clock_found field m.0 m.1 in
-    subst (λ (c : Option ℕ). (field ∷ [] ≡ clock_fields c) × IfSome c IsSmall) m.2 (ap (λ (f : List ℕ). f ∷ []) says.0, says.1)
+    subst (λ (c : Option ℕ). (field ∷ [] ≡ clock_fields c) × IfSome c IsSmall) m.2
+    (ap (λ (f : List ℕ). f ∷ []) says.0, says.1)
 clock_last_found (field ∷ another ∷ more) clock e = absurd cc
 
-delivery_found : (kind : Kind) (names : List (List ℕ)) (name : List ℕ) (replica : ℕ) (fields : List (List ℕ)) (c : Command)
-    → NamesReplica names name replica → delivery_read replica fields ≡ Some c → AreFieldsOf kind names (name ∷ codes "got" ∷ fields) c
+delivery_found : (kind : Kind) (names : List (List ℕ)) (name : List ℕ) (replica : ℕ) (fields : List (List ℕ))
+    (c : Command)
+    → NamesReplica names name replica → delivery_read replica fields ≡ Some c
+    → AreFieldsOf kind names (name ∷ codes "got" ∷ fields) c
 delivery_found kind names name replica [] c who e = absurd cc
 delivery_found kind names name replica (field ∷ []) c who e =
     let m = mapped (λ label. Deliver replica label) (number_read field) c e in
@@ -48,15 +55,19 @@ delivery_found kind names name replica (field ∷ []) c who e =
     (record { name = name; who = who; small = says.1; words = ap (λ (f : List ℕ). name ∷ codes "got" ∷ f ∷ []) says.0 })
 delivery_found kind names name replica (field ∷ another ∷ more) c who e = absurd cc
 
-operation_found : (kind : Kind) (names : List (List ℕ)) (name : List ℕ) (replica : ℕ) (word : List ℕ) (fields : List (List ℕ)) (c : Command)
-    → NamesReplica names name replica → operation_read kind replica word fields ≡ Some c → AreFieldsOf kind names (name ∷ word ∷ fields) c
+operation_found : (kind : Kind) (names : List (List ℕ)) (name : List ℕ) (replica : ℕ) (word : List ℕ)
+    (fields : List (List ℕ)) (c : Command)
+    → NamesReplica names name replica → operation_read kind replica word fields ≡ Some c
+    → AreFieldsOf kind names (name ∷ word ∷ fields) c
 operation_found kind names name replica word fields c who e =
-    option_and_then_some (λ op. option_map (λ clock. Operate replica op.0 clock) (clock_last op.1)) (word_first kind word fields) c e
+    option_and_then_some (λ op. option_map (λ clock. Operate replica op.0 clock) (clock_last op.1))
+    (word_first kind word fields) c e
     (λ op read next.
     let m = mapped (λ clock. Operate replica op.0 clock) (clock_last op.1) c next in
     let of = word_found kind word fields op read in
     let last = clock_last_found op.1 m.0 m.1 in
-    let words : word ∷ fields ≡ operation_fields op.0 ++ clock_fields m.0 = of.words ∙ ap (λ (fs : List (List ℕ)). operation_fields op.0 ++ fs) last.0 in
+    let words : word ∷ fields ≡ operation_fields op.0 ++ clock_fields m.0 = of.words
+    ∙ ap (λ (fs : List (List ℕ)). operation_fields op.0 ++ fs) last.0 in
     subst (AreFieldsOf kind names (name ∷ word ∷ fields)) m.2
     (record {
       name = name;
@@ -66,36 +77,44 @@ operation_found kind names name replica word fields c who e =
       words = refl;
     }))
 
-replica_command_found : (kind : Kind) (names : List (List ℕ)) (name : List ℕ) (replica : ℕ) (word : List ℕ) (fields : List (List ℕ)) (c : Command)
-    → NamesReplica names name replica → replica_command_read kind replica word fields ≡ Some c → AreFieldsOf kind names (name ∷ word ∷ fields) c
+replica_command_found : (kind : Kind) (names : List (List ℕ)) (name : List ℕ) (replica : ℕ) (word : List ℕ)
+    (fields : List (List ℕ)) (c : Command)
+    → NamesReplica names name replica → replica_command_read kind replica word fields ≡ Some c
+    → AreFieldsOf kind names (name ∷ word ∷ fields) c
 replica_command_found kind names name replica word fields c who e =
     elim (chosen (bytes_eq word (codes "got")) _ _ _ e) [
       | inl got ↦
-          subst (λ (w : List ℕ). AreFieldsOf kind names (name ∷ w ∷ fields) c) (sym (same_bytes word (codes "got") got.0))
+          subst (λ (w : List ℕ). AreFieldsOf kind names (name ∷ w ∷ fields) c)
+          (sym (same_bytes word (codes "got") got.0))
           (delivery_found kind names name replica fields c who got.1)
       | inr other ↦ operation_found kind names name replica word fields c who other.1
     ]
 
-pub command_found : (kind : Kind) (names fields : List (List ℕ)) (c : Command) → command_read kind names fields ≡ Some c → AreFieldsOf kind names fields c
+pub command_found : (kind : Kind) (names fields : List (List ℕ)) (c : Command) → command_read kind names fields ≡ Some c
+    → AreFieldsOf kind names fields c
 command_found kind names [] c e = absurd cc
 command_found kind names (word ∷ []) c e =
     elim (chosen (bytes_eq word (codes "verdict")) _ _ _ e) [
       | inl verdict ↦
           let is : Verdict ≡ c = let some = verdict.1 in cc in
-          subst (AreFieldsOf kind names (word ∷ [])) is (ap (λ (w : List ℕ). w ∷ []) (same_bytes word (codes "verdict") verdict.0))
+          subst (AreFieldsOf kind names (word ∷ [])) is
+          (ap (λ (w : List ℕ). w ∷ []) (same_bytes word (codes "verdict") verdict.0))
       | inr none ↦ absurd (let never = none.1 in cc)
     ]
 command_found kind names (name ∷ word ∷ fields) c e =
     elim (chosen (is_name name) _ _ _ e) [
-      | inl read ↦ replica_command_found kind names name (place_of names name) word fields c (record { form = read.0; place = refl }) read.1
+      | inl read ↦ replica_command_found kind names name (place_of names name) word fields c
+          (record { form = read.0; place = refl }) read.1
       | inr none ↦ absurd (let never = none.1 in cc)
     ]
 
 -- ---- what is spelled is read
 
-replica_command_only : (kind : Kind) (names : List (List ℕ)) (name word : List ℕ) (fields : List (List ℕ)) (replica : ℕ) → NamesReplica names name replica
+replica_command_only : (kind : Kind) (names : List (List ℕ)) (name word : List ℕ) (fields : List (List ℕ)) (replica : ℕ)
+    → NamesReplica names name replica
     → command_read kind names (name ∷ word ∷ fields) ≡ replica_command_read kind replica word fields
-replica_command_only kind names name word fields replica who = rw who.form (ap (λ (r : ℕ). replica_command_read kind r word fields) (sym who.place))
+replica_command_only kind names name word fields replica who =
+    rw who.form (ap (λ (r : ℕ). replica_command_read kind r word fields) (sym who.place))
 
 clock_last_only : (clock : Option ℕ) → IfSome clock IsSmall → clock_last (clock_fields clock) ≡ Some clock
 clock_last_only None small = refl
@@ -105,7 +124,8 @@ clock_unmarked : (clock : Option ℕ) → mark_first (clock_fields clock) ≡ No
 clock_unmarked None = refl
 clock_unmarked (Some at) = refl
 
-operation_only : (kind : Kind) (names : List (List ℕ)) (name : List ℕ) (replica : ℕ) (body : List (List ℕ)) (op : Op) (clock : Option ℕ) → NamesReplica names name replica
+operation_only : (kind : Kind) (names : List (List ℕ)) (name : List ℕ) (replica : ℕ) (body : List (List ℕ)) (op : Op)
+    (clock : Option ℕ) → NamesReplica names name replica
     → AreFieldsOfOperation kind body op clock → command_read kind names (name ∷ body) ≡ Some (Operate replica op clock)
 operation_only kind names name replica body op clock who is =
     let word = word_is op in
@@ -114,24 +134,31 @@ operation_only kind names name replica body op clock who is =
     let read = word_only kind op is.own is.small (clock_fields clock) (clock_unmarked clock) in
     let next = λ (r : Op × List (List ℕ)). option_map (λ at. Operate replica r.0 at) (clock_last r.1) in
     let last : operation_read kind replica (word_of op) fields ≡ Some (Operate replica op clock) =
-    ap (option_and_then next) read ∙ ap (option_map (λ at. Operate replica op at)) (clock_last_only clock is.small_clock) in
+    ap (option_and_then next) read
+    ∙ ap (option_map (λ at. Operate replica op at)) (clock_last_only clock is.small_clock) in
     ap (λ (fs : List (List ℕ)). command_read kind names (name ∷ fs)) parts
     ∙ replica_command_only kind names name (word_of op) fields replica who ∙ rw word.1 last
 
-delivery_only : (kind : Kind) (replica label : ℕ) (names : List (List ℕ)) (name : List ℕ) → NamesReplica names name replica → IsSmall label
+delivery_only : (kind : Kind) (replica label : ℕ) (names : List (List ℕ)) (name : List ℕ)
+    → NamesReplica names name replica → IsSmall label
     → command_read kind names (name ∷ codes "got" ∷ decimal label ∷ []) ≡ Some (Deliver replica label)
 delivery_only kind replica label names name who small =
-    replica_command_only kind names name (codes "got") (decimal label ∷ []) replica who ∙ rw (number_read-decimal label small) refl
+    replica_command_only kind names name (codes "got") (decimal label ∷ []) replica who
+    ∙ rw (number_read-decimal label small) refl
 
-pub command_only : (kind : Kind) (names fields : List (List ℕ)) (c : Command) → AreFieldsOf kind names fields c → command_read kind names fields ≡ Some c
+pub command_only : (kind : Kind) (names fields : List (List ℕ)) (c : Command) → AreFieldsOf kind names fields c
+    → command_read kind names fields ≡ Some c
 command_only kind names fields Verdict spelled = ap (command_read kind names) spelled
 command_only kind names fields (Deliver replica label) spelled =
-    ap (command_read kind names) spelled.words ∙ delivery_only kind replica label names spelled.name spelled.who spelled.small
+    ap (command_read kind names) spelled.words
+    ∙ delivery_only kind replica label names spelled.name spelled.who spelled.small
 command_only kind names fields (Operate replica op clock) spelled =
-    ap (command_read kind names) spelled.words ∙ operation_only kind names spelled.name replica spelled.body op clock spelled.who spelled.is_body
+    ap (command_read kind names) spelled.words
+    ∙ operation_only kind names spelled.name replica spelled.body op clock spelled.who spelled.is_body
 
 -- a line spells at most one command
-pub one_command : (kind : Kind) (names : List (List ℕ)) (line : List ℕ) (c d : Command) → Spells kind names line c → Spells kind names line d → c ≡ d
+pub one_command : (kind : Kind) (names : List (List ℕ)) (line : List ℕ) (c d : Command) → Spells kind names line c
+    → Spells kind names line d → c ≡ d
 one_command kind names line c d p q =
     let first = command_only kind names (fields_of line) c p in
     let second = command_only kind names (fields_of line) d q in
@@ -142,7 +169,8 @@ one_command kind names line c d p q =
 same_line : (line other : List ℕ) → fields_of line ≡ fields_of other → line ≡ other
 same_line line other e = sym (pieces-joined 32 line) ∙ ap (join_with_byte 32) e ∙ pieces-joined 32 other
 
-same_name : (names : List (List ℕ)) (name other : List ℕ) → place_of names name ≡ place_of names other → place_of names name < length names → name ≡ other
+same_name : (names : List (List ℕ)) (name other : List ℕ) → place_of names name ≡ place_of names other
+    → place_of names name < length names → name ≡ other
 same_name [] name other same there = absurd (omega arith)
 same_name (first ∷ names) name other same there =
     elim (cases_Bool (bytes_eq name first)) [
@@ -159,34 +187,42 @@ same_name (first ∷ names) name other same there =
       ]
     ]
 
-same_replica : (names : List (List ℕ)) (name other : List ℕ) (replica : ℕ) → NamesReplica names name replica → NamesReplica names other replica → replica < length names → name ≡ other
+same_replica : (names : List (List ℕ)) (name other : List ℕ) (replica : ℕ) → NamesReplica names name replica
+    → NamesReplica names other replica → replica < length names → name ≡ other
 same_replica names name other replica p q there =
     same_name names name other (sym p.place ∙ q.place) (subst (λ (r : ℕ). r < length names) p.place there)
 
-same_fields : (kind : Kind) (names fields others : List (List ℕ)) (c : Command) → IsAtReplica names c → AreFieldsOf kind names fields c → AreFieldsOf kind names others c → fields ≡ others
+same_fields : (kind : Kind) (names fields others : List (List ℕ)) (c : Command) → IsAtReplica names c
+    → AreFieldsOf kind names fields c → AreFieldsOf kind names others c → fields ≡ others
 same_fields kind names fields others Verdict there p q = p ∙ sym q
 same_fields kind names fields others (Deliver replica label) there p q =
     let same = same_replica names p.name q.name replica p.who q.who there in
     p.words ∙ ap (λ (n : List ℕ). n ∷ codes "got" ∷ decimal label ∷ []) same ∙ sym q.words
 same_fields kind names fields others (Operate replica op clock) there p q =
     let same = same_replica names p.name q.name replica p.who q.who there in
-    p.words ∙ ap (λ (n : List ℕ). n ∷ p.body) same ∙ ap (λ (b : List (List ℕ)). q.name ∷ b) (p.is_body.words ∙ sym q.is_body.words) ∙ sym q.words
+    p.words ∙ ap (λ (n : List ℕ). n ∷ p.body) same
+    ∙ ap (λ (b : List (List ℕ)). q.name ∷ b) (p.is_body.words ∙ sym q.is_body.words) ∙ sym q.words
 
-pub one_spelling : (kind : Kind) (names : List (List ℕ)) (line other : List ℕ) (c : Command) → IsAtReplica names c → Spells kind names line c → Spells kind names other c → line ≡ other
-one_spelling kind names line other c there p q = same_line line other (same_fields kind names (fields_of line) (fields_of other) c there p q)
+pub one_spelling : (kind : Kind) (names : List (List ℕ)) (line other : List ℕ) (c : Command) → IsAtReplica names c
+    → Spells kind names line c → Spells kind names other c → line ≡ other
+one_spelling kind names line other c there p q =
+    same_line line other (same_fields kind names (fields_of line) (fields_of other) c there p q)
 
 -- ---- in the words of the reader's contract
 
-found_in : (kind : Kind) (names : List (List ℕ)) (line : List ℕ) (o : Option Command) → o ≡ command_read kind names (fields_of line) → IfSome o (λ c. Spells kind names line c)
+found_in : (kind : Kind) (names : List (List ℕ)) (line : List ℕ) (o : Option Command)
+    → o ≡ command_read kind names (fields_of line) → IfSome o (λ c. Spells kind names line c)
 found_in kind names line None e = tt
 found_in kind names line (Some c) e = command_found kind names (fields_of line) c (sym e)
 
-pub reader_found : {E : Type 0} (kind : Kind) (names : List (List ℕ)) (line : List ℕ) (r : Result (Option Command) E) → IfOk r (λ o. o ≡ command_read kind names (fields_of line))
+pub reader_found : {E : Type 0} (kind : Kind) (names : List (List ℕ)) (line : List ℕ) (r : Result (Option Command) E)
+    → IfOk r (λ o. o ≡ command_read kind names (fields_of line))
     → IfOk r (λ o. IfSome o (λ c. Spells kind names line c))
 reader_found kind names line (Ok o) e = found_in kind names line o e
 reader_found kind names line (Err fault) e = tt
 
-pub reader_only : {E : Type 0} (kind : Kind) (names : List (List ℕ)) (line : List ℕ) (r : Result (Option Command) E) → IfOk r (λ o. o ≡ command_read kind names (fields_of line))
+pub reader_only : {E : Type 0} (kind : Kind) (names : List (List ℕ)) (line : List ℕ) (r : Result (Option Command) E)
+    → IfOk r (λ o. o ≡ command_read kind names (fields_of line))
     → IfOk r (λ o. (c : Command) → Spells kind names line c → o ≡ Some c)
 reader_only kind names line (Ok o) e = λ c spelled. e ∙ command_only kind names (fields_of line) c spelled
 reader_only kind names line (Err fault) e = tt

@@ -24,7 +24,8 @@ kind_only LwwSet = refl
 kind_only OrSet = refl
 kind_only Rga = refl
 
-kind_is : (line : List ℕ) (own kind : Kind) → bytes_eq line (first_line own) ≡ true → Some own ≡ Some kind → line ≡ first_line kind
+kind_is : (line : List ℕ) (own kind : Kind) → bytes_eq line (first_line own) ≡ true → Some own ≡ Some kind
+    → line ≡ first_line kind
 kind_is line own kind same e =
     let kinds : own ≡ kind = cc in
     same_bytes line (first_line own) same ∙ ap first_line kinds
@@ -50,7 +51,8 @@ kind_found line kind e =
 
 -- ---- the second line
 
-any_none : (word : List ℕ) (words : List (List ℕ)) → not (list_any (bytes_eq word) words) ≡ true → AllByRecursion (λ y. bytes_eq word y ≡ false) words
+any_none : (word : List ℕ) (words : List (List ℕ)) → not (list_any (bytes_eq word) words) ≡ true
+    → AllByRecursion (λ y. bytes_eq word y ≡ false) words
 any_none word [] e = tt
 any_none word (other ∷ words) e =
     elim (cases_Bool (bytes_eq word other)) [
@@ -58,7 +60,8 @@ any_none word (other ∷ words) e =
       | inr apart ↦ (apart, any_none word words (rw apart at e))
     ]
 
-none_any : (word : List ℕ) (words : List (List ℕ)) → AllByRecursion (λ y. bytes_eq word y ≡ false) words → not (list_any (bytes_eq word) words) ≡ true
+none_any : (word : List ℕ) (words : List (List ℕ)) → AllByRecursion (λ y. bytes_eq word y ≡ false) words
+    → not (list_any (bytes_eq word) words) ≡ true
 none_any word [] all = refl
 none_any word (other ∷ words) all = rw all.0 (none_any word words all.1)
 
@@ -75,7 +78,8 @@ distinct_found (word ∷ words) e =
 pub distinct_only : (words : List (List ℕ)) → IsDistinct bytes_eq words → are_distinct words ≡ true
 distinct_only [] distinct = refl
 distinct_only (word ∷ words) distinct =
-    and_from (not (list_any (bytes_eq word) words)) (are_distinct words) (none_any word words (IsDistinct-head bytes_eq word words distinct))
+    and_from (not (list_any (bytes_eq word) words)) (are_distinct words)
+    (none_any word words (IsDistinct-head bytes_eq word words distinct))
     (distinct_only words (IsDistinct-tail bytes_eq word words distinct))
 
 names_found : (words : List (List ℕ)) → are_names words ≡ true → AreNames words
@@ -99,10 +103,12 @@ names_only words are =
     let few : Bool = leb (length words) 16 in
     let each : Bool = list_all is_name words in
     and_from (some && few && each) (are_distinct words)
-    (and_from (some && few) each (and_from some few (lt-ltb 0 (length words) are.some) (le-leb (length words) 16 are.few)) are.each)
+    (and_from (some && few) each
+    (and_from some few (lt-ltb 0 (length words) are.some) (le-leb (length words) 16 are.few)) are.each)
     (distinct_only words are.distinct)
 
-listed_found : (fields names : List (List ℕ)) → names_listed fields ≡ Some names → AreNames names × (fields ≡ codes "replicas" ∷ names)
+listed_found : (fields names : List (List ℕ)) → names_listed fields ≡ Some names
+    → AreNames names × (fields ≡ codes "replicas" ∷ names)
 listed_found [] names e = absurd cc
 listed_found (word ∷ words) names e =
     elim (chosen (bytes_eq word (codes "replicas") && are_names words) (Some words) None (Some names) e) [
@@ -110,7 +116,8 @@ listed_found (word ∷ words) names e =
           let parts = and_parts (bytes_eq word (codes "replicas")) (are_names words) is_so.0 in
           let same : words ≡ names = let some = is_so.1 in cc in (
             subst AreNames same (names_found words parts.1),
-            ap (λ (w : List ℕ). w ∷ words) (same_bytes word (codes "replicas") parts.0) ∙ ap (λ (ws : List (List ℕ)). codes "replicas" ∷ ws) same,
+            ap (λ (w : List ℕ). w ∷ words) (same_bytes word (codes "replicas") parts.0)
+                ∙ ap (λ (ws : List (List ℕ)). codes "replicas" ∷ ws) same,
           )
       | inr none ↦ absurd (let never = none.1 in cc)
     ]

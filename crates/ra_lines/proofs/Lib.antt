@@ -1,12 +1,12 @@
-pub mod Cuts
+pub mod Pieces
 pub mod Numbers
 pub mod Lists
 pub mod Operations
 pub mod Commands
 pub mod Heads
 pub mod NameLists
-pub mod Spelled
-pub mod Putting
+pub mod SpelledLines
+pub mod PutBytes
 pub mod Sizes
 pub mod WrittenLines
 pub mod EndLines

@@ -1,12 +1,13 @@
 -- Names that join others, one after another.
-use Rattle.std.proofs.Common.{◌≡◌, ℕ, ◌+◌, ◌<◌, Bool, true, false, ◌≤◌, ltb, List, [], ◌∷◌, ◌++◌, length, take, drop, get_or, zero, suc, Some, None, Result, Err, refl, sym, ap, subst, ◌∙◌, arith, inl, inr}
+use Rattle.std.proofs.Common.{◌≡◌, ℕ, ◌+◌, ◌<◌, Bool, true, false, ◌≤◌, ltb, List, [], ◌∷◌, ◌++◌, length, take, drop}
+use Rattle.std.proofs.Common.{get_or, zero, suc, Some, None, Result, Err, refl, sym, ap, subst, ◌∙◌, arith, inl, inr}
 use Rattle.std.specs.Prelude.{bytes_eq, codes, position, Option, unwrap_or, IfOk, ◌||◌, if◌then◌else◌}
 use Rattle.std.specs.Borrow.{Bor}
 use Rattle.std.specs.Global as global
 use Rattle.std.specs.List.{list_all, list_any, position_or_len, IsDistinct, AllByRecursion}
 use Rattle.std.proofs.lemmas.Bool.{cases_Bool, and_parts, and_from, ltb-false}
 use Rattle.std.proofs.lemmas.Cmp.{nat_list_eq_equiv}
-use Rattle.std.proofs.lemmas.List.{append_assoc, append-nil, length_push, length-append, length-map, length-take-le, map-append, take_more}
+use Rattle.std.proofs.lemmas.List.{append_assoc, length_push, length-append, length-map, length-take-le, map-append, take_more}
 use Rattle.std.proofs.lemmas.Slice.Eq.{bytes_eq-Decides}
 use Rattle.std.proofs.lemmas.Map.Keys.{IsDistinct-head, IsDistinct-tail, IsDistinct-push}
 use Rattle.ra_lines.specs.Grammar.{is_name, place_of, fields_of, AreNames, ListsNames}
@@ -21,7 +22,8 @@ use Rattle.ra_lines.specs.Names.{bytes_of_each, texts_of, is_bad_behind, AreDist
 -- ---- places
 
 -- a name that has no place is not there
-not_there : (names : List (List ℕ)) (name : List ℕ) → place_of names name ≡ length names → list_any (bytes_eq name) names ≡ false
+not_there : (names : List (List ℕ)) (name : List ℕ) → place_of names name ≡ length names
+    → list_any (bytes_eq name) names ≡ false
 not_there [] name e = refl
 not_there (own ∷ names) name e =
     elim (cases_Bool (bytes_eq name own)) [
@@ -41,7 +43,8 @@ place_within (own ∷ names) name =
     ]
 
 -- what has a place among names is a name
-pub placed_is_name : (names : List (List ℕ)) (word : List ℕ) → list_all is_name names ≡ true → place_of names word < length names → is_name word ≡ true
+pub placed_is_name : (names : List (List ℕ)) (word : List ℕ) → list_all is_name names ≡ true
+    → place_of names word < length names → is_name word ≡ true
 placed_is_name [] word each there = absurd (omega (arith, there))
 placed_is_name (own ∷ names) word each there =
     let parts = and_parts (is_name own) (list_all is_name names) each in
@@ -50,19 +53,23 @@ placed_is_name (own ∷ names) word each there =
       | inr other ↦ placed_is_name names word parts.1 (let here = rw other at there in omega (arith, here))
     ]
 
-pub replica_is_read : (names : List (List ℕ)) (word : List ℕ) (place : ℕ) → is_name word ≡ true → place ≡ place_of names word → Some place ≡ replica_read names word
+pub replica_is_read : (names : List (List ℕ)) (word : List ℕ) (place : ℕ) → is_name word ≡ true
+    → place ≡ place_of names word → Some place ≡ replica_read names word
 replica_is_read names word place is found = rw is (ap Some found)
 
 -- the replica that a word stands for, and the command behind it
-replica_found : (names : List (List ℕ)) (word : List ℕ) (replica : ℕ) → replica_read names word ≡ Some replica → (is_name word ≡ true) × (place_of names word ≡ replica)
+replica_found : (names : List (List ℕ)) (word : List ℕ) (replica : ℕ) → replica_read names word ≡ Some replica
+    → (is_name word ≡ true) × (place_of names word ≡ replica)
 replica_found names word replica read =
     elim (cases_Bool (is_name word)) [
       | inl is ↦ (is, (let here = rw is at read in ap (λ (o : Option ℕ). unwrap_or o 0) here))
       | inr other ↦ absurd (let here = rw other at read in cc)
     ]
 
-pub replica_leads : {E : Type 0} (kind : Kind) (names : List (List ℕ)) (first word : List ℕ) (fields entry : List (List ℕ)) (replica : ℕ) (r : Result (Option Command) E)
-    → entry ≡ first ∷ word ∷ fields → replica_read names first ≡ Some replica → IfOk r (λ c. c ≡ replica_command_read kind replica word fields)
+pub replica_leads : {E : Type 0} (kind : Kind) (names : List (List ℕ)) (first word : List ℕ)
+    (fields entry : List (List ℕ)) (replica : ℕ) (r : Result (Option Command) E)
+    → entry ≡ first ∷ word ∷ fields → replica_read names first ≡ Some replica
+    → IfOk r (λ c. c ≡ replica_command_read kind replica word fields)
     → IfOk r (λ c. c ≡ command_read kind names entry)
 replica_leads kind names first word fields entry replica r parts read holds =
     let found = replica_found names first replica read in
@@ -74,7 +81,8 @@ replica_leads kind names first word fields entry replica r parts read holds =
 abbrev is_key : List ℕ → global.Vec ℕ → Bool
 is_key name key = bytes_eq name key.items
 
-place_is : (keys : List (global.Vec ℕ)) (name : List ℕ) → position_or_len (is_key name) keys ≡ place_of (bytes_of_each keys) name
+place_is : (keys : List (global.Vec ℕ)) (name : List ℕ)
+    → position_or_len (is_key name) keys ≡ place_of (bytes_of_each keys) name
 place_is [] name = refl
 place_is (key ∷ keys) name =
     elim (cases_Bool (bytes_eq name key.items)) [
@@ -82,36 +90,50 @@ place_is (key ∷ keys) name =
       | inr other ↦ rw other (omega (arith, place_is keys name))
     ]
 
-pub place_found : (keys : List (global.Vec ℕ)) (name : List ℕ) (at : ℕ) → Some at ≡ position (is_key name) keys → at ≡ place_of (bytes_of_each keys) name
+pub place_found : (keys : List (global.Vec ℕ)) (name : List ℕ) (at : ℕ) → Some at ≡ position (is_key name) keys
+    → at ≡ place_of (bytes_of_each keys) name
 place_found keys name at e =
     let place = position_or_len (is_key name) keys in
     elim (cases_Bool (ltb place (length keys))) [
-      | inl there ↦ let some : Some at ≡ Some place = e ∙ rw there refl in let same : at ≡ place = cc in same ∙ place_is keys name
+      | inl there ↦ let some : Some at ≡ Some place = e ∙ rw there refl in let same : at ≡ place = cc in
+          same ∙ place_is keys name
       | inr past ↦ let none : Some at ≡ None = e ∙ rw past refl in absurd cc
     ]
 
-pub place_missing : (keys : List (global.Vec ℕ)) (name : List ℕ) → None ≡ position (is_key name) keys → length keys ≡ place_of (bytes_of_each keys) name
+pub place_missing : (keys : List (global.Vec ℕ)) (name : List ℕ) → None ≡ position (is_key name) keys
+    → length keys ≡ place_of (bytes_of_each keys) name
 place_missing keys name e =
     let place = position_or_len (is_key name) keys in
     elim (cases_Bool (ltb place (length keys))) [
       | inl there ↦ let some : None ≡ Some place = e ∙ rw there refl in absurd cc
       | inr past ↦
-          omega (arith, ltb-false place (length keys) past, place_is keys name, place_within (bytes_of_each keys) name, length-map keys (λ key. key.items))
+          omega (
+            arith,
+            ltb-false place (length keys) past,
+            place_is keys name,
+            place_within
+                (bytes_of_each keys) name,
+            length-map keys (λ key. key.items),
+          )
     ]
 
 -- a new key goes last
-any_key : (keys : List (global.Vec ℕ)) (name : List ℕ) → list_any (is_key name) keys ≡ list_any (bytes_eq name) (bytes_of_each keys)
+any_key : (keys : List (global.Vec ℕ)) (name : List ℕ)
+    → list_any (is_key name) keys ≡ list_any (bytes_eq name) (bytes_of_each keys)
 any_key [] name = refl
 any_key (key ∷ keys) name = ap (λ (b : Bool). bytes_eq name key.items || b) (any_key keys name)
 
 pub key_joins : (keys new : List (global.Vec ℕ)) (key : global.Vec ℕ) (name : List ℕ) → key.items ≡ name
-    → new ≡ (if list_any (is_key key.items) keys then keys else keys ++ key ∷ []) → place_of (bytes_of_each keys) name ≡ length keys
+    → new ≡ (if list_any (is_key key.items) keys then keys else keys ++ key ∷ [])
+    → place_of (bytes_of_each keys) name ≡ length keys
     → bytes_of_each new ≡ bytes_of_each keys ++ name ∷ []
 key_joins keys new key name is joined place =
     let there : list_any (is_key key.items) keys ≡ false =
-    ap (λ (n : List ℕ). list_any (is_key n) keys) is ∙ any_key keys name ∙ not_there (bytes_of_each keys) name (place ∙ sym (length-map keys (λ k. k.items))) in
+    ap (λ (n : List ℕ). list_any (is_key n) keys) is ∙ any_key keys name
+    ∙ not_there (bytes_of_each keys) name (place ∙ sym (length-map keys (λ k. k.items))) in
     let last : new ≡ keys ++ key ∷ [] = joined ∙ rw there refl in
-    ap bytes_of_each last ∙ map-append (λ (k : global.Vec ℕ). k.items) keys (key ∷ []) ∙ ap (λ (n : List ℕ). bytes_of_each keys ++ n ∷ []) is
+    ap bytes_of_each last ∙ map-append (λ (k : global.Vec ℕ). k.items) keys (key ∷ [])
+    ∙ ap (λ (n : List ℕ). bytes_of_each keys ++ n ∷ []) is
 
 -- what holds of each holds of the one in the middle
 at_middle : {A : Type 0} (P : A → Type 0) (front rest : List A) (x : A) → AllByRecursion P (front ++ x ∷ rest) → P x
@@ -119,25 +141,31 @@ at_middle P [] rest x all = all.0
 at_middle P (y ∷ front) rest x all = at_middle P front rest x all.1
 
 -- of distinct names, one has no place among those before it
-new_among : (names rest : List (List ℕ)) (name : List ℕ) → IsDistinct bytes_eq (names ++ name ∷ rest) → place_of names name ≡ length names
+new_among : (names rest : List (List ℕ)) (name : List ℕ) → IsDistinct bytes_eq (names ++ name ∷ rest)
+    → place_of names name ≡ length names
 new_among [] rest name distinct = refl
 new_among (own ∷ names) rest name distinct =
-    let other : bytes_eq own name ≡ false = at_middle (λ y. bytes_eq own y ≡ false) names rest name (IsDistinct-head bytes_eq own (names ++ name ∷ rest) distinct) in
+    let other : bytes_eq own name ≡ false = at_middle (λ y. bytes_eq own y ≡ false) names rest name
+    (IsDistinct-head bytes_eq own (names ++ name ∷ rest) distinct) in
     let later = new_among names rest name (IsDistinct-tail bytes_eq own (names ++ name ∷ rest) distinct) in
     let turned : bytes_eq name own ≡ false = nat_list_eq_equiv.symm name own ∙ other in
     rw turned (omega (arith, later))
 
-list_all-middle : (p : List ℕ → Bool) (front rest : List (List ℕ)) (x : List ℕ) → list_all p (front ++ x ∷ rest) ≡ true → p x ≡ true
+list_all-middle : (p : List ℕ → Bool) (front rest : List (List ℕ)) (x : List ℕ) → list_all p (front ++ x ∷ rest) ≡ true
+    → p x ≡ true
 list_all-middle p [] rest x all = (and_parts (p x) (list_all p rest) all).0
-list_all-middle p (y ∷ front) rest x all = list_all-middle p front rest x (and_parts (p y) (list_all p (front ++ x ∷ rest)) all).1
+list_all-middle p (y ∷ front) rest x all =
+    list_all-middle p front rest x (and_parts (p y) (list_all p (front ++ x ∷ rest)) all).1
 
-list_all-push : (p : List ℕ → Bool) (front : List (List ℕ)) (x : List ℕ) → list_all p front ≡ true → p x ≡ true → list_all p (front ++ x ∷ []) ≡ true
+list_all-push : (p : List ℕ → Bool) (front : List (List ℕ)) (x : List ℕ) → list_all p front ≡ true → p x ≡ true
+    → list_all p (front ++ x ∷ []) ≡ true
 list_all-push p [] x all here = and_from (p x) true here refl
 list_all-push p (y ∷ front) x all here =
     let parts = and_parts (p y) (list_all p front) all in
     and_from (p y) (list_all p (front ++ x ∷ [])) parts.0 (list_all-push p front x parts.1 here)
 
-pub AreNamesSoFar-push : (names : List (List ℕ)) (name : List ℕ) → AreNamesSoFar names → MayJoin names name → AreNamesSoFar (names ++ name ∷ [])
+pub AreNamesSoFar-push : (names : List (List ℕ)) (name : List ℕ) → AreNamesSoFar names → MayJoin names name
+    → AreNamesSoFar (names ++ name ∷ [])
 AreNamesSoFar-push names name so_far may = record {
   few = omega (arith, length_push names name, may.room);
   each = list_all-push is_name names name so_far.each may.form;
@@ -145,7 +173,8 @@ AreNamesSoFar-push names name so_far may = record {
 }
 
 -- a name that may not join has no place in a list of names
-pub MayJoin-from_names : (names rest : List (List ℕ)) (name : List ℕ) → AreNames (names ++ name ∷ rest) → MayJoin names name
+pub MayJoin-from_names : (names rest : List (List ℕ)) (name : List ℕ) → AreNames (names ++ name ∷ rest)
+    → MayJoin names name
 MayJoin-from_names names rest name are = record {
   room = omega (arith, are.few, length-append names (name ∷ rest));
   form = list_all-middle is_name names rest name are.each;
@@ -162,12 +191,17 @@ pub none_yet : AreDistinctNames []
 none_yet = record { each = refl; distinct = nothing }
 
 -- no bad word behind names: one name more
-pub name_more : (before : List (List ℕ)) (word : List ℕ) → AreDistinctNames before → is_bad_behind before word ≡ false → AreDistinctNames (before ++ word ∷ [])
+pub name_more : (before : List (List ℕ)) (word : List ℕ) → AreDistinctNames before → is_bad_behind before word ≡ false
+    → AreDistinctNames (before ++ word ∷ [])
 name_more before word so_far good =
     elim (cases_Bool (is_name word)) [
       | inl form ↦
           let here : list_any (bytes_eq word) before ≡ false = rw form at good in
-          record { each = list_all-push is_name before word so_far.each form; distinct = IsDistinct-push nat_list_eq_equiv before word so_far.distinct here }
+          record {
+            each = list_all-push is_name before word so_far.each form;
+            distinct =
+                IsDistinct-push nat_list_eq_equiv before word so_far.distinct here;
+          }
       | inr other ↦ let bad : true ≡ false = rw other at good in absurd cc
     ]
 
@@ -176,18 +210,25 @@ pub words_cut : (words : List (Bor (List ℕ))) (i : ℕ) (d : Bor (List ℕ)) �
     → texts_of words ≡ texts_of (take i words) ++ (get_or words i d).now ∷ texts_of (drop (suc i) words)
 words_cut [] i d there = absurd (omega arith)
 words_cut (word ∷ words) zero d there = refl
-words_cut (word ∷ words) (suc i) d there = ap (λ (ws : List (List ℕ)). word.now ∷ ws) (words_cut words i d (omega arith))
+words_cut (word ∷ words) (suc i) d there =
+    ap (λ (ws : List (List ℕ)). word.now ∷ ws) (words_cut words i d (omega arith))
 
-words_more : (words : List (Bor (List ℕ))) (i : ℕ) (d : Bor (List ℕ)) → i < length words → texts_of (take (i + 1) words) ≡ texts_of (take i words) ++ (get_or words i d).now ∷ []
-words_more words i d there = ap texts_of (take_more words i d there) ∙ map-append (λ (text : Bor (List ℕ)). text.now) (take i words) (get_or words i d ∷ [])
+words_more : (words : List (Bor (List ℕ))) (i : ℕ) (d : Bor (List ℕ)) → i < length words
+    → texts_of (take (i + 1) words) ≡ texts_of (take i words) ++ (get_or words i d).now ∷ []
+words_more words i d there = ap texts_of (take_more words i d there)
+    ∙ map-append (λ (text : Bor (List ℕ)). text.now) (take i words) (get_or words i d ∷ [])
 
 -- one word more that is not bad
-pub names_more_at : (words : List (Bor (List ℕ))) (i : ℕ) (d : Bor (List ℕ)) → i < length words → AreDistinctNames (texts_of (take i words))
-    → is_bad_behind (texts_of (take i words)) (get_or words i d).now ≡ false → AreDistinctNames (texts_of (take (i + 1) words))
+pub names_more_at : (words : List (Bor (List ℕ))) (i : ℕ) (d : Bor (List ℕ)) → i < length words
+    → AreDistinctNames (texts_of (take i words))
+    → is_bad_behind (texts_of (take i words)) (get_or words i d).now ≡ false
+    → AreDistinctNames (texts_of (take (i + 1) words))
 names_more_at words i d there so_far good =
-    subst AreDistinctNames (sym (words_more words i d there)) (name_more (texts_of (take i words)) (get_or words i d).now so_far good)
+    subst AreDistinctNames (sym (words_more words i d there))
+    (name_more (texts_of (take i words)) (get_or words i d).now so_far good)
 
-pub first_bad_at : (words : List (Bor (List ℕ))) (i : ℕ) (d : Bor (List ℕ)) → i < length words → AreDistinctNames (texts_of (take i words))
+pub first_bad_at : (words : List (Bor (List ℕ))) (i : ℕ) (d : Bor (List ℕ)) → i < length words
+    → AreDistinctNames (texts_of (take i words))
     → is_bad_behind (texts_of (take i words)) (get_or words i d).now ≡ true → IsFirstBad (texts_of words) i
 first_bad_at words i d there so_far bad = record {
   before = texts_of (take i words);
@@ -204,42 +245,43 @@ pub are_names : (words : List (List ℕ)) → 0 < length words → length words 
 are_names words some few each = record { some = some; few = few; each = each.each; distinct = each.distinct }
 
 -- each of the names may stand behind those before it
-pub may_join_at : (words : List (Bor (List ℕ))) (i : ℕ) (d : Bor (List ℕ)) (names : List (List ℕ)) → i < length words → names ≡ texts_of (take i words) → AreNames (texts_of words)
+pub may_join_at : (words : List (Bor (List ℕ))) (i : ℕ) (d : Bor (List ℕ)) (names : List (List ℕ)) → i < length words
+    → names ≡ texts_of (take i words) → AreNames (texts_of words)
     → MayJoin names (get_or words i d).now
 may_join_at words i d names there front are =
     subst (λ (ns : List (List ℕ)). MayJoin ns (get_or words i d).now) (sym front)
-    (MayJoin-from_names (texts_of (take i words)) (texts_of (drop (suc i) words)) (get_or words i d).now (subst AreNames (words_cut words i d there) are))
+    (MayJoin-from_names (texts_of (take i words)) (texts_of (drop (suc i) words)) (get_or words i d).now
+    (subst AreNames (words_cut words i d there) are))
 
 -- ---- the front of a line's names
 
-pub so_far_first : (line : List ℕ) (word : List ℕ) (fields : List (List ℕ)) → fields_of line ≡ word ∷ fields → word ≡ codes "replicas" → ListsSoFar line [] fields
-so_far_first line word fields cut is = record { parts = cut ∙ ap (λ (x : List ℕ). x ∷ fields) is; so_far = record { few = omega arith; each = refl; distinct = nothing } }
+pub so_far_first : (line : List ℕ) (word : List ℕ) (fields : List (List ℕ)) → fields_of line ≡ word ∷ fields
+    → word ≡ codes "replicas" → ListsSoFar line [] fields
+so_far_first line word fields cut is =
+    record {
+      parts = cut ∙ ap (λ (x : List ℕ). x ∷ fields) is;
+      so_far =
+          record { few = omega arith; each = refl; distinct = nothing };
+    }
 
-pub so_far_next : (line : List ℕ) (names : List (List ℕ)) (name : List ℕ) (fields : List (List ℕ)) → ListsSoFar line names (name ∷ fields) → MayJoin names name → ListsSoFar line (names ++ name ∷ []) fields
+pub so_far_next : (line : List ℕ) (names : List (List ℕ)) (name : List ℕ) (fields : List (List ℕ))
+    → ListsSoFar line names (name ∷ fields) → MayJoin names name → ListsSoFar line (names ++ name ∷ []) fields
 so_far_next line names name fields front may = record {
-  parts = front.parts ∙ ap (λ (xs : List (List ℕ)). codes "replicas" ∷ xs) (sym (append_assoc names (name ∷ []) fields));
+  parts = front.parts
+      ∙ ap (λ (xs : List (List ℕ)). codes "replicas" ∷ xs) (sym (append_assoc names (name ∷ []) fields));
   so_far = AreNamesSoFar-push names name front.so_far may;
 }
 
 -- the names that a line lists are those of its fields
-listed : (line : List ℕ) (names fields others : List (List ℕ)) → fields_of line ≡ codes "replicas" ∷ (names ++ fields) → fields_of line ≡ codes "replicas" ∷ others → others ≡ names ++ fields
+listed : (line : List ℕ) (names fields others : List (List ℕ)) → fields_of line ≡ codes "replicas" ∷ (names ++ fields)
+    → fields_of line ≡ codes "replicas" ∷ others → others ≡ names ++ fields
 listed line names fields others p q = let both = sym q ∙ p in cc
 
-pub so_far_refused : (line : List ℕ) (names : List (List ℕ)) (name : List ℕ) (fields others : List (List ℕ)) → ListsSoFar line names (name ∷ fields) → (MayJoin names name → ⊥) → ListsNames line others → ⊥
+pub so_far_refused : (line : List ℕ) (names : List (List ℕ)) (name : List ℕ) (fields others : List (List ℕ))
+    → ListsSoFar line names (name ∷ fields) → (MayJoin names name → ⊥) → ListsNames line others → ⊥
 so_far_refused line names name fields others front refused lists =
     let same = listed line names (name ∷ fields) others front.parts lists.1 in
     refused (MayJoin-from_names names fields name (subst AreNames same lists.0))
-
-pub so_far_all : (line : List ℕ) (names : List (List ℕ)) → ListsSoFar line names [] → 0 < length names → ListsNames line names
-so_far_all line names front some = (
-  record { some = some; few = front.so_far.few; each = front.so_far.each; distinct = front.so_far.distinct },
-  front.parts ∙ ap (λ (xs : List (List ℕ)). codes "replicas" ∷ xs) (append-nil names),
-)
-
-pub so_far_none : (line : List ℕ) (names others : List (List ℕ)) → ListsSoFar line names [] → length names ≡ 0 → ListsNames line others → ⊥
-so_far_none line names others front none lists =
-    let same = listed line names [] others front.parts lists.1 ∙ append-nil names in
-    omega (arith, lists.0.some, ap length same)
 
 -- a fault that is passed on
 pub same_fault : {T : Type 0} (r : Result T LineFault) (x y d : LineFault) → r ≡ Err y → y ≡ d → r ≡ Err x → d ≡ x
@@ -250,36 +292,45 @@ failed fault = Err fault
 
 -- ---- keys of a set as names
 
-pub may_join : (keys : List (global.Vec ℕ)) (names : List (List ℕ)) (name : List ℕ) (place : ℕ) → bytes_of_each keys ≡ names → length keys < 16 → is_name name ≡ true
+pub may_join : (keys : List (global.Vec ℕ)) (names : List (List ℕ)) (name : List ℕ) (place : ℕ)
+    → bytes_of_each keys ≡ names → length keys < 16 → is_name name ≡ true
     → place ≡ place_of (bytes_of_each keys) name → place ≡ length keys → MayJoin names name
 may_join keys names name place are room form found last =
     let len : length names ≡ length keys = ap length (sym are) ∙ length-map keys (λ key. key.items) in
-    record { room = omega (arith, len, room); form = form; new = ap (λ (ns : List (List ℕ)). place_of ns name) (sym are) ∙ sym found ∙ last ∙ sym len }
+    record {
+      room = omega (arith, len, room);
+      form = form;
+      new = ap (λ (ns : List (List ℕ)). place_of ns name) (sym are)
+          ∙ sym found ∙ last ∙ sym len;
+    }
 
-pub joins_last : (keys : List (global.Vec ℕ)) (names : List (List ℕ)) (name : List ℕ) → bytes_of_each keys ≡ names → MayJoin names name → place_of (bytes_of_each keys) name ≡ length keys
+pub joins_last : (keys : List (global.Vec ℕ)) (names : List (List ℕ)) (name : List ℕ) → bytes_of_each keys ≡ names
+    → MayJoin names name → place_of (bytes_of_each keys) name ≡ length keys
 joins_last keys names name are may =
-    ap (λ (ns : List (List ℕ)). place_of ns name) are ∙ may.new ∙ ap length (sym are) ∙ length-map keys (λ key. key.items)
+    ap (λ (ns : List (List ℕ)). place_of ns name) are ∙ may.new ∙ ap length (sym are)
+    ∙ length-map keys (λ key. key.items)
 
 -- ---- what is kept
 
 -- one name more
-pub kept_next : (keys new : List (global.Vec ℕ)) (name : List ℕ) (names : List (List ℕ)) → NamesKept keys → bytes_of_each keys ≡ names → MayJoin names name
+pub kept_next : (keys new : List (global.Vec ℕ)) (name : List ℕ) (names : List (List ℕ)) → NamesKept keys
+    → bytes_of_each keys ≡ names → MayJoin names name
     → bytes_of_each new ≡ bytes_of_each keys ++ name ∷ [] → NamesKept new
 kept_next keys new name names kept are may grown =
     let here : MayJoin (bytes_of_each keys) name = subst (λ (ns : List (List ℕ)). MayJoin ns name) (sym are) may in
     let few : length (bytes_of_each keys) ≤ 16 = omega (arith, kept.few, length-map keys (λ key. key.items)) in
-    let so_far : AreNamesSoFar (bytes_of_each keys) = record { few = few; each = kept.each; distinct = distinct_found (bytes_of_each keys) kept.distinct } in
-    let next : AreNamesSoFar (bytes_of_each new) = subst AreNamesSoFar (sym grown) (AreNamesSoFar-push (bytes_of_each keys) name so_far here) in
+    let so_far : AreNamesSoFar (bytes_of_each keys) =
+    record { few = few; each = kept.each; distinct = distinct_found (bytes_of_each keys) kept.distinct } in
+    let next : AreNamesSoFar (bytes_of_each new) =
+    subst AreNamesSoFar (sym grown) (AreNamesSoFar-push (bytes_of_each keys) name so_far here) in
     record {
       few = omega (arith, next.few, length-map new (λ key. key.items));
       each = next.each;
       distinct = distinct_only (bytes_of_each new) next.distinct;
     }
 
-pub kept_same : (keys new : List (global.Vec ℕ)) → NamesKept keys → new ≡ keys → NamesKept new
-kept_same keys new kept same = subst NamesKept (sym same) kept
-
-pub kept_names : (keys : List (global.Vec ℕ)) (names : List (List ℕ)) → NamesKept keys → bytes_of_each keys ≡ names → AreNamesSoFar names
+pub kept_names : (keys : List (global.Vec ℕ)) (names : List (List ℕ)) → NamesKept keys → bytes_of_each keys ≡ names
+    → AreNamesSoFar names
 kept_names keys names kept are =
     subst AreNamesSoFar are (record {
       few = omega (arith, kept.few, length-map keys (λ key. key.items));

@@ -1,5 +1,7 @@
 -- Numbers in digits, and back.
-use Rattle.std.proofs.Common.{◌≡◌, ℕ, zero, suc, ◌^◌, ◌+◌, ◌-◌, ◌*◌, ◌<◌, ◌≤◌, inl, inr, Bool, true, false, ◌&&◌, cond, eqb, ltb, leb, List, [], ◌∷◌, length, get_or, Some, None, refl, sym, ap, subst, ◌∙◌, arith, ℤ, pos, negsuc}
+use Rattle.std.proofs.Common.{◌≡◌, ℕ, zero, suc, ◌^◌, ◌+◌, ◌-◌, ◌*◌, ◌<◌, ◌≤◌, inl, inr, true, false, ◌&&◌, cond}
+use Rattle.std.proofs.Common.{eqb, ltb, leb, List, [], ◌∷◌, length, get_or, Some, None, refl, sym, ap, subst, ◌∙◌}
+use Rattle.std.proofs.Common.{arith, ℤ, pos, negsuc}
 use Rattle.std.specs.Prelude.{decimal, FitsSigned, option_and_then}
 use Rattle.std.specs.Char.{is_ascii_digit, digit_value}
 use Rattle.std.specs.Fmt.{signed_decimal}
@@ -8,7 +10,7 @@ use Rattle.std.specs.Str.Parse.{AllDigits, digits_value, digits_value_after}
 use Rattle.std.proofs.lemmas.Bool.{cases_Bool, eqb-true, ne_eqb, and_parts, and_from, ltb-true, lt-ltb, le-leb, leb-true}
 use Rattle.std.proofs.lemmas.Bool.Decides.{nat_tests}
 use Rattle.std.proofs.lemmas.Fmt.{decimal_digit, decimal_is_IsNumeral, decimal_nonempty, first_decimal, digits_decimal, decimal-digits_value}
-use Rattle.std.proofs.lemmas.Option.{option_and_then_some}
+use Rattle.std.proofs.lemmas.Option.{option_and_then_some, cond_some}
 use Rattle.std.proofs.lemmas.Str.Parse.{IsNumeralModel, numerals_by_value, tells_digits, digit_at, digit_from_value}
 use Rattle.std.proofs.lemmas.Str.{digit_value_digit}
 use Rattle.ra_lines.specs.Reading.{begins_as_number, digit_read, digits_read, number_read, signed_read, above_zero, below_zero}
@@ -40,19 +42,16 @@ begins-decimal : (n : ℕ) → n < 2 ^ 64 → begins_as_number (decimal n) ≡ t
 begins-decimal zero lt = ap begins_as_number (decimal_digit 0 (omega arith))
 begins-decimal (suc n) lt =
     let some = decimal_nonempty (suc n) lt in
-    begins-digit (decimal (suc n)) some (first_decimal (suc n) (omega arith) lt) (digit_at (decimal (suc n)) 0 (digits_decimal own (suc n) lt) some).1
+    begins-digit (decimal (suc n)) some (first_decimal (suc n) (omega arith) lt)
+    (digit_at (decimal (suc n)) 0 (digits_decimal own (suc n) lt) some).1
 
 -- ---- digits, one after another
 
--- what was read, where something was
-taken : {X : Type 0} (b : Bool) (x y : X) → cond b (Some x) None ≡ Some y → (b ≡ true) × (x ≡ y)
-taken true x y e = (refl, cc)
-taken false x y e = absurd cc
-
-digit_found : (n byte m : ℕ) → digit_read n byte ≡ Some m → (is_ascii_digit byte ≡ true) × (n * 10 + (byte - 48) ≡ m) × (m < 2 ^ 32)
+digit_found : (n byte m : ℕ) → digit_read n byte ≡ Some m → (is_ascii_digit byte ≡ true) × (n * 10 + (byte - 48) ≡ m)
+    × (m < 2 ^ 32)
 digit_found n byte m e =
     let test = is_ascii_digit byte && ltb (n * 10 + (byte - 48)) (2 ^ 32) in
-    let t = taken test (n * 10 + (byte - 48)) m e in
+    let t = cond_some test (n * 10 + (byte - 48)) m e in
     let parts = and_parts (is_ascii_digit byte) (ltb (n * 10 + (byte - 48)) (2 ^ 32)) t.0 in
     (parts.0, t.1, omega (arith, ltb-true (n * 10 + (byte - 48)) (2 ^ 32) parts.1, t.1))
 
@@ -63,7 +62,8 @@ in_digit : (byte : ℕ) → 48 ≤ byte → byte ≤ 57 → is_ascii_digit byte 
 in_digit byte low high = and_from (leb 48 byte) (leb byte 57) (le-leb 48 byte low) (le-leb byte 57 high)
 
 -- digits that are read are digits, and spell the number that is read
-digits_found : (n : ℕ) (bs : List ℕ) (m : ℕ) → n < 2 ^ 32 → digits_read n bs ≡ Some m → AllDigits 10 bs × (digits_value_after 10 n bs ≡ m) × (m < 2 ^ 32)
+digits_found : (n : ℕ) (bs : List ℕ) (m : ℕ) → n < 2 ^ 32 → digits_read n bs ≡ Some m
+    → AllDigits 10 bs × (digits_value_after 10 n bs ≡ m) × (m < 2 ^ 32)
 digits_found n [] m small e = let same : n ≡ m = cc in (tt, same, omega (arith, same))
 digits_found n (b ∷ bs) m small e =
     option_and_then_some (λ k. digits_read k bs) (digit_read n b) m e
@@ -80,7 +80,8 @@ value_grows n [] = omega arith
 value_grows n (b ∷ bs) = omega (arith, value_grows (n * 10 + digit_value b) bs)
 
 -- digits that spell a small number are read
-digits_only : (n : ℕ) (bs : List ℕ) → AllDigits 10 bs → digits_value_after 10 n bs < 2 ^ 32 → digits_read n bs ≡ Some (digits_value_after 10 n bs)
+digits_only : (n : ℕ) (bs : List ℕ) → AllDigits 10 bs → digits_value_after 10 n bs < 2 ^ 32
+    → digits_read n bs ≡ Some (digits_value_after 10 n bs)
 digits_only n [] all small = refl
 digits_only n (b ∷ bs) all small =
     let i = digit_from_value b all.0 in
@@ -103,7 +104,8 @@ unfolding number_read
 number_read-decimal n small =
     let numeral = decimal_is_IsNumeral n (omega arith) in
     let value : digits_value 10 (decimal n) ≡ n = numeral.1 in
-    rw (begins-decimal n (omega arith)) (digits_only 0 (decimal n) numeral.0.1 (omega (arith, value)) ∙ ap (λ (k : ℕ). Some k) value)
+    rw (begins-decimal n (omega arith))
+    (digits_only 0 (decimal n) numeral.0.1 (omega (arith, value)) ∙ ap (λ (k : ℕ). Some k) value)
 
 pub number_read-Some : (field : List ℕ) (n : ℕ) → number_read field ≡ Some n → (field ≡ decimal n) × (n < 2 ^ 32)
 unfolding number_read
@@ -114,8 +116,11 @@ number_read-Some field n e =
           let read : digits_read 0 field ≡ Some n = rw begins at here in
           let h = Begins-from field begins in
           let found = digits_found 0 field n (omega arith) read in
-          let value : digits_value 10 field ≡ n = found.1 in
-          (sym (decimal-digits_value own field found.0 h.some h.alone (omega (arith, value, found.2))) ∙ ap decimal value, found.2)
+          let value : digits_value 10 field ≡ n = found.1 in (
+            sym (decimal-digits_value own field found.0 h.some h.alone (omega (arith, value, found.2)))
+                ∙ ap decimal value,
+            found.2,
+          )
       | inr begins ↦
           let here : cond (begins_as_number field) (digits_read 0 field) None ≡ Some n = e in
           let none = rw begins at here in
@@ -126,16 +131,17 @@ number_read-Some field n e =
 
 above_found : (n : ℕ) (z : ℤ) → above_zero n ≡ Some z → (z ≡ pos n) × FitsSigned w32 z
 above_found n z e =
-    let t = taken (ltb n (2 ^ 31)) (pos n) z e in
+    let t = cond_some (ltb n (2 ^ 31)) (pos n) z e in
     (sym t.1, subst (FitsSigned w32) t.1 (record { sfits = ltb-true n (2 ^ 31) t.0 }))
 
 below_found : (n : ℕ) (z : ℤ) → below_zero n ≡ Some z → (45 ∷ decimal n ≡ signed_decimal z) × FitsSigned w32 z
 below_found zero z e = absurd cc
 below_found (suc n) z e =
-    let t = taken (ltb n (2 ^ 31)) (negsuc n) z e in
+    let t = cond_some (ltb n (2 ^ 31)) (negsuc n) z e in
     (ap signed_decimal t.1, subst (FitsSigned w32) t.1 (record { sfits = ltb-true n (2 ^ 31) t.0 }))
 
-pub signed_read-Some : (field : List ℕ) (z : ℤ) → signed_read field ≡ Some z → (field ≡ signed_decimal z) × FitsSigned w32 z
+pub signed_read-Some : (field : List ℕ) (z : ℤ) → signed_read field ≡ Some z
+    → (field ≡ signed_decimal z) × FitsSigned w32 z
 signed_read-Some [] z e = absurd cc
 signed_read-Some (b ∷ bs) z e =
     elim (cases_Bool (eqb b 45)) [
@@ -166,7 +172,8 @@ not_below (b ∷ bs) e =
 pub signed_read-decimal : (z : ℤ) → FitsSigned w32 z → signed_read (signed_decimal z) ≡ Some z
 signed_read-decimal (pos n) fits =
     let small : n < 2 ^ 31 = omega (arith, fits.sfits) in
-    not_below (decimal n) (begins-decimal n (omega arith)) ∙ ap (option_and_then above_zero) (number_read-decimal n (omega arith)) ∙ rw (lt-ltb n (2 ^ 31) small) refl
+    not_below (decimal n) (begins-decimal n (omega arith))
+    ∙ ap (option_and_then above_zero) (number_read-decimal n (omega arith)) ∙ rw (lt-ltb n (2 ^ 31) small) refl
 signed_read-decimal (negsuc n) fits =
     let small : n < 2 ^ 31 = omega (arith, fits.sfits) in
     ap (option_and_then below_zero) (number_read-decimal (suc n) (omega arith)) ∙ rw (lt-ltb n (2 ^ 31) small) refl

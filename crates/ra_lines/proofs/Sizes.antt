@@ -1,11 +1,11 @@
--- How many bytes numbers, lists and fields have.
+-- How many bytes numbers and lists have.
 use Rattle.std.proofs.Common.{◌≡◌, ℕ, ◌+◌, ◌/◌, ◌%◌, ◌^◌, ◌<◌, ◌≤◌, List, [], ◌∷◌, length, take, get_or, sym, ap, arith}
 use Rattle.std.specs.Prelude.{decimal}
 use Rattle.std.proofs.lemmas.Fmt.{decimal_digit, decimal_step, length-decimal-le}
 use Rattle.std.proofs.lemmas.List.{length-append, take_more}
 use Rattle.ra_lines.specs.Grammar.{list_word}
-use Rattle.ra_lines.specs.Spelling.{spaced, commas}
-use Rattle.ra_lines.proofs.Putting.{commas-append, joined}
+use Rattle.ra_lines.specs.Spelling.{commas}
+use Rattle.ra_lines.proofs.PutBytes.{commas-append, joined}
 
 -- ---- numbers
 
@@ -17,11 +17,13 @@ pub size_one : (n : ℕ) → n < 10 → 1 ≡ length (decimal n)
 size_one n small = sym (ap length (decimal_digit n small))
 
 pub ten_digits : (n size : ℕ) → n < 2 ^ 32 → size ≡ length (decimal n) → size ≤ 10
-ten_digits n size small exact = omega (arith, exact, length-decimal-le 10 n (omega arith) (omega (arith, small)) (omega (arith, small)))
+ten_digits n size small exact =
+    omega (arith, exact, length-decimal-le 10 n (omega arith) (omega (arith, small)) (omega (arith, small)))
 
 -- ---- lists
 
-pub size_more : (xs : List ℕ) (i size one : ℕ) → i < length xs → size ≡ length (commas (take i xs)) → one ≡ length (decimal (get_or xs i 0))
+pub size_more : (xs : List ℕ) (i size one : ℕ) → i < length xs → size ≡ length (commas (take i xs))
+    → one ≡ length (decimal (get_or xs i 0))
     → size + (1 + one) ≡ length (commas (take (i + 1) xs))
 size_more xs i size one there before here =
     let x : ℕ = get_or xs i 0 in
@@ -35,7 +37,8 @@ size_more xs i size one there before here =
       length-append (decimal x) [],
     )
 
-pub size_list : (x : ℕ) (xs list : List ℕ) (first more : ℕ) → list ≡ x ∷ xs → first ≡ length (decimal x) → more ≡ length (commas xs)
+pub size_list : (x : ℕ) (xs list : List ℕ) (first more : ℕ) → list ≡ x ∷ xs → first ≡ length (decimal x)
+    → more ≡ length (commas xs)
     → first + more ≡ length (list_word list)
 size_list x xs list first more is here later =
     omega (
@@ -46,14 +49,3 @@ size_list x xs list first more is here later =
       ap length (joined x xs),
       length-append (decimal x) (commas xs),
     )
-
--- ---- fields, each with a space before it
-
-pub size_field : (f : List ℕ) → length (spaced (f ∷ [])) ≡ length f + 1
-size_field f = omega (arith, length-append f [])
-
-pub size_two : (f g : List ℕ) → length (spaced (f ∷ g ∷ [])) ≡ length f + length g + 2
-size_two f g = omega (arith, length-append f (spaced (g ∷ [])), size_field g)
-
-pub size_three : (f g h : List ℕ) → length (spaced (f ∷ g ∷ h ∷ [])) ≡ length f + length g + length h + 3
-size_three f g h = omega (arith, length-append f (spaced (g ∷ h ∷ [])), size_two g h)

@@ -10,9 +10,11 @@ use Rattle.ra_labels.specs.declared.kind.Kind.{Kind}
 use Rattle.ra_labels.specs.declared.kind.Kind.TheVariants.{Counter, Register, LwwSet, OrSet, Rga}
 use Rattle.ra_labels.specs.declared.command.Command.{Command}
 use Rattle.ra_labels.specs.declared.command.Command.TheVariants.{Operate, Deliver, Verdict}
-use Rattle.ra_lines.specs.Grammar.{IsLine, first_line, is_name, has_form_of_name, may_follow, operation_fields, clock_fields, AreNames, ListsNames, SpellEach, Says}
+use Rattle.ra_lines.specs.Grammar.{IsLine, first_line, is_name, has_form_of_name, may_follow, operation_fields}
+use Rattle.ra_lines.specs.Grammar.{clock_fields, AreNames, ListsNames, SpellEach, Says}
 use Rattle.ra_lines.specs.Spelling.{spaced, name_of, line_of, names_line, text_of, AreSmall, AreShort, HasLine}
-use Rattle.ra_lines.proofs.Spelled.{ArePlain, fields-spaced, one_line, plain_name, plain_word, plain_number, plain_operation, plain_clock, fields-append, named_at, line_spells}
+use Rattle.ra_lines.proofs.SpelledLines.{ArePlain, fields-spaced, one_line, plain_name, plain_word, plain_number}
+use Rattle.ra_lines.proofs.SpelledLines.{plain_operation, plain_clock, fields-append, named_at, line_spells}
 
 -- ---- lines
 
@@ -63,37 +65,50 @@ second_is_line names are = record {
 }
 
 second_lists : (names : List (List ℕ)) → AreNames names → ListsNames (names_line names) names
-second_lists names are = (are, fields-spaced (codes "replicas") names (plain_word (codes "replicas") refl) (plain_names names are.each))
+second_lists names are =
+    (are, fields-spaced (codes "replicas") names (plain_word (codes "replicas") refl) (plain_names names are.each))
 
-one_command : (kind : Kind) (names : List (List ℕ)) (command : Command) → AreNames names → HasLine kind names command → AreSmall command → All (λ b. b ≢ 10) (line_of names command)
+one_command : (kind : Kind) (names : List (List ℕ)) (command : Command) → AreNames names → HasLine kind names command
+    → AreSmall command → All (λ b. b ≢ 10) (line_of names command)
 one_command kind names Verdict are has small = one_of (codes "verdict") refl
 one_command kind names (Deliver replica label) are has small =
-    one_line (name_of names replica) (codes "got" ∷ decimal label ∷ []) (plain_name (name_of names replica) (named_at names replica has are.each are.distinct).0)
+    one_line (name_of names replica) (codes "got" ∷ decimal label ∷ [])
+    (plain_name (name_of names replica) (named_at names replica has are.each are.distinct).0)
     (plain_word (codes "got") refl, (plain_number label small, tt))
 one_command kind names (Operate replica op clock) are has small =
-    one_line (name_of names replica) (operation_fields op ++ clock_fields clock) (plain_name (name_of names replica) (named_at names replica has.0 are.each are.distinct).0)
+    one_line (name_of names replica) (operation_fields op ++ clock_fields clock)
+    (plain_name (name_of names replica) (named_at names replica has.0 are.each are.distinct).0)
     (fields-append (operation_fields op) (clock_fields clock) (plain_operation op small.0) (plain_clock clock small.1))
 
-lines_are_lines : (kind : Kind) (names : List (List ℕ)) (commands : List Command) → AreNames names → AllByRecursion (HasLine kind names) commands
+lines_are_lines : (kind : Kind) (names : List (List ℕ)) (commands : List Command) → AreNames names
+    → AllByRecursion (HasLine kind names) commands
     → AreShort names commands → AllByRecursion AreSmall commands → AllByRecursion IsLine (map (line_of names) commands)
 lines_are_lines kind names [] are have short small = tt
-lines_are_lines kind names (c ∷ commands) are have short small =
-    (record { one = one_command kind names c are have.0 small.0; short = short.0 }, lines_are_lines kind names commands are have.1 short.1 small.1)
+lines_are_lines kind names (c ∷ commands) are have short small = (
+  record { one = one_command kind names c are have.0 small.0; short = short.0 },
+  lines_are_lines kind names commands
+      are have.1 short.1 small.1,
+)
 
-lines_spell : (kind : Kind) (names : List (List ℕ)) (commands : List Command) → AreNames names → AllByRecursion (HasLine kind names) commands
+lines_spell : (kind : Kind) (names : List (List ℕ)) (commands : List Command) → AreNames names
+    → AllByRecursion (HasLine kind names) commands
     → AllByRecursion AreSmall commands → SpellEach kind names (map (line_of names) commands) commands
 lines_spell kind names [] are have small = tt
-lines_spell kind names (c ∷ commands) are have small = (line_spells kind names c are have.0 small.0, lines_spell kind names commands are have.1 small.1)
+lines_spell kind names (c ∷ commands) are have small =
+    (line_spells kind names c are have.0 small.0, lines_spell kind names commands are have.1 small.1)
 
 -- ---- the whole text
 
-pub written-says : (kind : Kind) (names : List (List ℕ)) (commands : List Command) (text : List ℕ) → AreNames names → AllByRecursion (HasLine kind names) commands
-    → AreShort names commands → AllByRecursion AreSmall commands → length commands ≤ 1048576 → text ≡ text_of kind names commands → Says text kind names commands
+pub written-says : (kind : Kind) (names : List (List ℕ)) (commands : List Command) (text : List ℕ) → AreNames names
+    → AllByRecursion (HasLine kind names) commands
+    → AreShort names commands → AllByRecursion AreSmall commands → length commands ≤ 1048576
+    → text ≡ text_of kind names commands → Says text kind names commands
 written-says kind names commands text are have short small few whole = record {
   second = names_line names;
   lines = map (line_of names) commands;
   whole = whole;
-  are_lines = (first_is_line kind, (second_is_line names are, lines_are_lines kind names commands are have short small));
+  are_lines =
+      (first_is_line kind, (second_is_line names are, lines_are_lines kind names commands are have short small));
   lists = second_lists names are;
   spell = lines_spell kind names commands are have small;
   few = few;

@@ -1,4 +1,4 @@
-use Rattle.ra_lines.proofs.Spelled.{line_spells}
+use Rattle.ra_lines.proofs.SpelledLines.{line_spells}
 use Rattle.ra_lines.proofs.laws.a_written_line_spells_its_command.Goals as goal
 
 pub returns : goal.returns

@@ -7,7 +7,8 @@ loop-place-init c = none_yet
 
 pub returns-then-is_bad_behind-clause-bad : goal.returns-then-is_bad_behind-clause-bad
 returns-then-is_bad_behind-clause-bad c =
-    first_bad_at c.args.words.now c.loop-place.place _ c.loop-place-test.true c.loop-place.invariant (sym c.if-is_bad_behind.ensures)
+    first_bad_at c.args.words.now c.loop-place.place _ c.loop-place-test.true c.loop-place.invariant
+    (sym c.if-is_bad_behind.ensures)
 
 pub loop-place-preserved : goal.loop-place-preserved
 loop-place-preserved c =

@@ -6,4 +6,5 @@ use Rattle.ra_lines.proofs.name.is_among.Given as goal
 
 -- it is one of them where it is one of those that are left
 abbrev pub invariant-loop-other : goal.invariant-loop-other
-invariant-loop-other l = list_any (bytes_eq l.word) (texts_of (drop l.other-index l.words)) ≡ list_any (bytes_eq l.word) (texts_of l.words)
+invariant-loop-other l = list_any (bytes_eq l.word) (texts_of (drop l.other-index l.words))
+    ≡ list_any (bytes_eq l.word) (texts_of l.words)

@@ -6,4 +6,5 @@ pub returns-in-Some-clause-place : goal.returns-in-Some-clause-place
 returns-in-Some-clause-place c = place_found c.args.set.now.keys c.args.name.now c.in-Some.place c.in-Some.ensures.index
 
 pub returns-in-None-clause-place : goal.returns-in-None-clause-place
-returns-in-None-clause-place c = c.len.ensures.len ∙ place_missing c.args.set.now.keys c.args.name.now c.in-None.ensures.index
+returns-in-None-clause-place c = c.len.ensures.len
+    ∙ place_missing c.args.set.now.keys c.args.name.now c.in-None.ensures.index

@@ -4,7 +4,8 @@ use Rattle.ra_lines.proofs.size.more_size.Goals as goal
 
 pub loop-number-preserved : goal.loop-number-preserved
 loop-number-preserved c = (
-  size_more c.args.numbers.now c.loop-number.number-index c.loop-number.size c.number_size.result c.loop-number-test.true
+  size_more c.args.numbers.now c.loop-number.number-index c.loop-number.size c.number_size.result
+      c.loop-number-test.true
       c.loop-number.invariant.0 c.number_size.ensures.exact,
   omega (arith, c.loop-number.invariant.1, c.number_size.ensures.small),
 )

@@ -1,6 +1,6 @@
 use Rattle.std.proofs.Common.{◌≡◌, rules, ◌∙◌}
 use Rattle.ra_lines.specs.Grammar.{fields_of}
-use Rattle.ra_lines.proofs.Cuts.{fields-cut, fields-whole}
+use Rattle.ra_lines.proofs.Pieces.{fields-cut, fields-whole}
 use Rattle.ra_lines.proofs.fields.Fields.take.Goals as goal
 
 pub returns-in-Some : goal.returns-in-Some

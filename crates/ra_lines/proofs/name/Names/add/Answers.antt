@@ -9,7 +9,8 @@ push-requires c =
     let room : length keys < 16 = search rules steps 100000 in
     let form : is_name c.args.name.now ≡ true = search rules in
     let last : c.place_in.result ≡ length keys = search rules in
-    may_join keys c.args.self.now c.args.name.now c.place_in.result c.self.view_is room form c.place_in.ensures.place last
+    may_join keys c.args.self.now c.args.name.now c.place_in.result c.self.view_is room form
+    c.place_in.ensures.place last
 
 pub returns-clause-may : goal.returns-clause-may
 returns-clause-may c =
@@ -17,4 +18,5 @@ returns-clause-may c =
     let room : length keys < 16 = search rules steps 100000 in
     let form : is_name c.args.name.now ≡ true = search rules in
     let last : c.place_in.result ≡ length keys = search rules in
-    may_join keys c.args.self.now c.args.name.now c.place_in.result c.self.view_is room form c.place_in.ensures.place last
+    may_join keys c.args.self.now c.args.name.now c.place_in.result c.self.view_is room form
+    c.place_in.ensures.place last

@@ -6,4 +6,5 @@ use Rattle.ra_lines.proofs.name.Names.of.Goals as goal
 pub push-requires : goal.push-requires
 push-requires c =
     subst (λ (name : List ℕ). MayJoin c.loop-name.list name) (sym c.as_bytes.ensures.value)
-    (may_join_at c.args.names.now c.loop-name.name-index _ c.loop-name.list c.loop-name-test.true c.loop-name.invariant c.requires)
+    (may_join_at c.args.names.now c.loop-name.name-index _ c.loop-name.list c.loop-name-test.true
+    c.loop-name.invariant c.requires)

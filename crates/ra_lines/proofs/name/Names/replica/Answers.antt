@@ -18,4 +18,5 @@ returns-then-is_name c =
           (omega (arith, place, w.if-place-len.true, c.len.ensures.len, length-map keys (λ name. name.items)))
       | else-place-len w ↦ sym w.is_name.ensures ∙ sym w.value-is ∙ c.if-is_name.true
     ] in
-    replica_is_read c.args.self.now word c.place_in-place.result is (place ∙ ap (λ (names : List (List ℕ)). place_of names word) c.self.view_is)
+    replica_is_read c.args.self.now word c.place_in-place.result is
+    (place ∙ ap (λ (names : List (List ℕ)). place_of names word) c.self.view_is)

@@ -10,9 +10,11 @@ use Rattle.ra_lines.specs.Fields.{IsCutAt, pieces_at}
 apart : (byte : ℕ) (bytes : List ℕ) → All (λ b. b ≢ byte) bytes → All (λ b. eqb b byte ≡ false) bytes
 apart byte bytes none k d lt = ne_eqb _ byte (none k d lt)
 
-pub pieces-cut : (byte : ℕ) (bytes piece more : List ℕ) → IsCutAt byte bytes piece more → pieces_at byte bytes ≡ piece ∷ pieces_at byte more
+pub pieces-cut : (byte : ℕ) (bytes piece more : List ℕ) → IsCutAt byte bytes piece more
+    → pieces_at byte bytes ≡ piece ∷ pieces_at byte more
 pieces-cut byte bytes piece more cut =
-    ap (pieces_at byte) cut.parts ∙ slice_split_at (λ b. eqb b byte) piece byte more (apart byte piece cut.first) (eq-eqb byte byte refl)
+    ap (pieces_at byte) cut.parts
+    ∙ slice_split_at (λ b. eqb b byte) piece byte more (apart byte piece cut.first) (eq-eqb byte byte refl)
 
 pub pieces-whole : (byte : ℕ) (bytes : List ℕ) → All (λ b. b ≢ byte) bytes → pieces_at byte bytes ≡ bytes ∷ []
 pieces-whole byte bytes none = slice_split_none (λ b. eqb b byte) bytes (apart byte bytes none)

@@ -1,5 +1,6 @@
 -- The line that is written of a command spells it.
-use Rattle.std.proofs.Common.{◌≡◌, ◌≢◌, ◌^◌, ℕ, zero, suc, ◌<◌, ◌≤◌, true, false, eqb, ltb, leb, List, [], ◌∷◌, ◌++◌, length, map, All, Option, Some, None, ℤ, pos, negsuc, refl, sym, ap, ◌∙◌, arith, inl, inr}
+use Rattle.std.proofs.Common.{◌≡◌, ◌≢◌, ◌^◌, ℕ, zero, suc, ◌<◌, ◌≤◌, true, false, eqb, ltb, leb, List, [], ◌∷◌, ◌++◌}
+use Rattle.std.proofs.Common.{length, map, All, Option, Some, None, ℤ, pos, negsuc, refl, sym, ap, ◌∙◌, arith, inl, inr}
 use Rattle.std.specs.Prelude.{codes, decimal, bytes_eq, IfSome, FitsSigned, ◌&&◌}
 use Rattle.std.specs.Fmt.{signed_decimal}
 use Rattle.std.specs.Int.{w32}
@@ -17,10 +18,12 @@ use Rattle.std.proofs.lemmas.List.Splits.{slice_split_at, slice_split_none}
 use Rattle.std.proofs.lemmas.Str.Parse.{digit_from_value}
 use Rattle.ra_labels.specs.declared.kind.Kind.{Kind}
 use Rattle.ra_labels.specs.declared.operation.Op.{Op}
-use Rattle.ra_labels.specs.declared.operation.Op.TheVariants.{Inc, Dec, Count, Write, Last, LwwAdd, LwwRemove, LwwRead, OrAdd, OrRemove, OrRead, After, RgaRemove, RgaRead}
+use Rattle.ra_labels.specs.declared.operation.Op.TheVariants.{Inc, Dec, Count, Write, Last, LwwAdd, LwwRemove, LwwRead}
+use Rattle.ra_labels.specs.declared.operation.Op.TheVariants.{OrAdd, OrRemove, OrRead, After, RgaRemove, RgaRead}
 use Rattle.ra_labels.specs.declared.command.Command.{Command}
 use Rattle.ra_labels.specs.declared.command.Command.TheVariants.{Operate, Deliver, Verdict}
-use Rattle.ra_lines.specs.Grammar.{IsSmall, is_name, has_form_of_name, may_follow, place_of, fields_of, list_word, value_word, operation_fields, clock_fields, HasSmallNumbers, AreNames, Spells}
+use Rattle.ra_lines.specs.Grammar.{IsSmall, is_name, has_form_of_name, may_follow, place_of, fields_of, list_word}
+use Rattle.ra_lines.specs.Grammar.{value_word, operation_fields, clock_fields, HasSmallNumbers, AreNames, Spells}
 use Rattle.ra_lines.specs.Spelling.{spaced, name_of, line_of, AreSmall, HasLine}
 
 -- ---- bytes of fields
@@ -45,14 +48,17 @@ plain-decimal n small = plain-digits (decimal n) (decimal_is_IsNumeral n small).
 
 no_low : (byte : ℕ) (bytes : List ℕ) → byte ≤ 32 → IsPlain bytes → AllByRecursion (λ b. eqb b byte ≡ false) bytes
 no_low byte [] low plain = tt
-no_low byte (b ∷ bytes) low plain = (ne_eqb b byte (λ same. absurd (omega (arith, plain.0, same, low))), no_low byte bytes low plain.1)
+no_low byte (b ∷ bytes) low plain =
+    (ne_eqb b byte (λ same. absurd (omega (arith, plain.0, same, low))), no_low byte bytes low plain.1)
 
 no_space : (bytes : List ℕ) → IsPlain bytes → All (λ b. eqb b 32 ≡ false) bytes
 no_space bytes plain = All-from_recursion (λ b. eqb b 32 ≡ false) bytes (no_low 32 bytes (omega arith) plain)
 
 -- fields with spaces before them are cut at the spaces again
-pub fields-spaced : (first : List ℕ) (fields : List (List ℕ)) → IsPlain first → ArePlain fields → fields_of (first ++ spaced fields) ≡ first ∷ fields
-fields-spaced first [] plain each = ap fields_of (append-nil first) ∙ slice_split_none (λ b. eqb b 32) first (no_space first plain)
+pub fields-spaced : (first : List ℕ) (fields : List (List ℕ)) → IsPlain first → ArePlain fields
+    → fields_of (first ++ spaced fields) ≡ first ∷ fields
+fields-spaced first [] plain each = ap fields_of (append-nil first)
+    ∙ slice_split_none (λ b. eqb b 32) first (no_space first plain)
 fields-spaced first (field ∷ fields) plain each =
     slice_split_at (λ b. eqb b 32) first 32 (field ++ spaced fields) (no_space first plain) refl
     ∙ ap (λ (fs : List (List ℕ)). first ∷ fs) (fields-spaced field fields each.0 each.1)
@@ -62,17 +68,24 @@ no_feed : (bytes : List ℕ) → IsPlain bytes → AllByRecursion (λ b. b ≢ 1
 no_feed [] plain = tt
 no_feed (b ∷ bytes) plain = ((λ same. absurd (omega (arith, plain.0, same))), no_feed bytes plain.1)
 
-feeds-append : (xs ys : List ℕ) → AllByRecursion (λ b. b ≢ 10) xs → AllByRecursion (λ b. b ≢ 10) ys → AllByRecursion (λ b. b ≢ 10) (xs ++ ys)
+feeds-append : (xs ys : List ℕ) → AllByRecursion (λ b. b ≢ 10) xs → AllByRecursion (λ b. b ≢ 10) ys
+    → AllByRecursion (λ b. b ≢ 10) (xs ++ ys)
 feeds-append [] ys p q = q
 feeds-append (x ∷ xs) ys p q = (p.0, feeds-append xs ys p.1 q)
 
 no_feed_spaced : (fields : List (List ℕ)) → ArePlain fields → AllByRecursion (λ b. b ≢ 10) (spaced fields)
 no_feed_spaced [] each = tt
-no_feed_spaced (field ∷ fields) each = ((λ same. absurd (omega (arith, same))), feeds-append field (spaced fields) (no_feed field each.0) (no_feed_spaced fields each.1))
+no_feed_spaced (field ∷ fields) each = (
+  (λ same. absurd (omega (arith, same))),
+  feeds-append field (spaced fields) (no_feed field each.0)
+      (no_feed_spaced fields each.1),
+)
 
-pub one_line : (first : List ℕ) (fields : List (List ℕ)) → IsPlain first → ArePlain fields → All (λ b. b ≢ 10) (first ++ spaced fields)
+pub one_line : (first : List ℕ) (fields : List (List ℕ)) → IsPlain first → ArePlain fields
+    → All (λ b. b ≢ 10) (first ++ spaced fields)
 one_line first fields plain each =
-    All-from_recursion (λ b. b ≢ 10) (first ++ spaced fields) (feeds-append first (spaced fields) (no_feed first plain) (no_feed_spaced fields each))
+    All-from_recursion (λ b. b ≢ 10) (first ++ spaced fields)
+    (feeds-append first (spaced fields) (no_feed first plain) (no_feed_spaced fields each))
 
 -- ---- the fields of commands
 
@@ -82,10 +95,12 @@ fits n small = omega arith
 pub plain_number : (n : ℕ) → IsSmall n → IsPlain (decimal n)
 plain_number n small = plain-decimal n (fits n small)
 
-plain_joined : (x : ℕ) (xs : List ℕ) → IsSmall x → AllByRecursion IsSmall xs → IsPlain (join_with_byte 44 (map decimal (x ∷ xs)))
+plain_joined : (x : ℕ) (xs : List ℕ) → IsSmall x → AllByRecursion IsSmall xs
+    → IsPlain (join_with_byte 44 (map decimal (x ∷ xs)))
 plain_joined x [] here later = plain_number x here
 plain_joined x (y ∷ ys) here later =
-    plain-append (decimal x) (44 ∷ join_with_byte 44 (map decimal (y ∷ ys))) (plain_number x here) (omega arith, plain_joined y ys later.0 later.1)
+    plain-append (decimal x) (44 ∷ join_with_byte 44 (map decimal (y ∷ ys))) (plain_number x here)
+    (omega arith, plain_joined y ys later.0 later.1)
 
 plain_list : (xs : List ℕ) → AllByRecursion IsSmall xs → IsPlain (list_word xs)
 plain_list [] small = (omega arith, tt)
@@ -114,10 +129,13 @@ plain_operation (Last value) small = (plain_word (codes "read") refl, (plain_val
 plain_operation (LwwAdd x) small = (plain_word (codes "add") refl, (plain_number x small, tt))
 plain_operation (LwwRemove x) small = (plain_word (codes "remove") refl, (plain_number x small, tt))
 plain_operation (LwwRead list) small = (plain_word (codes "read") refl, (plain_list list small, tt))
-plain_operation (OrAdd x id) small = (plain_word (codes "add") refl, (plain_number x small.0, ((omega arith, plain_number id small.1), tt)))
-plain_operation (OrRemove x ids) small = (plain_word (codes "remove") refl, (plain_number x small.0, ((omega arith, plain_list ids small.1), tt)))
+plain_operation (OrAdd x id) small =
+    (plain_word (codes "add") refl, (plain_number x small.0, ((omega arith, plain_number id small.1), tt)))
+plain_operation (OrRemove x ids) small =
+    (plain_word (codes "remove") refl, (plain_number x small.0, ((omega arith, plain_list ids small.1), tt)))
 plain_operation (OrRead list) small = (plain_word (codes "read") refl, (plain_list list small, tt))
-plain_operation (After anchor x) small = (plain_word (codes "after") refl, (plain_number anchor small.0, (plain_number x small.1, tt)))
+plain_operation (After anchor x) small =
+    (plain_word (codes "after") refl, (plain_number anchor small.0, (plain_number x small.1, tt)))
 plain_operation (RgaRemove x) small = (plain_word (codes "remove") refl, (plain_number x small, tt))
 plain_operation (RgaRead list) small = (plain_word (codes "read") refl, (plain_list list small, tt))
 
@@ -156,7 +174,8 @@ plain_name (first ∷ more) is =
     (first_letter first head.0, all_follow more parts.1)
 
 -- what holds of each holds in a place
-apart_from : (names : List (List ℕ)) (n : ℕ) (P : List ℕ → Type 0) → n < length names → AllByRecursion P names → P (name_of names n)
+apart_from : (names : List (List ℕ)) (n : ℕ) (P : List ℕ → Type 0) → n < length names → AllByRecursion P names
+    → P (name_of names n)
 apart_from [] n P there all = absurd (omega (arith, there))
 apart_from (name ∷ names) zero P there all = all.0
 apart_from (name ∷ names) (suc n) P there all = apart_from names n P (omega (arith, there)) all.1
@@ -164,7 +183,8 @@ apart_from (name ∷ names) (suc n) P there all = apart_from names n P (omega (a
 same_self : (name : List ℕ) → bytes_eq name name ≡ true
 same_self name = (bytes_eq-Decides name name).1 refl
 
-pub named_at : (names : List (List ℕ)) (replica : ℕ) → replica < length names → list_all is_name names ≡ true → IsDistinct bytes_eq names
+pub named_at : (names : List (List ℕ)) (replica : ℕ) → replica < length names → list_all is_name names ≡ true
+    → IsDistinct bytes_eq names
     → (is_name (name_of names replica) ≡ true) × (place_of names (name_of names replica) ≡ replica)
 named_at [] replica there each distinct = absurd (omega (arith, there))
 named_at (name ∷ names) zero there each distinct =
@@ -174,13 +194,15 @@ named_at (name ∷ names) (suc n) there each distinct =
     let parts = and_parts (is_name name) (list_all is_name names) each in
     let later = named_at names n (omega (arith, there)) parts.1 (IsDistinct-tail bytes_eq name names distinct) in
     let apart : bytes_eq name (name_of names n) ≡ false =
-    apart_from names n (λ other. bytes_eq name other ≡ false) (omega (arith, there)) (IsDistinct-head bytes_eq name names distinct) in
+    apart_from names n (λ other. bytes_eq name other ≡ false) (omega (arith, there))
+    (IsDistinct-head bytes_eq name names distinct) in
     let turned : bytes_eq (name_of names n) name ≡ false = nat_list_eq_equiv.symm (name_of names n) name ∙ apart in
     (later.0, rw turned (omega (arith, later.1)))
 
 -- ---- a command
 
-pub line_spells : (kind : Kind) (names : List (List ℕ)) (command : Command) → AreNames names → HasLine kind names command → AreSmall command
+pub line_spells : (kind : Kind) (names : List (List ℕ)) (command : Command) → AreNames names
+    → HasLine kind names command → AreSmall command
     → Spells kind names (line_of names command) command
 line_spells kind names Verdict are has small = refl
 line_spells kind names (Deliver replica label) are has small =
@@ -189,7 +211,8 @@ line_spells kind names (Deliver replica label) are has small =
       name = name_of names replica;
       who = record { form = at.0; place = sym at.1 };
       small = small;
-      words = fields-spaced (name_of names replica) (codes "got" ∷ decimal label ∷ []) (plain_name (name_of names replica) at.0)
+      words = fields-spaced (name_of names replica) (codes "got" ∷ decimal label ∷ [])
+          (plain_name (name_of names replica) at.0)
           (plain_word (codes "got") refl, (plain_number label small, tt));
     }
 line_spells kind names (Operate replica op clock) are has small =
@@ -201,5 +224,6 @@ line_spells kind names (Operate replica op clock) are has small =
       body = body;
       is_body = record { own = has.1; small = small.0; small_clock = small.1; words = refl };
       words = fields-spaced (name_of names replica) body (plain_name (name_of names replica) at.0)
-          (fields-append (operation_fields op) (clock_fields clock) (plain_operation op small.0) (plain_clock clock small.1));
+          (fields-append (operation_fields op) (clock_fields clock) (plain_operation op small.0)
+          (plain_clock clock small.1));
     }
