@@ -93,6 +93,14 @@ none_kept keep (entry ∷ list) none =
     let parts = and_parts (not (keep entry.0)) (list_all (λ e. not (keep e.0)) list) none in
     drops_it keep entry list (not-true (keep entry.0) parts.0) ∙ none_kept keep list parts.1
 
+-- what is kept was there
+pub in-kept : (keep : ℕ → Bool) (list : List (ℕ × Bool)) (y : ℕ) → Contains (elements_in (kept_entries keep list)) y
+    → Contains (elements_in list) y
+in-kept keep list y there =
+    let (entry, found, is) = from_where (λ (e : ℕ × Bool). e.0) (kept_entries keep list) y there in
+    subst (Contains (elements_in list)) is
+    (reached (λ (e : ℕ × Bool). e.0) list entry (there-kept (λ (e : ℕ × Bool). keep e.0) list entry found).0)
+
 -- an insertion behind an element that no earlier entry is of
 insert_at : (p x : ℕ) (is_shown : Bool) (before behind : List (ℕ × Bool)) → ¬ Contains (elements_in before) p
     → insert_after p x (before ++ (p, is_shown) ∷ behind) ≡ before ++ (p, is_shown) ∷ (x, true) ∷ behind
@@ -155,7 +163,7 @@ kept-nearest keep before between behind p x is_shown was_shown once kept none dr
     ∙ (λ i. kept_first i ++ drops_it keep (x, was_shown) behind dropped i)
     ∙ append_assoc (kept_entries keep before) ((p, is_shown) ∷ []) (kept_entries keep behind) in
     let out : ¬ Contains (elements_in (kept_entries keep before)) p =
-    λ there. round_p.0 (kept_in keep before p there) in
+    λ there. round_p.0 (in-kept keep before p there) in
     ap elements_in now
     ∙ in_append (kept_entries keep before ++ (p, is_shown) ∷ []) ((x, was_shown) ∷ kept_entries keep behind)
     ∙ sym (in_append (kept_entries keep before ++ (p, is_shown) ∷ []) ((x, true) ∷ kept_entries keep behind))
@@ -163,10 +171,3 @@ kept-nearest keep before between behind p x is_shown was_shown once kept none dr
     (append_assoc (kept_entries keep before) ((p, is_shown) ∷ []) ((x, true) ∷ kept_entries keep behind))
     ∙ sym (ap elements_in
     (ap (insert_after p x) was ∙ insert_at p x is_shown (kept_entries keep before) (kept_entries keep behind) out))
-  where
-    kept_in : (keep : ℕ → Bool) (list : List (ℕ × Bool)) (y : ℕ) → Contains (elements_in (kept_entries keep list)) y
-        → Contains (elements_in list) y
-    kept_in keep list y there =
-        let from = from_where (λ (e : ℕ × Bool). e.0) (kept_entries keep list) y there in
-        let in_list = (there-kept (λ (e : ℕ × Bool). keep e.0) list from.0 from.1).0 in
-        subst (Contains (elements_in list)) from.2 (reached (λ (e : ℕ × Bool). e.0) list from.0 in_list)

@@ -13,11 +13,11 @@ use Rattle.ra_labels.specs.Specification.{Listed, step_of, state_after}
 use Rattle.ra_labels.specs.Laws.{kind_of_update, elements_in, WasPutIn}
 use Rattle.ra_labels.specs.Late.{kept_entries}
 use Rattle.ra_labels.specs.Waiting.{puts_in, is_there, needed_by}
-use Rattle.ra_labels.proofs.Members.{head_or_behind, at_head, behind_head, from_where, there-kept, kept-there, reached, what_passes}
+use Rattle.ra_labels.proofs.Members.{head_or_behind, at_head, behind_head, from_where, kept-there, reached, what_passes}
 use Rattle.ra_laws.proofs.States.{state_from}
 use Rattle.ra_laws.proofs.HadUpdates.{any_at}
 use Rattle.ra_laws.proofs.Rgas.{in-exactly, after_is, removed_is, insert_here, insert_on, hide-places, comes_in, list-exactly}
-use Rattle.ra_laws.proofs.KeptEntries.{kept-inserted, kept-dropped, kept-hidden}
+use Rattle.ra_laws.proofs.KeptEntries.{kept-inserted, kept-dropped, kept-hidden, in-kept}
 use Rattle.ra_laws.proofs.LateUpdates.{after_goes, remove_goes, one_step, stays_in}
 
 -- what is there, in the words of the laws
@@ -133,13 +133,6 @@ kept-in keep list y there passes =
     subst (Contains (elements_in (kept_entries keep list))) is
     (reached (λ (e : ℕ × Bool). e.0) (kept_entries keep list) entry
     (kept-there (λ (e : ℕ × Bool). keep e.0) list entry found (ap keep is ∙ passes)))
-
-pub in-kept : (keep : ℕ → Bool) (list : List (ℕ × Bool)) (y : ℕ) → Contains (elements_in (kept_entries keep list)) y
-    → Contains (elements_in list) y
-in-kept keep list y there =
-    let (entry, found, is) = from_where (λ (e : ℕ × Bool). e.0) (kept_entries keep list) y there in
-    subst (Contains (elements_in list)) is
-    (reached (λ (e : ℕ × Bool). e.0) list entry (there-kept (λ (e : ℕ × Bool). keep e.0) list entry found).0)
 
 -- updates, each with whether it is kept; all of them; and those that are
 abbrev pub all_marked : List (Bool × Update) → List Update

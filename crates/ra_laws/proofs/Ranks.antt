@@ -22,7 +22,7 @@ use Rattle.ra_labels.specs.Linearization.{must_precede, extends, extends_visibil
 use Rattle.ra_labels.specs.NamedOrder.{lowest_rank, rank_of, stamp_cmp, label_cmp, named_labels, named_sequence}
 use Rattle.ra_labels.specs.Laws.{IsStampBelow, MustStandBefore}
 use Rattle.ra_labels.proofs.Members.{head_or_behind, at_head, behind_head, reached, piece_of, in_piece, everyone, what_passes}
-use Rattle.ra_labels.proofs.StampOrder.{stamp_cmp-total, stamp_below, stamp_same}
+use Rattle.ra_labels.proofs.StampOrder.{stamp_cmp-total, stamp_below, stamp_same, not_below_itself}
 use Rattle.ra_labels.proofs.Parts.{extends-first, extends-behind, extends-apart, part_is_of, some_part}
 use Rattle.ra_labels.proofs.Counted.{numbers_below_count}
 use Rattle.ra_labels.proofs.Comparisons.{eqb-comm}
@@ -224,18 +224,12 @@ module _ (kind : Kind) (records : Records) where
             (Contains-permutation named labels n back n_there)))),
       )
 
-not_below_itself : (s : Stamp) → ¬ IsStampBelow s s
-not_below_itself s below = elim below [
-  | inl clock ↦ absurd (omega (arith, clock))
-  | inr replica ↦ absurd (omega (arith, replica.1))
-]
-
 -- where all ranks are the lowest, none is greater
 pub execution-extends : (kind : Kind) (records : Records) → ((label : Label) → rank_of kind records label ≡ lowest_rank)
     → extends_visibility records (named_sequence kind records) ≡ true
 execution-extends kind records lowest =
     (ranks-extend kind records).1
-    (λ m n m_there n_there must below. not_below_itself lowest_rank (rw (lowest n, lowest m) at below))
+    (λ m n m_there n_there must below. not_below_itself lowest_rank lowest_rank refl (rw (lowest n, lowest m) at below))
 
 pub counter-extends : (records : Records) → extends_visibility records (named_sequence Counter records) ≡ true
 counter-extends records = execution-extends Counter records (λ label. refl)

@@ -4,9 +4,7 @@ use Rattle.std.specs.Prelude.{◌↔◌, ◌&&◌, ◌||◌, not, nat_lt, is_som
 use Rattle.std.specs.Option.{option_map_or}
 use Rattle.std.specs.List.{list_any}
 use Rattle.std.specs.Ordering.{is_eq}
-use Rattle.std.specs.declared.cmp.Ordering.{Ordering}
-use Rattle.std.specs.declared.cmp.Ordering.TheVariants.{Less, Equal, Greater}
-use Rattle.std.proofs.lemmas.Bool.{false≢true, cond_both, ne_eqb, lt-ltb, ltb-true, or_cases, or_left, or_right, or_parts}
+use Rattle.std.proofs.lemmas.Bool.{false≢true, cond_both, ne_eqb, lt-ltb, ltb-true, or_cases, or_left, or_right, or_parts, not-false}
 use Rattle.std.proofs.lemmas.Option.{none-some, same_Some}
 use Rattle.ra_laws.proofs.Faults.{not_some}
 use Rattle.ra_labels.specs.declared.kind.Kind.{Kind}
@@ -27,6 +25,7 @@ use Rattle.ra_labels.specs.Laws.{IsOwnStamp, HasItsClock, IsFit, EachLabelFits, 
 use Rattle.ra_labels.proofs.Members.{head_or_behind}
 use Rattle.ra_labels.proofs.StampOrder.{stamp_same}
 use Rattle.ra_labels.proofs.SameKind.{same_kind, kind_itself}
+use Rattle.std.specs.Cmp.{Equal-is}
 
 -- an element that passes a test
 abbrev pub One : (Label → Bool) → List Label → Type 0
@@ -48,17 +47,12 @@ one_any p (first ∷ labels) label there passes = elim (head_or_behind first lab
   | inr further ↦ or_right (p first) (list_any p labels) (one_any p labels label further passes)
 ]
 
-equal_from : (o : Ordering) → is_eq o ≡ true → o ≡ Equal
-equal_from Less is = absurd (false≢true is)
-equal_from Equal is = refl
-equal_from Greater is = absurd (false≢true is)
-
 -- whose own stamp it is
 own_stamp : (own : Option Stamp) (stamp : Stamp) → (option_map_or (λ s. is_eq (stamp_cmp s stamp)) own false ≡ true)
     ↔ (own ≡ Some stamp)
 own_stamp None stamp = (λ is. absurd (false≢true is), λ is. absurd (none-some stamp is))
 own_stamp (Some s) stamp = (
-  (λ is. ap Some ((stamp_same s stamp).0 (equal_from (stamp_cmp s stamp) is))),
+  (λ is. ap Some ((stamp_same s stamp).0 ((Equal-is (stamp_cmp s stamp)).0 is))),
   (λ is. ap is_eq ((stamp_same s stamp).1 (same_Some s stamp is))),
 )
 
@@ -92,10 +86,6 @@ form-not_taken false false false true = ((λ is. cc is), (λ is. cc is))
 form-not_taken false false false false = ((λ is. cc is), (λ is. cc is))
 
 -- what an operation's tests say
-from_not : (b : Bool) → not b ≡ false → b ≡ true
-from_not true is = refl
-from_not false is = absurd (false≢true (sym is))
-
 to_clock : (carries : Bool) (clock : Option ℕ) → (carries && not (has_clock clock)) ≡ false
     → (not carries && is_some clock) ≡ false → (carries ≡ true → (at : ℕ) × (1 ≤ at) × (clock ≡ Some at))
     × (carries ≡ false → clock ≡ None)
@@ -128,8 +118,8 @@ fits-exactly kind by op clock = (
   (λ none.
       let tests = form-none (not (is_kind kind (kind_of op))) (not (has_rising_list op))
       (carries_stamp op && not (has_clock clock)) (not (carries_stamp op) && is_some clock) none in (
-        same_kind kind (kind_of op) (from_not (is_kind kind (kind_of op)) tests.0),
-        from_not (has_rising_list op) tests.1,
+        same_kind kind (kind_of op) (not-false (is_kind kind (kind_of op)) tests.0),
+        not-false (has_rising_list op) tests.1,
         to_clock (carries_stamp op) clock tests.2 tests.3,
       )),
   (λ known.

@@ -14,18 +14,11 @@ use Rattle.ra_labels.specs.Visibility.{sees, had}
 use Rattle.ra_labels.specs.NamedOrder.{lowest_rank, stamp_cmp, greater_of, greatest_stamp, timestamp_of}
 use Rattle.ra_labels.specs.Laws.{IsStampBelow, SeesStamp}
 use Rattle.ra_labels.proofs.Members.{head_or_behind, kept-there, there-kept}
-use Rattle.ra_labels.proofs.StampOrder.{below_tested, not_below_tested}
+use Rattle.ra_labels.proofs.StampOrder.{below_tested, not_below_tested, not_below_itself, not_both_below}
 use Rattle.ra_laws.proofs.LabelNumbers.{label_count-append}
 use Rattle.ra_laws.proofs.FirstUpdates.{sees-next}
 
--- the order of stamps, over their numbers
-not_both : (a b c d : ℕ) → (a < c) ⊎ ((a ≡ c) × (b < d)) → (c < a) ⊎ ((c ≡ a) × (d < b)) → ⊥
-not_both a b c d (inl first) (inl second) = absurd (omega arith)
-not_both a b c d (inl first) (inr second) = absurd (omega (arith, second.0))
-not_both a b c d (inr first) (inl second) = absurd (omega (arith, first.0))
-not_both a b c d (inr first) (inr second) = absurd (omega (arith, first.1, second.1))
-
--- what is below the greater and not below the lesser
+-- what is below the greater and not below the lesser, over the numbers of stamps
 through : (a b c d e f : ℕ) → (((a < c) ⊎ ((a ≡ c) × (b < d))) → ⊥) → (((c < e) ⊎ ((c ≡ e) × (d < f))) → ⊥)
     → ((a < e) ⊎ ((a ≡ e) × (b < f))) → ⊥
 through a b c d e f first second below = elim (cases_order a c) [
@@ -43,21 +36,18 @@ through a b c d e f first second below = elim (cases_order a c) [
   ]
 ]
 
-not_below-itself : (s : Stamp) → ¬ IsStampBelow s s
-not_below-itself s below = not_both s.clock s.replica s.clock s.replica below below
-
 not_below-through : (s t u : Stamp) → ¬ IsStampBelow s t → ¬ IsStampBelow t u → ¬ IsStampBelow s u
 not_below-through s t u first second = through s.clock s.replica t.clock t.replica u.clock u.replica first second
 
 -- the greater of two is not below either, and is one of them
 greater-left : (s t : Stamp) → ¬ IsStampBelow (greater_of s t) s
 greater-left s t = cond_both (is_lt (stamp_cmp s t)) t s (λ u. ¬ IsStampBelow u s)
-    (λ is below. not_both s.clock s.replica t.clock t.replica (below_tested s t is) below)
-    (λ fails. not_below-itself s)
+    (λ is below. not_both_below s t (below_tested s t is) below)
+    (λ fails. not_below_itself s s refl)
 
 greater-right : (s t : Stamp) → ¬ IsStampBelow (greater_of s t) t
 greater-right s t = cond_both (is_lt (stamp_cmp s t)) t s (λ u. ¬ IsStampBelow u t)
-    (λ is. not_below-itself t)
+    (λ is. not_below_itself t t refl)
     (λ fails. not_below_tested s t fails)
 
 greater-one : (s t : Stamp) → (greater_of s t ≡ t) ⊎ ((greater_of s t ≡ s) × ¬ IsStampBelow s t)
@@ -85,7 +75,7 @@ no_less : (label : Label) (labels : List Label)
     → ¬ IsStampBelow (greatest_stamp (label ∷ labels)) (greatest_stamp labels)
 no_less label labels = elim (stamp_or_none label.stamp) [
   | inl none ↦ subst (λ u. ¬ IsStampBelow u (greatest_stamp labels)) (sym (without_stamp label labels none))
-      (not_below-itself (greatest_stamp labels))
+      (not_below_itself (greatest_stamp labels) (greatest_stamp labels) refl)
   | inr some ↦ subst (λ u. ¬ IsStampBelow u (greatest_stamp labels)) (sym (with_stamp label labels some.0 some.1))
       (greater-left (greatest_stamp labels) some.0)
 ]
