@@ -5,9 +5,9 @@ use Rattle.std.specs.List.Sorted.{IsStrictlySortedBy}
 use Rattle.std.specs.Ordering.{is_eq, nat_cmp}
 use Rattle.std.specs.BTreeMap.{is_at}
 use Rattle.std.specs.Set.{remove_key}
-use Rattle.std.specs.Cmp.{IsTotalOrder}
+use Rattle.std.specs.Cmp.{IsTotalOrder, Equal-is}
 use Rattle.std.specs.List.{AllByRecursion}
-use Rattle.std.specs.declared.cmp.Ordering.TheVariants.{Less, Equal, Greater}
+use Rattle.std.specs.declared.cmp.Ordering.TheVariants.{Less, Equal}
 use Rattle.std.proofs.lemmas.Cmp.{nat_cmp_total}
 use Rattle.std.proofs.lemmas.List.Elements.{filter_agree}
 use Rattle.std.proofs.lemmas.Bool.{cases_Bool, cond-true, cond-false, not_from_true, not_from_false}
@@ -18,11 +18,6 @@ pub filter_none_left : {K : Type 0} (p : K → Bool) (ks : List K) → AllByRecu
 filter_none_left p [] all = refl
 filter_none_left p (k ∷ ks) all = cond-true (p k) (k ∷ filter p ks) (filter p ks) all.0
     ∙ ap (λ zs. k ∷ zs) (filter_none_left p ks all.1)
-
-tests : (o : Ordering) → is_eq o ≡ true → o ≡ Equal
-tests Less is = absurd (cc is)
-tests Equal is = refl
-tests Greater is = absurd (cc is)
 
 -- what is above an equal key is not that key
 above_stay : {K : Type 0} {cmp : K → K → Ordering} → IsTotalOrder cmp → (k head : K) (ks : List K) → cmp k head ≡ Equal
@@ -40,7 +35,7 @@ removed {K} {cmp} order k (y ∷ ys) ordered = elim (cases_Bool (is_at (cmp k) y
   | inl here ↦
       cond-true (is_at (cmp k) y) ys (y ∷ remove_key (is_at (cmp k)) ys) here
       ∙ sym (filter_none_left (λ z. not (is_at (cmp k) z)) ys
-      (above_stay order k y ys (tests (cmp k y) here) ordered.0))
+      (above_stay order k y ys ((Equal-is (cmp k y)).0 here) ordered.0))
       ∙ sym (cond-false (not (is_at (cmp k) y)) (y ∷ filter (λ z. not (is_at (cmp k) z)) ys)
       (filter (λ z. not (is_at (cmp k) z)) ys) (not_from_true (is_at (cmp k) y) here))
   | inr other ↦

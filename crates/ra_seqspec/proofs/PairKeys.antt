@@ -14,11 +14,12 @@ use Rattle.std.specs.BTreeMap.Range.{range_contains}
 use Rattle.std.specs.Set.{remove_key}
 use Rattle.std.proofs.lemmas.Cmp.{ranked, nat_cmp_total, on_total, then_total}
 use Rattle.std.proofs.lemmas.Bool.{cases_Bool, cases_order, cond-true, cond-false, eqb-true, eqb-false, eq-eqb, ne_eqb}
-use Rattle.std.proofs.lemmas.Bool.{lt-ltb, le-ltb, ltb-true, and_from, and_parts, and_right, not_from_true}
+use Rattle.std.proofs.lemmas.Bool.{lt-ltb, le-ltb, and_from, and_right, not_from_true}
 use Rattle.std.proofs.lemmas.Bool.{not_from_false}
 use Rattle.std.proofs.lemmas.Bool.Decides.{nat_tests}
 use Rattle.std.proofs.Math.Bool.{or-false, or_comm, or_assoc}
 use Rattle.ra_labels.specs.Lists.{is_among, rises, pair_cmp, identifiers_of, elements_of, without_pairs}
+use Rattle.ra_labels.proofs.Rising.{all_lower}
 use Rattle.ra_labels.proofs.Comparisons.{then_eq, eqb-comm, is_eq-nat_cmp}
 use Rattle.ra_seqspec.specs.Pairs.{identifiers_in_front, elements_behind, distinct_elements}
 use Rattle.ra_seqspec.proofs.Keys.{removed, filter_none_left}
@@ -230,14 +231,6 @@ distinct_same x pairs = sym (or-false (is_among x (distinct_elements pairs))) �
     ∙ or-false (is_among x (elements_of pairs))
 
 -- the elements listed are above the last
-all_above : (x y : ℕ) (ys : List ℕ) → x < y → list_all (λ z. nat_lt y z) ys ≡ true
-    → list_all (λ z. nat_lt x z) ys ≡ true
-all_above x y [] less all = refl
-all_above x y (z ∷ zs) less all =
-    let parts = and_parts (nat_lt y z) (list_all (λ w. nat_lt y w) zs) all in
-    and_from (nat_lt x z) (list_all (λ w. nat_lt x w) zs) (lt-ltb x z (omega (arith, less, ltb-true y z parts.0)))
-    (all_above x y zs less parts.1)
-
 no_lower : (p : ℕ × ℕ) (qs : List (ℕ × ℕ)) → AllByRecursion (Behind p) qs → AllByRecursion (λ q. p.0 ≤ q.0) qs
 no_lower p [] all = all
 no_lower p (q ∷ qs) all = (all.0.no_lower, no_lower p qs all.1)
@@ -257,7 +250,7 @@ above_last least (p ∷ ps) ordered all = elim (cases_Bool (least == p.0)) [
       ap (list_all (λ y. nat_lt least y))
       (cond-false (least == p.0) (elements_behind (Some least) ps) (p.0 ∷ elements_behind (Some p.0) ps) other)
       ∙ and_from (nat_lt least p.0) _ (lt-ltb least p.0 less)
-      (all_above least p.0 (elements_behind (Some p.0) ps) less
+      (all_lower least p.0 (elements_behind (Some p.0) ps) less
       (above_last p.0 ps ordered.1 (no_lower p ps (all_behind p ps ordered.0))))
 ]
 
