@@ -3,13 +3,14 @@ use Rattle.std.proofs.Common.{◌≡◌, ℕ, Bool, true, false, not, ltb, cond,
 use Rattle.std.specs.Prelude.{reverse, is_some, ◌||◌}
 use Rattle.std.specs.Option.{option_or, option_map_or}
 use Rattle.std.specs.List.{AllByRecursion}
-use Rattle.std.proofs.lemmas.Bool.{ltb-true}
+use Rattle.std.proofs.lemmas.Bool.{ltb-true, not-false}
 use Rattle.std.proofs.lemmas.List.{append_assoc, append-nil, map-append, reverse-append}
+use Rattle.std.proofs.Math.Bool.{or-false}
 use Rattle.ra_labels.specs.declared.kind.Kind.{Kind}
 use Rattle.ra_labels.specs.declared.operation.Op.{Op}
-use Rattle.ra_labels.specs.declared.operation.Op.TheVariants.{Inc, Dec, Count, Write, Last, LwwAdd, LwwRemove, LwwRead}
-use Rattle.ra_labels.specs.declared.operation.Op.TheVariants.{OrAdd, OrRemove, OrRead, After, RgaRemove, RgaRead}
-use Rattle.ra_labels.specs.declared.kind.Kind.TheVariants.{Counter, Register, LwwSet, OrSet, Rga}
+use Rattle.ra_labels.specs.declared.operation.Op.TheVariants.{Count, Last, LwwRemove, LwwRead}
+use Rattle.ra_labels.specs.declared.operation.Op.TheVariants.{OrRead, RgaRemove, RgaRead}
+use Rattle.ra_labels.specs.declared.kind.Kind.TheVariants.{Rga}
 use Rattle.ra_labels.specs.declared.command.Command.{Command}
 use Rattle.ra_labels.specs.declared.command.Command.TheVariants.{Operate, Deliver, Verdict}
 use Rattle.ra_labels.specs.declared.refusal.Refusal.{Refusal}
@@ -27,10 +28,6 @@ use Rattle.ra_journal.specs.Log.{IsLegalAfter}
 use Rattle.ra_lines.specs.Grammar.{has_words}
 use Rattle.ra_lines.specs.Spelling.{HasLine}
 use Rattle.ra_history_text.specs.Accepted.{is_no, tells_accepted, accepted_one, accepted_in}
-
-or_false : (b : Bool) → b ≡ (b || false)
-or_false true = refl
-or_false false = refl
 
 reverse_cons : (command : Command) (records : Records) → reverse (command ∷ records) ≡ reverse records ++ command ∷ []
 reverse_cons command records = reverse-append (command ∷ []) records
@@ -100,12 +97,12 @@ tells_taken : (kind : Kind) (n : ℕ) (records : Records) (command : Command) �
 tells_taken kind n records Verdict sound taken = record {
   records_are = taken.records_are;
   failed_is = ap (λ (r : Records). is_some (fault_of kind r)) taken.records_are
-      ∙ or_false (is_some (fault_of kind records));
+      ∙ sym (or-false (is_some (fault_of kind records)));
 }
 tells_taken kind n records (Deliver to label) sound taken = record {
   records_are = taken.records_are;
   failed_is = ap (λ (r : Records). is_some (fault_of kind r)) taken.records_are
-      ∙ or_false (is_some (fault_of kind records));
+      ∙ sym (or-false (is_some (fault_of kind records)));
 }
 tells_taken kind n records (Operate by op clock) sound taken =
     tells_operation kind n records by op clock (fault_of kind (Operate by op clock ∷ records)) sound refl taken
@@ -180,28 +177,15 @@ first_none true why later e = absurd cc
 first_none false why later e = (refl, e)
 
 own_words : (op : Op) (kind : Kind) → is_kind kind (kind_of op) ≡ true → has_words op kind ≡ true
-own_words Inc kind e = refl
-own_words Dec kind e = refl
 own_words (Count value) kind e = e
-own_words (Write value) kind e = refl
 own_words (Last value) kind e = e
-own_words (LwwAdd x) kind e = refl
-own_words (LwwRemove x) Counter e = refl
-own_words (LwwRemove x) Register e = refl
-own_words (LwwRemove x) LwwSet e = refl
-own_words (LwwRemove x) OrSet e = refl
 own_words (LwwRemove x) Rga e = absurd cc
+own_words (LwwRemove x) _ e = refl
 own_words (LwwRead list) kind e = e
-own_words (OrAdd x id) kind e = refl
-own_words (OrRemove x ids) kind e = refl
 own_words (OrRead list) kind e = e
-own_words (After anchor x) kind e = refl
 own_words (RgaRemove x) kind e = e
 own_words (RgaRead list) kind e = e
-
-not_false : (b : Bool) → not b ≡ false → b ≡ true
-not_false true e = refl
-not_false false e = absurd cc
+own_words _ kind e = refl
 
 or_none : {X : Type 0} (o later : Option X) → option_or o later ≡ None → o ≡ None
 or_none None later e = refl
@@ -212,18 +196,18 @@ misfit_none : (kind : Kind) (by : ℕ) (op : Op) (clock : Option ℕ) (later : O
 misfit_none kind by op clock later e =
     let own = first_none (not (is_kind kind (kind_of op))) WrongKind _
     (or_none (misfit_of kind (Operate by op clock)) later e) in
-    not_false (is_kind kind (kind_of op)) own.0
+    not-false (is_kind kind (kind_of op)) own.0
 
 spelled : (kind : Kind) (names : List (List ℕ)) (records : Records) (command : Command)
     → refusal_of kind (length names) records command ≡ None → HasLine kind names command
 spelled kind names records Verdict fits = tt
 spelled kind names records (Deliver to label) fits =
     let known = first_none (not (ltb to (length names))) UnknownReplica _ fits in
-    ltb-true to (length names) (not_false (ltb to (length names)) known.0)
+    ltb-true to (length names) (not-false (ltb to (length names)) known.0)
 spelled kind names records (Operate by op clock) fits =
     let known = first_none (not (ltb by (length names))) UnknownReplica _ fits in
     let form = misfit_none kind by op clock _ known.1 in
-    (ltb-true by (length names) (not_false (ltb by (length names)) known.0), own_words op kind form)
+    (ltb-true by (length names) (not-false (ltb by (length names)) known.0), own_words op kind form)
 
 -- what an answer tells that is no refusal and no earlier no
 line_by : (kind : Kind) (names : List (List ℕ)) (records : Records) (command : Command) (o : Option Fault)

@@ -91,7 +91,8 @@ put_next names log rest more entry failed next out_old out out_new so_far is put
 
 -- ---- what is measured
 
--- the lines of the accepted commands of the first entries are short enough, so many are there, and these entries are left
+-- the lines of the accepted commands of the first entries are short enough, so many are there, and these entries are
+-- left
 pub record IsMeasuredUpTo (names : List (List ℕ)) (log rest : List MonitorEntry) (failed : Bool)
     (place : ℕ) : Type 0 where
   pub done : List Command

@@ -216,9 +216,4 @@ each_is_answered text left old new check_fault.Read own stops =
     (stops.0, stops.1, read_is_answered stops.0 old new stops.2)
 each_is_answered text left old new check_fault.Endless own stops =
     (stops.0, stops.1, read_is_answered stops.0 old new stops.2)
-each_is_answered text left old new check_fault.Write own stops = absurd own
-each_is_answered text left old new (check_fault.Syntax n) own stops = absurd own
-each_is_answered text left old new (check_fault.Truncated n) own stops = absurd own
-each_is_answered text left old new (check_fault.LineTooLong n) own stops = absurd own
-each_is_answered text left old new check_fault.NoMemory own stops = absurd own
-each_is_answered text left old new (check_fault.Full n) own stops = absurd own
+each_is_answered text left old new _ own stops = absurd own

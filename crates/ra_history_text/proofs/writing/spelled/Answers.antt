@@ -25,4 +25,8 @@ returns c =
     let small = subst (λ (log : List MonitorEntry). AllByRecursion AreSmall (accepted_in false log))
     c.log.ensures.entries c.in_ok-put_entries.ensures.small in
     let fits : length monitor.log ≤ 1048576 = omega (arith, c.log.ensures.fits.0, c.log.ensures.fits.1.1) in
-    record { says = says_history monitor names heads c.put_entries.new.text.items c.are_names.ensures c.requires.some c.requires.as_many c.log.ensures.legal fits first last c.requires.short small }
+    record {
+      says =
+          says_history monitor names heads c.put_entries.new.text.items c.are_names.ensures c.requires.some
+          c.requires.as_many c.log.ensures.legal fits first last c.requires.short small;
+    }
