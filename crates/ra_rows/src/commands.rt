@@ -1,10 +1,12 @@
 //! Commands by short names, and runs of them.
 
 ghost use Rattle.std.specs.Prelude.{◌≡◌, []};
+ghost use Rattle.ra_labels.specs.Specification.{start_of};
 
+use ra_journal::{Journal, StepFault};
 use ra_labels::{Command, Elements, Kind, Op, Reply};
 use ra_monitor::{Monitor, PartRef, Reporter};
-use ra_ticket::{Journal, StepFault};
+use ra_seqspec::State;
 use std::alloc::Global;
 use std::process::Abort;
 
@@ -49,10 +51,10 @@ const ATTEMPTS: u32 = 2;
 pub fn counter_of(rt: &impl Abort, alloc: Global, replicas: u8, limit: u32) -> Monitor
     ensures { result.log ≡ [] }
 {
-    let Ok(monitor) = Monitor::new(alloc, Kind::Counter, replicas, limit) else {
-        panic!(rt; "no monitor");
-    };
-    monitor
+    match Monitor::new(alloc, Kind::Counter, replicas, limit) {
+        Ok(monitor) => monitor,
+        Err(_) => panic!(rt; "no monitor"),
+    }
 }
 
 /// A reporter to a monitor of this kind at this many replicas, whose log may have this many entries.
@@ -64,8 +66,9 @@ pub fn reporter_of(
     limit: u32,
 ) -> Reporter {
     for _attempt in 0..ATTEMPTS {
-        if let Ok(reporter) = Reporter::new(alloc, kind, replicas, limit) {
-            return reporter;
+        match Reporter::new(alloc, kind, replicas, limit) {
+            Ok(reporter) => return reporter,
+            Err(_) => {}
         }
     }
     panic!(rt; "no monitor")
@@ -130,4 +133,24 @@ pub fn elements_of(rt: &impl Abort, alloc: Global, list: &[u32]) -> Elements {
         }
     }
     panic!(rt; "no memory")
+}
+
+/// The state of an object of this kind after no update.
+pub fn state_of(rt: &impl Abort, alloc: Global, kind: Kind) -> State
+    ensures { result ≡ start_of kind }
+{
+    match State::new(alloc, kind) {
+        Ok(state) => state,
+        Err(_) => panic!(rt; "no memory"),
+    }
+}
+
+/// A copy of the state.
+pub fn copy_of(rt: &impl Abort, state: &State) -> State
+    ensures { result ≡ state.now }
+{
+    match state.copy() {
+        Ok(copy) => copy,
+        Err(_) => panic!(rt; "no memory"),
+    }
 }

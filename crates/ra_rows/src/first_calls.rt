@@ -1,54 +1,42 @@
 //! Each public call of the libraries once, with ample memory.
 
-use crate::commands::{bare, got, increment, read, stamped, stepped};
-use ra_labels::{Command, Elements, Kind, NoMemory, Op, Query, Refusal, Reply, Update, fits};
-use ra_monitor::Monitor;
-use ra_seqspec::State;
-use ra_ticket::Journal;
+use crate::commands::{
+    bare, copy_of, counter_of, got, increment, read, reply_to, reporter_of, stamped, state_of,
+    stepped,
+};
+use ra_journal::StepFault;
+use ra_labels::{
+    Cause, Command, Elements, Kind, NoMemory, Op, Query, Refusal, Reply, Update, fits,
+};
 use std::alloc::{AllocError, AllocFailed};
-use std::process::Abort;
-use std::test::Fail;
 
 #[test]
-fn a_counter_counts(rt: HostRuntime) -> Result<(), Fail> {
-    let mut counter = match State::new(rt.alloc(), Kind::Counter) {
-        Ok(state) => state,
-        Err(_) => panic!(rt; "no memory"),
-    };
+fn a_counter_counts(rt: HostRuntime) {
+    let mut counter = state_of(&rt, rt.alloc(), Kind::Counter);
     assert!(rt; counter.admits(&Query::Count(0)));
     let admitted = counter.apply(&Update::Dec);
     assert!(rt; matches!(&admitted, Ok(true)));
     assert!(rt; counter.admits(&Query::Count(-1)));
     assert!(rt; !counter.admits(&Query::Count(0)));
-    let copy = match counter.copy() {
-        Ok(copy) => copy,
-        Err(_) => panic!(rt; "no memory"),
-    };
-    assert!(rt; copy.admits(&Query::Count(-1)));
-    Ok(())
+    assert!(rt; copy_of(&rt, &counter).admits(&Query::Count(-1)));
 }
 
 #[test]
 fn a_register_and_a_set_are_copied(rt: HostRuntime) {
-    let (Ok(mut register), Ok(mut set)) = (
-        State::new(rt.alloc(), Kind::Register),
-        State::new(rt.alloc(), Kind::LwwSet),
-    ) else {
-        panic!(rt; "no memory");
-    };
+    let mut register = state_of(&rt, rt.alloc(), Kind::Register);
+    let mut set = state_of(&rt, rt.alloc(), Kind::LwwSet);
     let written = register.apply(&Update::Write(7));
     assert!(rt; matches!(&written, Ok(true)));
     let added = set.apply(&Update::LwwAdd(4));
     assert!(rt; matches!(&added, Ok(true)));
-    let (Ok(same_register), Ok(same_set)) = (register.copy(), set.copy()) else {
-        panic!(rt; "no memory");
-    };
+    let same_register = copy_of(&rt, &register);
+    let same_set = copy_of(&rt, &set);
     let removed = set.apply(&Update::LwwRemove(4));
     assert!(rt; matches!(&removed, Ok(true)));
-    let Ok(four) = Vec::from_slice(rt.alloc(), &[4]) else {
-        panic!(rt; "no memory");
+    let four = match Vec::from_slice(rt.alloc(), &[4]) {
+        Ok(four) => Query::LwwRead(Elements::new(four)),
+        Err(_) => panic!(rt; "no memory"),
     };
-    let four = Query::LwwRead(Elements::new(four));
     assert!(rt; same_register.admits(&Query::Last(Some(7))));
     assert!(rt; same_set.admits(&four));
     assert!(rt; !set.admits(&four));
@@ -56,15 +44,42 @@ fn a_register_and_a_set_are_copied(rt: HostRuntime) {
 
 #[test]
 fn a_monitor_is_told_three_things(rt: HostRuntime) {
-    let Ok(mut monitor) = Monitor::new(rt.alloc(), Kind::Counter, 2, 1_000) else {
-        panic!(rt; "no monitor");
-    };
+    let mut monitor = counter_of(&rt, rt.alloc(), 2, 1_000);
     let made = stepped(&rt, &mut monitor, 0, 0, increment(0));
     let came = stepped(&rt, &mut monitor, 0, 1, got(1, 0));
     let told = stepped(&rt, &mut monitor, 0, 2, read(1, 1));
     assert_eq!(rt; made, Some(Reply::Ok(0)));
     assert_eq!(rt; came, Some(Reply::Got(0)));
     assert_eq!(rt; told, Some(Reply::Ok(1)));
+}
+
+#[test]
+fn a_reporter_is_answered_as_the_monitor(rt: HostRuntime) {
+    let mut reporter = reporter_of(&rt, rt.alloc(), Kind::Counter, 3, 6);
+    let no = Reply::No {
+        label: 2,
+        cause: Cause::Query,
+    };
+    for (command, want) in [
+        (increment(0), Reply::Ok(0)),
+        (got(1, 0), Reply::Got(0)),
+        (got(1, 0), Reply::Refused(Refusal::AlreadySeen)),
+        (read(1, 1), Reply::Ok(1)),
+        (Command::Verdict, Reply::Yes(2)),
+        (read(2, 1), no),
+    ] {
+        assert_eq!(rt; reply_to(&rt, &mut reporter, command), want);
+    }
+    assert!(rt; is_full(reporter.tell(Command::Verdict)));
+    assert_eq!(rt; reporter.monitor().report().refused, 1);
+    for (place, entry) in reporter.into_monitor().log().iter().enumerate() {
+        assert_eq!(rt; (entry.pass, entry.ticket), (0, place as u64));
+    }
+}
+
+// Is a verdict handed back, since the log is full?
+fn is_full(answer: Result<Reply, StepFault<Command>>) -> bool {
+    matches!(&answer, Err(StepFault::Full(Command::Verdict)))
 }
 
 #[test]

@@ -1,23 +1,17 @@
-//! Tests that cross the libraries: worked histories as lists of commands, and each public call with ample memory.
-//! There is nothing else here.
+//! Tests that cross the libraries: worked histories as lists of commands, and each public call with ample memory. What
+//! goes through the lock is tested in `ra_desk_rows`. There is nothing else here.
 #![tactic(auto)]
 
-#[cfg(test)]
-mod callers;
 #[cfg(test)]
 mod commands;
 #[cfg(test)]
 mod counters;
-#[cfg(test)]
-mod desk;
 #[cfg(test)]
 mod first_calls;
 #[cfg(test)]
 mod limits;
 #[cfg(test)]
 mod lists;
-#[cfg(test)]
-mod lock;
 #[cfg(test)]
 mod or_sets;
 #[cfg(test)]

@@ -3,11 +3,10 @@
 use crate::commands::{
     counter_of, got, increment, read, reply_to, reporter_of, sequence_of, step_by, stepped,
 };
+use ra_journal::{Journal, StepFault};
 use ra_labels::{Command, Kind, Op, Refusal, Reply};
 use ra_monitor::{Half, Monitor, NewFault};
-use ra_ticket::{Journal, StepFault};
 use std::process::Abort;
-use std::test::Fail;
 
 #[test]
 fn a_full_log_hands_the_command_back(rt: HostRuntime) {
@@ -17,22 +16,25 @@ fn a_full_log_hands_the_command_back(rt: HostRuntime) {
         let reply = stepped(&rt, &mut monitor, 0, ticket, Command::Verdict);
         assert_eq!(rt; reply, Some(Reply::Yes(0)));
     }
-    assert!(rt; hands_an_increment_back(&rt, &mut monitor, 10));
+    assert!(rt; is_handed_back(step_by(&rt, &mut monitor, 0, 10, increment(2))));
     assert_eq!(rt; monitor.report().calls, 2);
     assert_eq!(rt; monitor.last_ticket(), Some(9));
 }
 
 // Is the third replica's increment handed back, since the log is full?
-fn hands_an_increment_back(rt: &impl Abort, monitor: &mut Monitor, ticket: u64) -> bool {
-    let answer = step_by(rt, monitor, 0, ticket, increment(2));
-    let Err(StepFault::Full(Command::Operate { replica, op, stamp })) = &answer else {
-        return false;
-    };
-    *replica == 2 && matches!(op, Op::Inc) && stamp.is_none()
+fn is_handed_back(answer: Result<Reply, StepFault<Command>>) -> bool {
+    matches!(
+        &answer,
+        Err(StepFault::Full(Command::Operate {
+            replica: 2,
+            op: Op::Inc,
+            stamp: None
+        }))
+    )
 }
 
 #[test]
-fn replicas_are_one_to_sixteen_and_tested_first(rt: HostRuntime) -> Result<(), Fail> {
+fn replicas_are_one_to_sixteen_and_tested_first(rt: HostRuntime) {
     for (replicas, limit, fault) in [
         (0, 0, Some(NewFault::BadReplicas)),
         (17, 1, Some(NewFault::BadReplicas)),
@@ -44,7 +46,6 @@ fn replicas_are_one_to_sixteen_and_tested_first(rt: HostRuntime) -> Result<(), F
         let made = Monitor::new(rt.alloc(), Kind::Counter, replicas, limit);
         assert_eq!(rt; made.err(), fault, "at {replicas} and {limit}");
     }
-    Ok(())
 }
 
 #[test]
@@ -66,7 +67,7 @@ fn the_greatest_pass_ticket_and_replica_are_taken(rt: HostRuntime) {
 }
 
 #[test]
-fn thousands_of_labels_are_taken(rt: HostRuntime) -> Result<(), Fail> {
+fn thousands_of_labels_are_taken(rt: HostRuntime) {
     let mut reporter = reporter_of(&rt, rt.alloc(), Kind::Counter, 16, 1_048_576);
     for number in 0..5_000u32 {
         let reply = reply_to(&rt, &mut reporter, increment((number % 2) as u8));
@@ -90,7 +91,6 @@ fn thousands_of_labels_are_taken(rt: HostRuntime) -> Result<(), Fail> {
         Reply::Yes(5_002)
     );
     stands_in_turn(&rt, reporter.monitor(), 5_002);
-    Ok(())
 }
 
 // The sequence has this many labels, in the order of their numbers, each of one part.

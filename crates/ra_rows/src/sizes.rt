@@ -3,26 +3,26 @@
 ghost use Rattle.std.specs.Prelude.{◌≡◌, ◌+◌, ◌<◌, ◌≤◌, length};
 ghost use Rattle.ra_visibility.specs.Tracked.{labels_in, replicas_in};
 
-use crate::commands::{bare, reply_to, reporter_of, sequence_of, stamped};
+use crate::commands::{bare, copy_of, reply_to, reporter_of, sequence_of, stamped, state_of};
 use ra_labels::{Elements, Kind, Label, Op, Query, Refusal, Reply, Stamp, Update};
 use ra_monitor::{Monitor, Reporter};
-use ra_seqspec::State;
 use ra_time_order::TimeOrder;
 use ra_visibility::{MOST_LABELS, NamedOrder, Tracker};
 use std::alloc::Global;
 use std::process::Abort;
-use std::test::Fail;
 
 // More than 65,536.
 const MANY: u32 = 70_000;
 
 #[test]
-fn many_labels_stand_by_their_stamps(rt: HostRuntime) -> Result<(), Fail> {
-    let Ok(mut tracker) = Tracker::new(rt.alloc(), 2) else {
-        panic!(rt; "no memory");
+fn many_labels_stand_by_their_stamps(rt: HostRuntime) {
+    let mut tracker = match Tracker::new(rt.alloc(), 2) {
+        Ok(tracker) => tracker,
+        Err(_) => panic!(rt; "no memory"),
     };
-    let Ok(mut order) = TimeOrder::new(rt.alloc(), 2) else {
-        panic!(rt; "no memory");
+    let mut order = match TimeOrder::new(rt.alloc(), 2) {
+        Ok(order) => order,
+        Err(_) => panic!(rt; "no memory"),
     };
     for number in 0..MANY {
         let stamp = stamp_of(number);
@@ -33,7 +33,6 @@ fn many_labels_stand_by_their_stamps(rt: HostRuntime) -> Result<(), Fail> {
         assert_eq!(rt; order.at(at), Some(number));
     }
     assert_eq!(rt; order.at(MANY as usize), None);
-    Ok(())
 }
 
 // The first half of the labels has the even clocks, and the other replica's half comes late, with the odd ones.
@@ -127,34 +126,34 @@ fn stand_by_turns(rt: &impl Abort, monitor: &Monitor) {
 }
 
 #[test]
-fn an_or_set_has_many_pairs(rt: HostRuntime) -> Result<(), Fail> {
-    let mut set = State::new(rt.alloc(), Kind::OrSet)?;
+fn an_or_set_has_many_pairs(rt: HostRuntime) {
+    let mut set = state_of(&rt, rt.alloc(), Kind::OrSet);
     for n in 1..=MANY {
         let put_in = Update::OrAdd { element: n, id: n };
-        assert!(rt; set.apply(&put_in)?, "at {n}");
+        let admitted = set.apply(&put_in);
+        assert!(rt; matches!(&admitted, Ok(true)), "at {n}");
     }
-    let copy = set.copy()?;
-    let read = Query::ReadIds {
-        element: MANY,
-        ids: Elements::new(vec![in rt.alloc(); MANY]?),
+    let ids = match vec![in rt.alloc(); MANY] {
+        Ok(ids) => Elements::new(ids),
+        Err(_) => panic!(rt; "no memory"),
     };
-    assert!(rt; copy.admits(&read));
-    Ok(())
+    let read = Query::ReadIds { element: MANY, ids };
+    assert!(rt; copy_of(&rt, &set).admits(&read));
 }
 
 #[test]
-fn an_rga_has_many_elements(rt: HostRuntime) -> Result<(), Fail> {
-    let mut list = State::new(rt.alloc(), Kind::Rga)?;
+fn an_rga_has_many_elements(rt: HostRuntime) {
+    let mut list = state_of(&rt, rt.alloc(), Kind::Rga);
     let mut elements = Vec::new(rt.alloc());
     for n in 1..=MANY {
         let put_in = Update::After {
             anchor: n - 1,
             element: n,
         };
-        assert!(rt; list.apply(&put_in)?, "at {n}");
-        elements.push(n)?;
+        let admitted = list.apply(&put_in);
+        assert!(rt; matches!(&admitted, Ok(true)), "at {n}");
+        assert!(rt; elements.push(n).is_ok());
     }
-    let copy = list.copy()?;
-    assert!(rt; copy.admits(&Query::RgaRead(Elements::new(elements))));
-    Ok(())
+    let read = Query::RgaRead(Elements::new(elements));
+    assert!(rt; copy_of(&rt, &list).admits(&read));
 }

@@ -6,7 +6,6 @@ ghost use Rattle.ra_visibility.specs.Tracked.{labels_in, replicas_in};
 use ra_labels::Refusal;
 use ra_visibility::{DeliverFault, MOST_LABELS, Tracker};
 use std::process::Abort;
-use std::test::Fail;
 
 // The number of this replica's next label, an update or not.
 fn issued(rt: &impl Abort, tracker: &mut Tracker, replica: u8, update: bool) -> u32
@@ -22,9 +21,10 @@ fn issued(rt: &impl Abort, tracker: &mut Tracker, replica: u8, update: bool) -> 
 }
 
 #[test]
-fn a_label_sees_first_updates_of_each_replica(rt: HostRuntime) -> Result<(), Fail> {
-    let Ok(mut tracker) = Tracker::new(rt.alloc(), 3) else {
-        panic!(rt; "no memory");
+fn a_label_sees_first_updates_of_each_replica(rt: HostRuntime) {
+    let mut tracker = match Tracker::new(rt.alloc(), 3) {
+        Ok(tracker) => tracker,
+        Err(_) => panic!(rt; "no memory"),
     };
     let first = issued(&rt, &mut tracker, 0, true);
     assert_eq!(rt; first, 0);
@@ -45,5 +45,4 @@ fn a_label_sees_first_updates_of_each_replica(rt: HostRuntime) -> Result<(), Fai
         assert_eq!(rt; seen.count(replica), count);
     }
     assert!(rt; seen.has(0) && seen.has(1) && !seen.has(2));
-    Ok(())
 }

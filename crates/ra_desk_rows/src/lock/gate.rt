@@ -1,7 +1,8 @@
 //! A gate that a step goes through: it tells that it stands there, and waits until it may go on.
 
-use std::alloc::{AllocError, Global};
+use std::alloc::Global;
 use std::hint;
+use std::process::Abort;
 use std::sync::Arc;
 use std::sync::atomic::{AtomicU64, Ordering};
 
@@ -13,9 +14,20 @@ const LOOKS: u32 = 64;
 /// A flag that threads share.
 pub type Flag = Arc<AtomicU64, Global>;
 
-/// A flag that is not raised.
-pub fn lowered(alloc: Global) -> Result<Flag, AllocError> {
-    Ok(Arc::new(alloc, AtomicU64::new(0))?)
+/// A flag that is not raised, or a count of nothing.
+pub fn lowered(rt: &impl Abort, alloc: Global) -> Flag {
+    match Arc::new(alloc, AtomicU64::new(0)) {
+        Ok(flag) => flag,
+        Err(_) => panic!(rt; "no memory"),
+    }
+}
+
+/// The flag, once more.
+pub fn shared(rt: &impl Abort, flag: &Flag) -> Flag {
+    match Arc::try_clone(flag) {
+        Ok(flag) => flag,
+        Err(_) => panic!(rt; "too many"),
+    }
 }
 
 /// Raises the flag.

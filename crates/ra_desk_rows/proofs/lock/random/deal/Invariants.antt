@@ -1,6 +1,6 @@
 use Rattle.std.proofs.Common.{All}
 use Rattle.ra_ticket.specs.Passes.{IsPassOf}
-use Rattle.ra_rows.proofs.lock.random.deal.Given as goal
+use Rattle.ra_desk_rows.proofs.lock.random.deal.Given as goal
 
 abbrev pub invariant-loop : goal.invariant-loop
 invariant-loop l = record {

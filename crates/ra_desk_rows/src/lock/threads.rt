@@ -1,11 +1,12 @@
 //! Calls from several threads. They are written for `Tally`: the check does not cover the generic form.
-ghost use Rattle.std.specs.Prelude.{All, IfSome};
+ghost use Rattle.std.specs.Prelude.{All};
 ghost use Rattle.ra_ticket.specs.Passes.{IsPassOf};
 
 use super::gate::{is_raised_in_time, raise};
 use super::tally::Tally;
 use ra_ticket::{CallFault, Journal, Pass, TicketLock};
 use std::alloc::{AllocError, Global};
+use std::process::Abort;
 use std::sync::Wait;
 use std::sync::atomic::{AtomicU64, AtomicUsize, Ordering};
 use std::thread;
@@ -26,12 +27,19 @@ fn start_together(started: &AtomicUsize, count: usize) {
 }
 
 /// The last of the passes, which leaves them.
-pub fn last_pass<M: Journal>(lock: &TicketLock<M>, passes: &mut Vec<Pass<M>>) -> Option<Pass<M>>
+pub fn last_pass<M: Journal>(
+    rt: &impl Abort,
+    lock: &TicketLock<M>,
+    passes: &mut Vec<Pass<M>>,
+) -> Pass<M>
     requires { All (IsPassOf lock.now) passes.old.items }
     ensures others { All (IsPassOf lock.now) passes.new.items }
-    ensures last { IfSome result (IsPassOf lock.now) }
+    ensures last { IsPassOf lock.now result }
 {
-    passes.pop()
+    match passes.pop() {
+        Some(pass) => pass,
+        None => panic!(rt; "too few passes"),
+    }
 }
 
 /// What a pass finds while another one's call is under way.
@@ -88,23 +96,22 @@ pub fn call_and_look_on<R: Threads + Wait + Sync>(
     (reply, found, calls)
 }
 
-/// The replies to calls that each add one, as far as they were answered.
+/// Makes calls that each add one, and puts the replies of those that were answered behind the others.
 pub fn replies<R: Wait>(
     rt: &R,
-    alloc: Global,
     lock: &TicketLock<Tally>,
     mut pass: Pass<Tally>,
     calls: u32,
-) -> Result<Vec<u32>, AllocError>
+    replies: &mut Vec<u32>,
+) -> Result<(), AllocError>
     requires { IsPassOf lock.now pass }
 {
-    let mut replies = Vec::new(alloc);
     for _ in 0..calls {
         if let Ok(reply) = lock.submit(rt, &mut pass, 1) {
             replies.push(reply)?;
         }
     }
-    Ok(replies)
+    Ok(())
 }
 
 /// Each pass makes `calls` calls that add one, in a thread of its own, and the threads start together. The replies of
@@ -115,28 +122,35 @@ pub fn replies_of_threads<R: Threads + Wait + Sync>(
     lock: &TicketLock<Tally>,
     passes: Vec<Pass<Tally>>,
     calls: u32,
-) -> Result<Vec<Result<Vec<u32>, AllocError>>, AllocError>
+) -> Result<Vec<Vec<u32>>, AllocError>
     requires { All (IsPassOf lock.now) passes.items }
 {
     let started = AtomicUsize::new(0);
     let count = passes.len();
-    thread::map_vec(
+    let answers = thread::map_vec(
         rt,
         passes,
         &|pass: Pass<Tally>| -> Result<Vec<u32>, AllocError>
             requires { IsPassOf lock.now pass }
         {
             start_together(&started, count);
-            replies(rt, alloc, lock, pass, calls)
+            let mut answers = Vec::new(alloc);
+            replies(rt, lock, pass, calls, &mut answers)?;
+            Ok(answers)
         },
-    )
+    )?;
+    let mut all = Vec::new(alloc);
+    for answer in answers {
+        all.push(answer?)?;
+    }
+    Ok(all)
 }
 
 /// The numbers from 1 to `last`.
-pub fn counted(alloc: Global, last: u32) -> Result<Vec<u32>, AllocError> {
+pub fn counted(rt: &impl Abort, alloc: Global, last: u32) -> Vec<u32> {
     let mut numbers = Vec::new(alloc);
     for n in 0..last {
-        numbers.push(n + 1)?;
+        assert!(rt; numbers.push(n + 1).is_ok());
     }
-    Ok(numbers)
+    numbers
 }

@@ -1,0 +1,113 @@
+//! Reporters, which own a pass of a desk.
+
+use crate::desks::{got_the_first, is_full, register_of, reply_in, write};
+use ra_desk::DeskReporter;
+use ra_labels::{Command, Reply};
+use ra_ticket::{Caller, CloseFault, Glance};
+use std::alloc::Global;
+use std::process::Abort;
+use std::sync::Wait;
+use std::thread;
+
+// So many reporters of one desk, whose log may have this many entries.
+fn reporters_of(rt: &impl Abort, alloc: Global, limit: u32, count: u8) -> Vec<DeskReporter> {
+    match Caller::open(alloc, register_of(rt, alloc, limit), count) {
+        Ok(reporters) => reporters,
+        Err(_) => panic!(rt; "no desk"),
+    }
+}
+
+// The last reporter, which has this number and leaves the others.
+fn last_reporter(rt: &impl Abort, reporters: &mut Vec<DeskReporter>, number: u8) -> DeskReporter {
+    let reporter = match reporters.pop() {
+        Some(reporter) => reporter,
+        None => panic!(rt; "too few reporters"),
+    };
+    assert_eq!(rt; reporter.number(), number);
+    reporter
+}
+
+// Two reporters of one desk, the one with pass 0 first.
+fn two_reporters(rt: &impl Abort, alloc: Global, limit: u32) -> (DeskReporter, DeskReporter) {
+    let mut reporters = reporters_of(rt, alloc, limit, 2);
+    let second = last_reporter(rt, &mut reporters, 1);
+    (last_reporter(rt, &mut reporters, 0), second)
+}
+
+// How many of this replica's writes are accepted, where it makes so many, each with a later clock.
+fn accepted<R: Wait>(rt: &R, reporter: &mut DeskReporter, replica: u8, count: u32) -> u32 {
+    let mut accepted = 0u32;
+    for clock in 1..=count {
+        let reply = reply_in(reporter.submit(rt, write(replica, clock)));
+        if matches!(reply, Some(Reply::Ok(_))) {
+            accepted = accepted.saturating_add(1);
+        }
+    }
+    accepted
+}
+
+#[test]
+fn two_threads_report_to_one_desk(rt: HostRuntime) {
+    let (mut first, mut second) = two_reporters(&rt, rt.alloc(), 2_000);
+    let taken = thread::join(
+        &rt,
+        || accepted(&rt, &mut first, 0, 1_000),
+        || accepted(&rt, &mut second, 1, 1_000),
+    );
+    assert_eq!(rt; taken, (1_000, 1_000));
+    let all = Glance {
+        calls: 2_000,
+        fault: None,
+    };
+    assert_eq!(rt; (first.glance(), second.glance()), (all, all));
+}
+
+#[test]
+fn a_closed_desk_has_its_log(rt: HostRuntime) {
+    let (mut first, mut second) = two_reporters(&rt, rt.alloc(), 2);
+    let wrote = reply_in(first.submit(&rt, write(0, 7)));
+    let came = reply_in(second.try_submit(got_the_first(1)));
+    assert_eq!(rt; (wrote, came), (Some(Reply::Ok(0)), Some(Reply::Got(0))));
+    assert!(rt; is_full(first.submit(&rt, Command::Verdict)));
+    let second = match second.close() {
+        Err(CloseFault::Shared(second)) => second,
+        _ => panic!(rt; "closed with another reporter left"),
+    };
+    assert_eq!(rt; (first.number(), second.number()), (0, 1));
+    drop(first);
+    let monitor = match second.close() {
+        Ok(monitor) => monitor,
+        Err(_) => panic!(rt; "not closed"),
+    };
+    assert_eq!(rt; monitor.log().len(), 2);
+    for (place, entry) in monitor.log().iter().enumerate() {
+        assert_eq!(rt;
+            (usize::from(entry.pass), entry.ticket),
+            (place, place as u64)
+        );
+    }
+}
+
+// One, and the most.
+#[test]
+fn as_many_report_as_there_are_passes(rt: HostRuntime) {
+    for count in [1, 64] {
+        let mut reporters = reporters_of(&rt, rt.alloc(), 100, count);
+        for number in (1..count).rev() {
+            drop(report_as(&rt, &mut reporters, number));
+        }
+        assert!(rt; report_as(&rt, &mut reporters, 0).close().is_ok());
+    }
+}
+
+// The last reporter, which has this number, has a write accepted.
+fn report_as<R: Abort + Wait>(
+    rt: &R,
+    reporters: &mut Vec<DeskReporter>,
+    number: u8,
+) -> DeskReporter {
+    let mut reporter = last_reporter(rt, reporters, number);
+    let reply = reply_in(reporter.submit(rt, write(0, 255 - u32::from(number))));
+    assert!(rt; matches!(reply, Some(Reply::Ok(_))));
+    reporter
+}

@@ -1,0 +1,146 @@
+//! A monitor behind the ticket lock.
+
+ghost use Rattle.ra_ticket.specs.Passes.{IsPassOf};
+
+use crate::desks::{got_the_first, is_full, is_worn, last, opened, reply_in, write};
+use crate::lock::GREATEST;
+use crate::lock::threads::last_pass;
+use ra_desk::Desk;
+use ra_labels::{Cause, Command, Reply};
+use ra_monitor::Monitor;
+use ra_ticket::{Glance, Pass};
+use std::process::Abort;
+use std::sync::Wait;
+
+// The reply of the desk; none where the command is handed back.
+fn submitted<R: Wait>(
+    rt: &R,
+    desk: &Desk,
+    pass: &mut Pass<Monitor>,
+    command: Command,
+) -> Option<Reply>
+    requires { IsPassOf desk.now pass.old }
+    ensures { IsPassOf desk.now pass.new }
+{
+    reply_in(desk.submit(rt, pass, command))
+}
+
+// The same of one attempt.
+fn attempted(desk: &Desk, pass: &mut Pass<Monitor>, command: Command) -> Option<Reply>
+    requires { IsPassOf desk.now pass.old }
+    ensures { IsPassOf desk.now pass.new }
+{
+    reply_in(desk.try_submit(pass, command))
+}
+
+#[test]
+fn a_desk_answers_as_the_monitor(rt: HostRuntime) {
+    let (desk, passes) = opened(&rt, rt.alloc(), 3, 4, 0);
+    for mut pass in passes {
+        let number = pass.number();
+        let is_well = match number {
+            0 => submitted(&rt, &desk, &mut pass, write(0, 7)) == Some(Reply::Ok(0)),
+            1 => submitted(&rt, &desk, &mut pass, got_the_first(1)) == Some(Reply::Got(0)),
+            2 => submitted(&rt, &desk, &mut pass, last(1, 7)) == Some(Reply::Ok(1)),
+            _ => is_full(desk.submit(&rt, &mut pass, Command::Verdict)),
+        };
+        assert!(rt; is_well, "pass {number}");
+    }
+}
+
+#[test]
+fn one_pass_fills_a_desk_at_once(rt: HostRuntime) {
+    let (desk, mut passes) = opened(&rt, rt.alloc(), 2, 1, 0);
+    let mut pass = last_pass(&rt, &desk, &mut passes);
+    let first = attempted(&desk, &mut pass, Command::Verdict);
+    let second = attempted(&desk, &mut pass, Command::Verdict);
+    assert_eq!(rt; (first, second), (Some(Reply::Yes(0)), Some(Reply::Yes(0))));
+    assert!(rt; is_full(desk.try_submit(&mut pass, Command::Verdict)));
+}
+
+// The third pass never calls, so only a look can tell it and the first one of the second one's calls.
+#[test]
+fn passes_that_meet_see_what_neither_had_seen(rt: HostRuntime) {
+    let (desk, mut passes) = opened(&rt, rt.alloc(), 100, 3, 0);
+    let third = last_pass(&rt, &desk, &mut passes);
+    let mut second = last_pass(&rt, &desk, &mut passes);
+    let mut first = last_pass(&rt, &desk, &mut passes);
+    one_call_and_a_glance(&rt, &desk, &mut first);
+    two_attempts(&rt, &desk, &mut second);
+    let (first, third, calls) = desk.meet(first, third);
+    assert_eq!(rt; (calls, first.number(), third.number()), (3, 0, 2));
+    match desk.close(third) {
+        Ok(monitor) => assert_eq!(rt; monitor.log().len(), 3),
+        Err(_) => panic!(rt; "not settled"),
+    }
+}
+
+fn one_call_and_a_glance<R: Abort + Wait>(rt: &R, desk: &Desk, pass: &mut Pass<Monitor>)
+    requires { IsPassOf desk.now pass.old }
+    ensures { IsPassOf desk.now pass.new }
+{
+    assert_eq!(rt; submitted(rt, desk, pass, write(0, 7)), Some(Reply::Ok(0)));
+    let one = Glance {
+        calls: 1,
+        fault: None,
+    };
+    assert_eq!(rt; desk.glance(pass), one);
+}
+
+fn two_attempts(rt: &impl Abort, desk: &Desk, pass: &mut Pass<Monitor>)
+    requires { IsPassOf desk.now pass.old }
+{
+    let first = attempted(desk, pass, got_the_first(1));
+    let second = attempted(desk, pass, last(1, 7));
+    assert_eq!(rt; (first, second), (Some(Reply::Got(0)), Some(Reply::Ok(1))));
+}
+
+// A worn desk answers a glance as ever.
+#[test]
+fn a_desk_is_worn_after_the_greatest_ticket(rt: HostRuntime) {
+    let (desk, mut passes) = opened(&rt, rt.alloc(), 100, 3, GREATEST);
+    let mut pass = last_pass(&rt, &desk, &mut passes);
+    let reply = submitted(&rt, &desk, &mut pass, Command::Verdict);
+    assert_eq!(rt; reply, Some(Reply::Yes(0)));
+    let one = Glance {
+        calls: 1,
+        fault: None,
+    };
+    are_worn(&rt, &desk, &mut pass);
+    assert_eq!(rt; desk.glance(&mut pass), one);
+}
+
+// A call and an attempt are worn.
+fn are_worn<R: Abort + Wait>(rt: &R, desk: &Desk, pass: &mut Pass<Monitor>)
+    requires { IsPassOf desk.now pass.old }
+    ensures { IsPassOf desk.now pass.new }
+{
+    let call = desk.submit(rt, pass, Command::Verdict);
+    let attempt = desk.try_submit(pass, Command::Verdict);
+    assert!(rt; is_worn(call) && is_worn(attempt));
+}
+
+#[test]
+fn a_glance_tells_the_label_of_a_fault(rt: HostRuntime) {
+    let (desk, mut passes) = opened(&rt, rt.alloc(), 100, 2, 7);
+    let mut other = last_pass(&rt, &desk, &mut passes);
+    let mut pass = last_pass(&rt, &desk, &mut passes);
+    fail(&rt, &desk, &mut pass);
+    let fault = Glance {
+        calls: 2,
+        fault: Some(1),
+    };
+    assert_eq!(rt; desk.glance(&mut other), fault);
+}
+
+// A read of what its replica has not got.
+fn fail<R: Abort + Wait>(rt: &R, desk: &Desk, pass: &mut Pass<Monitor>)
+    requires { IsPassOf desk.now pass.old }
+{
+    assert_eq!(rt; submitted(rt, desk, pass, write(0, 7)), Some(Reply::Ok(0)));
+    let no = Reply::No {
+        label: 1,
+        cause: Cause::Query,
+    };
+    assert_eq!(rt; submitted(rt, desk, pass, last(1, 7)), Some(no));
+}

@@ -1,0 +1,81 @@
+//! Desks of a register at three replicas, what is told to them, and what they answer.
+
+ghost use Rattle.std.specs.Prelude.{◌≡◌, [], All};
+ghost use Rattle.ra_ticket.specs.Passes.{IsPassOf};
+
+use ra_desk::Desk;
+use ra_labels::{Command, Kind, Op, Reply};
+use ra_monitor::Monitor;
+use ra_ticket::{CallFault, Pass, TicketLock};
+use std::alloc::Global;
+use std::process::Abort;
+
+/// A write, of the value that its clock is.
+pub fn write(replica: u8, clock: u32) -> Command {
+    Command::Operate {
+        replica,
+        op: Op::Write(clock),
+        stamp: Some(clock),
+    }
+}
+
+/// A read.
+pub fn last(replica: u8, value: u32) -> Command {
+    Command::Operate {
+        replica,
+        op: Op::Last(Some(value)),
+        stamp: None,
+    }
+}
+
+/// The delivery of the first label.
+pub fn got_the_first(replica: u8) -> Command {
+    Command::Deliver { replica, label: 0 }
+}
+
+/// A monitor whose log may have this many entries.
+pub fn register_of(rt: &impl Abort, alloc: Global, limit: u32) -> Monitor
+    ensures { result.log ≡ [] }
+{
+    match Monitor::new(alloc, Kind::Register, 3, limit) {
+        Ok(monitor) => monitor,
+        Err(_) => panic!(rt; "no monitor"),
+    }
+}
+
+/// A desk whose log may have this many entries, and its passes.
+pub fn opened(
+    rt: &impl Abort,
+    alloc: Global,
+    limit: u32,
+    passes: u8,
+    first: u64,
+) -> (Desk, Vec<Pass<Monitor>>)
+    ensures { All (IsPassOf result.0) result.1.items }
+{
+    match TicketLock::open(alloc, register_of(rt, alloc, limit), passes, first) {
+        Ok(opened) => opened,
+        Err(_) => panic!(rt; "no desk"),
+    }
+}
+
+// What is asked of an answer takes it by value: a proof goes through the parts of what is let go once, and not at each
+// comparison.
+
+/// What is answered to a command.
+pub type Answer = Result<Reply, CallFault<Command>>;
+
+/// The reply; none where the command is handed back.
+pub fn reply_in(answer: Answer) -> Option<Reply> {
+    answer.ok()
+}
+
+/// Is a verdict handed back, since the log is full?
+pub fn is_full(answer: Answer) -> bool {
+    matches!(&answer, Err(CallFault::Full(Command::Verdict)))
+}
+
+/// Is a verdict handed back, since the last ticket was drawn?
+pub fn is_worn(answer: Answer) -> bool {
+    matches!(&answer, Err(CallFault::Worn(Command::Verdict)))
+}

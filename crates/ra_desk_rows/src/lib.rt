@@ -1,0 +1,12 @@
+//! Tests of what goes through the lock: the lock over a toy journal, desks, and reporters on threads of their own.
+//! There is nothing else here.
+#![tactic(auto)]
+
+#[cfg(test)]
+mod callers;
+#[cfg(test)]
+mod desk;
+#[cfg(test)]
+mod desks;
+#[cfg(test)]
+mod lock;

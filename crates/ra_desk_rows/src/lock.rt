@@ -1,0 +1,309 @@
+//! The lock over the toy journal `Tally`.
+ghost use Rattle.std.specs.Prelude.{◌≡◌, ◌<◌, ◌≤◌, [], All};
+ghost use Rattle.ra_ticket.specs.Passes.{IsPassOf, IsSamePass};
+
+mod gate;
+mod random;
+mod tally;
+pub mod threads;
+
+use gate::{Gate, lowered, shared};
+use ra_ticket::{CallFault, Glance, Journal, MOST_ENTRIES, OpenFault, Pass, StepFault, TicketLock};
+use random::{Played, played_by_threads};
+use std::alloc::Global;
+use std::process::Abort;
+use std::sync::Wait;
+use std::sync::atomic::{AtomicU64, Ordering};
+use tally::Tally;
+use threads::{Found, call_and_look_on, counted, last_pass, replies, replies_of_threads};
+
+/// The greatest ticket that is ever drawn, 2^64 - 2.
+pub const GREATEST: u64 = 18_446_744_073_709_551_614;
+
+fn is_shared<T: Send + Sync>(_value: &T) {}
+
+fn is_sent<T: Send>(_value: &T) {}
+
+// A call by the bound alone.
+fn call<M: Journal, R: Wait>(
+    rt: &R,
+    lock: &TicketLock<M>,
+    pass: &mut Pass<M>,
+    command: M::Command,
+) -> Result<M::Reply, CallFault<M::Command>>
+    requires { IsPassOf lock.now pass.old }
+    ensures { IsSamePass pass.old pass.new }
+{
+    is_shared(lock);
+    is_sent(pass);
+    lock.submit(rt, pass, command)
+}
+
+// What a journal tells of itself, by the bound alone.
+fn told<M: Journal>(journal: &M) -> (u32, u32, Option<u32>, Option<u64>) {
+    (
+        journal.limit(),
+        journal.calls(),
+        journal.fault(),
+        journal.last_ticket(),
+    )
+}
+
+// A tally whose drops nobody counts.
+fn tally_of(rt: &impl Abort, alloc: Global, limit: u32) -> Tally
+    requires { (0 < limit) × (limit ≤ MOST_ENTRIES) }
+    ensures { result.log.items ≡ [] }
+{
+    Tally::new(alloc, limit, lowered(rt, alloc))
+}
+
+// A test that owns a lock has one way out, since a proof goes through all of its parts at each: what can fail panics,
+// in a `match`. Before the `else` of a `let` all would be let go.
+
+// A lock over the tally, and its passes.
+fn opened(
+    rt: &impl Abort,
+    alloc: Global,
+    tally: Tally,
+    passes: u8,
+    first: u64,
+) -> (TicketLock<Tally>, Vec<Pass<Tally>>)
+    requires { tally.log.items ≡ [] }
+    ensures { All (IsPassOf result.0) result.1.items }
+{
+    match TicketLock::open(alloc, tally, passes, first) {
+        Ok(opened) => opened,
+        Err(_) => panic!(rt; "no lock"),
+    }
+}
+
+#[test]
+fn a_tally_replies_its_total_and_logs_each_step(rt: HostRuntime) {
+    let mut tally = tally_of(&rt, rt.alloc(), 2);
+    assert_eq!(rt; told(&tally), (2, 0, None, None));
+    assert_eq!(rt; tally.step(3, 0, 4_294_967_295), Ok(4_294_967_295));
+    assert_eq!(rt; told(&tally), (2, 1, None, Some(0)));
+    assert_eq!(rt; tally.step(1, 9, 5), Ok(4));
+    assert_eq!(rt; tally.step(1, 10, 6), Err(StepFault::Full(6)));
+    assert_eq!(rt; told(&tally), (2, 2, None, Some(9)));
+}
+
+#[test]
+fn threads_that_start_together_take_turns(rt: HostRuntime) {
+    for count in [2, 4, 8] {
+        let tally = tally_of(&rt, rt.alloc(), 1_048_576);
+        let (lock, passes) = opened(&rt, rt.alloc(), tally, count, 7);
+        match replies_of_threads(&rt, rt.alloc(), &lock, passes, 10_000) {
+            Ok(answers) => are_in_turn(&rt, rt.alloc(), answers, u32::from(count) * 10_000),
+            Err(_) => panic!(rt; "no memory"),
+        }
+    }
+}
+
+// Each thread's replies rise, and all together are the numbers from 1 to the last one.
+fn are_in_turn(rt: &impl Abort, alloc: Global, answers: Vec<Vec<u32>>, last: u32) {
+    let mut all = Vec::new(alloc);
+    for replies in &answers {
+        assert!(rt; replies.as_slice().is_sorted(), "to {last}");
+        assert!(rt; all.extend_from_slice(replies.as_slice()).is_ok());
+    }
+    assert!(rt; all.sort().is_ok());
+    assert_eq!(rt; all.as_slice(), counted(rt, alloc, last).as_slice());
+}
+
+#[test]
+fn the_greatest_ticket_is_served_and_then_the_lock_is_worn(rt: HostRuntime) {
+    let tally = tally_of(&rt, rt.alloc(), 1_000);
+    let (lock, mut passes) = opened(&rt, rt.alloc(), tally, 1, GREATEST);
+    let mut pass = last_pass(&rt, &lock, &mut passes);
+    assert_eq!(rt; call(&rt, &lock, &mut pass, 5), Ok(5));
+    assert_eq!(rt; call(&rt, &lock, &mut pass, 6), Err(CallFault::Worn(6)));
+    assert_eq!(rt; call(&rt, &lock, &mut pass, 7), Err(CallFault::Worn(7)));
+}
+
+// None, and one more than the most.
+#[test]
+fn bad_numbers_of_passes_give_the_journal_back(rt: HostRuntime) {
+    for passes in [0, 65, 255] {
+        let tally = tally_of(&rt, rt.alloc(), 9);
+        match TicketLock::open(rt.alloc(), tally, passes, 0) {
+            Err(OpenFault::BadPasses(back)) => {
+                assert_eq!(rt; told(&back), (9, 0, None, None), "{passes} passes")
+            }
+            _ => panic!(rt; "{passes} passes"),
+        }
+    }
+}
+
+// One pass makes two thousand entries, and the most passes there may be make more together.
+#[test]
+fn passes_are_served_in_order(rt: HostRuntime) {
+    for (count, calls) in [(1, 2_000), (64, 40)] {
+        let tally = tally_of(&rt, rt.alloc(), 4_000);
+        let (lock, passes) = opened(&rt, rt.alloc(), tally, count, 3);
+        assert_eq!(rt; passes.len(), usize::from(count));
+        let mut served = Vec::new(rt.alloc());
+        for pass in passes {
+            let before = u32::from(pass.number()) * calls;
+            assert_eq!(rt; served.len(), before as usize);
+            assert!(rt; replies(&rt, &lock, pass, calls, &mut served).is_ok());
+        }
+        let last = u32::from(count) * calls;
+        assert_eq!(rt;
+            served.as_slice(),
+            counted(&rt, rt.alloc(), last).as_slice()
+        );
+    }
+}
+
+#[test]
+fn a_full_log_hands_the_command_back_and_the_next_pass_is_served(rt: HostRuntime) {
+    let (lock, passes) = opened(&rt, rt.alloc(), tally_of(&rt, rt.alloc(), 2), 3, 0);
+    for mut pass in passes {
+        let replies = [
+            call(&rt, &lock, &mut pass, 5),
+            call(&rt, &lock, &mut pass, 6),
+        ];
+        if pass.number() == 0 {
+            assert_eq!(rt; replies, [Ok(5), Ok(11)]);
+        } else {
+            assert_eq!(rt; replies, [Err(CallFault::Full(5)), Err(CallFault::Full(6))]);
+        }
+    }
+}
+
+// A glance by the bound alone.
+fn calls_seen<M: Journal>(lock: &TicketLock<M>, pass: &mut Pass<M>) -> Glance
+    requires { IsPassOf lock.now pass.old }
+    ensures { IsSamePass pass.old pass.new }
+{
+    lock.glance(pass)
+}
+
+#[test]
+fn a_pass_that_has_seen_nothing_glances_each_call(rt: HostRuntime) {
+    let (lock, mut passes) = opened(&rt, rt.alloc(), tally_of(&rt, rt.alloc(), 9), 2, 0);
+    let mut other = last_pass(&rt, &lock, &mut passes);
+    let mut pass = last_pass(&rt, &lock, &mut passes);
+    let none = Glance {
+        calls: 0,
+        fault: None,
+    };
+    let one = Glance { calls: 1, ..none };
+    assert_eq!(rt; calls_seen(&lock, &mut pass), none);
+    assert_eq!(rt; call(&rt, &lock, &mut pass, 5), Ok(5));
+    assert_eq!(rt; calls_seen(&lock, &mut pass), one);
+    assert_eq!(rt; calls_seen(&lock, &mut other), one);
+}
+
+#[test]
+fn a_dropped_pass_harms_nobody(rt: HostRuntime) {
+    let (lock, mut passes) = opened(&rt, rt.alloc(), tally_of(&rt, rt.alloc(), 9), 2, 0);
+    let mut other = last_pass(&rt, &lock, &mut passes);
+    let mut pass = last_pass(&rt, &lock, &mut passes);
+    assert_eq!(rt; call(&rt, &lock, &mut pass, 1), Ok(1));
+    drop(pass);
+    assert_eq!(rt; call(&rt, &lock, &mut other, 2), Ok(3));
+}
+
+// A lock that is not opened, one that is never used, and one that is used until it is full or worn.
+#[test]
+fn the_journal_is_dropped_once(rt: HostRuntime) {
+    for (count, first, calls) in [
+        (0, 0, 0),
+        (65, 0, 0),
+        (2, 0, 0),
+        (3, 0, 2),
+        (3, GREATEST, 2),
+    ] {
+        let drops = lowered(&rt, rt.alloc());
+        let tally = Tally::new(rt.alloc(), 2, shared(&rt, &drops));
+        match TicketLock::open(rt.alloc(), tally, count, first) {
+            Ok((lock, passes)) => use_and_drop(&rt, rt.alloc(), lock, passes, calls, &drops),
+            Err(fault) => {
+                assert_eq!(rt; drops.load(Ordering::SeqCst), 0);
+                drop(fault);
+            }
+        }
+        let dropped = drops.load(Ordering::SeqCst);
+        assert_eq!(rt; dropped, 1, "{count} passes, {calls} calls");
+    }
+}
+
+// All passes but one make calls, and nothing is dropped before the lock, which the last pass outlives.
+fn use_and_drop<R: Abort + Wait>(
+    rt: &R,
+    alloc: Global,
+    lock: TicketLock<Tally>,
+    mut passes: Vec<Pass<Tally>>,
+    calls: u32,
+    drops: &AtomicU64,
+)
+    requires { All (IsPassOf lock) passes.items }
+{
+    let outlives = last_pass(rt, &lock, &mut passes);
+    let mut served = Vec::new(alloc);
+    for pass in passes {
+        assert!(rt; replies(rt, &lock, pass, calls, &mut served).is_ok());
+    }
+    assert_eq!(rt; drops.load(Ordering::SeqCst), 0);
+    drop(lock);
+    drop(outlives);
+}
+
+#[test]
+fn a_call_under_way_keeps_others_out_and_lets_them_glance(rt: HostRuntime) {
+    let inside = lowered(&rt, rt.alloc());
+    let go_on = lowered(&rt, rt.alloc());
+    let gate = Gate {
+        inside: shared(&rt, &inside),
+        go_on: shared(&rt, &go_on),
+    };
+    let tally = tally_of(&rt, rt.alloc(), 9).behind(gate);
+    let (lock, mut passes) = opened(&rt, rt.alloc(), tally, 2, 10);
+    let other = last_pass(&rt, &lock, &mut passes);
+    let pass = last_pass(&rt, &lock, &mut passes);
+    let (reply, found, calls) = call_and_look_on(&rt, &lock, pass, other, &inside, &go_on);
+    let busy = CallFault::Busy {
+        at: 10,
+        found: 11,
+        command: 7,
+    };
+    let meanwhile = Found {
+        call: Err(busy),
+        calls: 0,
+    };
+    assert_eq!(rt; (reply, found, calls), (Ok(5), Some(meanwhile), 1));
+}
+
+// Sixty-three passes on eight threads make calls, try, glance and meet, and a further pass closes the lock.
+#[test]
+fn each_pass_has_its_calls_once_and_in_order(rt: HostRuntime) {
+    let tally = tally_of(&rt, rt.alloc(), 1_048_576);
+    let (lock, mut passes) = opened(&rt, rt.alloc(), tally, 64, 0);
+    let last = last_pass(&rt, &lock, &mut passes);
+    let played = match played_by_threads(&rt, rt.alloc(), &lock, passes, 8, 12_500) {
+        Ok(played) => played,
+        Err(_) => panic!(rt; "no memory"),
+    };
+    let tally = match lock.close(last) {
+        Ok(tally) => tally,
+        Err(_) => panic!(rt; "not settled"),
+    };
+    let logged = logged_of(&rt, rt.alloc(), &tally, played.as_slice());
+    assert_eq!(rt; tally.calls() as usize, logged);
+    assert!(rt; logged > 20_000, "{logged} calls");
+}
+
+// How many replies all have, where each has those of the log.
+fn logged_of(rt: &impl Abort, alloc: Global, tally: &Tally, played: &[Played]) -> usize {
+    let mut logged = 0;
+    for Played { pass, replies } in played {
+        match tally.replies_to(alloc, *pass) {
+            Ok(there) => assert_eq!(rt; replies.as_slice(), there.as_slice(), "pass {pass}"),
+            Err(_) => panic!(rt; "no memory"),
+        }
+        logged = replies.len().wrapping_add(logged);
+    }
+    logged
+}
