@@ -1,9 +1,9 @@
 //! Histories that are written as texts.
 
 use super::SETS;
-use super::worked::TEXTS;
+use super::worked::{TEXTS, answer_to};
 use super::writers::Trickle;
-use ra_history_text::{Item, Names, Reading, WriteFault, check, status, write_history};
+use ra_history_text::{Item, Names, Reading, WriteFault, check, write_history};
 use ra_journal::Journal;
 use ra_labels::{Cause, Command, Elements, Op, Reply};
 use ra_monitor::Monitor;
@@ -43,15 +43,28 @@ fn histories_are_written_and_checked_again(rt: HostRuntime) {
     }
 }
 
-// What is refused is left out, and so is all behind a no.
+// The replies to what is accepted.
+const ACCEPTED_REPLIES: &str = "ok 0
+got 0
+ok 1
+ok 2
+got 0
+got 1
+got 2
+ok 3
+end yes 4
+";
+
+// What is refused is left out, and so is all behind a no; and what is written is answered as it was.
 #[test]
 fn only_what_was_accepted_is_written(rt: HostRuntime) {
     let names = names_of(&rt, rt.alloc(), &["a", "b", "c"]);
-    for (commands, wanted) in [
-        (SETS, ACCEPTED),
+    for (commands, wanted, replies) in [
+        (SETS, ACCEPTED, ACCEPTED_REPLIES),
         (
             "RAH 1 counter\nreplicas a b c\na inc\nb read 1\na inc\nverdict\n",
             "RAH 1 counter\nreplicas a b c\na inc\nb read 1\n",
+            "ok 0\nno 1 query\nend no 1 query\n",
         ),
     ] {
         let monitor = monitor_of(&rt, rt.alloc(), commands);
@@ -59,6 +72,8 @@ fn only_what_was_accepted_is_written(rt: HostRuntime) {
         let wrote = write_history(rt.alloc(), &monitor, &names, &mut text);
         assert_eq!(rt; wrote, Ok(()));
         assert_eq!(rt; text.as_slice(), wanted.as_bytes());
+        let (_, written) = answer_to(rt.alloc(), text.as_slice(), 4_096);
+        assert_eq!(rt; written.as_slice(), replies.as_bytes());
     }
 }
 
@@ -117,15 +132,9 @@ fn the_longest_line_is_written(rt: HostRuntime) {
         let wrote = write_history(rt.alloc(), &monitor, &names, &mut text);
         assert_eq!(rt; wrote, wanted);
         assert_eq!(rt; text.len(), bytes);
-        assert_eq!(rt; status_of(rt.alloc(), text.as_slice()), ends);
+        let (ended, _) = answer_to(rt.alloc(), text.as_slice(), 4_096);
+        assert_eq!(rt; ended, ends);
     }
-}
-
-// The status of a check of the text.
-fn status_of(alloc: Global, text: &[u8]) -> u8 {
-    let mut text = text;
-    let mut written = Vec::new(alloc);
-    status(&check(alloc, &mut text, &mut written))
 }
 
 // The monitor of the set, with a wrong read of this element and more.

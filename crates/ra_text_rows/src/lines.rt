@@ -33,9 +33,14 @@ fn reads_a_text_line_by_line(rt: HostRuntime) -> Result<(), Fail> {
 
 #[test]
 fn tells_the_first_fault_of_names(rt: HostRuntime) -> Result<(), Fail> {
-    let fault = |names: &[&str]| Names::new(rt.alloc(), names).err();
-    assert_eq!(rt; fault(&["a", "b"]), None);
-    assert_eq!(rt; fault(&[]), Some(NamesFault::BadCount));
-    assert_eq!(rt; fault(&["a", "b", "a", "9"]), Some(NamesFault::BadName(2)));
+    for (names, fault) in [
+        (["a", "b"].as_slice(), None),
+        (&[], Some(NamesFault::BadCount)),
+        (&["a", "join"], Some(NamesFault::BadName(1))),
+        (&["a", "a"], Some(NamesFault::BadName(1))),
+        (&["a", "b", "a", "9"], Some(NamesFault::BadName(2))),
+    ] {
+        assert_eq!(rt; Names::new(rt.alloc(), names).err(), fault);
+    }
     Ok(())
 }

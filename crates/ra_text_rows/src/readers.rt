@@ -3,7 +3,6 @@
 use super::{TEXT, WRITTEN};
 use ra_history_text::CheckFault::{self, Full, LineTooLong, Syntax, Truncated};
 use ra_history_text::check;
-use ra_history_text::limits::PIECE;
 use std::cell::Cell;
 use std::io;
 use std::io::{ErrorKind, Read, Write};
@@ -36,7 +35,7 @@ struct Drip<'a> {
 
 impl Read for Drip<'_> {
     fn read(&mut self, buf: &mut [u8]) -> io::Result<usize> {
-        if self.good_reads == 0 || buf.len() > PIECE {
+        if self.good_reads == 0 || buf.len() > 4_096 {
             self.good_reads = usize::MAX;
             return if self.fails {
                 Err(io::Error::from(ErrorKind::Interrupted))
@@ -99,9 +98,9 @@ pub struct Repeats<'a> {
 
 impl<'a> Repeats<'a> {
     /// Gives the text alone, each read at most so many bytes.
-    pub fn of(text: &'a str, most: usize) -> Repeats<'a> {
+    pub fn of(text: &'a [u8], most: usize) -> Repeats<'a> {
         Repeats {
-            now: text.as_bytes(),
+            now: text,
             part: b"",
             times: 0,
             rest: b"",
@@ -155,39 +154,55 @@ const VERDICT: &[u8] = b"verdict\n";
 
 const MANY: &[u8] = &[b'a'; 4_096];
 
+// A front, a part so many times and a rest; how many bytes a read gives at most; the fault, and how much is written.
+type Long = (
+    &'static [u8],
+    &'static [u8],
+    usize,
+    &'static str,
+    usize,
+    Option<CheckFault>,
+    usize,
+);
+
 // A text of more than 2^24 bytes, a byte a read; a full log, which takes 1,048,576 commands and no more; and a line of
 // 1,048,576 bytes, the most, which is no line of the grammar, or of one more, with a line feed behind and without.
+const LONG: [Long; 14] = [
+    (NAMES, LONGEST, 364_723, "", 1, None, 24 * 364_723 + 10),
+    (
+        NAMES,
+        VERDICT,
+        1_048_576,
+        "",
+        4_096,
+        None,
+        6 * 1_048_576 + 10,
+    ),
+    (
+        NAMES,
+        VERDICT,
+        1_048_577,
+        "",
+        4_096,
+        Some(Full(1_048_579)),
+        6 * 1_048_576,
+    ),
+    (b"", MANY, 256, "", 4_096, Some(Truncated(1)), 0),
+    (b"", MANY, 256, "\n", 4_096, Some(Syntax(1)), 0),
+    (b"", MANY, 256, "a", 4_096, Some(LineTooLong(1)), 0),
+    (b"", MANY, 256, "a\n", 4_096, Some(LineTooLong(1)), 0),
+    (NAMES, MANY, 256, "", 4_096, Some(Truncated(3)), 0),
+    (NAMES, MANY, 256, "\n", 4_096, Some(Syntax(3)), 0),
+    (NAMES, MANY, 256, "a", 4_096, Some(LineTooLong(3)), 0),
+    (HEAD, MANY, 256, "", 4_096, Some(Truncated(4)), 5),
+    (HEAD, MANY, 256, "\n", 1_000, Some(Syntax(4)), 5),
+    (HEAD, MANY, 256, "a", 4_096, Some(LineTooLong(4)), 5),
+    (HEAD, MANY, 256, "a\n", 1_000, Some(LineTooLong(4)), 5),
+];
+
 #[test]
 fn sizes(rt: HostRuntime) {
-    for (now, part, times, rest, most, fault, written) in [
-        (NAMES, LONGEST, 364_723, "", 1, None, 24 * 364_723 + 10),
-        (
-            NAMES,
-            VERDICT,
-            1_048_576,
-            "",
-            PIECE,
-            None,
-            6 * 1_048_576 + 10,
-        ),
-        (
-            NAMES,
-            VERDICT,
-            1_048_577,
-            "",
-            PIECE,
-            Some(Full(1_048_579)),
-            6 * 1_048_576,
-        ),
-        (b"", MANY, 256, "", PIECE, Some(Truncated(1)), 0),
-        (b"", MANY, 256, "\n", PIECE, Some(Syntax(1)), 0),
-        (b"", MANY, 256, "a", PIECE, Some(LineTooLong(1)), 0),
-        (b"", MANY, 256, "a\n", PIECE, Some(LineTooLong(1)), 0),
-        (HEAD, MANY, 256, "", PIECE, Some(Truncated(4)), 5),
-        (HEAD, MANY, 256, "\n", 1_000, Some(Syntax(4)), 5),
-        (HEAD, MANY, 256, "a", PIECE, Some(LineTooLong(4)), 5),
-        (HEAD, MANY, 256, "a\n", 1_000, Some(LineTooLong(4)), 5),
-    ] {
+    for (now, part, times, rest, most, fault, written) in LONG {
         let count = Cell::new(0);
         let mut reader = Repeats {
             now,

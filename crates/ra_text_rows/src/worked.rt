@@ -2,7 +2,6 @@
 
 use super::readers::Repeats;
 use super::{REPLIES, SETS};
-use ra_history_text::limits::PIECE;
 use ra_history_text::{check, status};
 use std::alloc::Global;
 use std::test::Fail;
@@ -223,8 +222,8 @@ b remove 4 #1\n",
 #[test]
 fn worked_texts_are_answered(rt: HostRuntime) -> Result<(), Fail> {
     for row in &TEXTS {
-        for most in [PIECE, 1] {
-            let (ended, written) = answer_to(rt.alloc(), row.text, most);
+        for most in [4_096, 1] {
+            let (ended, written) = answer_to(rt.alloc(), row.text.as_bytes(), most);
             assert_eq!(rt; ended, row.status, "{}", row.name);
             assert_eq!(rt; written.as_slice(), row.written.as_bytes(), "{}", row.name);
         }
@@ -232,8 +231,8 @@ fn worked_texts_are_answered(rt: HostRuntime) -> Result<(), Fail> {
     Ok(())
 }
 
-// The status and what is written, where each read gives at most so many bytes of the text.
-fn answer_to(alloc: Global, text: &str, most: usize) -> (u8, Vec<u8>) {
+/// The status and what is written, where each read gives at most so many bytes of the text.
+pub fn answer_to(alloc: Global, text: &[u8], most: usize) -> (u8, Vec<u8>) {
     let mut reader = Repeats::of(text, most);
     let mut written = Vec::new(alloc);
     let answer = check(alloc, &mut reader, &mut written);
