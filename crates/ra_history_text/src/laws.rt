@@ -13,6 +13,13 @@ ghost use Rattle.ra_history_text.specs.Run.{StopsCheck};
 ghost use Rattle.ra_history_text.specs.Text.{OfHistory, Regular, ending_of, said_by, does_not_stop};
 ghost use Rattle.ra_history_text.specs.declared.fault.CheckFault.{CheckFault};
 ghost use Rattle.ra_history_text.specs.declared.fault.CheckFault.TheVariants.{NoMemory};
+ghost use Rattle.ra_history_text.specs.declared.limits.TheConstants.{MOST_READS, PIECE};
+
+/// The limits in figures: reads of a check, and bytes that one of them asks for.
+pub fn limits()
+    ensures reads { MOST_READS ≡ 4294967296 }
+    ensures piece { PIECE ≡ 4096 }
+{}
 
 /// The accepted commands of a legal log are its records, the oldest first.
 pub fn accepted_commands_are_the_records()

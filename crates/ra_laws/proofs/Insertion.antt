@@ -22,7 +22,7 @@ use Rattle.ra_labels.specs.Fault.{Holds}
 use Rattle.ra_labels.specs.Laws.{IsStampBelow, MustStandBefore, StandsBefore, IsAnsweredAfter}
 use Rattle.ra_labels.specs.Insertion.{updates_had, StandsWhereItMust, IsAnsweredItself}
 use Rattle.ra_labels.proofs.Members.{head_or_behind, at_head, behind_head, piece_of, in_piece}
-use Rattle.ra_labels.proofs.Sorting.{sort_by_same}
+use Rattle.ra_labels.proofs.InsertionSort.{sort_by_same}
 use Rattle.ra_labels.proofs.Parts.{part_is_of, some_part}
 use Rattle.ra_labels.proofs.Counted.{numbers_below_count}
 use Rattle.ra_laws.proofs.SeenLabels.{sees-append, sees_earlier}

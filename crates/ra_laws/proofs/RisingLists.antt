@@ -11,7 +11,7 @@ use Rattle.std.proofs.lemmas.Map.Views.{any-filter_same}
 use Rattle.std.proofs.lemmas.List.Kept.{IsStrictlySortedBy-filter}
 use Rattle.std.proofs.Math.Bool.{or_assoc, or_comm}
 use Rattle.ra_labels.specs.Lists.{is_among, rises}
-use Rattle.ra_labels.proofs.Rising.{all_lower}
+use Rattle.ra_labels.proofs.RisingLists.{all_lower}
 use Rattle.ra_labels.proofs.InLists.{rises-to_sorted, sorted-to_rises}
 
 -- what is in a list with one more element

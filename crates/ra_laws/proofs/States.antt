@@ -1,5 +1,5 @@
 -- The states that updates lead to, step by step.
-use Rattle.std.proofs.Common.{◌≡◌, ℕ, true, false, List, [], ◌∷◌, ◌++◌, filter, Option, Some, None, refl, sym, ap, ◌∙◌, subst, inl, inr, length, arith}
+use Rattle.std.proofs.Common.{◌≡◌, ℕ, ◌+◌, true, false, List, [], ◌∷◌, ◌++◌, filter, Option, Some, None, refl, sym, ap, ◌∙◌, subst, inl, inr, length, arith}
 use Rattle.std.specs.Prelude.{◌↔◌, ◌==◌, ◌&&◌, ◌||◌, not, fold, option_and_then, is_some, Contains, ℤ, pos, neg_ℤ, ◌+ℤ◌, ◌-ℤ◌, ◌≤ℤ◌}
 use Rattle.std.specs.List.{list_all}
 use Rattle.std.specs.Option.{option_eq}
@@ -20,6 +20,7 @@ use Rattle.ra_labels.specs.Answer.{is_kind}
 use Rattle.ra_labels.specs.Laws.{kind_of_state, kind_of_update, acts_on, NoneActsOn}
 use Rattle.ra_labels.proofs.InLists.{among-exactly, same-exactly, bool_same}
 use Rattle.ra_labels.proofs.SameKind.{kind_itself}
+use Rattle.ra_laws.specs.Counters.{increments_in, decrements_in}
 use Rattle.ra_laws.proofs.RisingLists.{among-insert, among-remove, rises-insert, rises-remove}
 use Rattle.ra_laws.proofs.StateKinds.{start_kind, StepKnown, step-known, step-kind}
 use Rattle.std.proofs.lemmas.Int.{ints}
@@ -229,6 +230,30 @@ number_after n (Dec ∷ updates) state is =
     let rest = number_after (n -ℤ pos 1) updates state is in
     (rest.0, rest.1, omega (arith, ints, rest.2, rest.3), omega (arith, ints, rest.2, rest.3))
 number_after n (_ ∷ updates) state is = absurd (none-some state (sym (stuck updates) ∙ is))
+
+-- and counts increments and decrements
+number_is : (n : ℤ) (updates : List Update) (state : State) → state_from (Some (Number n)) updates ≡ Some state
+    → state ≡ Number ((n +ℤ pos (increments_in updates)) -ℤ pos (decrements_in updates))
+number_is n [] state is = sym (same_Some (Number n) state is) ∙ ap Number (omega (arith, ints))
+number_is n (Inc ∷ updates) state is =
+    let one_more : increments_in (Inc ∷ updates) ≡ increments_in updates + 1 = refl in
+    let as_many : decrements_in (Inc ∷ updates) ≡ decrements_in updates = refl in
+    number_is (n +ℤ pos 1) updates state is ∙ ap Number (omega (arith, ints, one_more, as_many))
+number_is n (Dec ∷ updates) state is =
+    let as_many : increments_in (Dec ∷ updates) ≡ increments_in updates = refl in
+    let one_more : decrements_in (Dec ∷ updates) ≡ decrements_in updates + 1 = refl in
+    number_is (n -ℤ pos 1) updates state is ∙ ap Number (omega (arith, ints, as_many, one_more))
+number_is n (Write value ∷ updates) state is = absurd (none-some state (sym (stuck updates) ∙ is))
+number_is n (LwwAdd x ∷ updates) state is = absurd (none-some state (sym (stuck updates) ∙ is))
+number_is n (LwwRemove x ∷ updates) state is = absurd (none-some state (sym (stuck updates) ∙ is))
+number_is n (OrAdd x id ∷ updates) state is = absurd (none-some state (sym (stuck updates) ∙ is))
+number_is n (TakeOut x ids ∷ updates) state is = absurd (none-some state (sym (stuck updates) ∙ is))
+number_is n (After anchor x ∷ updates) state is = absurd (none-some state (sym (stuck updates) ∙ is))
+number_is n (RgaRemove x ∷ updates) state is = absurd (none-some state (sym (stuck updates) ∙ is))
+
+pub counter_is : (updates : List Update) (state : State) → state_after Counter updates ≡ Some state
+    → state ≡ Number (pos (increments_in updates) -ℤ pos (decrements_in updates))
+counter_is updates state is = number_is (pos 0) updates state is ∙ ap Number (omega (arith, ints))
 
 -- a counter's number is no further from 0 than their count
 pub counter_within : (updates : List Update) (state : State) → state_after Counter updates ≡ Some state

@@ -1,3 +1,4 @@
+pub mod Counters
 pub mod Worked
 pub mod WorkedTimestamps
 pub mod WorkedOrSets

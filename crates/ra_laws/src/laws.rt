@@ -1,5 +1,6 @@
 //! Laws above the definitions, each the clause of a function that does nothing. Proofs of the crates above cite them,
 //! under these names, from `proofs/TheLaws`.
+pub mod acts;
 pub mod answer;
 pub mod arriving;
 pub mod commuting;

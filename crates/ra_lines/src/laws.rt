@@ -9,7 +9,15 @@ ghost use Rattle.ra_lines.specs.Grammar.{AreNames, first_line, fields_of, ListsN
 ghost use Rattle.ra_lines.specs.Reading.{kind_read, names_read, command_read};
 ghost use Rattle.ra_lines.specs.Replies.{reply_line, end_line};
 ghost use Rattle.ra_lines.specs.Spelling.{AreSmall, AreShort, HasLine, line_of, text_of};
-ghost use Rattle.ra_lines.specs.declared.limits.TheConstants.{MOST_COMMANDS};
+ghost use Rattle.ra_lines.specs.declared.limits.TheConstants.{MOST_COMMANDS, LONGEST_LINE, MOST_NAMES, LONGEST_NAME};
+
+/// The limits in figures: bytes of a line, commands of a text, replicas, and bytes of a name.
+pub fn limits()
+    ensures line { LONGEST_LINE ≡ 1048576 }
+    ensures commands { MOST_COMMANDS ≡ 1048576 }
+    ensures names { MOST_NAMES ≡ 16 }
+    ensures name { LONGEST_NAME ≡ 16 }
+{}
 
 /// The kind that is read of a first line is the one whose first line it is.
 pub fn a_first_line_is_read()

@@ -29,6 +29,7 @@ mod draw;
 mod enter;
 mod fault;
 mod glance;
+pub mod laws;
 mod lock;
 mod mark;
 mod meet;

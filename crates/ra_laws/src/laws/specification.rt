@@ -1,5 +1,5 @@
 //! The sequential specification.
-ghost use Rattle.std.specs.Prelude.{◌≡◌, ◌↔◌, true, false, ℕ, ℤ, pos, neg_ℤ, ◌≤ℤ◌, List, [], ◌∷◌, ◌++◌, length, Contains, Option, Some, None, option_and_then};
+ghost use Rattle.std.specs.Prelude.{◌≡◌, ◌↔◌, true, false, ℕ, ℤ, pos, neg_ℤ, ◌-ℤ◌, ◌≤ℤ◌, List, [], ◌∷◌, ◌++◌, length, Contains, Option, Some, None, option_and_then};
 ghost use Rattle.std.specs.List.{list_all};
 ghost use Rattle.ra_labels.specs.declared.kind.Kind.{Kind};
 ghost use Rattle.ra_labels.specs.declared.kind.Kind.TheVariants as kind;
@@ -13,6 +13,7 @@ ghost use Rattle.ra_labels.specs.Specification.{State, Number, Written, Members,
 ghost use Rattle.ra_labels.specs.Lists.{rises};
 ghost use Rattle.ra_labels.specs.Rewriting.{acts_of};
 ghost use Rattle.ra_labels.specs.Answer.{kind_of, is_kind};
+ghost use Rattle.ra_laws.specs.Counters.{increments_in, decrements_in};
 ghost use Rattle.ra_labels.specs.Laws.{kind_of_state, kind_of_update, kind_of_query, kind_of_act, NoneActsOn};
 
 /// Before any update the state is the first one.
@@ -49,6 +50,12 @@ pub fn queries_of_another_kind_are_answered_no()
 /// The parts of an operation are of its kind.
 pub fn parts_are_of_their_kind()
     ensures { (op : Op) → list_all (λ act. is_kind (kind_of op) (kind_of_act act.1)) (acts_of op) ≡ true }
+{}
+
+/// A counter's state is its increments less its decrements.
+pub fn a_counter_is_its_increments_less_its_decrements()
+    ensures { (updates : List Update) (state : State) → state_after kind.Counter updates ≡ Some state
+        → state ≡ Number (pos (increments_in updates) -ℤ pos (decrements_in updates)) }
 {}
 
 /// A counter's number is no further from 0 than the count of its updates.
