@@ -1,3 +1,3 @@
-pub mod Numbered
-pub mod Executed
+pub mod FirstNumbers
+pub mod LastPlaces
 pub mod TheLaws

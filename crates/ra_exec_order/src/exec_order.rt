@@ -1,6 +1,8 @@
+//! The named order of counters and OR-Sets: that of the labels' numbers.
 ghost use Rattle.std.specs.Prelude.{◌≡◌, ℕ, [], IsOk};
 ghost use Rattle.ra_labels.specs.declared.kind.Kind.{Kind};
 ghost use Rattle.ra_labels.specs.Records.{label_count};
+ghost use Rattle.ra_labels.specs.Situation.{nothing_yet};
 ghost use Rattle.ra_visibility.specs.Order.{IsByExecution};
 
 use ra_labels::{Label, NoMemory};
@@ -27,7 +29,7 @@ impl ExecOrder {
     pub fn new() -> ExecOrder
         ensures listed { ⟦<ExecOrder as NamedOrder>⟧.listed result ≡ [] }
         ensures stands { (kind : Kind) (first : ℕ) → IsByExecution kind
-            → ⟦<ExecOrder as NamedOrder>⟧.stands_for result kind first [] }
+            → ⟦<ExecOrder as NamedOrder>⟧.stands_for result (nothing_yet kind first) }
     {
         ExecOrder { labels: 0 }
     }
@@ -40,7 +42,7 @@ impl NamedOrder for ExecOrder {
 
     ghost room = { λ order. 1 };
 
-    ghost stands_for = { λ order kind first records. IsByExecution kind × (order ≡ label_count records) };
+    ghost stands_for = { λ order past. IsByExecution past.kind × (order ≡ label_count past.records) };
 
     fn place(&self, _label: &Label, _seen: &Seen<'_>) -> Place {
         Place {
@@ -69,7 +71,7 @@ impl NamedOrder for ExecOrder {
         }
     }
 
-    ghost lists = { λ order kind first records stands. first_numbers-listed order kind records stands.0 stands.1 };
+    ghost lists = { λ order past stands. first_numbers-listed order past.kind past.records stands.0 stands.1 };
 
-    ghost keeps = { λ order kind first records to label stands. stands };
+    ghost keeps = { λ order past to label stands. stands };
 }

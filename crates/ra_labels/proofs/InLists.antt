@@ -16,7 +16,7 @@ use Rattle.std.proofs.lemmas.Map.Views.{list_any-from_Contains, Contains-from_an
 use Rattle.std.proofs.lemmas.Map.Lookups.{btree_set_from_contains, exact_unsigned}
 use Rattle.ra_labels.specs.Lists.{is_among, have_same, rises}
 use Rattle.ra_labels.proofs.Comparisons.{less_cmp, cmp_less, is_at-eqb}
-use Rattle.ra_labels.proofs.Rising.{rises-index, rises-steps}
+use Rattle.ra_labels.proofs.RisingLists.{rises-index, rises-steps}
 
 -- an element passes a test that all pass, and all pass where each element does
 pub list_all-contains : {A : Type 0} (p : A → Bool) (xs : List A) (y : A) → list_all p xs ≡ true → Contains xs y → p y ≡ true

@@ -8,6 +8,7 @@ pub mod Linearization
 pub mod NamedOrder
 pub mod Fault
 pub mod Answer
+pub mod Situation
 pub mod Laws
 pub mod Insertion
 pub mod Commuting

@@ -1,3 +1,4 @@
+//! What the monitor answers, and the fault that it names.
 use crate::refusal::Refusal;
 
 /// Which condition of RA-linearization the named sequence fails first.

@@ -1,6 +1,6 @@
-pub mod Clocking
-pub mod Taking
-pub mod Growth
+pub mod ClockLookups
+pub mod TakenLookups
+pub mod NewRecords
 pub mod Legal
-pub mod Keeping
+pub mod NewEntries
 pub mod LogLaws

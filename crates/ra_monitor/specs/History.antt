@@ -1,15 +1,15 @@
--- The records that the fields of a history stand for.
+-- The past that the fields of a history stand for.
 use Rattle.std.specs.Prelude.{◌≡◌, ℕ, ◌<◌, ◌∷◌, [], Option, None, vec_len}
-use Rattle.ra_labels.specs.declared.operation.Op.{Op}
 use Rattle.ra_labels.specs.declared.command.Command.{Command}
 use Rattle.ra_labels.specs.declared.command.Command.TheVariants.{Operate, Deliver, Verdict}
 use Rattle.ra_labels.specs.declared.refusal.Refusal.{Refusal}
 use Rattle.ra_labels.specs.declared.label.Label.{Label}
-use Rattle.ra_labels.specs.Records.{Records, label_count, next_label}
+use Rattle.ra_labels.specs.Records.{Records, label_count}
 use Rattle.ra_labels.specs.Visibility.{IsCausal}
 use Rattle.ra_labels.specs.Fault.{fault_of, records_before_fault}
 use Rattle.ra_labels.specs.declared.refusal.Refusal.TheVariants.{StampTaken, IdTaken}
-use Rattle.ra_labels.specs.Answer.{when, first_of, comes_with_taken, gives_taken, misfit_of, refusal_of, refusal_at}
+use Rattle.ra_labels.specs.Answer.{when, first_of, comes_with_taken, gives_taken, refusal_of, refusal_at}
+use Rattle.ra_labels.specs.Situation.{Past, past_of, replicas_of, past_with, IsAccepted, Next, operate, label_of}
 use Rattle.ra_visibility.specs.Tracked.{IsVisibilityOf}
 use Rattle.ra_visibility.specs.declared.limits.TheConstants.{MOST_LABELS}
 use Rattle.ra_witness.specs.Witness.{IsWitnessOf}
@@ -37,69 +37,70 @@ abbrev pub refusal_left : Records → Command → Option Refusal
 refusal_left records (Deliver to label) = refusal_at records to label
 refusal_left records command = None
 
-pub record StandsFor (history : History) (setup : Setup) (records : Records) : Type 0 where
+-- the past of a history with this setup
+abbrev pub past_in : Setup → Records → Past
+past_in setup records = past_of setup.kind setup.replicas records
+
+-- the past before its fault
+abbrev pub before_fault : Past → Past
+before_fault past = past_of past.kind past.first (records_before_fault past.kind past.records)
+
+-- the history is that of the past
+pub record StandsFor (history : History) (past : Past) : Type 0 where
   -- what each replica had, and what each label sees
-  pub tracker : IsVisibilityOf history.tracker.now setup.replicas records
-  pub causal : IsCausal records
-  pub labels : history.labels ≡ label_count records
+  pub tracker : IsVisibilityOf history.tracker.now past
+  pub causal : IsCausal past.records
+  pub labels : history.labels ≡ label_count past.records
   -- the labels before the fault in their order, and what each replica's updates before the fault lead to
-  pub witness : IsWitnessOf IsOrderOf history.witness setup.kind setup.replicas
-      (records_before_fault setup.kind records)
+  pub witness : IsWitnessOf IsOrderOf history.witness (before_fault past)
   -- and what they have that no other label may have
-  pub taken : IsTakenIn (records_before_fault setup.kind records) history.taken
-  pub places : vec_len history.taken.clocks ≡ setup.replicas
-  pub fault : history.fault ≡ fault_of setup.kind records
+  pub taken : IsTakenIn (records_before_fault past.kind past.records) history.taken
+  -- clocks are kept for each replica
+  pub places : vec_len history.taken.clocks ≡ replicas_of past
+  pub fault : history.fault ≡ fault_of past.kind past.records
 
--- the operation came to records without a fault as the newest label, which the tracker has, and is not refused
-pub record HasNewest (history : History) (setup : Setup) (records : Records) (by : ℕ) (op : Op) (clock : Option ℕ)
-    (label : Label) (brought : Brought) : Type 0 where
-  pub tracker : IsVisibilityOf history.tracker.now setup.replicas (Operate by op clock ∷ records)
-  pub causal : IsCausal records
-  pub labels : history.labels ≡ label_count records
-  pub witness : IsWitnessOf IsOrderOf history.witness setup.kind setup.replicas records
-  pub taken : IsTakenIn records history.taken
-  pub places : vec_len history.taken.clocks ≡ setup.replicas
+-- after a past without a fault the label comes next and is not refused: the tracker has it already, and the count of
+-- labels, the witness and what is taken do not have it yet
+pub record HasNewest (history : History) (past : Past) (next : Next) (label : Label) (brought : Brought)
+    : Type 0 where
+  pub tracker : IsVisibilityOf history.tracker.now (past_with past (operate next))
+  pub causal : IsCausal past.records
+  pub labels : history.labels ≡ label_count past.records
+  pub witness : IsWitnessOf IsOrderOf history.witness past
+  pub taken : IsTakenIn past.records history.taken
+  pub places : vec_len history.taken.clocks ≡ replicas_of past
   pub fault : history.fault ≡ None
-  pub none : fault_of setup.kind records ≡ None
-  pub accepted : refusal_of setup.kind setup.replicas records (Operate by op clock) ≡ None
-  pub replica : by < setup.replicas
-  pub fits : misfit_of setup.kind (Operate by op clock) ≡ None
-  pub next : label ≡ next_label records by op clock
-  pub brings : brought ≡ brought_by by op clock
+  pub none : fault_of past.kind past.records ≡ None
+  pub accepted : IsAccepted past (operate next)
+  pub becomes : label ≡ label_of past.records next
+  pub brings : brought ≡ brought_by next.by next.op next.clock
 
--- the history stands for some records of few labels
+-- the history stands for some past of few labels
 pub record IsOfFew (history : History) (setup : Setup) : Type 0 where
   pub records : Records
-  pub stands : StandsFor history setup records
+  pub stands : StandsFor history (past_in setup records)
   pub few : label_count records < MOST_LABELS
 
--- it stands for some records without a fault, of few labels, after which the operation is not refused
-pub record MayAccept (history : History) (by : ℕ) (op : Op) (clock : Option ℕ) : Type 0 where
-  pub setup : Setup
-  pub records : Records
-  pub stands : StandsFor history setup records
-  pub few : label_count records < MOST_LABELS
-  pub none : fault_of setup.kind records ≡ None
-  pub accepted : refusal_of setup.kind setup.replicas records (Operate by op clock) ≡ None
-  pub replica : by < setup.replicas
-  pub fits : misfit_of setup.kind (Operate by op clock) ≡ None
+-- it stands for some past without a fault, of few labels, after which the operation is not refused
+pub record MayAccept (history : History) (next : Next) : Type 0 where
+  pub past : Past
+  pub stands : StandsFor history past
+  pub few : label_count past.records < MOST_LABELS
+  pub none : fault_of past.kind past.records ≡ None
+  pub accepted : IsAccepted past (operate next)
 
--- it stands for some records without a fault, after which the delivery is refused only as the tracker says
-pub record MayDeliver (history : History) (to label : ℕ) : Type 0 where
-  pub setup : Setup
-  pub records : Records
-  pub stands : StandsFor history setup records
-  pub none : fault_of setup.kind records ≡ None
-  pub refused : refusal_of setup.kind setup.replicas records (Deliver to label) ≡ refusal_at records to label
-  pub replica : to < setup.replicas
+-- it stands for some past without a fault, after which the delivery is refused only where the records refuse it
+pub record MayPassOn (history : History) (to label : ℕ) : Type 0 where
+  pub past : Past
+  pub stands : StandsFor history past
+  pub none : fault_of past.kind past.records ≡ None
+  pub refused : refusal_of past.kind past.first past.records (Deliver to label) ≡ refusal_at past.records to label
+  pub replica : to < replicas_of past
 
--- the label is the newest one of some records of few labels, and there is room for what it brings
+-- the label is the newest one after some past of few labels, and there is room for what it brings
 pub record MayAnswer (history : History) (label : Label) (brought : Brought) : Type 0 where
-  pub setup : Setup
-  pub records : Records
-  pub by : ℕ
-  pub op : Op
-  pub clock : Option ℕ
-  pub newest : HasNewest history setup records by op clock label brought
-  pub few : label_count records < MOST_LABELS
-  pub room : HasRoom history.taken by
+  pub past : Past
+  pub next : Next
+  pub newest : HasNewest history past next label brought
+  pub few : label_count past.records < MOST_LABELS
+  pub room : HasRoom history.taken next.by

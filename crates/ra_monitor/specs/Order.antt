@@ -1,8 +1,7 @@
 -- What is known of the order that a kind names: what is known of the one that it is.
-use Rattle.std.specs.Prelude.{◌≡◌, ℕ, ◌∷◌, List}
-use Rattle.ra_labels.specs.declared.kind.Kind.{Kind}
+use Rattle.std.specs.Prelude.{◌≡◌, ℕ, List}
 use Rattle.ra_labels.specs.declared.command.Command.TheVariants.{Deliver}
-use Rattle.ra_labels.specs.Records.{Records}
+use Rattle.ra_labels.specs.Situation.{Past, past_with}
 use Rattle.ra_visibility.specs.Order.{numbers_in}
 use Rattle.ra_exec_order.specs.contracts.exec_order.ExecOrderNamedOrder.TheImpl as executed
 use Rattle.ra_exec_order.specs.contracts.exec_order.ExecOrderNamedOrder.TheImpl.Laws as executed_laws
@@ -21,21 +20,21 @@ abbrev pub room_in : Order → ℕ
 room_in (Execution order) = executed.ghosts.room order
 room_in (Time order) = timed.ghosts.room order
 
--- it is the order of these records, of such a kind and of so many replicas that were there first
-abbrev pub IsOrderOf : Order → Kind → ℕ → Records → Type 0
-IsOrderOf (Execution order) kind first records = executed.ghosts.stands_for order kind first records
-IsOrderOf (Time order) kind first records = timed.ghosts.stands_for order kind first records
+-- it is the order of the labels of this past
+abbrev pub IsOrderOf : Order → Past → Type 0
+IsOrderOf (Execution order) past = executed.ghosts.stands_for order past
+IsOrderOf (Time order) past = timed.ghosts.stands_for order past
 
 -- its list is the named order
-pub lists_named : (order : Order) (kind : Kind) (first : ℕ) (records : Records)
-    → IsOrderOf order kind first records → listed_in order ≡ numbers_in kind records
-lists_named (Execution order) kind first records stands = executed_laws.lists-law order kind first records stands
-lists_named (Time order) kind first records stands = timed_laws.lists-law order kind first records stands
+pub lists_named : (order : Order) (past : Past)
+    → IsOrderOf order past → listed_in order ≡ numbers_in past.kind past.records
+lists_named (Execution order) past stands = executed_laws.lists-law order past stands
+lists_named (Time order) past stands = timed_laws.lists-law order past stands
 
 -- a delivery changes nothing
-pub keeps_delivered : (order : Order) (kind : Kind) (first : ℕ) (records : Records) (to label : ℕ)
-    → IsOrderOf order kind first records → IsOrderOf order kind first (Deliver to label ∷ records)
-keeps_delivered (Execution order) kind first records to label stands =
-    executed_laws.keeps-law order kind first records to label stands
-keeps_delivered (Time order) kind first records to label stands =
-    timed_laws.keeps-law order kind first records to label stands
+pub keeps_delivered : (order : Order) (past : Past) (to label : ℕ)
+    → IsOrderOf order past → IsOrderOf order (past_with past (Deliver to label))
+keeps_delivered (Execution order) past to label stands =
+    executed_laws.keeps-law order past to label stands
+keeps_delivered (Time order) past to label stands =
+    timed_laws.keeps-law order past to label stands

@@ -1,3 +1,4 @@
+//! What a label brings that no other label may have: its own stamp, or the identifier that it gives.
 ghost use Rattle.std.specs.Prelude.{◌≡◌};
 ghost use Rattle.ra_labels.specs.Answer.{identifier_of};
 ghost use Rattle.ra_monitor.specs.Taken.{brought_by};

@@ -1,3 +1,4 @@
+//! The clocks of one replica's own stamps, rising.
 ghost use Rattle.std.specs.Prelude.{◌≡◌, ℕ, ◌<◌, ◌||◌, nat_eq, nat_lt, [], OnOk};
 ghost use Rattle.ra_monitor.specs.Clocks.{is_clock_in, IsPlaceFor};
 

@@ -1,17 +1,17 @@
 //! The accepted commands as what they amount to: a command is taken here, refused or answered.
-ghost use Rattle.std.specs.Prelude.{◌≡◌, ℕ, ◌+◌, ◌≤◌, ◌∷◌, [], map, IfOk, OnErr, OnOk, Option, None, if◌then◌else◌, is_some};
+ghost use Rattle.std.specs.Prelude.{◌≡◌, ◌+◌, ◌≤◌, ◌∷◌, [], map, IfOk, OnErr, OnOk, Option, None, if◌then◌else◌, is_some};
 ghost use Rattle.std.specs.Option.{option_or, option_map_or};
-ghost use Rattle.ra_labels.specs.declared.kind.Kind.{Kind};
 ghost use Rattle.ra_labels.specs.declared.operation.Op.{Op};
 ghost use Rattle.ra_labels.specs.Records.{Records, label_count, next_label};
 ghost use Rattle.ra_labels.specs.NamedOrder.{named_sequence};
-ghost use Rattle.ra_labels.specs.Fault.{fault_of, records_before_fault};
+ghost use Rattle.ra_labels.specs.Fault.{fault_of};
 ghost use Rattle.ra_labels.specs.Answer.{no_at, misfit_of, comes_with_taken, gives_taken, refusal_of, refusal_at, answer_of, answer_to_accepted, records_after};
+ghost use Rattle.ra_labels.specs.Situation.{Past, past_of, past_with, IsAccepted, Next, next_of, operate};
 ghost use Rattle.ra_witness.specs.Sequence.{ref_of};
 ghost use Rattle.ra_witness.specs.Witness.{IsWitnessOf};
 ghost use Rattle.ra_monitor.specs.Order.{IsOrderOf};
 ghost use Rattle.ra_monitor.specs.Taken.{IsTakenIn};
-ghost use Rattle.ra_monitor.specs.History.{IsAtReplica, StandsFor, HasNewest, IsOfFew, MayAccept, MayDeliver, MayAnswer, refusal_after_form, refusal_left};
+ghost use Rattle.ra_monitor.specs.History.{IsAtReplica, StandsFor, HasNewest, IsOfFew, MayAccept, MayPassOn, MayAnswer, refusal_after_form, refusal_left, past_in, before_fault};
 ghost use Rattle.ra_monitor.specs.declared.setup.Setup.{Setup};
 
 use crate::brought::{Brought, identifier_of};
@@ -42,7 +42,7 @@ pub struct History {
 impl History {
     /// No records.
     pub fn new(alloc: Global, setup: &Setup) -> Result<History, NoMemory>
-        ensures { IfOk result (λ history. StandsFor history setup.now []) }
+        ensures { IfOk result (λ history. StandsFor history (past_in setup.now [])) }
     {
         let tracker = Tracker::new(alloc, setup.replicas)?;
         let order = Order::of(alloc, setup.kind, setup.replicas)?;
@@ -59,8 +59,8 @@ impl History {
     /// All parts in the named order, of the labels before the fault. Costs a step for each label, and by
     /// timestamps one for each 256 labels before it.
     pub fn sequence(&self) -> Result<Vec<PartRef>, NoMemory>
-        ensures { (setup : Setup) (records : Records) → StandsFor self.now setup records → IfOk result (λ parts.
-            parts.items ≡ map ref_of (named_sequence setup.kind (records_before_fault setup.kind records))) }
+        ensures { (past : Past) → StandsFor self.now past → IfOk result (λ parts.
+            parts.items ≡ map ref_of (named_sequence past.kind (before_fault past).records)) }
     {
         self.witness.sequence()
     }
@@ -70,12 +70,12 @@ impl History {
     /// Costs what the tracker, the order and the witness ask, and of no label but the command's own.
     pub fn take(&mut self, setup: &Setup, command: &mut Command) -> Result<Reply, NoMemory>
         requires { IsOfFew self.old setup.now }
-        ensures taken { (records : Records) → StandsFor self.old setup.now records → IfOk result (λ reply.
-            (reply ≡ answer_of setup.now.kind setup.now.replicas records command.old)
-            × StandsFor self.new setup.now (records_after setup.now.kind setup.now.replicas records command.old)) }
+        ensures taken { (records : Records) → StandsFor self.old (past_in setup.now records) → IfOk result (λ reply.
+            (reply ≡ answer_of setup.now.kind setup.now.replicas records command.old) × StandsFor self.new
+            (past_in setup.now (records_after setup.now.kind setup.now.replicas records command.old))) }
         ensures command { command.new ≡ command.old }
-        ensures err { (records : Records) → StandsFor self.old setup.now records
-            → OnErr result (StandsFor self.new setup.now records) }
+        ensures err { (records : Records) → StandsFor self.old (past_in setup.now records)
+            → OnErr result (StandsFor self.new (past_in setup.now records)) }
         ensures one { self.new.labels ≤ self.old.labels + 1 }
         ensures kept { OnErr result (self.new.labels ≡ self.old.labels) }
     {
@@ -167,17 +167,15 @@ impl History {
 
     // Takes a delivery to a replica that is there, or refuses it.
     fn deliver(&mut self, replica: u8, label: u32) -> Result<Reply, NoMemory>
-        requires { MayDeliver self.old replica label }
-        ensures taken { (setup : Setup) (records : Records) → StandsFor self.old setup records
-            → fault_of setup.kind records ≡ None
-            → refusal_of setup.kind setup.replicas records (Command.Deliver replica label)
-            ≡ refusal_at records replica label
+        requires { MayPassOn self.old replica label }
+        ensures taken { (past : Past) → StandsFor self.old past → fault_of past.kind past.records ≡ None
+            → refusal_of past.kind past.first past.records (Command.Deliver replica label)
+            ≡ refusal_at past.records replica label
             → IfOk result (λ reply.
-            (reply ≡ option_map_or Reply.Refused (refusal_at records replica label) (Reply.Got label))
-            × StandsFor self.new setup (if is_some (refusal_at records replica label) then records
-            else Command.Deliver replica label ∷ records)) }
-        ensures err { (setup : Setup) (records : Records) → StandsFor self.old setup records
-            → OnErr result (StandsFor self.new setup records) }
+            (reply ≡ option_map_or Reply.Refused (refusal_at past.records replica label) (Reply.Got label))
+            × StandsFor self.new (past_of past.kind past.first (if is_some (refusal_at past.records replica label)
+            then past.records else Command.Deliver replica label ∷ past.records))) }
+        ensures err { (past : Past) → StandsFor self.old past → OnErr result (StandsFor self.new past) }
         ensures labels { self.new.labels ≡ self.old.labels }
     {
         match self.tracker.deliver(replica, label) {
@@ -197,16 +195,12 @@ impl History {
     // Takes an operation that is not refused, and gives it back. All that is taken besides is asked for before the
     // witness, and where that gives up, the tracker takes the label back.
     fn accept(&mut self, replica: u8, op: &mut Op, clock: Option<u32>) -> Result<Reply, NoMemory>
-        requires { MayAccept self.old replica op.old clock }
-        ensures taken { (setup : Setup) (records : Records) → StandsFor self.old setup records
-            → fault_of setup.kind records ≡ None
-            → refusal_of setup.kind setup.replicas records (Command.Operate replica op.old clock) ≡ None
-            → misfit_of setup.kind (Command.Operate replica op.old clock) ≡ None
-            → IfOk result (λ reply.
-            (reply ≡ answer_to_accepted setup.kind records (Command.Operate replica op.old clock))
-            × StandsFor self.new setup (Command.Operate replica op.old clock ∷ records)) }
-        ensures err { (setup : Setup) (records : Records) → StandsFor self.old setup records
-            → OnErr result (StandsFor self.new setup records) }
+        requires { MayAccept self.old (next_of replica op.old clock) }
+        ensures taken { (past : Past) → StandsFor self.old past → fault_of past.kind past.records ≡ None
+            → IsAccepted past (Command.Operate replica op.old clock) → IfOk result (λ reply.
+            (reply ≡ answer_to_accepted past.kind past.records (Command.Operate replica op.old clock))
+            × StandsFor self.new (past_with past (Command.Operate replica op.old clock))) }
+        ensures err { (past : Past) → StandsFor self.old past → OnErr result (StandsFor self.new past) }
         ensures op { op.new ≡ op.old }
         ensures one { OnOk result (self.new.labels ≡ self.old.labels + 1) }
         ensures kept { OnErr result (self.new.labels ≡ self.old.labels) }
@@ -229,14 +223,11 @@ impl History {
     // Answers the newest label, and keeps what it brings where all holds.
     fn answer(&mut self, label: &Label, brought: Brought) -> Result<Reply, NoMemory>
         requires { MayAnswer self.old label.now brought }
-        ensures answered { (setup : Setup) (records : Records) (by : ℕ) (op : Op) (clock : Option ℕ)
-            → HasNewest self.old setup records by op clock label.now brought
-            → IfOk result (λ reply.
-            (reply ≡ answer_to_accepted setup.kind records (Command.Operate by op clock))
-            × StandsFor self.new setup (Command.Operate by op clock ∷ records)) }
-        ensures witness { (kind : Kind) (first : ℕ) (records : Records)
-            → IsWitnessOf IsOrderOf self.old.witness kind first records
-            → OnErr result (IsWitnessOf IsOrderOf self.new.witness kind first records) }
+        ensures answered { (past : Past) (next : Next) → HasNewest self.old past next label.now brought
+            → IfOk result (λ reply. (reply ≡ answer_to_accepted past.kind past.records (operate next))
+            × StandsFor self.new (past_with past (operate next))) }
+        ensures witness { (past : Past) → IsWitnessOf IsOrderOf self.old.witness past
+            → OnErr result (IsWitnessOf IsOrderOf self.new.witness past) }
         ensures one { OnOk result (self.new.labels ≡ self.old.labels + 1) }
         ensures tracker { self.new.tracker ≡ self.old.tracker }
         ensures kept { OnErr result (self.new.labels ≡ self.old.labels) }

@@ -5,7 +5,15 @@ ghost use Rattle.ra_journal.specs.Log.{MayFollow, IsLegal};
 ghost use Rattle.ra_monitor.specs.contracts.monitor.MonitorJournal.TheImpl as journal;
 ghost use Rattle.ra_monitor.specs.Replies.{is_yes};
 ghost use Rattle.ra_monitor.specs.Monitor.{MonitorEntry, answer_after, records_of, IsLegalLog, IsRaLinearizable, IsNoAtFault};
+ghost use Rattle.ra_journal.specs.declared.journal.TheConstants.{MOST_ENTRIES};
+ghost use Rattle.ra_monitor.specs.declared.limits.TheConstants.{MOST_REPLICAS};
 ghost use Rattle.ra_monitor.specs.declared.setup.Setup.{Setup};
+
+/// The limits in figures: so many replicas at most, and so many entries of a log.
+pub fn limits()
+    ensures replicas { MOST_REPLICAS ≡ 16 }
+    ensures entries { MOST_ENTRIES ≡ 1048576 }
+{}
 
 /// In a legal log each entry may follow those before it: its reply is the answer after them.
 pub fn each_entry_may_follow()

@@ -1,6 +1,7 @@
 //! The named order of each kind.
 ghost use Rattle.std.specs.Prelude.{[], IfOk};
 ghost use Rattle.ra_monitor.specs.Order.{IsOrderOf};
+ghost use Rattle.ra_labels.specs.Situation.{nothing_yet};
 
 use ra_exec_order::ExecOrder;
 use ra_labels::{Kind, Label, NoMemory};
@@ -20,7 +21,7 @@ pub enum Order {
 impl Order {
     /// The order that the kind names, of no labels, of so many replicas.
     pub fn of(alloc: Global, kind: Kind, replicas: u8) -> Result<Order, NoMemory>
-        ensures { IfOk result (λ order. IsOrderOf order kind replicas []) }
+        ensures { IfOk result (λ order. IsOrderOf order (nothing_yet kind replicas)) }
     {
         match kind {
             Kind::Counter | Kind::OrSet => Ok(Order::Execution(ExecOrder::new())),
@@ -38,7 +39,7 @@ impl NamedOrder for Order {
 
     ghost room = { λ order. room_in order };
 
-    ghost stands_for = { λ order kind first records. IsOrderOf order kind first records };
+    ghost stands_for = { λ order past. IsOrderOf order past };
 
     fn place(&self, label: &Label, seen: &Seen<'_>) -> Place {
         match self {
@@ -68,8 +69,7 @@ impl NamedOrder for Order {
         }
     }
 
-    ghost lists = { λ order kind first records stands. lists_named order kind first records stands };
+    ghost lists = { λ order past stands. lists_named order past stands };
 
-    ghost keeps = { λ order kind first records to label stands.
-        keeps_delivered order kind first records to label stands };
+    ghost keeps = { λ order past to label stands. keeps_delivered order past to label stands };
 }

@@ -12,7 +12,7 @@ use Rattle.ra_labels.specs.Laws.{IsStampBelow}
 use Rattle.ra_labels.specs.Insertion.{or_label}
 use Rattle.ra_labels.proofs.StampOrder.{below_tested, not_below_tested, below_below, not_below_itself}
 use Rattle.ra_replica_list.specs.ReplicaList.{IsGreatestOf}
-use Rattle.ra_replica_list.proofs.Places.{it_passes, still_passes, passes_or_is}
+use Rattle.ra_replica_list.proofs.NoneTwice.{it_passes, still_passes, passes_or_is}
 use Rattle.ra_replica_list.proofs.Deeds.{same_label}
 
 -- with one more label

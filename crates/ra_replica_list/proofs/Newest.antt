@@ -20,9 +20,9 @@ use Rattle.ra_labels.specs.Insertion.{Makes}
 use Rattle.ra_labels.proofs.Members.{in_piece, reached}
 use Rattle.ra_labels.proofs.Parts.{extends-behind, is_before}
 use Rattle.ra_laws.proofs.TheLaws.{a_new_label_leaves_the_order_of_the_others, had_updates-updates, each_number_has_its_label-found, an_operation_makes_one_update-exactly}
-use Rattle.ra_replica_list.proofs.Places.{not_both}
+use Rattle.ra_replica_list.proofs.NoneTwice.{not_both}
 use Rattle.ra_replica_list.proofs.Ranks.{sees_had}
-use Rattle.ra_replica_list.proofs.Delivering.{in_named}
+use Rattle.ra_replica_list.proofs.Deliveries.{in_named}
 
 -- the label is behind all others that the replica had
 pub record IsLastOf (records : Records) (by : ℕ) (op : Op) (clock : Option ℕ) : Type 0 where

@@ -16,8 +16,8 @@ use Rattle.ra_laws.proofs.TheLaws.{a_timestamp_is_the_greatest_seen-seen, a_time
 use Rattle.ra_element_list.specs.ElementList.{Arrival}
 use Rattle.ra_replica_list.specs.declared.deed.Deed.{Deed}
 use Rattle.ra_replica_list.specs.ReplicaList.{ReplicaList, IsListOf}
-use Rattle.ra_replica_list.proofs.Places.{not_both}
-use Rattle.ra_replica_list.proofs.Knowing.{not_had}
+use Rattle.ra_replica_list.proofs.NoneTwice.{not_both}
+use Rattle.ra_replica_list.proofs.NewMarks.{not_had}
 
 -- a new label sees what its replica had
 pub sees_had : (records : Records) (by : ℕ) (op : Op) (clock : Option ℕ) (m : ℕ) → sees (Operate by op clock ∷ records) (label_count records) m ≡ had records by m

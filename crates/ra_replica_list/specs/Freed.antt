@@ -13,7 +13,7 @@ use Rattle.ra_replica_list.specs.declared.deed.Deed.{Deed}
 use Rattle.ra_replica_list.specs.declared.deed.Deed.TheVariants.{PutsIn, Removes}
 use Rattle.ra_replica_list.specs.Deeds.{deed_at, needed_number, AreElementsOf}
 use Rattle.ra_replica_list.specs.Waiting.{labels_under}
-use Rattle.ra_replica_list.specs.ReplicaList.{ReplicaList, AreThere, AreWaiting, IsKept, IsListBy}
+use Rattle.ra_replica_list.specs.ReplicaList.{ReplicaList, AreThere, AreWaiting, IsListWith, IsListBy}
 
 -- does it put in the element of this number?
 abbrev pub puts : ℕ → Deed → Bool
@@ -50,10 +50,10 @@ pub record IsFreeing (state : State) (marks : List Bool) (labels : List ℕ) (do
   pub among : done ≤ length labels
 
 -- with the label, which was not had, all is kept as well, after so many steps
-pub record IsKeptAfter (state : State) (marks : List Bool) (waiting : List (ℕ × List ℕ)) (arrivals : List Arrival)
+pub record IsListWithAfter (state : State) (marks : List Bool) (waiting : List (ℕ × List ℕ)) (arrivals : List Arrival)
     (deeds : List (Option Deed)) (records : Records) (had older : ℕ → Bool) (label steps : ℕ) : Type 0 where
   pub settled : ℕ → Bool
-  pub kept : IsKept state marks waiting arrivals deeds records (or_label had label) settled
+  pub kept : IsListWith state marks waiting arrivals deeds records (or_label had label) settled
   pub count : length (updates_passing Rga records settled) ≡ length (updates_passing Rga records older) + steps
 
 -- the next list is kept after so many steps wherever this list is kept and the label, which was not had, has this deed
@@ -61,7 +61,7 @@ abbrev pub LeadsTo : ReplicaList → ReplicaList → ElementList → List (Optio
 LeadsTo list next all deeds label deed steps =
     (records : Records) (had : ℕ → Bool) → AreElementsOf all deeds records
     → (held : IsListBy list all.arrivals deeds records had) → deed_at deeds label ≡ Some deed → had label ≡ false
-    → IsKeptAfter next.state next.marks next.waiting all.arrivals deeds records had held.settled label steps
+    → IsListWithAfter next.state next.marks next.waiting all.arrivals deeds records had held.settled label steps
 
 -- the lists say the same
 pub record AreAlike (list next : ReplicaList) : Type 0 where
@@ -99,7 +99,7 @@ pub record MayFree (state : State) (marks : List Bool) (waiting : List (ℕ × L
   pub had : ℕ → Bool
   pub settled : ℕ → Bool
   pub elements : AreElementsOf all deeds records
-  pub kept : IsKept state marks waiting all.arrivals deeds records had settled
+  pub kept : IsListWith state marks waiting all.arrivals deeds records had settled
   pub deed : Deed
   pub deed_of : deed_at deeds label ≡ Some deed
   pub new : had label ≡ false
@@ -110,6 +110,6 @@ abbrev pub AreFreedTo : State → List Bool → List ℕ → ℕ → List (ℕ �
     → List (Option Deed) → ℕ → Type 0
 AreFreedTo state marks labels done waiting old_state old_marks all deeds first =
     (records : Records) (had settled : ℕ → Bool) (deed : Deed) → AreElementsOf all deeds records
-    → IsKept old_state old_marks waiting all.arrivals deeds records had settled → deed_at deeds first ≡ Some deed
+    → IsListWith old_state old_marks waiting all.arrivals deeds records had settled → deed_at deeds first ≡ Some deed
     → had first ≡ false → is_marked old_marks (needed_number all.arrivals deed) ≡ true
     → IsAmidst state marks labels waiting done all deeds records had settled first

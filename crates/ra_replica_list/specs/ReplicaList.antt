@@ -49,7 +49,7 @@ pub record AreWaiting (waiting : ℕ → List ℕ) (arrivals : List Arrival) (de
   pub once : (number : ℕ) → NoneTwice (waiting number)
 
 -- the state and the marks are those after the settled ones of the labels that were had, and the others wait
-pub record IsKept (state : State) (marks : List Bool) (waiting : List (ℕ × List ℕ)) (arrivals : List Arrival)
+pub record IsListWith (state : State) (marks : List Bool) (waiting : List (ℕ × List ℕ)) (arrivals : List Arrival)
     (deeds : List (Option Deed)) (records : Records) (had settled : ℕ → Bool) : Type 0 where
   pub settles : IsSettled records had settled
   pub after : state_after Rga (updates_passing Rga records settled) ≡ Some state
@@ -61,7 +61,7 @@ pub record IsListBy (list : ReplicaList) (arrivals : List Arrival) (deeds : List
     (had : ℕ → Bool) : Type 0 where
   -- which labels do not wait
   pub settled : ℕ → Bool
-  pub kept : IsKept list.state list.marks list.waiting arrivals deeds records had settled
+  pub kept : IsListWith list.state list.marks list.waiting arrivals deeds records had settled
   pub greatest : IsGreatestOf records had list.greatest
 
 -- the list is that of the replica
@@ -69,7 +69,7 @@ abbrev pub IsListOf : ReplicaList → List Arrival → List (Option Deed) → Re
 IsListOf list arrivals deeds records replica = IsListBy list arrivals deeds records (had records replica)
 
 -- the label's deed is this one, and in some records for which list and elements stand it was not had
-pub record MayGet (list : ReplicaList) (all : ElementList) (deeds : List (Option Deed)) (label : ℕ)
+pub record MayReceive (list : ReplicaList) (all : ElementList) (deeds : List (Option Deed)) (label : ℕ)
     (deed : Deed) : Type 0 where
   pub records : Records
   pub replica : ℕ

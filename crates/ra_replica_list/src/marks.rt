@@ -1,3 +1,4 @@
+//! Which elements are in the list of a replica, by their numbers.
 ghost use Rattle.std.specs.Prelude.{◌≡◌, ◌<◌, ℕ, true, [], set, vec_len, IfOk, OnOk, OnErr};
 ghost use Rattle.ra_element_list.specs.ElementList.{is_marked};
 

@@ -1,3 +1,4 @@
+//! An element that comes in behind another one, in one step.
 ghost use Rattle.std.specs.Prelude.{◌≡◌, ◌==◌, ◌||◌, ℕ, unwrap_or, OnOk, OnErr};
 ghost use Rattle.ra_labels.specs.declared.operation.Update.TheVariants.{After};
 ghost use Rattle.ra_labels.specs.Specification.{step_of};

@@ -19,8 +19,8 @@ ghost use Rattle.ra_element_list.specs.ElementList.{Arrival, ElementList, root, 
 ghost use Rattle.ra_replica_list.specs.declared.deed.Deed.{Deed};
 ghost use Rattle.ra_replica_list.specs.declared.deed.Deed.TheVariants.{PutsIn, Removes};
 ghost use Rattle.ra_replica_list.specs.Deeds.{deed_at, element_at, AreElementsOf, AreDeedsOf};
-ghost use Rattle.ra_replica_list.specs.ReplicaList.{IsListBy, IsListOf, MayGet};
-ghost use Rattle.ra_replica_list.specs.Freed.{IsKeptAfter, LeadsTo, AreAlike};
+ghost use Rattle.ra_replica_list.specs.ReplicaList.{IsListBy, IsListOf, MayReceive};
+ghost use Rattle.ra_replica_list.specs.Freed.{IsListWithAfter, LeadsTo, AreAlike};
 
 use crate::deed::Deed;
 use crate::freed::{Freed, free_all};
@@ -179,7 +179,7 @@ impl ReplicaList {
         label: u32,
         deed: Deed,
     ) -> Result<u64, NoMemory>
-        requires { MayGet self.old all.now deeds.now label deed }
+        requires { MayReceive self.old all.now deeds.now label deed }
         ensures got { OnOk result ((records : Records) (to : ℕ) → AreElementsOf all.now deeds.now records
             → IsListOf self.old all.now.arrivals deeds.now records to
             → deed_at deeds.now label ≡ Some deed → had records to label ≡ false → StampsAreOneLabels records
@@ -225,7 +225,7 @@ impl ReplicaList {
         label: u32,
         number: u32,
     ) -> Result<u64, NoMemory>
-        requires { MayGet self.old all.now deeds.now label (PutsIn number) }
+        requires { MayReceive self.old all.now deeds.now label (PutsIn number) }
         ensures got { IfOk result (λ steps.
             LeadsTo self.old self.new all.now deeds.now label (PutsIn number) steps) }
         ensures greatest { self.new.greatest ≡ self.old.greatest }
@@ -257,7 +257,7 @@ impl ReplicaList {
             → AreDeedsOf all.now.arrivals deeds records
             → (held : IsListBy self.old all.now.arrivals deeds records had)
             → deed_at deeds label ≡ Some (Removes number) → had label ≡ false
-            → IsKeptAfter self.new.state self.new.marks self.new.waiting all.now.arrivals deeds records had
+            → IsListWithAfter self.new.state self.new.marks self.new.waiting all.now.arrivals deeds records had
             held.settled label steps) }
         ensures steps { IfOk result (λ steps. steps ≤ 1) }
         ensures counted { IfOk result (λ steps. steps ≡ (if is_marked self.old.marks number then 1 else 0)) }
@@ -305,7 +305,7 @@ impl ReplicaList {
         label: u32,
         number: u32,
     ) -> Result<u64, NoMemory>
-        requires may { MayGet self.old all.now deeds.now label (PutsIn number) }
+        requires may { MayReceive self.old all.now deeds.now label (PutsIn number) }
         requires anchor { is_marked self.old.marks (arrival_at all.now.arrivals number).anchor ≡ true }
         ensures got { IfOk result (λ steps.
             LeadsTo self.old self.new all.now deeds.now label (PutsIn number) steps) }

@@ -1,3 +1,4 @@
+//! The parts of a label: what it asks and what it does.
 ghost use Rattle.std.specs.Prelude.{◌≡◌, option_to_list, filter_map};
 ghost use Rattle.ra_labels.specs.Rewriting.{update_of, query_of};
 ghost use Rattle.ra_rewrite.specs.Parts.{acts_in};

@@ -1,3 +1,4 @@
+//! The rewriting of a label into its parts.
 ghost use Rattle.std.specs.Prelude.{◌≡◌, false, IfOk, IsOk};
 ghost use Rattle.ra_labels.specs.declared.operation.Op.TheVariants.{OrRemove};
 ghost use Rattle.ra_labels.specs.Rewriting.{acts_of};

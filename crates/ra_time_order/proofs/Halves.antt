@@ -11,7 +11,7 @@ use Rattle.ra_time_order.specs.Stamps.{AtMost}
 use Rattle.ra_time_order.specs.Sorted.{joined, Rise, AreBetween, IsSplit, RunsKept}
 use Rattle.ra_time_order.proofs.Ranks.{at_most_itself, at_most_through}
 use Rattle.ra_time_order.proofs.Each.{each_left, each_right, each_at, each_from, each_insert, each_set}
-use Rattle.ra_time_order.proofs.Rising.{rise_round}
+use Rattle.ra_time_order.proofs.RisingRanks.{rise_round}
 use Rattle.ra_time_order.proofs.Runs.{before_first, own_first}
 
 -- the runs with the two halves in the place of the run

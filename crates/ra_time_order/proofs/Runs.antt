@@ -15,7 +15,7 @@ use Rattle.ra_time_order.specs.Stamps.{AtMost}
 use Rattle.ra_time_order.specs.Sorted.{joined, AreBetween, IsRunOf}
 use Rattle.ra_time_order.proofs.Ranks.{at_most_below, at_most_through, below_to}
 use Rattle.ra_time_order.proofs.Each.{each_append, each_left, each_right, each_at, each_from, each_insert, each_set, each_weaker}
-use Rattle.ra_time_order.proofs.Rising.{under_to, position_left, position_right}
+use Rattle.ra_time_order.proofs.RisingRanks.{under_to, position_left, position_right}
 
 -- how many labels stand before the run
 pub offset : List Run → ℕ → ℕ

@@ -5,15 +5,14 @@ use Rattle.std.specs.Option.{option_map_or}
 use Rattle.std.proofs.lemmas.Bool.{true≢false, false≢true, cases_eq, cases_lt, cases_Bool, eq-eqb, eqb-true, ne_eqb, cond-true, cond-false, and_from, and_parts, false_from_ne_true}
 use Rattle.std.proofs.lemmas.List.{length-set, get_or-set_same, get_or-set_other, get_or_push, take-append-le, take_all}
 use Rattle.std.proofs.lemmas.List.Elements.{All-contains}
-use Rattle.ra_labels.specs.declared.operation.Op.{Op}
 use Rattle.ra_labels.specs.declared.label.Stamp.{Stamp}
 use Rattle.ra_labels.specs.declared.label.Label.{Label}
-use Rattle.ra_labels.specs.declared.command.Command.TheVariants.{Operate}
 use Rattle.ra_labels.specs.NamedOrder.{lowest_rank, greater_of}
 use Rattle.ra_labels.specs.Places.{updates_of, place_of}
-use Rattle.ra_labels.specs.Records.{Records, label_count, labels_of, next_label}
+use Rattle.ra_labels.specs.Records.{Records, label_count, labels_of}
 use Rattle.ra_labels.specs.Visibility.{is_update}
 use Rattle.ra_labels.proofs.Counted.{numbers_below_count}
+use Rattle.ra_labels.specs.Situation.{Next, operate, label_of}
 use Rattle.ra_time_order.specs.Greatest.{last_of, greatest_among, with_stamp}
 use Rattle.ra_time_order.specs.Stamps.{AtMost, stamps_at, IsAmong, AreGreatestOf, stamps_with}
 use Rattle.ra_time_order.proofs.Ranks.{at_most_itself, at_most_through, greater_above, greater_is_one, head_or_behind, behind}
@@ -70,21 +69,21 @@ row_grows row own k = elim (cases_lt (length row) k) [
   | inr few ↦ inl (among_before row own k few)
 ]
 
-module _ (records : Records) (by : ℕ) (op : Op) (clock : Option ℕ) where
+module _ (records : Records) (next : Next) where
   abbrev now : Records
-  now = Operate by op clock ∷ records
+  now = operate next ∷ records
 
   abbrev x : Label
-  x = next_label records by op clock
+  x = label_of records next
 
   -- the place of a label before, and of the new one
   pub place_before : (l : Label) → Contains (labels_of records) l → place_of now l.number ≡ place_of records l.number
   place_before l found =
       let below = All-contains (λ m. m.number < label_count records) (labels_of records) l (numbers_below_count records) found in
-      cond-false (l.number == label_count records) (updates_of records by) (place_of records l.number) (ne_eqb l.number (label_count records) (λ e. omega (arith, e, below)))
+      cond-false (l.number == label_count records) (updates_of records next.by) (place_of records l.number) (ne_eqb l.number (label_count records) (λ e. omega (arith, e, below)))
 
-  place_new : place_of now (label_count records) ≡ updates_of records by
-  place_new = cond-true (label_count records == label_count records) (updates_of records by) (place_of records (label_count records)) (eq-eqb (label_count records) (label_count records) refl)
+  place_new : place_of now (label_count records) ≡ updates_of records next.by
+  place_new = cond-true (label_count records == label_count records) (updates_of records next.by) (place_of records (label_count records)) (eq-eqb (label_count records) (label_count records) refl)
 
   -- who is among the first updates now
   among_older : (q k : ℕ) (l : Label) → Contains (labels_of records) l → IsAmong now q k l → IsAmong records q k l
@@ -93,7 +92,7 @@ module _ (records : Records) (by : ℕ) (op : Op) (clock : Option ℕ) where
   among_still : (q k : ℕ) (l : Label) → IsAmong records q k l → IsAmong now q k l
   among_still q k l among = (behind x (labels_of records) l among.0, among.1, among.2, omega (arith, among.3, place_before l among.0))
 
-  among_newest : (q k : ℕ) (l : Label) → x ≡ l → IsAmong now q k l → (is_update op ≡ true) × (by ≡ q) × (updates_of records by < k)
+  among_newest : (q k : ℕ) (l : Label) → x ≡ l → IsAmong now q k l → (is_update next.op ≡ true) × (next.by ≡ q) × (updates_of records next.by < k)
   among_newest q k l is among =
       let number : l.number ≡ label_count records = sym (ap (λ (m : Label). m.number) is) in (
         ap (λ (m : Label). is_update m.op) is ∙ among.1,
@@ -102,39 +101,39 @@ module _ (records : Records) (by : ℕ) (op : Op) (clock : Option ℕ) where
       )
 
   -- whether the label is an update of the replica
-  updates_now : (q : ℕ) → by ≡ q → is_update op ≡ true → updates_of now q ≡ updates_of records q + 1
+  updates_now : (q : ℕ) → next.by ≡ q → is_update next.op ≡ true → updates_of now q ≡ updates_of records q + 1
   updates_now q same is =
-      cond-true (by == q && is_update op) (updates_of records q + 1) (updates_of records q) (and_from (by == q) (is_update op) (eq-eqb by q same) is)
+      cond-true (next.by == q && is_update next.op) (updates_of records q + 1) (updates_of records q) (and_from (next.by == q) (is_update next.op) (eq-eqb next.by q same) is)
 
-  updates_same : (q : ℕ) → (by ≡ q → is_update op ≡ true → ⊥) → updates_of now q ≡ updates_of records q
+  updates_same : (q : ℕ) → (next.by ≡ q → is_update next.op ≡ true → ⊥) → updates_of now q ≡ updates_of records q
   updates_same q not_own =
-      cond-false (by == q && is_update op) (updates_of records q + 1) (updates_of records q)
-      (false_from_ne_true (by == q && is_update op) (λ both. let parts = and_parts (by == q) (is_update op) both in not_own (eqb-true by q parts.0) parts.1))
+      cond-false (next.by == q && is_update next.op) (updates_of records q + 1) (updates_of records q)
+      (false_from_ne_true (next.by == q && is_update next.op) (λ both. let parts = and_parts (next.by == q) (is_update next.op) both in not_own (eqb-true next.by q parts.0) parts.1))
 
-  module _ (stamps : List (List Stamp)) (first : ℕ) (are : AreGreatestOf stamps first records) (known : by < length stamps) where
+  module _ (stamps : List (List Stamp)) (first : ℕ) (are : AreGreatestOf stamps first records) (known : next.by < length stamps) where
     abbrev with_it : List (List Stamp)
-    with_it = stamps_with stamps by (is_update op) x.stamp
+    with_it = stamps_with stamps next.by (is_update next.op) x.stamp
 
-    length_with : (update : Bool) → length (stamps_with stamps by update x.stamp) ≡ length stamps
-    length_with true = length-set stamps by (with_stamp (stamps_at stamps by) x.stamp)
+    length_with : (update : Bool) → length (stamps_with stamps next.by update x.stamp) ≡ length stamps
+    length_with true = length-set stamps next.by (with_stamp (stamps_at stamps next.by) x.stamp)
     length_with false = refl
 
     -- the replica's stamps have one more, and others have not
-    own_with : (q : ℕ) (update : Bool) → by ≡ q → update ≡ true → stamps_at (stamps_with stamps by update x.stamp) q ≡ with_stamp (stamps_at stamps q) x.stamp
+    own_with : (q : ℕ) (update : Bool) → next.by ≡ q → update ≡ true → stamps_at (stamps_with stamps next.by update x.stamp) q ≡ with_stamp (stamps_at stamps q) x.stamp
     own_with q true same is =
-        ap (stamps_at (stamps_with stamps by true x.stamp)) (sym same)
-        ∙ get_or-set_same stamps by (with_stamp (stamps_at stamps by) x.stamp) [] known
+        ap (stamps_at (stamps_with stamps next.by true x.stamp)) (sym same)
+        ∙ get_or-set_same stamps next.by (with_stamp (stamps_at stamps next.by) x.stamp) [] known
         ∙ ap (λ p. with_stamp (stamps_at stamps p) x.stamp) same
     own_with q false same is = absurd (false≢true is)
 
-    else_with : (q : ℕ) (update : Bool) → (by ≡ q → update ≡ true → ⊥) → stamps_at (stamps_with stamps by update x.stamp) q ≡ stamps_at stamps q
-    else_with q true not_own = get_or-set_other stamps by q (with_stamp (stamps_at stamps by) x.stamp) [] (λ e. not_own (sym e) refl)
+    else_with : (q : ℕ) (update : Bool) → (next.by ≡ q → update ≡ true → ⊥) → stamps_at (stamps_with stamps next.by update x.stamp) q ≡ stamps_at stamps q
+    else_with q true not_own = get_or-set_other stamps next.by q (with_stamp (stamps_at stamps next.by) x.stamp) [] (λ e. not_own (sym e) refl)
     else_with q false not_own = refl
 
     -- by cases on whether the label is an update of the replica
-    own_or_not : (q : ℕ) → ((by ≡ q) × (is_update op ≡ true)) ⊎ (by ≡ q → is_update op ≡ true → ⊥)
-    own_or_not q = elim (cases_eq by q) [
-      | inl same ↦ elim (cases_Bool (is_update op)) [
+    own_or_not : (q : ℕ) → ((next.by ≡ q) × (is_update next.op ≡ true)) ⊎ (next.by ≡ q → is_update next.op ≡ true → ⊥)
+    own_or_not q = elim (cases_eq next.by q) [
+      | inl same ↦ elim (cases_Bool (is_update next.op)) [
         | inl is ↦ inl (same, is)
         | inr none ↦ inr (λ _ is. true≢false (sym is ∙ none))
       ]
@@ -143,32 +142,32 @@ module _ (records : Records) (by : ℕ) (op : Op) (clock : Option ℕ) where
 
     updates_with : (q : ℕ) → q < length with_it → length (stamps_at with_it q) ≡ updates_of now q
     updates_with q there =
-        let old : q < length stamps = omega (arith, there, length_with (is_update op)) in
+        let old : q < length stamps = omega (arith, there, length_with (is_update next.op)) in
         elim (own_or_not q) [
           | inl own ↦
-              ap (λ row. length row) (own_with q (is_update op) own.0 own.1)
+              ap (λ row. length row) (own_with q (is_update next.op) own.0 own.1)
               ∙ length-append (stamps_at stamps q) (next_of (stamps_at stamps q) x.stamp ∷ [])
               ∙ ap (λ n. n + 1) (are.updates q old)
               ∙ sym (updates_now q own.0 own.1)
-          | inr other ↦ ap (λ row. length row) (else_with q (is_update op) other) ∙ are.updates q old ∙ sym (updates_same q other)
+          | inr other ↦ ap (λ row. length row) (else_with q (is_update next.op) other) ∙ are.updates q old ∙ sym (updates_same q other)
         ]
 
     above_with : (q k : ℕ) (label : Label) (stamp : Stamp) → q < length with_it → IsAmong now q k label → label.stamp ≡ Some stamp → AtMost stamp (greatest_among (stamps_at with_it q) k)
     above_with q k label stamp there among stamped =
-        let old : q < length stamps = omega (arith, there, length_with (is_update op)) in
+        let old : q < length stamps = omega (arith, there, length_with (is_update next.op)) in
         let row = stamps_at stamps q in
         elim (head_or_behind x (labels_of records) label among.0) [
           | inl newest ↦
               let is = among_newest q k label newest among in
-              subst (λ r. AtMost stamp (greatest_among r k)) (sym (own_with q (is_update op) is.1 is.0))
+              subst (λ r. AtMost stamp (greatest_among r k)) (sym (own_with q (is_update next.op) is.1 is.0))
               (row_own row x.stamp k stamp (ap (λ (m : Label). m.stamp) newest ∙ stamped) (omega (arith, is.2, are.updates q old, ap (updates_of records) is.1)))
           | inr older ↦
               let before = are.above q k label stamp old (among_older q k label older among) stamped in
               elim (own_or_not q) [
                 | inl own ↦
-                    subst (λ r. AtMost stamp (greatest_among r k)) (sym (own_with q (is_update op) own.0 own.1))
+                    subst (λ r. AtMost stamp (greatest_among r k)) (sym (own_with q (is_update next.op) own.0 own.1))
                     (at_most_through stamp (greatest_among row k) (greatest_among (with_stamp row x.stamp) k) before (row_above row x.stamp k))
-                | inr other ↦ subst (λ r. AtMost stamp (greatest_among r k)) (sym (else_with q (is_update op) other)) before
+                | inr other ↦ subst (λ r. AtMost stamp (greatest_among r k)) (sym (else_with q (is_update next.op) other)) before
               ]
         ]
 
@@ -181,28 +180,28 @@ module _ (records : Records) (by : ℕ) (op : Op) (clock : Option ℕ) where
 
     kept_with : (q k : ℕ) → q < length with_it → IsOwnAmong q k (greatest_among (stamps_at with_it q) k)
     kept_with q k there =
-        let old : q < length stamps = omega (arith, there, length_with (is_update op)) in
+        let old : q < length stamps = omega (arith, there, length_with (is_update next.op)) in
         let row = stamps_at stamps q in
         elim (own_or_not q) [
           | inl own ↦
-              subst (λ r. IsOwnAmong q k (greatest_among r k)) (sym (own_with q (is_update op) own.0 own.1))
+              subst (λ r. IsOwnAmong q k (greatest_among r k)) (sym (own_with q (is_update next.op) own.0 own.1))
               (elim (row_grows row x.stamp k) [
                 | inl same ↦ subst (IsOwnAmong q k) (sym same) (own_still q k (greatest_among row k) (are.own q k old))
                 | inr new ↦
                     inr (x, ((0, omega arith, refl), own.1, own.0, omega (arith, new.0, are.updates q old, place_new, ap (updates_of records) own.0)), new.1)
               ])
-          | inr other ↦ subst (λ r. IsOwnAmong q k (greatest_among r k)) (sym (else_with q (is_update op) other)) (own_still q k (greatest_among row k) (are.own q k old))
+          | inr other ↦ subst (λ r. IsOwnAmong q k (greatest_among r k)) (sym (else_with q (is_update next.op) other)) (own_still q k (greatest_among row k) (are.own q k old))
         ]
 
     known_with : (label : Label) → Contains (labels_of now) label → label.replica < length with_it
     known_with label found = elim (head_or_behind x (labels_of records) label found) [
-      | inl newest ↦ omega (arith, known, ap (λ (m : Label). m.replica) newest, length_with (is_update op))
-      | inr older ↦ omega (arith, are.known label older, length_with (is_update op))
+      | inl newest ↦ omega (arith, known, ap (λ (m : Label). m.replica) newest, length_with (is_update next.op))
+      | inr older ↦ omega (arith, are.known label older, length_with (is_update next.op))
     ]
 
     pub greatest_with_label : AreGreatestOf with_it first now
     greatest_with_label = record {
-      replicas = length_with (is_update op) ∙ are.replicas;
+      replicas = length_with (is_update next.op) ∙ are.replicas;
       known = known_with;
       updates = updates_with;
       above = above_with;

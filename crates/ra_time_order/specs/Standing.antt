@@ -6,6 +6,7 @@ use Rattle.ra_labels.specs.declared.label.Label.{Label}
 use Rattle.ra_labels.specs.NamedOrder.{rank_of, named_labels}
 use Rattle.ra_labels.specs.Records.{Records, labels_of}
 use Rattle.ra_labels.specs.Visibility.{is_update}
+use Rattle.ra_labels.specs.Situation.{Past}
 use Rattle.ra_visibility.specs.Order.{IsByTimestamp}
 use Rattle.ra_time_order.specs.declared.entry.Entry.{Entry}
 use Rattle.ra_time_order.specs.Replicas.{Replicas}
@@ -32,11 +33,11 @@ time_order_of sorted replicas = record {
 abbrev pub entry_of : Kind → Records → Label → Entry
 entry_of kind records label = record { rank = rank_of kind records label; label = label.number }
 
--- it is the order of these records, of such a kind and of so many replicas that were there first
-pub record StandsFor (order : TimeOrder) (kind : Kind) (first : ℕ) (records : Records) : Type 0 where
-  pub sorts : IsByTimestamp kind
-  pub entries : order.entries ≡ map (entry_of kind records) (named_labels kind records)
-  pub stamps : AreGreatestOf order.stamps first records
+-- it is the order of the labels of this past
+pub record IsTimeOrderOf (order : TimeOrder) (past : Past) : Type 0 where
+  pub sorts : IsByTimestamp past.kind
+  pub entries : order.entries ≡ map (entry_of past.kind past.records) (named_labels past.kind past.records)
+  pub stamps : AreGreatestOf order.stamps past.first past.records
   -- only updates have a stamp of their own
-  pub stamped : (label : Label) (stamp : Stamp) → Contains (labels_of records) label → label.stamp ≡ Some stamp
+  pub stamped : (label : Label) (stamp : Stamp) → Contains (labels_of past.records) label → label.stamp ≡ Some stamp
       → is_update label.op ≡ true

@@ -1,6 +1,7 @@
 //! The named order of registers, LWW sets and RGAs: by timestamp, and then by number.
-ghost use Rattle.std.specs.Prelude.{◌≡◌, ℕ, true, [], map, IfOk};
+ghost use Rattle.std.specs.Prelude.{◌≡◌, true, [], map, IfOk};
 ghost use Rattle.ra_labels.specs.declared.kind.Kind.{Kind};
+ghost use Rattle.ra_labels.specs.Situation.{nothing_yet};
 ghost use Rattle.ra_visibility.specs.Order.{IsByTimestamp};
 ghost use Rattle.ra_time_order.specs.Positions.{IsPastAll};
 
@@ -29,13 +30,13 @@ impl Model for TimeOrder {
 }
 
 impl TimeOrder {
-    ghost use Rattle.ra_time_order.specs.Standing.{StandsFor};
+    ghost use Rattle.ra_time_order.specs.Standing.{IsTimeOrderOf};
 
     /// The order of no labels, of so many replicas. Costs room for a run.
     pub fn new(alloc: Global, replicas: u8) -> Result<TimeOrder, NoMemory>
         ensures listed { IfOk result (λ order. ⟦<TimeOrder as NamedOrder>⟧.listed order ≡ []) }
         ensures stands { IfOk result (λ order. (kind : Kind) → IsByTimestamp kind
-            → ⟦<TimeOrder as NamedOrder>⟧.stands_for order kind replicas []) }
+            → ⟦<TimeOrder as NamedOrder>⟧.stands_for order (nothing_yet kind replicas)) }
     {
         let replicas = Replicas::new(alloc, replicas)?;
         Ok(TimeOrder {
@@ -46,14 +47,14 @@ impl TimeOrder {
 }
 
 impl NamedOrder for TimeOrder {
-    ghost use Rattle.ra_time_order.specs.Standing.{StandsFor};
+    ghost use Rattle.ra_time_order.specs.Standing.{IsTimeOrderOf};
     ghost use Rattle.ra_time_order.specs.Lawful.{listed-named, stands_delivered};
 
     ghost listed = { λ order. map (λ entry. entry.label) order.entries };
 
     ghost room = { λ order. order.room };
 
-    ghost stands_for = { λ order kind first records. StandsFor order kind first records };
+    ghost stands_for = { λ order past. IsTimeOrderOf order past };
 
     /// Costs a constant where the label has a stamp of its own above those of all labels. Else a look-up for each
     /// replica, a step for each run behind the place and a binary search in one.
@@ -95,9 +96,9 @@ impl NamedOrder for TimeOrder {
         self.sorted.at(position)
     }
 
-    ghost lists = { λ order kind first records stands. listed-named order kind first records stands };
+    ghost lists = { λ order past stands. listed-named order past stands };
 
-    ghost keeps = { λ order kind first records to n stands. stands_delivered order kind first records to n stands };
+    ghost keeps = { λ order past to n stands. stands_delivered order past to n stands };
 }
 
 // Has the label a stamp of its own, above those of all labels?

@@ -6,7 +6,7 @@ use Rattle.ra_visibility.specs.declared.row.Row.{Row}
 use Rattle.ra_visibility.specs.Tracked.{Tracked, replicas_in, labels_in, replica_at, row_at, had_count, seen_count, counts_at, is_missing, first_missing_in}
 use Rattle.ra_visibility.specs.Kept.{TrackedKept, IsUpdateOf, issued_at}
 use Rattle.ra_visibility.proofs.Tests.{at_or_else, both_or_none}
-use Rattle.ra_visibility.proofs.Missing.{find_none, seen_own, missing_where}
+use Rattle.ra_visibility.proofs.MissingLabels.{find_none, seen_own, missing_where}
 
 -- a label sees as many updates of another replica as its stored counts say
 seen_other : (t : Tracked) (n of : ℕ) → of ≢ (row_at t n).replica → seen_count t n of ≡ get_or (counts_at t (row_at t n).counts) of 0

@@ -3,10 +3,11 @@ use Rattle.std.specs.Prelude.{◌≡◌, ℕ, ◌<◌, nat_lt, Bool, not, ◌&&�
 use Rattle.std.specs.List.{find, range_with_len}
 use Rattle.ra_labels.specs.declared.refusal.Refusal.{Refusal}
 use Rattle.ra_labels.specs.declared.refusal.Refusal.TheVariants.{UnknownLabel, NotAnUpdate, AlreadySeen, NotCausal}
-use Rattle.ra_labels.specs.Records.{Records, label_count, replica_count}
+use Rattle.ra_labels.specs.Records.{label_count}
 use Rattle.ra_labels.specs.Visibility.{had, sees, is_update_at}
 use Rattle.ra_labels.specs.Answer.{when, first_of}
 use Rattle.ra_labels.specs.Places.{issuer_of, place_of, updates_of}
+use Rattle.ra_labels.specs.Situation.{Past, replicas_of}
 use Rattle.ra_visibility.specs.declared.row.Row.{Row}
 use Rattle.ra_visibility.specs.Replica.{Replica, new_replica}
 use Rattle.ra_visibility.specs.Seen.{Seen, no_row, is_in, count_in}
@@ -80,15 +81,15 @@ refusal_in tracked to label = first_of (
     ∷ []
     )
 
--- this is the visibility of the records, of which so many replicas were there first
-pub record IsVisibilityOf (tracked : Tracked) (first : ℕ) (records : Records) : Type 0 where
-  pub replicas : replicas_in tracked ≡ replica_count first records
-  pub labels : labels_in tracked ≡ label_count records
-  pub updates : (n : ℕ) → is_update_in tracked n ≡ is_update_at records n
-  pub had : (replica n : ℕ) → replica < replicas_in tracked → had_in tracked replica n ≡ had records replica n
-  pub sees : (n m : ℕ) → n < labels_in tracked → sees_in tracked n m ≡ sees records n m
+-- this is the visibility of the past
+pub record IsVisibilityOf (tracked : Tracked) (past : Past) : Type 0 where
+  pub replicas : replicas_in tracked ≡ replicas_of past
+  pub labels : labels_in tracked ≡ label_count past.records
+  pub updates : (n : ℕ) → is_update_in tracked n ≡ is_update_at past.records n
+  pub had : (replica n : ℕ) → replica < replicas_in tracked → had_in tracked replica n ≡ had past.records replica n
+  pub sees : (n m : ℕ) → n < labels_in tracked → sees_in tracked n m ≡ sees past.records n m
   -- whose each label is, and how many updates that one had issued before
-  pub issuer : (n : ℕ) → n < labels_in tracked → (row_at tracked n).replica ≡ issuer_of records n
-  pub place : (n : ℕ) → n < labels_in tracked → (row_at tracked n).place ≡ place_of records n
+  pub issuer : (n : ℕ) → n < labels_in tracked → (row_at tracked n).replica ≡ issuer_of past.records n
+  pub place : (n : ℕ) → n < labels_in tracked → (row_at tracked n).place ≡ place_of past.records n
   pub issued : (replica : ℕ) → replica < replicas_in tracked
-      → length (replica_at tracked replica).issued ≡ updates_of records replica
+      → length (replica_at tracked replica).issued ≡ updates_of past.records replica

@@ -1,10 +1,8 @@
 //! Where labels stand in the named order of their kind.
-ghost use Rattle.std.specs.Prelude.{◌≡◌, ℕ, ◌+◌, ◌<◌, ◌∷◌, List, length, OnOk, Option};
+ghost use Rattle.std.specs.Prelude.{◌≡◌, ℕ, ◌+◌, ◌<◌, List, length, OnOk};
 ghost use Rattle.std.specs.List.{slice_get};
-ghost use Rattle.ra_labels.specs.declared.kind.Kind.{Kind};
-ghost use Rattle.ra_labels.specs.declared.operation.Op.{Op};
-ghost use Rattle.ra_labels.specs.declared.command.Command.TheVariants.{Operate, Deliver};
-ghost use Rattle.ra_labels.specs.Records.{Records};
+ghost use Rattle.ra_labels.specs.declared.command.Command.TheVariants.{Deliver};
+ghost use Rattle.ra_labels.specs.Situation.{Past, past_with, Next, operate};
 ghost use Rattle.ra_visibility.specs.Order.{ComesNext, IsPlaceOf, numbers_in};
 
 use crate::limits::MOST_LABELS;
@@ -28,43 +26,38 @@ pub trait NamedOrder: Drop + Send {
     // how many more labels it has room for
     ghost room: { Self → ℕ };
 
-    // it is the order of these records, of such a kind and of so many replicas that were there first
-    ghost stands_for: { Self → Kind → ℕ → Records → Type 0 };
+    // it is the order of the labels of this past
+    ghost stands_for: { Self → Past → Type 0 };
 
     /// Where the next label stands, and whether all labels stand before it that must. It takes no memory.
     fn place(&self, label: &Label, seen: &Seen<'_>) -> Place
-        ensures { (kind : Kind) (first : ℕ) (records : Records) (by : ℕ) (op : Op) (clock : Option ℕ)
-            → stands_for self.now kind first records
-            → ComesNext kind first records by op clock label.now seen.now
-            → IsPlaceOf kind records by op clock result };
+        ensures { (past : Past) (next : Next) → stands_for self.now past → ComesNext past next label.now seen.now
+            → IsPlaceOf past.kind past.records next result };
 
     /// Makes room for one more label. It is out of memory where a growth is refused; either way the order is as before.
     fn spare(&mut self) -> Result<(), NoMemory>
         ensures room { OnOk result (0 < room self.new) }
         ensures listed { listed self.new ≡ listed self.old }
-        ensures stands { (kind : Kind) (first : ℕ) (records : Records)
-            → stands_for self.old kind first records → stands_for self.new kind first records };
+        ensures stands { (past : Past) → stands_for self.old past → stands_for self.new past };
 
     /// Takes the next label in, at the place that `place` gives now. It takes no memory.
     fn put(&mut self, label: &Label, seen: &Seen<'_>, place: Place)
         requires room { 0 < room self.old }
         requires few { length (listed self.old) < MOST_LABELS }
         ensures one { length (listed self.new) ≡ length (listed self.old) + 1 }
-        ensures stands { (kind : Kind) (first : ℕ) (records : Records) (by : ℕ) (op : Op) (clock : Option ℕ)
-            → stands_for self.old kind first records
-            → ComesNext kind first records by op clock label.now seen.now
-            → IsPlaceOf kind records by op clock place
-            → stands_for self.new kind first (Operate by op clock ∷ records) };
+        ensures stands { (past : Past) (next : Next) → stands_for self.old past
+            → ComesNext past next label.now seen.now → IsPlaceOf past.kind past.records next place
+            → stands_for self.new (past_with past (operate next)) };
 
     /// The number of the label at a position. It takes no memory.
     fn at(&self, position: usize) -> Option<u32>
         ensures { result ≡ slice_get (listed self.now) position };
 
     // its list is the named order
-    ghost lists: { (order : Self) (kind : Kind) (first : ℕ) (records : Records)
-        → stands_for order kind first records → listed order ≡ numbers_in kind records };
+    ghost lists: { (order : Self) (past : Past) → stands_for order past
+        → listed order ≡ numbers_in past.kind past.records };
 
     // a delivery changes nothing
-    ghost keeps: { (order : Self) (kind : Kind) (first : ℕ) (records : Records) (to label : ℕ)
-        → stands_for order kind first records → stands_for order kind first (Deliver to label ∷ records) };
+    ghost keeps: { (order : Self) (past : Past) (to label : ℕ) → stands_for order past
+        → stands_for order (past_with past (Deliver to label)) };
 }

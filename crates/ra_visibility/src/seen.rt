@@ -1,3 +1,4 @@
+//! What a label sees, by counts.
 ghost use Rattle.std.specs.Prelude.{◌≡◌, set};
 ghost use Rattle.ra_visibility.specs.Seen.{is_in, count_in};
 

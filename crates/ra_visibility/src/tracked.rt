@@ -1,5 +1,5 @@
 //! What replicas had and labels see, as counts.
-ghost use Rattle.std.specs.Prelude.{◌≡◌, ℕ, ◌<◌, IfOk, OnErr, None, true, is_none};
+ghost use Rattle.std.specs.Prelude.{◌≡◌, ◌<◌, IfOk, OnErr, None, true, is_none};
 ghost use Rattle.ra_visibility.specs.Tracked.{replicas_in, labels_in, replica_at, row_at, had_count, had_in, seen_in, first_missing_in, refusal_in};
 ghost use Rattle.ra_visibility.specs.Least.{lesser_of};
 ghost use Rattle.ra_visibility.specs.Changes.{nothing_in, with_label, with_delivery, without_label, without_delivery};

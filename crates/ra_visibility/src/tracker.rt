@@ -1,10 +1,11 @@
 //! The tracker: what replicas had and labels see, with the last change, so that it can be taken back.
-ghost use Rattle.std.specs.Prelude.{◌≡◌, ℕ, ◌+◌, ◌<◌, ◌≤◌, ◌∷◌, [], IfOk, IfErr, OnErr, OnOk, IsSome, Option, Some, None, true};
-ghost use Rattle.ra_labels.specs.Records.{Records};
+ghost use Rattle.std.specs.Prelude.{◌≡◌, ℕ, ◌+◌, ◌<◌, ◌≤◌, ◌∷◌, [], IfOk, IfErr, OnErr, OnOk, IsSome, Option, Some, None};
 ghost use Rattle.ra_labels.specs.Visibility.{is_update, IsCausal};
+ghost use Rattle.ra_labels.specs.declared.kind.Kind.{Kind};
 ghost use Rattle.ra_labels.specs.declared.operation.Op.{Op};
 ghost use Rattle.ra_labels.specs.declared.command.Command.TheVariants.{Operate, Deliver as Delivered};
 ghost use Rattle.ra_labels.specs.declared.refusal.Refusal.{Refusal};
+ghost use Rattle.ra_labels.specs.Situation.{Past, nothing_yet, past_with};
 ghost use Rattle.ra_visibility.specs.declared.fault.DeliverFault.TheVariants.{Refused};
 ghost use Rattle.ra_visibility.specs.Seen.{count_in};
 ghost use Rattle.ra_visibility.specs.Kept.{issued_count};
@@ -39,7 +40,8 @@ impl Model for Tracker {
 impl Tracker {
     /// A tracker of no records, at this many replicas. Costs a row of counts for each of them.
     pub fn new(alloc: Global, replicas: u8) -> Result<Tracker, NoMemory>
-        ensures stands { IfOk result (λ tracker. IsVisibilityOf tracker.now replicas []) }
+        ensures stands { IfOk result (λ tracker.
+            (kind : Kind) → IsVisibilityOf tracker.now (nothing_yet kind replicas)) }
         ensures before { IfOk result (λ tracker. tracker.before ≡ None) }
         ensures replicas { IfOk result (λ tracker. replicas_in tracker.now ≡ replicas) }
         ensures labels { IfOk result (λ tracker. labels_in tracker.now ≡ 0) }
@@ -58,9 +60,8 @@ impl Tracker {
         requires replica { replica < replicas_in self.old.now }
         requires room { labels_in self.old.now < MOST_LABELS }
         ensures number { IfOk result (λ label. label ≡ labels_in self.old.now) }
-        ensures stands { OnOk result ((first : ℕ) (records : Records) (op : Op) (clock : Option ℕ)
-            → IsVisibilityOf self.old.now first records → is_update op ≡ update
-            → IsVisibilityOf self.new.now first (Operate replica op clock ∷ records)) }
+        ensures stands { OnOk result ((past : Past) (op : Op) (clock : Option ℕ) → IsVisibilityOf self.old.now past
+            → is_update op ≡ update → IsVisibilityOf self.new.now (past_with past (Operate replica op clock))) }
         ensures before { OnOk result (self.new.before ≡ Some self.old.now) }
         ensures labels { OnOk result (labels_in self.new.now ≡ labels_in self.old.now + 1) }
         ensures replicas { replicas_in self.new.now ≡ replicas_in self.old.now }
@@ -97,10 +98,10 @@ impl Tracker {
     pub fn deliver(&mut self, replica: u8, label: u32) -> Result<(), DeliverFault>
         requires { replica < replicas_in self.old.now }
         ensures taken { OnOk result (refusal_in self.old.now replica label ≡ None) }
-        ensures stands { OnOk result ((first : ℕ) (records : Records) → IsVisibilityOf self.old.now first records
-            → IsVisibilityOf self.new.now first (Delivered replica label ∷ records)) }
-        ensures causal { OnOk result ((first : ℕ) (records : Records) → IsVisibilityOf self.old.now first records
-            → IsCausal records → IsCausal (Delivered replica label ∷ records)) }
+        ensures stands { OnOk result ((past : Past) → IsVisibilityOf self.old.now past
+            → IsVisibilityOf self.new.now (past_with past (Delivered replica label))) }
+        ensures causal { OnOk result ((past : Past) → IsVisibilityOf self.old.now past → IsCausal past.records
+            → IsCausal (Delivered replica label ∷ past.records)) }
         ensures before { OnOk result (self.new.before ≡ Some self.old.now) }
         ensures refused { IfErr result (λ fault. (why : Refusal) × (fault ≡ Refused why)
             × (refusal_in self.old.now replica label ≡ Some why)) }

@@ -1,5 +1,5 @@
 -- A new label alone decides: what it asks is held against the state of its replica.
-use Rattle.std.proofs.Common.{◌≡◌, ℕ, Bool, true, false, cond, List, [], ◌∷◌, ◌++◌, Option, Some, None, refl, sym, ap, ◌∙◌, subst, inl, inr, arith}
+use Rattle.std.proofs.Common.{◌≡◌, Bool, true, false, cond, List, [], ◌∷◌, ◌++◌, Option, Some, None, refl, sym, ap, ◌∙◌, subst, inl, inr, arith}
 use Rattle.std.specs.Prelude.{◌&&◌, not, Contains, map, flat_map}
 use Rattle.std.specs.List.{list_all}
 use Rattle.std.proofs.lemmas.Bool.{and_parts, and_from, false≢true}
@@ -10,13 +10,11 @@ use Rattle.std.proofs.lemmas.List.Elements.{filter_map-append}
 use Rattle.std.proofs.lemmas.Grind.{flat_map-append}
 use Rattle.ra_labels.specs.declared.kind.Kind.{Kind}
 use Rattle.ra_labels.specs.declared.kind.Kind.TheVariants.{Rga}
-use Rattle.ra_labels.specs.declared.operation.Op.{Op}
 use Rattle.ra_labels.specs.declared.operation.Update.{Update}
 use Rattle.ra_labels.specs.declared.operation.Query.{Query}
 use Rattle.ra_labels.specs.declared.label.Label.{Label}
-use Rattle.ra_labels.specs.declared.command.Command.TheVariants.{Operate}
 use Rattle.ra_labels.specs.declared.reply.Cause.TheVariants as cause
-use Rattle.ra_labels.specs.Records.{Records, label_count, next_label}
+use Rattle.ra_labels.specs.Records.{Records, label_count}
 use Rattle.ra_labels.specs.Rewriting.{Part, Half, Act, Does, Asks, acts_of, part_of, parts_of, update_of, updates_of}
 use Rattle.ra_labels.specs.Specification.{State, answers, state_after}
 use Rattle.ra_labels.specs.Linearization.{visible_updates, extends_visibility, updates_admitted, queries_admitted}
@@ -28,6 +26,7 @@ use Rattle.ra_labels.specs.Insertion.{updates_had, IsAnsweredItself}
 use Rattle.ra_labels.proofs.Members.{head_or_behind, at_head, behind_head, reached, from_where}
 use Rattle.ra_labels.proofs.InLists.{bool_same}
 use Rattle.ra_labels.proofs.SameKind.{one_kind}
+use Rattle.ra_labels.specs.Situation.{Next, operate, label_of}
 use Rattle.ra_laws.proofs.TheLaws.{a_new_label_alone_decides-query, a_new_label_leaves_what_the_others_see-own, a_new_label_leaves_the_order_of_the_others, updates_of_the_kind_are_admitted-only, updates_of_the_kind_are_admitted-exactly, parts_are_of_their_kind}
 use Rattle.ra_witness.specs.Labels.{queries_in, answers_in, cause_in}
 
@@ -64,18 +63,18 @@ yes_in : (o : Option State) (query : Query) → answers_in o query ≡ true → 
 yes_in None query passes = absurd (false≢true passes)
 yes_in (Some state) query passes = (state, refl, passes)
 
-module _ (kind : Kind) (records : Records) (by : ℕ) (op : Op) (clock : Option ℕ) where
+module _ (kind : Kind) (records : Records) (next : Next) where
   abbrev now : Records
-  now = Operate by op clock ∷ records
+  now = operate next ∷ records
 
   abbrev label : Label
-  label = next_label records by op clock
+  label = label_of records next
 
   abbrev before : Option State
-  before = state_after kind (updates_had kind records by)
+  before = state_after kind (updates_had kind records next.by)
 
-  sees_had : visible_updates now (named_sequence kind now) (label_count records) ≡ updates_had kind records by
-  sees_had = a_new_label_leaves_what_the_others_see-own kind records by op clock
+  sees_had : visible_updates now (named_sequence kind now) (label_count records) ≡ updates_had kind records next.by
+  sees_had = a_new_label_leaves_what_the_others_see-own kind records next.by next.op next.clock
 
   answered_before : (query : Query) → IsAnsweredAfter kind (visible_updates now (named_sequence kind now) (label_count records)) query → answers_in before query ≡ true
   answered_before query (state, led, passes) =
@@ -86,20 +85,20 @@ module _ (kind : Kind) (records : Records) (by : ℕ) (op : Op) (clock : Option 
       let (state, led, is) = yes_in before query passes in
       (state, ap (state_after kind) sees_had ∙ led, is)
 
-  from_itself : IsAnsweredItself kind now label (named_sequence kind now) → list_all (answers_in before) (queries_in (acts_of op)) ≡ true
-  from_itself itself = all_answered before (acts_of op) (λ half query there.
-      answered_before query (itself (part_of label (half, Asks query)) query (reached (part_of label) (acts_of op) (half, Asks query) there) refl))
+  from_itself : IsAnsweredItself kind now label (named_sequence kind now) → list_all (answers_in before) (queries_in (acts_of next.op)) ≡ true
+  from_itself itself = all_answered before (acts_of next.op) (λ half query there.
+      answered_before query (itself (part_of label (half, Asks query)) query (reached (part_of label) (acts_of next.op) (half, Asks query) there) refl))
 
-  to_itself : list_all (answers_in before) (queries_in (acts_of op)) ≡ true → IsAnsweredItself kind now label (named_sequence kind now)
+  to_itself : list_all (answers_in before) (queries_in (acts_of next.op)) ≡ true → IsAnsweredItself kind now label (named_sequence kind now)
   to_itself pass = λ part query there is.
-      let (act, found, same) = from_where (part_of label) (acts_of op) part there in
-      answered_itself query (each_answered before (acts_of op) pass act query found (ap (λ (p : Part). p.act) same ∙ is))
+      let (act, found, same) = from_where (part_of label) (acts_of next.op) part there in
+      answered_itself query (each_answered before (acts_of next.op) pass act query found (ap (λ (p : Part). p.act) same ∙ is))
 
   queries_agree : queries_admitted kind records (named_sequence kind records) ≡ true
-      → queries_admitted kind now (named_sequence kind now) ≡ list_all (answers_in before) (queries_in (acts_of op))
+      → queries_admitted kind now (named_sequence kind now) ≡ list_all (answers_in before) (queries_in (acts_of next.op))
   queries_agree held =
-      let decides = a_new_label_alone_decides-query kind records by op clock held in
-      bool_same (queries_admitted kind now (named_sequence kind now)) (list_all (answers_in before) (queries_in (acts_of op)))
+      let decides = a_new_label_alone_decides-query kind records next.by next.op next.clock held in
+      bool_same (queries_admitted kind now (named_sequence kind now)) (list_all (answers_in before) (queries_in (acts_of next.op)))
       (λ admitted. from_itself (decides.0 admitted)) (λ pass. decides.1 (to_itself pass))
 
 cause_by_tests : (kind : Kind) (records : Records) (updates queries : Bool)
@@ -114,14 +113,14 @@ swapped true = refl
 swapped false = refl
 
 -- where a new label fits, the cause at it is that of the updates of all labels, or else that of what it asks
-pub cause_where_it_fits : (kind : Kind) (records : Records) (by : ℕ) (op : Op) (clock : Option ℕ) (admitted : Bool) → Holds kind records
-    → let now = Operate by op clock ∷ records in extends_visibility now (named_sequence kind now) ≡ true
+pub cause_where_it_fits : (kind : Kind) (records : Records) (next : Next) (admitted : Bool) → Holds kind records
+    → let now = operate next ∷ records in extends_visibility now (named_sequence kind now) ≡ true
     → updates_admitted kind (named_sequence kind now) ≡ admitted
-    → cause_of kind now ≡ cond (not admitted) (Some cause.Update) (cause_in (state_after kind (updates_had kind records by)) (acts_of op))
-cause_where_it_fits kind records by op clock admitted holds extended is =
-    let now = Operate by op clock ∷ records in
-    let asked = list_all (answers_in (state_after kind (updates_had kind records by))) (queries_in (acts_of op)) in
-    cause_by_tests kind now admitted asked extended is (queries_agree kind records by op clock holds.queries)
+    → cause_of kind now ≡ cond (not admitted) (Some cause.Update) (cause_in (state_after kind (updates_had kind records next.by)) (acts_of next.op))
+cause_where_it_fits kind records next admitted holds extended is =
+    let now = operate next ∷ records in
+    let asked = list_all (answers_in (state_after kind (updates_had kind records next.by))) (queries_in (acts_of next.op)) in
+    cause_by_tests kind now admitted asked extended is (queries_agree kind records next holds.queries)
     ∙ ap (λ c. cond (not admitted) (Some cause.Update) c) (swapped asked)
 
 -- updates of a kind whose updates are all admitted
@@ -151,20 +150,20 @@ are_of-both kind xs ys =
     ap (are_of kind) (updates_by-both xs ys) ∙ list_all-append (λ update. is_kind kind (kind_of_update update)) (updates_by xs) (updates_by ys)
 
 -- with a new label that is of it, the updates of all labels are admitted, but for an RGA
-pub still_admitted : (kind : Kind) (records : Records) (by : ℕ) (op : Op) (clock : Option ℕ) → ¬ (kind ≡ Rga) → Holds kind records
-    → is_kind kind (kind_of op) ≡ true → updates_admitted kind (named_sequence kind (Operate by op clock ∷ records)) ≡ true
-still_admitted kind records by op clock not_rga holds of_kind =
-    let label = next_label records by op clock in
-    let (before, behind, was, is) = a_new_label_leaves_the_order_of_the_others kind records by op clock in
+pub still_admitted : (kind : Kind) (records : Records) (next : Next) → ¬ (kind ≡ Rga) → Holds kind records
+    → is_kind kind (kind_of next.op) ≡ true → updates_admitted kind (named_sequence kind (operate next ∷ records)) ≡ true
+still_admitted kind records next not_rga holds of_kind =
+    let label = label_of records next in
+    let (before, behind, was, is) = a_new_label_leaves_the_order_of_the_others kind records next.by next.op next.clock in
     let all = updates_of_the_kind_are_admitted-only kind (updates_by (named_labels kind records)) holds.updates in
     let two = and_parts (are_of kind (updates_by before)) (are_of kind (updates_by behind)) (sym (ap (λ ls. are_of kind (updates_by ls)) was ∙ are_of-both kind before behind) ∙ all) in
     let own : are_of kind (updates_by (label ∷ [])) ≡ true =
     ap (λ ps. are_of kind (updates_of ps)) (append-nil (parts_of label))
-    ∙ of_kind-acts kind (kind_of op) label (acts_of op) of_kind (parts_are_of_their_kind op) in
+    ∙ of_kind-acts kind (kind_of next.op) label (acts_of next.op) of_kind (parts_are_of_their_kind next.op) in
     let later : are_of kind (updates_by (label ∷ behind)) ≡ true =
     are_of-both kind (label ∷ []) behind ∙ and_from (are_of kind (updates_by (label ∷ []))) (are_of kind (updates_by behind)) own two.1 in
-    let every : are_of kind (updates_by (named_labels kind (Operate by op clock ∷ records))) ≡ true =
+    let every : are_of kind (updates_by (named_labels kind (operate next ∷ records))) ≡ true =
     ap (λ ls. are_of kind (updates_by ls)) is
     ∙ are_of-both kind before (label ∷ behind)
     ∙ and_from (are_of kind (updates_by before)) (are_of kind (updates_by (label ∷ behind))) two.0 later in
-    updates_of_the_kind_are_admitted-exactly kind (updates_by (named_labels kind (Operate by op clock ∷ records))) not_rga ∙ every
+    updates_of_the_kind_are_admitted-exactly kind (updates_by (named_labels kind (operate next ∷ records))) not_rga ∙ every

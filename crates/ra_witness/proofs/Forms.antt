@@ -1,21 +1,21 @@
 -- What is known of an operation that is offered, by its form.
-use Rattle.std.proofs.Common.{◌≡◌, ℕ, ◌≤◌, true, Option, Some, refl, ap, ◌∙◌}
+use Rattle.std.proofs.Common.{◌≡◌, ℕ, ◌≤◌, true, Some, refl, ap, ◌∙◌}
 use Rattle.std.specs.Prelude.{option_map}
 use Rattle.std.specs.List.{list_all}
 use Rattle.std.proofs.lemmas.Bool.{and_from}
 use Rattle.std.proofs.lemmas.Option.{none-some}
-use Rattle.ra_labels.specs.declared.kind.Kind.{Kind}
 use Rattle.ra_labels.specs.declared.kind.Kind.TheVariants.{Counter, OrSet, Rga}
 use Rattle.ra_labels.specs.declared.operation.Op.{Op}
 use Rattle.ra_labels.specs.declared.operation.Op.TheVariants as op
 use Rattle.ra_labels.specs.declared.operation.Update.{Update}
 use Rattle.ra_labels.specs.declared.label.Label.{Label}
-use Rattle.ra_labels.specs.Records.{Records, stamp_at}
+use Rattle.ra_labels.specs.Records.{stamp_at}
 use Rattle.ra_labels.specs.Rewriting.{acts_of}
 use Rattle.ra_labels.specs.Lists.{rises}
 use Rattle.ra_labels.specs.Answer.{kind_of, is_kind, has_rising_list, carries_stamp}
 use Rattle.ra_labels.specs.Laws.{HasItsClock}
 use Rattle.ra_labels.proofs.SameKind.{kind_itself}
+use Rattle.ra_labels.specs.Situation.{Past, Next}
 use Rattle.ra_laws.proofs.TheLaws.{forms_that_deserve_no_refusal}
 use Rattle.ra_seqspec.specs.Asked.{asks_rising}
 use Rattle.ra_witness.specs.Labels.{queries_in, update_in}
@@ -37,30 +37,30 @@ asks_only_rising (op.After anchor x) rising = refl
 asks_only_rising (op.RgaRemove x) rising = refl
 asks_only_rising (op.RgaRead list) rising = refl
 
-module _ (kind : Kind) (first : ℕ) (records : Records) (by : ℕ) (op : Op) (clock : Option ℕ) (label : Label) (offered : IsOffered kind first records by op clock label) where
-  pub of_its_kind : kind_of op ≡ kind
-  of_its_kind = ((forms_that_deserve_no_refusal kind by op clock).0 offered.form).0
+module _ (past : Past) (next : Next) (label : Label) (offered : IsOffered past next label) where
+  pub of_its_kind : kind_of next.op ≡ past.kind
+  of_its_kind = ((forms_that_deserve_no_refusal past.kind next.by next.op next.clock).0 offered.form).0
 
-  pub is_of_kind : is_kind kind (kind_of op) ≡ true
-  is_of_kind = ap (is_kind kind) of_its_kind ∙ kind_itself kind
+  pub is_of_kind : is_kind past.kind (kind_of next.op) ≡ true
+  is_of_kind = ap (is_kind past.kind) of_its_kind ∙ kind_itself past.kind
 
-  pub rising : list_all asks_rising (queries_in (acts_of op)) ≡ true
-  rising = asks_only_rising op ((forms_that_deserve_no_refusal kind by op clock).0 offered.form).1
+  pub rising : list_all asks_rising (queries_in (acts_of next.op)) ≡ true
+  rising = asks_only_rising next.op ((forms_that_deserve_no_refusal past.kind next.by next.op next.clock).0 offered.form).1
 
-  pub its_clock : HasItsClock op clock
-  its_clock = ((forms_that_deserve_no_refusal kind by op clock).0 offered.form).2
+  pub its_clock : HasItsClock next.op next.clock
+  its_clock = ((forms_that_deserve_no_refusal past.kind next.by next.op next.clock).0 offered.form).2
 
-  pub its_replica : label.replica ≡ by
-  its_replica = ap (λ (l : Label). l.replica) offered.next
+  pub its_replica : label.replica ≡ next.by
+  its_replica = ap (λ (l : Label). l.replica) offered.becomes
 
-  pub its_op : label.op ≡ op
-  its_op = ap (λ (l : Label). l.op) offered.next
+  pub its_op : label.op ≡ next.op
+  its_op = ap (λ (l : Label). l.op) offered.becomes
 
   -- of a register and an LWW set, and of an RGA, an operation that puts something in has a stamp
-  pub has_stamp : carries_stamp op ≡ true → (at : ℕ) × (clock ≡ Some at) × (1 ≤ at) × (label.stamp ≡ Some (stamp_at by at))
+  pub has_stamp : carries_stamp next.op ≡ true → (at : ℕ) × (next.clock ≡ Some at) × (1 ≤ at) × (label.stamp ≡ Some (stamp_at next.by at))
   has_stamp carries =
       let (at, least, is) = its_clock.0 carries in
-      (at, is, least, ap (λ (l : Label). l.stamp) offered.next ∙ ap (option_map (stamp_at by)) is)
+      (at, is, least, ap (λ (l : Label). l.stamp) offered.becomes ∙ ap (option_map (stamp_at next.by)) is)
 
 -- what a register or an LWW set does has a stamp
 pub writes_are_stamped : (operation : Op) (u : Update) → ¬ (kind_of operation ≡ Counter) → ¬ (kind_of operation ≡ OrSet) → ¬ (kind_of operation ≡ Rga)

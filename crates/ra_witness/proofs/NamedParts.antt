@@ -17,7 +17,7 @@ use Rattle.ra_witness.specs.declared.part_ref.Half.TheVariants.{Whole, QueryHalf
 use Rattle.ra_witness.specs.declared.part_ref.PartRef.{PartRef}
 use Rattle.ra_witness.specs.Sequence.{ref_of, ref_to, has_query_half, refs_at}
 use Rattle.ra_witness.specs.Labels.{update_in, updates_by_number}
-use Rattle.ra_witness.proofs.Found.{IsFoundIn, named_found}
+use Rattle.ra_witness.proofs.NumberedLabels.{IsFoundIn, named_found}
 
 abbrev refs_by : Option (Option Update) → ℕ → List PartRef
 refs_by found n = cond (has_query_half found) (ref_to n QueryHalf ∷ ref_to n UpdateHalf ∷ []) (ref_to n Whole ∷ [])

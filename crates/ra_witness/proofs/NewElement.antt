@@ -24,7 +24,7 @@ use Rattle.ra_element_list.specs.ElementList.{Arrival, ElementList, root, arriva
 use Rattle.ra_replica_list.specs.declared.deed.Deed.{Deed}
 use Rattle.ra_replica_list.specs.declared.deed.Deed.TheVariants.{PutsIn}
 use Rattle.ra_replica_list.specs.Deeds.{element_at, number_of, update_of, AreElementsOf}
-use Rattle.ra_witness.proofs.Taken.{label_below}
+use Rattle.ra_witness.proofs.TakenLabels.{label_below}
 use Rattle.ra_witness.proofs.AllElements.{its_number}
 use Rattle.ra_witness.proofs.NewLabel.{Adds, list_after}
 

@@ -25,7 +25,7 @@ use Rattle.ra_element_list.specs.ElementList.{Arrival, ElementList, arrival_at}
 use Rattle.ra_replica_list.specs.declared.deed.Deed.{Deed}
 use Rattle.ra_replica_list.specs.declared.deed.Deed.TheVariants.{PutsIn, Removes}
 use Rattle.ra_replica_list.specs.Deeds.{deed_at, element_at, number_of, update_of, AreElementsOf}
-use Rattle.ra_witness.proofs.Taken.{label_below}
+use Rattle.ra_witness.proofs.TakenLabels.{label_below}
 
 -- the deeds with one more
 deed_within : (deeds : List (Option Deed)) (n : ℕ) (deed : Deed) → deed_at deeds n ≡ Some deed → n < length deeds

@@ -6,11 +6,9 @@ use Rattle.std.proofs.lemmas.Bool.{and_parts, eq-eqb, true≢false}
 use Rattle.std.proofs.lemmas.List.{append-nil}
 use Rattle.std.proofs.lemmas.Grind.{flat_map-append}
 use Rattle.ra_labels.specs.declared.kind.Kind.{Kind}
-use Rattle.ra_labels.specs.declared.operation.Op.{Op}
 use Rattle.ra_labels.specs.declared.operation.Update.{Update}
 use Rattle.ra_labels.specs.declared.label.Label.{Label}
-use Rattle.ra_labels.specs.declared.command.Command.TheVariants.{Operate}
-use Rattle.ra_labels.specs.Records.{Records, label_count, next_label}
+use Rattle.ra_labels.specs.Records.{Records, label_count}
 use Rattle.ra_labels.specs.Visibility.{had, sees}
 use Rattle.ra_labels.specs.Rewriting.{Part, Does, acts_of, parts_of, update_of, updates_of}
 use Rattle.ra_labels.specs.Specification.{state_after}
@@ -19,6 +17,7 @@ use Rattle.ra_labels.specs.NamedOrder.{named_sequence}
 use Rattle.ra_labels.specs.Insertion.{updates_had_of, updates_had, Makes}
 use Rattle.ra_labels.specs.Commuting.{then_step}
 use Rattle.ra_labels.proofs.Parts.{extends-behind, is_before}
+use Rattle.ra_labels.specs.Situation.{Next, operate, label_of}
 use Rattle.ra_laws.proofs.TheLaws.{an_operation_puts_its_update_in-own, one_more_update_is_one_more_step}
 
 first_fails : (a b c : Bool) → not (a || b || c) ≡ true → a ≡ false
@@ -34,56 +33,56 @@ dropped : (keeps : Bool) (p : Part) (rest : List Part) → is_some (update_of p.
 dropped false p rest none empty = empty
 dropped true p rest none empty = no_update_more (update_of p.act) (updates_of rest) none empty
 
-module _ (records : Records) (by : ℕ) (op : Op) (clock : Option ℕ) where
+module _ (records : Records) (next : Next) where
   abbrev now : Records
-  now = Operate by op clock ∷ records
+  now = operate next ∷ records
 
   abbrev label : Label
-  label = next_label records by op clock
+  label = label_of records next
 
   -- the new label sees what its replica had
-  sees_new : (m : ℕ) → sees now (label_count records) m ≡ had records by m
-  sees_new m = ap (λ b. cond b (had records by m) (sees records (label_count records) m)) (eq-eqb (label_count records) (label_count records) refl)
+  sees_new : (m : ℕ) → sees now (label_count records) m ≡ had records next.by m
+  sees_new m = ap (λ b. cond b (had records next.by m) (sees records (label_count records) m)) (eq-eqb (label_count records) (label_count records) refl)
 
   -- of parts that need not stand before one of the new label, none is an update that its replica had
   none_had : (q : Part) → q.label ≡ label → (behind : List Part) → list_all (λ p. not (must_precede now p q)) behind ≡ true
-      → updates_of (filter (λ (p : Part). had records by p.label.number) behind) ≡ []
+      → updates_of (filter (λ (p : Part). had records next.by p.label.number) behind) ≡ []
   none_had q is [] pass = refl
   none_had q is (p ∷ behind) pass =
       let parts = and_parts (not (must_precede now p q)) (list_all (λ r. not (must_precede now r q)) behind) pass in
       let unseen = first_fails (is_some (update_of p.act) && sees now q.label.number p.label.number) (is_earlier_there p q) (is_query_half_of p q) parts.0 in
-      let sees_it : sees now q.label.number p.label.number ≡ had records by p.label.number =
+      let sees_it : sees now q.label.number p.label.number ≡ had records next.by p.label.number =
       ap (λ (l : Label). sees now l.number p.label.number) is ∙ sees_new p.label.number in
-      dropped (had records by p.label.number) p (filter (λ (r : Part). had records by r.label.number) behind)
+      dropped (had records next.by p.label.number) p (filter (λ (r : Part). had records next.by r.label.number) behind)
       (sym (ap (λ b. is_some (update_of p.act) && b) sees_it) ∙ unseen) (none_had q is behind parts.1)
 
 parts_round : (before behind : List Label) (label : Label) → flat_map parts_of (before ++ label ∷ behind) ≡ flat_map parts_of before ++ (parts_of label ++ flat_map parts_of behind)
 parts_round before behind label = flat_map-append parts_of before (label ∷ behind)
 
 -- where a new label fits, its update is the last of those that its replica had
-pub own-last : (kind : Kind) (records : Records) (by : ℕ) (op : Op) (clock : Option ℕ) (update : Update) → Makes op update
-    → let now = Operate by op clock ∷ records in extends_visibility now (named_sequence kind now) ≡ true
-    → updates_had kind now by ≡ updates_had kind records by ++ update ∷ []
-own-last kind records by op clock update makes extended =
-    let now = Operate by op clock ∷ records in
-    let label = next_label records by op clock in
-    let (before, behind, was, is, had_was, had_is) = an_operation_puts_its_update_in-own kind records by op clock update makes in
+pub own-last : (kind : Kind) (records : Records) (next : Next) (update : Update) → Makes next.op update
+    → let now = operate next ∷ records in extends_visibility now (named_sequence kind now) ≡ true
+    → updates_had kind now next.by ≡ updates_had kind records next.by ++ update ∷ []
+own-last kind records next update makes extended =
+    let now = operate next ∷ records in
+    let label = label_of records next in
+    let (before, behind, was, is, had_was, had_is) = an_operation_puts_its_update_in-own kind records next.by next.op next.clock update makes in
     let round : named_sequence kind now ≡ flat_map parts_of before ++ (parts_of label ++ flat_map parts_of behind) =
     ap (flat_map parts_of) is ∙ parts_round before behind label in
     let all : extends (must_precede now) (flat_map parts_of before ++ (parts_of label ++ flat_map parts_of behind)) ≡ true =
     sym (ap (extends (must_precede now)) round) ∙ extended in
     let from_it = extends-behind (must_precede now) (flat_map parts_of before) (parts_of label ++ flat_map parts_of behind) all in
-    let (q, is_own, free) = is_before (must_precede now) label (acts_of op) (makes.0, Does update) (flat_map parts_of behind) makes.1 from_it in
-    let none : updates_had_of records by behind ≡ [] = none_had records by op clock q is_own (flat_map parts_of behind) free in
-    let first = updates_had_of records by before in
+    let (q, is_own, free) = is_before (must_precede now) label (acts_of next.op) (makes.0, Does update) (flat_map parts_of behind) makes.1 from_it in
+    let none : updates_had_of records next.by behind ≡ [] = none_had records next q is_own (flat_map parts_of behind) free in
+    let first = updates_had_of records next.by before in
     had_is
     ∙ ap (λ us. first ++ update ∷ us) none
     ∙ ap (λ us. us ++ update ∷ []) (sym (had_was ∙ ap (λ us. first ++ us) none ∙ append-nil first))
 
 -- so it is one step
-pub own-step : (kind : Kind) (records : Records) (by : ℕ) (op : Op) (clock : Option ℕ) (update : Update) → Makes op update
-    → let now = Operate by op clock ∷ records in extends_visibility now (named_sequence kind now) ≡ true
-    → state_after kind (updates_had kind now by) ≡ then_step (state_after kind (updates_had kind records by)) update
-own-step kind records by op clock update makes extended =
-    ap (state_after kind) (own-last kind records by op clock update makes extended)
-    ∙ one_more_update_is_one_more_step kind (updates_had kind records by) update
+pub own-step : (kind : Kind) (records : Records) (next : Next) (update : Update) → Makes next.op update
+    → let now = operate next ∷ records in extends_visibility now (named_sequence kind now) ≡ true
+    → state_after kind (updates_had kind now next.by) ≡ then_step (state_after kind (updates_had kind records next.by)) update
+own-step kind records next update makes extended =
+    ap (state_after kind) (own-last kind records next update makes extended)
+    ∙ one_more_update_is_one_more_step kind (updates_had kind records next.by) update

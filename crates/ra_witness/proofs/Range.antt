@@ -17,13 +17,14 @@ use Rattle.ra_labels.specs.Specification.{State, Number, Written, Members, Pairs
 use Rattle.ra_labels.specs.NamedOrder.{named_labels}
 use Rattle.ra_labels.specs.Insertion.{updates_had}
 use Rattle.ra_labels.proofs.Counted.{labels_counted}
+use Rattle.ra_labels.specs.Situation.{Past}
 use Rattle.ra_laws.proofs.TheLaws.{states_are_of_their_kind, a_counter_goes_no_further_than_its_updates, named_labels_are_sorted-same}
 use Rattle.ra_seqspec.specs.Range.{IsInRange}
 use Rattle.ra_witness.specs.Labels.{updates_in}
 use Rattle.ra_witness.specs.States.{state_at, after_step, CanStep, states_after}
-use Rattle.ra_witness.specs.Standing.{IsKeptOf}
-use Rattle.ra_witness.proofs.Doing.{at_most_one}
-use Rattle.ra_witness.proofs.Keeping.{same_replica}
+use Rattle.ra_witness.specs.Standing.{AreStatesOf}
+use Rattle.ra_witness.proofs.DoneUpdates.{at_most_one}
+use Rattle.ra_witness.proofs.ReplicaStates.{same_replica}
 
 -- of parts that pass there are no more updates than of all
 one_fewer : (keeps : Bool) (o : Option Update) (p : Part) (rest all : List Part) → update_of p.act ≡ o → length (updates_of rest) ≤ length (updates_of all)
@@ -98,10 +99,10 @@ can_from kind us s (Some u) led few = either (step_of s u) led
     either None led = tt
     either (Some t) led = in_range kind us t led few
 
-pub can_step : (updates : List (Option Update)) (states : List State) (kind : Kind) (first : ℕ) (records : Records) (replica : ℕ) (o : Option Update)
-    → IsKeptOf updates (states_after states replica o) kind first records → replica < length states → label_count records ≤ 1048576 → CanStep (state_at states replica) o
-can_step updates states kind first records replica o kept there few =
+pub can_step : (updates : List (Option Update)) (states : List State) (past : Past) (replica : ℕ) (o : Option Update)
+    → AreStatesOf updates (states_after states replica o) past → replica < length states → label_count past.records ≤ 1048576 → CanStep (state_at states replica) o
+can_step updates states past replica o kept there few =
     let within : replica < length (states_after states replica o) = omega (arith, length-set states replica (after_step (state_at states replica) o), there) in
-    can_from kind (updates_had kind records replica) (state_at states replica) o
+    can_from past.kind (updates_had past.kind past.records replica) (state_at states replica) o
     (kept.folded replica within ∙ ap Some (same_replica states replica o there))
-    (omega (arith, updates_few kind records replica, few))
+    (omega (arith, updates_few past.kind past.records replica, few))

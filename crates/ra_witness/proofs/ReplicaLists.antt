@@ -22,7 +22,7 @@ use Rattle.ra_replica_list.proofs.TheLaws.{a_list_stays_with_what_others_do-deli
 use Rattle.ra_witness.specs.declared.rga.Rga.{Rga}
 use Rattle.ra_witness.specs.Labels.{update_in}
 use Rattle.ra_witness.specs.Rga.{IsRgaOf}
-use Rattle.ra_witness.proofs.Found.{update_found, makes_it, makes_none}
+use Rattle.ra_witness.proofs.NumberedLabels.{update_found, makes_it, makes_none}
 
 -- where one changed, each is that one or was there before
 one_changed : {A : Type 0} (xs : List A) (r q : ℕ) (new x : A) → r < length xs → slice_get (set xs r new) q ≡ Some x

@@ -5,7 +5,6 @@ use Rattle.ra_labels.specs.declared.kind.Kind.TheVariants as variant
 use Rattle.ra_labels.specs.declared.operation.Op.{Op}
 use Rattle.ra_labels.specs.declared.operation.Op.TheVariants as ops
 use Rattle.ra_labels.specs.declared.label.Label.{Label}
-use Rattle.ra_labels.specs.declared.command.Command.TheVariants.{Operate}
 use Rattle.ra_labels.specs.declared.reply.Cause.TheVariants as cause
 use Rattle.ra_labels.specs.Records.{Records}
 use Rattle.ra_labels.specs.Visibility.{is_update}
@@ -17,6 +16,7 @@ use Rattle.ra_labels.specs.Fault.{cause_of}
 use Rattle.ra_labels.specs.Answer.{kind_of}
 use Rattle.ra_labels.specs.Insertion.{updates_had}
 use Rattle.ra_labels.proofs.InLists.{bool_same}
+use Rattle.ra_labels.specs.Situation.{past_of, Next, operate}
 use Rattle.ra_laws.proofs.TheLaws.{an_operation_puts_its_update_among_all-query}
 use Rattle.ra_witness.specs.Labels.{cause_in}
 use Rattle.ra_witness.specs.Offered.{IsOffered}
@@ -44,21 +44,21 @@ either_cause : (a b : Bool) → b ≡ a → cond b None (Some cause.Update) ≡ 
 either_cause true b same = ap (λ c. cond c None (Some cause.Update)) same
 either_cause false b same = ap (λ c. cond c None (Some cause.Update)) same
 
-module _ (first : ℕ) (records : Records) (by : ℕ) (op : Op) (clock : Option ℕ) (label : Label) (offered : IsOffered variant.Rga first records by op clock label) where
+module _ (first : ℕ) (records : Records) (next : Next) (label : Label) (offered : IsOffered (past_of variant.Rga first records) next label) where
   abbrev now : Records
-  now = Operate by op clock ∷ records
+  now = operate next ∷ records
 
-  pub query_admitted : is_update op ≡ false → updates_admitted variant.Rga (named_sequence variant.Rga now) ≡ true
-  query_admitted asks = ap (is_admitted variant.Rga) (an_operation_puts_its_update_among_all-query variant.Rga records by op clock asks) ∙ offered.holds.updates
+  pub query_admitted : is_update next.op ≡ false → updates_admitted variant.Rga (named_sequence variant.Rga now) ≡ true
+  query_admitted asks = ap (is_admitted variant.Rga) (an_operation_puts_its_update_among_all-query variant.Rga records next.by next.op next.clock asks) ∙ offered.holds.updates
 
-  pub query_cause : is_update op ≡ false → cause_in (state_after variant.Rga (updates_had variant.Rga records by)) (acts_of op) ≡ cause_of variant.Rga now
-  query_cause asks = sym (cause_where_it_fits variant.Rga records by op clock true offered.holds offered.fits (query_admitted asks))
+  pub query_cause : is_update next.op ≡ false → cause_in (state_after variant.Rga (updates_had variant.Rga records next.by)) (acts_of next.op) ≡ cause_of variant.Rga now
+  query_cause asks = sym (cause_where_it_fits variant.Rga records next true offered.holds offered.fits (query_admitted asks))
 
-  pub update_cause : (b : Bool) → ((o : Option State) → cause_in o (acts_of op) ≡ None)
+  pub update_cause : (b : Bool) → ((o : Option State) → cause_in o (acts_of next.op) ≡ None)
       → (b ≡ true) ↔ (updates_admitted variant.Rga (named_sequence variant.Rga now) ≡ true) → cond b None (Some cause.Update) ≡ cause_of variant.Rga now
   update_cause b none exactly =
       let a = updates_admitted variant.Rga (named_sequence variant.Rga now) in
-      let o = state_after variant.Rga (updates_had variant.Rga records by) in
+      let o = state_after variant.Rga (updates_had variant.Rga records next.by) in
       either_cause a b (bool_same b a exactly.0 exactly.1)
       ∙ ap (λ c. cond (not a) (Some cause.Update) c) (sym (none o))
-      ∙ sym (cause_where_it_fits variant.Rga records by op clock a offered.holds offered.fits refl)
+      ∙ sym (cause_where_it_fits variant.Rga records next a offered.holds offered.fits refl)

@@ -8,5 +8,5 @@ pub mod Overriding
 pub mod Overridden
 pub mod Rga
 pub mod Offered
-pub mod Kept
+pub mod Effects
 pub mod Witness

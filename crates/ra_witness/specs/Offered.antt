@@ -1,35 +1,32 @@
--- What is known of a label that is offered after records, and of one that is delivered.
-use Rattle.std.specs.Prelude.{◌≡◌, ℕ, ◌<◌, ◌∷◌, true, Option, None}
-use Rattle.ra_labels.specs.declared.kind.Kind.{Kind}
-use Rattle.ra_labels.specs.declared.operation.Op.{Op}
+-- What is known of a label that is offered, and of one that is told.
+use Rattle.std.specs.Prelude.{◌≡◌, ℕ, ◌<◌, ◌∷◌, true, None}
 use Rattle.ra_labels.specs.declared.label.Label.{Label}
-use Rattle.ra_labels.specs.declared.command.Command.TheVariants.{Operate, Deliver}
-use Rattle.ra_labels.specs.Records.{Records, label_count, next_label, replica_count}
+use Rattle.ra_labels.specs.declared.command.Command.TheVariants.{Deliver}
+use Rattle.ra_labels.specs.Records.{label_count}
 use Rattle.ra_labels.specs.Visibility.{is_update_at, IsCausal}
 use Rattle.ra_labels.specs.Linearization.{extends_visibility}
 use Rattle.ra_labels.specs.NamedOrder.{named_sequence}
 use Rattle.ra_labels.specs.Fault.{Holds}
 use Rattle.ra_labels.specs.Answer.{misfit_of}
 use Rattle.ra_labels.specs.Laws.{StampsAreOneLabels, IdentifiersAreOneLabels}
+use Rattle.ra_labels.specs.Situation.{Past, replicas_of, Next, operate, label_of}
 use Rattle.ra_visibility.specs.declared.limits.TheConstants.{MOST_LABELS}
 
--- the label is the one that the operation becomes after these records, which hold, and it fits among their labels
-pub record IsOffered (kind : Kind) (first : ℕ) (records : Records) (by : ℕ) (op : Op) (clock : Option ℕ)
-    (label : Label) : Type 0 where
-  pub holds : Holds kind records
-  pub replica : by < replica_count first records
-  pub form : misfit_of kind (Operate by op clock) ≡ None
-  pub next : label ≡ next_label records by op clock
-  pub fits : extends_visibility (Operate by op clock ∷ records) (named_sequence kind (Operate by op clock ∷ records))
-      ≡ true
-  pub stamps : StampsAreOneLabels (Operate by op clock ∷ records)
-  pub few : label_count records < MOST_LABELS
+-- the label is the one that the operation becomes after a past that holds, and it fits among its labels
+pub record IsOffered (past : Past) (next : Next) (label : Label) : Type 0 where
+  pub holds : Holds past.kind past.records
+  pub replica : next.by < replicas_of past
+  pub form : misfit_of past.kind (operate next) ≡ None
+  pub becomes : label ≡ label_of past.records next
+  pub fits : let now = operate next ∷ past.records in extends_visibility now (named_sequence past.kind now) ≡ true
+  pub stamps : StampsAreOneLabels (operate next ∷ past.records)
+  pub few : label_count past.records < MOST_LABELS
 
--- the label is an update that is new to the replica, which is there, and had all that it sees; and the records hold
-pub record IsTold (kind : Kind) (first : ℕ) (records : Records) (to n : ℕ) : Type 0 where
-  pub holds : Holds kind records
-  pub replica : to < replica_count first records
-  pub update : is_update_at records n ≡ true
-  pub causal : IsCausal (Deliver to n ∷ records)
-  pub stamps : StampsAreOneLabels records
-  pub identifiers : IdentifiersAreOneLabels records
+-- the label is an update that is new to the replica, which is there, and had all that it sees; and the past holds
+pub record IsTold (past : Past) (to n : ℕ) : Type 0 where
+  pub holds : Holds past.kind past.records
+  pub replica : to < replicas_of past
+  pub update : is_update_at past.records n ≡ true
+  pub causal : IsCausal (Deliver to n ∷ past.records)
+  pub stamps : StampsAreOneLabels past.records
+  pub identifiers : IdentifiersAreOneLabels past.records

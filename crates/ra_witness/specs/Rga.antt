@@ -1,13 +1,12 @@
 -- When what is kept of an RGA is that of records.
-use Rattle.std.specs.Prelude.{◌≡◌, ℕ, ◌+◌, ◌≤◌, ◌∷◌, true, length, Option, Some}
+use Rattle.std.specs.Prelude.{◌≡◌, ℕ, ◌+◌, ◌≤◌, ◌∷◌, true, length, Some}
 use Rattle.std.specs.List.{slice_get}
 use Rattle.ra_labels.specs.declared.kind.Kind.TheVariants as variant
-use Rattle.ra_labels.specs.declared.operation.Op.{Op}
 use Rattle.ra_labels.specs.declared.label.Label.{Label}
-use Rattle.ra_labels.specs.declared.command.Command.TheVariants.{Operate}
 use Rattle.ra_labels.specs.Records.{Records, label_count, replica_count}
 use Rattle.ra_labels.specs.Linearization.{updates_admitted}
 use Rattle.ra_labels.specs.NamedOrder.{named_sequence}
+use Rattle.ra_labels.specs.Situation.{past_of, Next, operate}
 use Rattle.ra_replica_list.specs.Deeds.{AreElementsOf}
 use Rattle.ra_replica_list.specs.ReplicaList.{ReplicaList, IsListOf}
 use Rattle.ra_witness.specs.declared.rga.Rga.{Rga}
@@ -26,16 +25,14 @@ pub record IsRgaOf (rga : Rga) (first : ℕ) (records : Records) : Type 0 where
 pub record MayGrow (rga : Rga) (label : Label) : Type 0 where
   pub first : ℕ
   pub records : Records
-  pub by : ℕ
-  pub op : Op
-  pub clock : Option ℕ
+  pub next : Next
   pub stands : IsRgaOf rga first records
-  pub offered : IsOffered variant.Rga first records by op clock label
-  pub admitted : updates_admitted variant.Rga (named_sequence variant.Rga (Operate by op clock ∷ records)) ≡ true
+  pub offered : IsOffered (past_of variant.Rga first records) next label
+  pub admitted : updates_admitted variant.Rga (named_sequence variant.Rga (operate next ∷ records)) ≡ true
 
 -- after some records of which this is kept the delivery is told
 pub record MayHear (rga : Rga) (to n : ℕ) : Type 0 where
   pub first : ℕ
   pub records : Records
   pub stands : IsRgaOf rga first records
-  pub told : IsTold variant.Rga first records to n
+  pub told : IsTold (past_of variant.Rga first records) to n

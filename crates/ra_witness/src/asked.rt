@@ -1,3 +1,4 @@
+//! What a label asks, held against the state of its replica.
 ghost use Rattle.std.specs.Prelude.{◌≡◌, true, None, Some, if◌then◌else◌};
 ghost use Rattle.ra_labels.specs.Specification.{answers};
 ghost use Rattle.std.specs.List.{list_all};

@@ -1,3 +1,4 @@
+//! Of one replica, the last label on each element.
 ghost use Rattle.std.specs.Prelude.{◌≡◌, ◌<◌, ℕ, [], Some, vec_len, slice_set, OnOk, OnErr};
 ghost use Rattle.ra_witness.specs.Last.{label_on};
 

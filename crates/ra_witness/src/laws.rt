@@ -1,13 +1,12 @@
 //! What one more label or delivery changes in what is kept, each law the clause of a function that does nothing.
-ghost use Rattle.std.specs.Prelude.{◌≡◌, ℕ, ◌+◌, ◌<◌, true, false, not, List, [], ◌∷◌, ◌++◌, Contains, length, map, flat_map, Option, Some, None, if◌then◌else◌};
+ghost use Rattle.std.specs.Prelude.{◌≡◌, ℕ, ◌+◌, ◌<◌, true, false, not, List, [], ◌∷◌, ◌++◌, length, map, flat_map, Option, Some, None, if◌then◌else◌};
 ghost use Rattle.ra_labels.specs.declared.kind.Kind.{Kind};
 ghost use Rattle.ra_labels.specs.declared.kind.Kind.TheVariants.{Counter, Register, LwwSet, OrSet, Rga};
 ghost use Rattle.ra_labels.specs.declared.operation.Op.{Op};
 ghost use Rattle.ra_labels.specs.declared.operation.Update.{Update};
-ghost use Rattle.ra_labels.specs.declared.label.Label.{Label};
 ghost use Rattle.ra_labels.specs.declared.command.Command.TheVariants.{Operate, Deliver};
 ghost use Rattle.ra_labels.specs.declared.reply.Cause.TheVariants as cause;
-ghost use Rattle.ra_labels.specs.Records.{Records, label_count, labels_of};
+ghost use Rattle.ra_labels.specs.Records.{Records, label_count};
 ghost use Rattle.ra_labels.specs.Visibility.{had, is_update_at, IsCausal};
 ghost use Rattle.ra_labels.specs.Rewriting.{acts_of};
 ghost use Rattle.ra_labels.specs.Specification.{State, state_after};
@@ -17,57 +16,60 @@ ghost use Rattle.ra_labels.specs.Fault.{Holds, cause_of};
 ghost use Rattle.ra_labels.specs.Answer.{kind_of, is_kind};
 ghost use Rattle.ra_labels.specs.Laws.{IdentifiersAreOneLabels, StampsAreOneLabels};
 ghost use Rattle.ra_labels.specs.Insertion.{updates_had, Makes};
+ghost use Rattle.ra_labels.specs.Situation.{Past, past_of, past_with, Next, operate};
 ghost use Rattle.ra_visibility.specs.Order.{IsByTimestamp, numbers_in};
 ghost use Rattle.ra_witness.specs.Numbers.{element_of, number_with};
 ghost use Rattle.ra_witness.specs.Sequence.{ref_of, refs_at};
 ghost use Rattle.ra_witness.specs.Labels.{update_in, updates_by_number, cause_in};
 ghost use Rattle.ra_witness.specs.States.{update_at, states_after};
-ghost use Rattle.ra_witness.specs.Standing.{IsKeptOf};
+ghost use Rattle.ra_witness.specs.Standing.{AreStatesOf};
 ghost use Rattle.ra_witness.specs.declared.written.Written.{Written};
 ghost use Rattle.ra_witness.specs.Overriding.{updates_of, write_at, last_label, counting, last_with};
 ghost use Rattle.ra_witness.specs.Overridden.{AreWritesOf, AreLastOf, IsLastOn, AreBelow, IsNextWrite};
 
 /// Where a new label fits, its update is the last one of those that its replica had.
 pub fn a_new_update_is_the_last_of_its_replica()
-    ensures { (kind : Kind) (records : Records) (by : ℕ) (op : Op) (clock : Option ℕ) (update : Update)
-        → Makes op update → let now = Operate by op clock ∷ records in
-        extends_visibility now (named_sequence kind now) ≡ true
-        → updates_had kind now by ≡ updates_had kind records by ++ update ∷ [] }
+    ensures { (kind : Kind) (records : Records) (next : Next) (update : Update) → Makes next.op update
+        → let now = operate next ∷ records in extends_visibility now (named_sequence kind now) ≡ true
+        → updates_had kind now next.by ≡ updates_had kind records next.by ++ update ∷ [] }
 {}
 
 /// Where a new label fits, the cause at it is that of the updates of all labels, or else that of what it asks of the
 /// state of its replica. But for an RGA the updates of all labels are admitted where they were, with one of the kind.
 pub fn the_cause_at_a_new_label()
-    ensures cause { (kind : Kind) (records : Records) (by : ℕ) (op : Op) (clock : Option ℕ) → Holds kind records
-        → let now = Operate by op clock ∷ records in let sequence = named_sequence kind now in
+    ensures cause { (kind : Kind) (records : Records) (next : Next) → Holds kind records
+        → let now = operate next ∷ records in let sequence = named_sequence kind now in
         extends_visibility now sequence ≡ true → cause_of kind now
         ≡ (if not (updates_admitted kind sequence) then Some cause.Update
-        else cause_in (state_after kind (updates_had kind records by)) (acts_of op)) }
-    ensures admitted { (kind : Kind) (records : Records) (by : ℕ) (op : Op) (clock : Option ℕ) → ¬ (kind ≡ Rga)
-        → Holds kind records → is_kind kind (kind_of op) ≡ true
-        → updates_admitted kind (named_sequence kind (Operate by op clock ∷ records)) ≡ true }
+        else cause_in (state_after kind (updates_had kind records next.by)) (acts_of next.op)) }
+    ensures admitted { (kind : Kind) (records : Records) (next : Next) → ¬ (kind ≡ Rga) → Holds kind records
+        → is_kind kind (kind_of next.op) ≡ true
+        → updates_admitted kind (named_sequence kind (operate next ∷ records)) ≡ true }
 {}
 
 /// What is kept with one more label that fits is what was kept and its update, which its replica made, but for an RGA.
 pub fn what_is_kept_with_a_label()
-    ensures { (updates : List (Option Update)) (states : List State) (kind : Kind) (first : ℕ) (records : Records)
-        (by : ℕ) (op : Op) (clock : Option ℕ) → ¬ (kind ≡ Rga) → IsKeptOf updates states kind first records
-        → by < length states → is_kind kind (kind_of op) ≡ true
-        → let now = Operate by op clock ∷ records in extends_visibility now (named_sequence kind now) ≡ true
-        → IsKeptOf (updates ++ update_in op ∷ []) (states_after states by (update_in op)) kind first now }
+    ensures { (updates : List (Option Update)) (states : List State) (past : Past) (next : Next)
+        → ¬ (past.kind ≡ Rga) → AreStatesOf updates states past → next.by < length states
+        → is_kind past.kind (kind_of next.op) ≡ true
+        → let now = operate next ∷ past.records in extends_visibility now (named_sequence past.kind now) ≡ true
+        → let states = states_after states next.by (update_in next.op) in
+        AreStatesOf (updates ++ update_in next.op ∷ []) states (past_with past (operate next)) }
 {}
 
 /// What is kept of a counter or an OR-Set with one more delivery is what was kept, once the receiver made the update.
 pub fn what_is_kept_with_a_delivery()
     ensures counter { (updates : List (Option Update)) (states : List State) (first : ℕ) (records : Records)
-        (to n : ℕ) → IsKeptOf updates states Counter first records → to < length states
+        (to n : ℕ) → AreStatesOf updates states (past_of Counter first records) → to < length states
         → is_update_at records n ≡ true → had records to n ≡ false → Holds Counter records
-        → IsKeptOf updates (states_after states to (update_at updates n)) Counter first (Deliver to n ∷ records) }
+        → let now = past_of Counter first (Deliver to n ∷ records) in
+        AreStatesOf updates (states_after states to (update_at updates n)) now }
     ensures or_set { (updates : List (Option Update)) (states : List State) (first : ℕ) (records : Records)
-        (to n : ℕ) → IsKeptOf updates states OrSet first records → to < length states
+        (to n : ℕ) → AreStatesOf updates states (past_of OrSet first records) → to < length states
         → is_update_at records n ≡ true → Holds OrSet records → IdentifiersAreOneLabels records
         → IsCausal (Deliver to n ∷ records)
-        → IsKeptOf updates (states_after states to (update_at updates n)) OrSet first (Deliver to n ∷ records) }
+        → let now = past_of OrSet first (Deliver to n ∷ records) in
+        AreStatesOf updates (states_after states to (update_at updates n)) now }
 {}
 
 /// What is kept of a register or an LWW set with one more delivery is what was kept, once the receiver made the update
@@ -75,20 +77,22 @@ pub fn what_is_kept_with_a_delivery()
 pub fn what_is_kept_with_a_delivery_that_may_be_overridden()
     ensures register { (writes : List (Option Written)) (lasts : List (List (Option ℕ))) (number_of : ℕ → Option ℕ)
         (states : List State) (first : ℕ) (records : Records) (to n : ℕ) (write : Written)
-        → IsKeptOf (updates_of writes) states Register first records → AreWritesOf writes number_of records
+        → AreStatesOf (updates_of writes) states (past_of Register first records) → AreWritesOf writes number_of records
         → AreLastOf writes lasts records → StampsAreOneLabels records → Holds Register records
         → to < length lasts → to < length states → is_update_at records n ≡ true → had records to n ≡ false
         → write_at writes n ≡ Some write
         → let update = update_at (updates_of writes) (counting writes lasts to n write) in
-        IsKeptOf (updates_of writes) (states_after states to update) Register first (Deliver to n ∷ records) }
+        let now = past_of Register first (Deliver to n ∷ records) in
+        AreStatesOf (updates_of writes) (states_after states to update) now }
     ensures lww_set { (writes : List (Option Written)) (lasts : List (List (Option ℕ))) (number_of : ℕ → Option ℕ)
         (states : List State) (first : ℕ) (records : Records) (to n : ℕ) (write : Written)
-        → IsKeptOf (updates_of writes) states LwwSet first records → AreWritesOf writes number_of records
+        → AreStatesOf (updates_of writes) states (past_of LwwSet first records) → AreWritesOf writes number_of records
         → AreLastOf writes lasts records → StampsAreOneLabels records → Holds LwwSet records
         → to < length lasts → to < length states → is_update_at records n ≡ true → had records to n ≡ false
         → write_at writes n ≡ Some write
         → let update = update_at (updates_of writes) (counting writes lasts to n write) in
-        IsKeptOf (updates_of writes) (states_after states to update) LwwSet first (Deliver to n ∷ records) }
+        let now = past_of LwwSet first (Deliver to n ∷ records) in
+        AreStatesOf (updates_of writes) (states_after states to update) now }
 {}
 
 /// The parts of the labels in the named order are the named sequence.
@@ -101,13 +105,12 @@ pub fn the_parts_are_the_named_sequence()
 /// A new label that does nothing leaves the writes and the last labels. One that does something and fits is the last
 /// one on its element that its replica had, whose number is as before, or the next one where the element had none.
 pub fn the_last_labels_with_a_label()
-    ensures query_writes { (writes : List (Option Written)) (number_of : ℕ → Option ℕ) (records : Records) (by : ℕ)
-        (op : Op) (clock : Option ℕ) → updates_of writes ≡ updates_by_number records
-        → AreWritesOf writes number_of records
-        → AreWritesOf (writes ++ None ∷ []) number_of (Operate by op clock ∷ records) }
-    ensures query_lasts { (writes : List (Option Written)) (lasts : List (List (Option ℕ))) (records : Records) (by : ℕ)
-        (op : Op) (clock : Option ℕ) → updates_of writes ≡ updates_by_number records → AreLastOf writes lasts records
-        → AreLastOf (writes ++ None ∷ []) lasts (Operate by op clock ∷ records) }
+    ensures query_writes { (writes : List (Option Written)) (number_of : ℕ → Option ℕ) (records : Records)
+        (next : Next) → updates_of writes ≡ updates_by_number records
+        → AreWritesOf writes number_of records → AreWritesOf (writes ++ None ∷ []) number_of (operate next ∷ records) }
+    ensures query_lasts { (writes : List (Option Written)) (lasts : List (List (Option ℕ))) (records : Records)
+        (next : Next) → updates_of writes ≡ updates_by_number records → AreLastOf writes lasts records
+        → AreLastOf (writes ++ None ∷ []) lasts (operate next ∷ records) }
     ensures writes { (kind : Kind) (writes : List (Option Written)) (number_of : ℕ → Option ℕ) (count by : ℕ) (op : Op)
         (clock : Option ℕ) (records : Records) (write : Written) → IsByTimestamp kind
         → updates_of writes ≡ updates_by_number records → AreWritesOf writes number_of records

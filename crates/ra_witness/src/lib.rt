@@ -13,7 +13,7 @@
 
 mod asked;
 mod commuting;
-mod kept;
+mod effects;
 mod last;
 pub mod laws;
 mod numbers;

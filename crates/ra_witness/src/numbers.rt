@@ -1,3 +1,4 @@
+//! The elements of an LWW set, numbered in the order in which labels first name them.
 ghost use Rattle.std.specs.Prelude.{◌≡◌, ◌<◌, ◌^◌, ℕ, None, nat_eq, OnOk};
 ghost use Rattle.std.specs.HashMap.{get, hash_map_len, spare};
 ghost use Rattle.ra_witness.specs.Numbers.{element_of, number_in, number_with, count_with};

@@ -14,6 +14,7 @@ ghost use Rattle.ra_labels.specs.Linearization.{updates_admitted};
 ghost use Rattle.ra_labels.specs.Fault.{cause_of};
 ghost use Rattle.ra_labels.specs.Specification.{state_after, is_admitted};
 ghost use Rattle.ra_labels.specs.Insertion.{updates_among, updates_had};
+ghost use Rattle.ra_labels.specs.Situation.{past_of, Next, next_of, operate};
 ghost use Rattle.ra_rewrite.specs.Parts.{acts_in};
 ghost use Rattle.ra_seqspec.specs.Asked.{asks_rising};
 ghost use Rattle.std.specs.List.{list_all};
@@ -60,9 +61,9 @@ impl Rga {
     pub fn cause(&self, label: &Label, parts: &Parts) -> Option<Cause>
         requires replica { label.now.replica < vec_len self.now.lists }
         requires rising { list_all asks_rising (queries_in (acts_in parts.now)) ≡ true }
-        ensures { (first : ℕ) (records : Records) (by : ℕ) (op : Op) (clock : Option ℕ)
-            → IsRgaOf self.now first records → IsOffered kinds.Rga first records by op clock label.now
-            → acts_in parts.now ≡ acts_of op → result ≡ cause_of kinds.Rga (Operate by op clock ∷ records) }
+        ensures { (first : ℕ) (records : Records) (next : Next) → IsRgaOf self.now first records
+            → IsOffered (past_of kinds.Rga first records) next label.now → acts_in parts.now ≡ acts_of next.op
+            → result ≡ cause_of kinds.Rga (operate next ∷ records) }
     {
         match &label.op {
             Op::After { anchor, element } => {
@@ -75,11 +76,10 @@ impl Rga {
 
     // Is it known, of all labels, that the anchor comes before the new element, and the element not?
     fn admits_insertion(&self, anchor: u32, element: u32, stamp: Option<Stamp>) -> bool
-        ensures { (first : ℕ) (records : Records) (by : ℕ) (op : Op) (clock : Option ℕ) (label : Label)
-            → IsRgaOf self.now first records → IsOffered kinds.Rga first records by op clock label
-            → op ≡ ops.After anchor element → label.stamp ≡ stamp
-            → IsTrue result
-            ↔ (updates_admitted kinds.Rga (named_sequence kinds.Rga (Operate by op clock ∷ records)) ≡ true) }
+        ensures { (first : ℕ) (records : Records) (next : Next) (label : Label) → IsRgaOf self.now first records
+            → IsOffered (past_of kinds.Rga first records) next label → next.op ≡ ops.After anchor element
+            → label.stamp ≡ stamp → IsTrue result
+            ↔ (updates_admitted kinds.Rga (named_sequence kinds.Rga (operate next ∷ records)) ≡ true) }
     {
         let Some(number) = self.all.number_of(anchor) else {
             return false;
@@ -94,7 +94,8 @@ impl Rga {
     fn admits_removal(&self, replica: u8, element: u32) -> bool
         requires { replica < vec_len self.now.lists }
         ensures { (first : ℕ) (records : Records) (op : Op) (clock : Option ℕ) (label : Label)
-            → IsRgaOf self.now first records → IsOffered kinds.Rga first records replica op clock label
+            → IsRgaOf self.now first records
+            → IsOffered (past_of kinds.Rga first records) (next_of replica op clock) label
             → op ≡ ops.RgaRemove element → IsTrue result
             ↔ (updates_admitted kinds.Rga (named_sequence kinds.Rga (Operate replica op clock ∷ records)) ≡ true) }
     {
@@ -118,10 +119,10 @@ impl Rga {
     /// Takes the next label in: answers how many steps that took, one at most.
     pub fn take(&mut self, label: &Label) -> Result<u64, NoMemory>
         requires { MayGrow self.old label.now }
-        ensures taken { (first : ℕ) (records : Records) (by : ℕ) (op : Op) (clock : Option ℕ)
-            → IsRgaOf self.old first records → IsOffered kinds.Rga first records by op clock label.now
-            → updates_admitted kinds.Rga (named_sequence kinds.Rga (Operate by op clock ∷ records)) ≡ true
-            → OnOk result (IsRgaOf self.new first (Operate by op clock ∷ records)) }
+        ensures taken { (first : ℕ) (records : Records) (next : Next) → IsRgaOf self.old first records
+            → IsOffered (past_of kinds.Rga first records) next label.now
+            → updates_admitted kinds.Rga (named_sequence kinds.Rga (operate next ∷ records)) ≡ true
+            → OnOk result (IsRgaOf self.new first (operate next ∷ records)) }
         ensures step { IfOk result (λ steps. steps ≤ 1) }
         ensures same { (first : ℕ) (records : Records) → IsRgaOf self.old first records
             → OnErr result (IsRgaOf self.new first records) }
@@ -145,11 +146,10 @@ impl Rga {
         requires stamp { IsSome label.now.stamp }
         requires known { (n : ℕ) × (n < length self.old.all.arrivals) × (element_at self.old.all.arrivals n ≡ anchor) }
         requires new { (n : ℕ) → n < length self.old.all.arrivals → ¬ (element_at self.old.all.arrivals n ≡ element) }
-        ensures taken { (first : ℕ) (records : Records) (by : ℕ) (op : Op) (clock : Option ℕ)
-            → IsRgaOf self.old first records → IsOffered kinds.Rga first records by op clock label.now
-            → updates_admitted kinds.Rga (named_sequence kinds.Rga (Operate by op clock ∷ records)) ≡ true
-            → op ≡ ops.After anchor element
-            → OnOk result (IsRgaOf self.new first (Operate by op clock ∷ records)) }
+        ensures taken { (first : ℕ) (records : Records) (next : Next) → IsRgaOf self.old first records
+            → IsOffered (past_of kinds.Rga first records) next label.now
+            → updates_admitted kinds.Rga (named_sequence kinds.Rga (operate next ∷ records)) ≡ true
+            → next.op ≡ ops.After anchor element → OnOk result (IsRgaOf self.new first (operate next ∷ records)) }
         ensures step { IfOk result (λ steps. steps ≤ 1) }
         ensures same { (first : ℕ) (records : Records) → IsRgaOf self.old first records
             → OnErr result (IsRgaOf self.new first records) }
@@ -174,11 +174,10 @@ impl Rga {
         requires room { vec_len self.old.deeds < vec_capacity self.old.deeds }
         requires replica { label.now.replica < vec_len self.old.lists }
         requires known { (n : ℕ) × (n < length self.old.all.arrivals) × (element_at self.old.all.arrivals n ≡ element) }
-        ensures taken { (first : ℕ) (records : Records) (by : ℕ) (op : Op) (clock : Option ℕ)
-            → IsRgaOf self.old first records → IsOffered kinds.Rga first records by op clock label.now
-            → updates_admitted kinds.Rga (named_sequence kinds.Rga (Operate by op clock ∷ records)) ≡ true
-            → op ≡ ops.RgaRemove element
-            → OnOk result (IsRgaOf self.new first (Operate by op clock ∷ records)) }
+        ensures taken { (first : ℕ) (records : Records) (next : Next) → IsRgaOf self.old first records
+            → IsOffered (past_of kinds.Rga first records) next label.now
+            → updates_admitted kinds.Rga (named_sequence kinds.Rga (operate next ∷ records)) ≡ true
+            → next.op ≡ ops.RgaRemove element → OnOk result (IsRgaOf self.new first (operate next ∷ records)) }
         ensures step { IfOk result (λ steps. steps ≤ 1) }
         ensures same { (first : ℕ) (records : Records) → IsRgaOf self.old first records
             → OnErr result (IsRgaOf self.new first records) }
@@ -196,18 +195,18 @@ impl Rga {
     pub fn deliver(&mut self, replica: u8, label: u32) -> Result<u64, NoMemory>
         requires { MayHear self.old replica label }
         ensures delivered { (first : ℕ) (records : Records) → IsRgaOf self.old first records
-            → IsTold kinds.Rga first records replica label
+            → IsTold (past_of kinds.Rga first records) replica label
             → OnOk result (IsRgaOf self.new first (Deliver replica label ∷ records)) }
         ensures few_steps { (first : ℕ) (records : Records) (before behind : List Label) (it : Label)
-            → IsRgaOf self.old first records → IsTold kinds.Rga first records replica label
+            → IsRgaOf self.old first records → IsTold (past_of kinds.Rga first records) replica label
             → named_labels kinds.Rga records ≡ before ++ it ∷ behind → it.number ≡ label
             → IfOk result (λ steps. steps ≤ 1 + length (updates_among (had records replica) behind)) }
         ensures some_step { (first : ℕ) (records : Records) → IsRgaOf self.old first records
-            → IsTold kinds.Rga first records replica label
+            → IsTold (past_of kinds.Rga first records) replica label
             → is_admitted kinds.Rga (updates_had kinds.Rga (Deliver replica label ∷ records) replica) ≡ true
             → IfOk result (λ steps. 1 ≤ steps) }
         ensures one_step { (first : ℕ) (records : Records) → IsRgaOf self.old first records
-            → IsTold kinds.Rga first records replica label
+            → IsTold (past_of kinds.Rga first records) replica label
             → is_admitted kinds.Rga (updates_had kinds.Rga records replica) ≡ true
             → is_admitted kinds.Rga (updates_had kinds.Rga (Deliver replica label ∷ records) replica) ≡ true
             → IfOk result (λ steps. steps ≡ 1) }

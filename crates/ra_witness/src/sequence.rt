@@ -1,3 +1,4 @@
+//! The named sequence, put together from the order and the halves of its labels.
 ghost use Rattle.std.specs.Prelude.{◌≡◌, ◌<◌, ◌++◌, flat_map, vec_len, IfOk, OnOk};
 ghost use Rattle.std.specs.List.{slice_get};
 ghost use Rattle.ra_witness.specs.Sequence.{has_query_half, refs_at, ref_to};

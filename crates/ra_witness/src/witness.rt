@@ -1,23 +1,22 @@
 //! The one kept witness: an order of labels, and the state of each replica.
-ghost use Rattle.std.specs.Prelude.{◌≡◌, ℕ, ◌+◌, ◌<◌, ◌≤◌, ◌++◌, ◌∷◌, [], true, List, length, map, Option, None, Ok, IfOk, OnOk, OnErr};
+ghost use Rattle.std.specs.Prelude.{◌≡◌, ◌+◌, ◌<◌, ◌≤◌, ◌++◌, ◌∷◌, [], true, List, length, map, Option, None, Ok, IfOk, OnOk, OnErr};
 ghost use Rattle.ra_labels.specs.declared.kind.Kind.{Kind};
 ghost use Rattle.ra_labels.specs.declared.kind.Kind.TheVariants as kinds;
-ghost use Rattle.ra_labels.specs.declared.operation.Op.{Op};
 ghost use Rattle.ra_labels.specs.declared.label.Label.{Label};
-ghost use Rattle.ra_labels.specs.declared.command.Command.TheVariants.{Operate, Deliver};
-ghost use Rattle.ra_labels.specs.Records.{Records};
+ghost use Rattle.ra_labels.specs.declared.command.Command.TheVariants.{Deliver};
 ghost use Rattle.ra_labels.specs.Visibility.{had};
 ghost use Rattle.ra_labels.specs.NamedOrder.{named_labels, named_sequence};
 ghost use Rattle.ra_labels.specs.Fault.{cause_of};
-ghost use Rattle.ra_labels.specs.Answer.{refusal_of};
 ghost use Rattle.ra_labels.specs.Specification.{is_admitted};
 ghost use Rattle.ra_labels.specs.Insertion.{updates_among, updates_had};
+ghost use Rattle.ra_labels.specs.Situation.{Past, nothing_yet, past_with, IsAccepted, Next, operate};
 ghost use Rattle.ra_witness.specs.Labels.{update_in};
 ghost use Rattle.ra_witness.specs.States.{steps_of};
 ghost use Rattle.ra_witness.specs.Sequence.{ref_of};
-ghost use Rattle.ra_witness.specs.Witness.{IsWitnessOf, IsNext, MayOffer, MayDeliver};
+ghost use Rattle.ra_witness.specs.Witness.{IsWitnessOf, MayOffer, MayDeliver};
+ghost use Rattle.ra_visibility.specs.Order.{ComesNext};
 
-use crate::kept::Kept;
+use crate::effects::Effects;
 use crate::part_ref::PartRef;
 use crate::sequence::part_refs;
 use ra_labels::{Cause, Kind, Label, NoMemory};
@@ -29,7 +28,7 @@ use std::alloc::Global;
 #[derive(Drop)]
 pub struct Witness<O: NamedOrder> {
     order: O,
-    kept: Kept,
+    kept: Effects,
     steps: u64,
 }
 
@@ -37,11 +36,11 @@ impl<O: NamedOrder> Witness<O> {
     /// The witness of no labels, of so many replicas. The order is empty, and that of the kind. Costs a state for each
     /// replica.
     pub fn new(alloc: Global, kind: Kind, replicas: u8, order: O) -> Result<Witness<O>, NoMemory>
-        ensures stands { O.stands_for order kind replicas [] → IfOk result (λ witness.
-            IsWitnessOf O.stands_for witness kind replicas []) }
+        ensures stands { O.stands_for order (nothing_yet kind replicas) → IfOk result (λ witness.
+            IsWitnessOf O.stands_for witness (nothing_yet kind replicas)) }
         ensures steps { IfOk result (λ witness. witness.steps ≡ 0) }
     {
-        let kept = Kept::new(alloc, kind, replicas)?;
+        let kept = Effects::new(alloc, kind, replicas)?;
         Ok(Witness {
             order,
             kept,
@@ -55,25 +54,20 @@ impl<O: NamedOrder> Witness<O> {
     /// place among the elements of all labels.
     pub fn offer(&mut self, label: &Label, seen: &Seen<'_>) -> Result<Option<Cause>, NoMemory>
         requires { MayOffer O.stands_for self.old label.now seen.now }
-        ensures cause { (kind : Kind) (first : ℕ) (records : Records) (by : ℕ) (op : Op) (clock : Option ℕ)
-            → IsWitnessOf O.stands_for self.old kind first records
-            → IsNext kind first records by op clock label.now seen.now
-            → IfOk result (λ cause. cause ≡ cause_of kind (Operate by op clock ∷ records)) }
-        ensures taken { (kind : Kind) (first : ℕ) (records : Records) (by : ℕ) (op : Op) (clock : Option ℕ)
-            → IsWitnessOf O.stands_for self.old kind first records
-            → IsNext kind first records by op clock label.now seen.now
-            → result ≡ Ok None → IsWitnessOf O.stands_for self.new kind first (Operate by op clock ∷ records) }
-        ensures same { (kind : Kind) (first : ℕ) (records : Records)
-            → IsWitnessOf O.stands_for self.old kind first records
-            → ¬ (result ≡ Ok None) → IsWitnessOf O.stands_for self.new kind first records }
+        ensures cause { (past : Past) (next : Next) → IsWitnessOf O.stands_for self.old past
+            → ComesNext past next label.now seen.now → IfOk result (λ cause. cause
+            ≡ cause_of past.kind (operate next ∷ past.records)) }
+        ensures taken { (past : Past) (next : Next) → IsWitnessOf O.stands_for self.old past
+            → ComesNext past next label.now seen.now → result ≡ Ok None
+            → IsWitnessOf O.stands_for self.new (past_with past (operate next)) }
+        ensures same { (past : Past) → IsWitnessOf O.stands_for self.old past → ¬ (result ≡ Ok None)
+            → IsWitnessOf O.stands_for self.new past }
         ensures steps { ¬ (result ≡ Ok None) → self.new.steps ≡ self.old.steps }
         ensures grows { self.old.steps ≤ self.new.steps }
         ensures one_step { self.new.steps ≤ self.old.steps + 1 }
-        ensures counted { (kind : Kind) (first : ℕ) (records : Records) (by : ℕ) (op : Op) (clock : Option ℕ)
-            → IsWitnessOf O.stands_for self.old kind first records
-            → IsNext kind first records by op clock label.now seen.now
-            → ¬ (kind ≡ kinds.Rga) → result ≡ Ok None → self.old.steps < 18446744073709551615
-            → self.new.steps ≡ self.old.steps + steps_of (update_in op) }
+        ensures counted { (past : Past) (next : Next) → IsWitnessOf O.stands_for self.old past
+            → ComesNext past next label.now seen.now → ¬ (past.kind ≡ kinds.Rga) → result ≡ Ok None
+            → self.old.steps < 18446744073709551615 → self.new.steps ≡ self.old.steps + steps_of (update_in next.op) }
     {
         let place = self.order.place(label, seen);
         if !place.fits {
@@ -96,40 +90,34 @@ impl<O: NamedOrder> Witness<O> {
     /// all, and where labels had waited for its element a copy of the replica's list and a step for each of them.
     pub fn deliver(&mut self, replica: u8, label: u32) -> Result<(), NoMemory>
         requires { MayDeliver O.stands_for self.old replica label }
-        ensures delivered { (kind : Kind) (first : ℕ) (records : Records)
-            → IsWitnessOf O.stands_for self.old kind first records
-            → refusal_of kind first records (Deliver replica label) ≡ None
-            → OnOk result (IsWitnessOf O.stands_for self.new kind first (Deliver replica label ∷ records)) }
-        ensures same { (kind : Kind) (first : ℕ) (records : Records)
-            → IsWitnessOf O.stands_for self.old kind first records
-            → OnErr result (IsWitnessOf O.stands_for self.new kind first records) }
+        ensures delivered { (past : Past) → IsWitnessOf O.stands_for self.old past
+            → IsAccepted past (Deliver replica label)
+            → OnOk result (IsWitnessOf O.stands_for self.new (past_with past (Deliver replica label))) }
+        ensures same { (past : Past) → IsWitnessOf O.stands_for self.old past
+            → OnErr result (IsWitnessOf O.stands_for self.new past) }
         ensures steps { OnErr result (self.new.steps ≡ self.old.steps) }
-        ensures few_steps { (kind : Kind) (first : ℕ) (records : Records) (before behind : List Label) (it : Label)
-            → IsWitnessOf O.stands_for self.old kind first records
-            → refusal_of kind first records (Deliver replica label) ≡ None
-            → named_labels kind records ≡ before ++ it ∷ behind → it.number ≡ label
-            → OnOk result (self.new.steps ≤ self.old.steps + 64 + length (updates_among (had records replica) behind)) }
-        ensures one_each { (kind : Kind) (first : ℕ) (records : Records) (before behind : List Label) (it : Label)
-            → IsWitnessOf O.stands_for self.old kind first records
-            → refusal_of kind first records (Deliver replica label) ≡ None
-            → named_labels kind records ≡ before ++ it ∷ behind → it.number ≡ label
-            → OnOk result (self.new.steps ≤ self.old.steps + 1 + length (updates_among (had records replica) behind)) }
+        ensures few_steps { (past : Past) (before behind : List Label) (it : Label)
+            → IsWitnessOf O.stands_for self.old past → IsAccepted past (Deliver replica label)
+            → named_labels past.kind past.records ≡ before ++ it ∷ behind → it.number ≡ label
+            → OnOk result (self.new.steps ≤ self.old.steps + 64 + length (updates_among
+            (had past.records replica) behind)) }
+        ensures one_each { (past : Past) (before behind : List Label) (it : Label)
+            → IsWitnessOf O.stands_for self.old past → IsAccepted past (Deliver replica label)
+            → named_labels past.kind past.records ≡ before ++ it ∷ behind → it.number ≡ label
+            → OnOk result (self.new.steps ≤ self.old.steps + 1 + length (updates_among
+            (had past.records replica) behind)) }
         ensures grows { self.old.steps ≤ self.new.steps }
-        ensures one_step { (kind : Kind) (first : ℕ) (records : Records)
-            → IsWitnessOf O.stands_for self.old kind first records
-            → refusal_of kind first records (Deliver replica label) ≡ None
-            → is_admitted kind (updates_had kind records replica) ≡ true
-            → is_admitted kind (updates_had kind (Deliver replica label ∷ records) replica) ≡ true
+        ensures one_step { (past : Past) → IsWitnessOf O.stands_for self.old past
+            → IsAccepted past (Deliver replica label)
+            → is_admitted past.kind (updates_had past.kind past.records replica) ≡ true
+            → is_admitted past.kind (updates_had past.kind (Deliver replica label ∷ past.records) replica) ≡ true
             → self.old.steps < 18446744073709551615 → OnOk result (self.new.steps ≡ self.old.steps + 1) }
-        ensures counted { (kind : Kind) (first : ℕ) (records : Records)
-            → IsWitnessOf O.stands_for self.old kind first records
-            → refusal_of kind first records (Deliver replica label) ≡ None
-            → ¬ (kind ≡ kinds.Rga) → self.old.steps < 18446744073709551615
-            → OnOk result (self.new.steps ≡ self.old.steps + 1) }
-        ensures some_step { (kind : Kind) (first : ℕ) (records : Records)
-            → IsWitnessOf O.stands_for self.old kind first records
-            → refusal_of kind first records (Deliver replica label) ≡ None
-            → is_admitted kind (updates_had kind (Deliver replica label ∷ records) replica) ≡ true
+        ensures counted { (past : Past) → IsWitnessOf O.stands_for self.old past
+            → IsAccepted past (Deliver replica label) → ¬ (past.kind ≡ kinds.Rga)
+            → self.old.steps < 18446744073709551615 → OnOk result (self.new.steps ≡ self.old.steps + 1) }
+        ensures some_step { (past : Past) → IsWitnessOf O.stands_for self.old past
+            → IsAccepted past (Deliver replica label)
+            → is_admitted past.kind (updates_had past.kind (Deliver replica label ∷ past.records) replica) ≡ true
             → self.old.steps < 18446744073709551615 → OnOk result (self.old.steps < self.new.steps) }
     {
         let steps = self.kept.deliver(replica, label)?;
@@ -137,8 +125,8 @@ impl<O: NamedOrder> Witness<O> {
         Ok(())
     }
 
-    /// How often `State::apply` was called by calls that changed the witness. It takes no memory, and stays at the
-    /// greatest number once there.
+    /// How often `State::apply` was called by calls that changed the witness: the clauses bound this number, and that
+    /// it counts those calls is seen by reading. It takes no memory, and stays at the greatest number once there.
     pub fn steps(&self) -> u64
         ensures { result ≡ self.now.steps }
     {
@@ -147,8 +135,8 @@ impl<O: NamedOrder> Witness<O> {
 
     /// All parts in the named order. Costs what the order asks for the label at each position.
     pub fn sequence(&self) -> Result<Vec<PartRef>, NoMemory>
-        ensures { (kind : Kind) (first : ℕ) (records : Records) → IsWitnessOf O.stands_for self.now kind first records
-            → IfOk result (λ parts. parts.items ≡ map ref_of (named_sequence kind records)) }
+        ensures { (past : Past) → IsWitnessOf O.stands_for self.now past
+            → IfOk result (λ parts. parts.items ≡ map ref_of (named_sequence past.kind past.records)) }
     {
         part_refs(self.kept.allocator(), &self.order, self.kept.updates())
     }

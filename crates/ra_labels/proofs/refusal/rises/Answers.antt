@@ -1,6 +1,6 @@
 use Rattle.std.proofs.Common.{rules, nat_lt}
 use Rattle.std.proofs.lemmas.Fn.{always_returns_same}
-use Rattle.ra_labels.proofs.Rising.{rises_answered}
+use Rattle.ra_labels.proofs.RisingLists.{rises_answered}
 use Rattle.ra_labels.proofs.refusal.rises.Goals as goal
 
 pub returns : goal.returns

@@ -1,4 +1,4 @@
-use Rattle.ra_replica_list.proofs.Staying.{insertion-stays, removal-stays, query-stays, delivery-stays}
+use Rattle.ra_replica_list.proofs.LaterRecords.{insertion-stays, removal-stays, query-stays, delivery-stays}
 use Rattle.ra_replica_list.proofs.laws.a_list_stays_with_what_others_do.Goals as goal
 
 pub returns : goal.returns

@@ -1,4 +1,4 @@
-use Rattle.ra_replica_list.proofs.Stepping.{after_in_range}
+use Rattle.ra_replica_list.proofs.SingleSteps.{after_in_range}
 use Rattle.ra_replica_list.proofs.put.put_in.Goals as goal
 
 pub apply-requires : goal.apply-requires

@@ -1,4 +1,4 @@
-use Rattle.ra_witness.proofs.Overridden.{is_new_write, counting-last, lasts-kept}
+use Rattle.ra_witness.proofs.DeliveredLasts.{is_new_write, counting-last, lasts-kept}
 use Rattle.ra_witness.proofs.laws.the_last_labels_with_a_delivery.Goals as goal
 
 pub returns : goal.returns

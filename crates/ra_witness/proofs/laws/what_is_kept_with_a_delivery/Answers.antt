@@ -1,4 +1,4 @@
-use Rattle.ra_witness.proofs.Keeping.{kept-counter, kept-or_set}
+use Rattle.ra_witness.proofs.ReplicaStates.{kept-counter, kept-or_set}
 use Rattle.ra_witness.proofs.laws.what_is_kept_with_a_delivery.Goals as goal
 
 pub returns : goal.returns

@@ -1,6 +1,6 @@
 use Rattle.std.proofs.Common.{refl}
-use Rattle.ra_witness.proofs.Overridden.{is_new_write}
-use Rattle.ra_witness.proofs.LastMade.{kept-register, kept-lww_set}
+use Rattle.ra_witness.proofs.DeliveredLasts.{is_new_write}
+use Rattle.ra_witness.proofs.CountingUpdates.{kept-register, kept-lww_set}
 use Rattle.ra_witness.proofs.laws.what_is_kept_with_a_delivery_that_may_be_overridden.Goals as goal
 
 pub returns : goal.returns

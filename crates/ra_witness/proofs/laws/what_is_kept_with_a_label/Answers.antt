@@ -1,6 +1,6 @@
-use Rattle.ra_witness.proofs.Keeping.{kept-label}
+use Rattle.ra_witness.proofs.ReplicaStates.{kept-label}
 use Rattle.ra_witness.proofs.laws.what_is_kept_with_a_label.Goals as goal
 
 pub returns : goal.returns
-returns c = λ updates states kind first records by op clock not_rga kept there of_kind extended.
-    kept-label updates states kind first records kept by op clock not_rga there of_kind extended
+returns c = λ updates states past next not_rga kept there of_kind extended.
+    kept-label updates states past kept next not_rga there of_kind extended

@@ -1,5 +1,5 @@
 use Rattle.std.proofs.Common.{sym, arith}
-use Rattle.ra_exec_order.proofs.Numbered.{number_there, no_number_there}
+use Rattle.ra_exec_order.proofs.FirstNumbers.{number_there, no_number_there}
 use Rattle.ra_exec_order.proofs.exec_order.ExecOrderNamedOrder.at.Goals as goal
 
 pub returns-then-position-self : goal.returns-then-position-self

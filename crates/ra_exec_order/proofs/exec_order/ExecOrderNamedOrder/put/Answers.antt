@@ -1,5 +1,5 @@
 use Rattle.std.proofs.Common.{arith}
-use Rattle.ra_exec_order.proofs.Numbered.{length-first_numbers}
+use Rattle.ra_exec_order.proofs.FirstNumbers.{length-first_numbers}
 use Rattle.ra_exec_order.proofs.exec_order.ExecOrderNamedOrder.put.Goals as goal
 
 pub overflow_add-self : goal.overflow_add-self

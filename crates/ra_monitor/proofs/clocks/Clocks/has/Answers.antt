@@ -3,7 +3,7 @@ use Rattle.std.specs.Prelude.{nat_eq}
 use Rattle.std.specs.List.Sorted.{IsNonDecreasing}
 use Rattle.std.proofs.lemmas.Bool.{ltb-true, ltb-false}
 use Rattle.ra_monitor.specs.Clocks.{Clocks}
-use Rattle.ra_monitor.proofs.Clocking.{found_at, not_found}
+use Rattle.ra_monitor.proofs.ClockLookups.{found_at, not_found}
 use Rattle.ra_monitor.proofs.clocks.Clocks.has.Goals as goal
 
 pub returns-in-Some : goal.returns-in-Some

@@ -3,7 +3,7 @@ use Rattle.std.specs.Prelude.{◌||◌, nat_eq, if◌then◌else◌}
 use Rattle.std.specs.List.{list_any, insert}
 use Rattle.std.specs.List.Sorted.{IsNonDecreasing}
 use Rattle.ra_monitor.specs.Clocks.{Clocks, IsPlaceFor}
-use Rattle.ra_monitor.proofs.Clocking.{one_more, sorted_with}
+use Rattle.ra_monitor.proofs.ClockLookups.{one_more, sorted_with}
 use Rattle.ra_monitor.proofs.clocks.Clocks.keep.Goals as goal
 
 put : (c : goal.After-insert) → c.insert.new.self.items ≡ insert c.self.inside.clocks.items c.place_of-place.result c.args.clock

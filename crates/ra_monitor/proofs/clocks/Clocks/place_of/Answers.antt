@@ -3,7 +3,7 @@ use Rattle.std.specs.Prelude.{nat_lt}
 use Rattle.std.specs.List.Sorted.{IsPartitionedBy}
 use Rattle.std.proofs.lemmas.List.Sorted.{IsPartitionPoint-from_clause, IsPartitionedBy-ltb}
 use Rattle.ra_monitor.specs.Clocks.{Clocks, IsPlaceFor}
-use Rattle.ra_monitor.proofs.Clocking.{place_found}
+use Rattle.ra_monitor.proofs.ClockLookups.{place_found}
 use Rattle.ra_monitor.proofs.clocks.Clocks.place_of.Goals as goal
 
 pub returns-in-Some : goal.returns-in-Some

@@ -1,13 +1,15 @@
-use Rattle.std.proofs.Common.{◌≡◌, ◌<◌, Some, refl, sym, ap, ◌∙◌, arith}
+use Rattle.std.proofs.Common.{◌≡◌, Some, refl, sym, ap, ◌∙◌}
 use Rattle.std.specs.Prelude.{vec_len}
 use Rattle.ra_labels.specs.declared.operation.Op.{Op}
 use Rattle.ra_labels.specs.Records.{next_label}
 use Rattle.ra_labels.specs.Fault.{records_before_fault}
+use Rattle.ra_labels.specs.Situation.{next_of}
 use Rattle.ra_visibility.specs.Tracked.{Tracked}
 use Rattle.ra_monitor.specs.declared.history.History.{History}
 use Rattle.ra_monitor.specs.declared.taken.Taken.{Taken}
-use Rattle.ra_monitor.proofs.Growth.{newest_stands, stands_same, taken_alike, taken_known}
+use Rattle.ra_monitor.proofs.NewRecords.{newest_stands, stands_same, taken_alike, taken_known}
 use Rattle.ra_monitor.proofs.history.History.accept.Goals as goal
+use Rattle.ra_monitor.specs.History.{before_fault}
 
 pub answer-answer-requires : goal.answer-answer-requires
 answer-answer-requires c =
@@ -21,23 +23,19 @@ answer-answer-requires c =
       fault = self.fault;
     } in
     record {
-      setup = r.setup;
-      records = r.records;
-      by = c.args.replica;
-      op = c.args.op.now;
-      clock = c.args.clock;
-      newest = newest_stands self with_label r.setup r.records c.args.replica c.args.op.now c.args.clock c.label_of-label.result c.by-brought.result r.stands r.none
-          (c.in_ok-issue.ensures.stands r.setup.replicas r.records c.args.op.now c.args.clock r.stands.tracker (sym c.is_update.ensures))
-          (c.label_of-label.ensures.next r.records r.stands.labels ∙ ap (λ (o : Op). next_label r.records c.args.replica o c.args.clock) c.replace.ensures.value) c.by-brought.ensures refl refl refl
-          (taken_alike r.records self.taken c.make_room.new.self c.make_room.ensures.stamps c.make_room.ensures.identifiers (taken_known self r.setup r.records r.stands r.none))
-          c.make_room.ensures.replicas r.replica r.fits r.accepted;
+      past = r.past;
+      next = next_of c.args.replica c.args.op.now c.args.clock;
+      newest = newest_stands self with_label r.past (next_of c.args.replica c.args.op.now c.args.clock) c.label_of-label.result c.by-brought.result r.stands r.none
+          (c.in_ok-issue.ensures.stands r.past c.args.op.now c.args.clock r.stands.tracker (sym c.is_update.ensures))
+          (c.label_of-label.ensures.next r.past.records r.stands.labels ∙ ap (λ (o : Op). next_label r.past.records c.args.replica o c.args.clock) c.replace.ensures.value) c.by-brought.ensures refl refl refl
+          (taken_alike r.past.records self.taken c.make_room.new.self c.make_room.ensures.stamps c.make_room.ensures.identifiers (taken_known self r.past r.stands r.none))
+          c.make_room.ensures.replicas r.accepted;
       few = r.few;
       room = c.in_ok-make_room.ensures.room;
     }
 
 pub returns-in-Ok-clause-taken : goal.returns-in-Ok-clause-taken
-returns-in-Ok-clause-taken c = λ setup records stands none accepted fits.
-    let known : c.args.replica < setup.replicas = omega (arith, c.requires.replica, c.requires.stands.places, stands.places) in
+returns-in-Ok-clause-taken c = λ past stands none accepted.
     let self = c.args.self.now in
     let with_label : History = record {
       labels = self.labels;
@@ -46,24 +44,24 @@ returns-in-Ok-clause-taken c = λ setup records stands none accepted fits.
       taken = c.make_room.new.self;
       fault = self.fault;
     } in
-    c.in-Ok.ensures.answered setup records c.args.replica c.args.op.now c.args.clock
-    (newest_stands self with_label setup records c.args.replica c.args.op.now c.args.clock c.label_of-label.result c.by-brought.result stands none
-    (c.in_ok-issue.ensures.stands setup.replicas records c.args.op.now c.args.clock stands.tracker (sym c.is_update.ensures))
-    (c.label_of-label.ensures.next records stands.labels ∙ ap (λ (o : Op). next_label records c.args.replica o c.args.clock) c.replace.ensures.value) c.by-brought.ensures refl refl refl
-    (taken_alike records self.taken c.make_room.new.self c.make_room.ensures.stamps c.make_room.ensures.identifiers (taken_known self setup records stands none))
-    c.make_room.ensures.replicas known fits accepted)
+    c.in-Ok.ensures.answered past (next_of c.args.replica c.args.op.now c.args.clock)
+    (newest_stands self with_label past (next_of c.args.replica c.args.op.now c.args.clock) c.label_of-label.result c.by-brought.result stands none
+    (c.in_ok-issue.ensures.stands past c.args.op.now c.args.clock stands.tracker (sym c.is_update.ensures))
+    (c.label_of-label.ensures.next past.records stands.labels ∙ ap (λ (o : Op). next_label past.records c.args.replica o c.args.clock) c.replace.ensures.value) c.by-brought.ensures refl refl refl
+    (taken_alike past.records self.taken c.make_room.new.self c.make_room.ensures.stamps c.make_room.ensures.identifiers (taken_known self past stands none))
+    c.make_room.ensures.replicas accepted)
 
 same_tracked : (t u : Tracked) → Some t ≡ Some u → t ≡ u
 same_tracked t u e = cc
 
 pub returns-in-Err-clause-err : goal.returns-in-Err-clause-err
-returns-in-Err-clause-err c = λ setup records stands.
+returns-in-Err-clause-err c = λ past stands.
     let self = c.args.self.now in
-    let before = records_before_fault setup.kind records in
+    let before = records_before_fault past.kind past.records in
     let tracker : c.withdraw.new.self.now ≡ self.tracker.now =
     same_tracked c.withdraw.new.self.now self.tracker.now (c.withdraw.ensures.now ∙ ap (λ t. t.before) c.in-Err.ensures.tracker ∙ c.in_ok-issue.ensures.before) in
-    stands_same self _ setup records stands tracker c.in-Err.ensures.kept
-    (c.in-Err.ensures.witness setup.kind setup.replicas before stands.witness)
+    stands_same self _ past stands tracker c.in-Err.ensures.kept
+    (c.in-Err.ensures.witness (before_fault past) stands.witness)
     (rw c.in-Err.ensures.taken (taken_alike before self.taken c.make_room.new.self c.make_room.ensures.stamps c.make_room.ensures.identifiers stands.taken))
     (ap (λ (t : Taken). vec_len t.clocks) c.in-Err.ensures.taken ∙ c.make_room.ensures.replicas)
     c.in-Err.ensures.fault

@@ -5,12 +5,13 @@ use Rattle.ra_labels.specs.declared.command.Command.TheVariants.{Deliver}
 use Rattle.ra_labels.specs.declared.refusal.Refusal.{Refusal}
 use Rattle.ra_labels.specs.declared.reply.Reply.TheVariants as reply
 use Rattle.ra_labels.specs.Answer.{refusal_at}
+use Rattle.ra_labels.specs.Situation.{past_of}
 use Rattle.ra_visibility.specs.declared.fault.DeliverFault.TheVariants as fault
 use Rattle.ra_visibility.specs.Tracked.{replicas_in}
 use Rattle.ra_visibility.proofs.TheLaws.{refused_as_the_records_say}
 use Rattle.ra_monitor.specs.declared.history.History.{History}
 use Rattle.ra_monitor.specs.History.{StandsFor}
-use Rattle.ra_monitor.proofs.Growth.{witness_known, stands_delivered}
+use Rattle.ra_monitor.proofs.NewRecords.{witness_known, stands_delivered}
 use Rattle.ra_monitor.proofs.history.History.deliver.Goals as goal
 
 same_refusal : (why other : Refusal) → fault.Refused why ≡ fault.Refused other → why ≡ other
@@ -22,31 +23,29 @@ deliver-requires-2-after_bounds c κs =
     let r = c.requires in
     let known : c.args.replica < replicas_in old.tracker.now = omega (arith, r.replica, r.stands.tracker.replicas) in
     record {
-      kind = r.setup.kind;
-      first = r.setup.replicas;
-      records = r.records;
-      stands = witness_known old r.setup r.records r.stands r.none;
+      past = r.past;
+      stands = witness_known old r.past r.stands r.none;
       accepted = r.refused
-          ∙ sym (refused_as_the_records_say old.tracker.now r.setup.replicas r.records c.args.replica c.args.label r.stands.tracker known)
+          ∙ sym (refused_as_the_records_say old.tracker.now r.past c.args.replica c.args.label r.stands.tracker known)
           ∙ c.in-Ok.ensures.taken;
     }
 
 pub returns-in-Ok-deliver-clause-taken : goal.returns-in-Ok-deliver-clause-taken
-returns-in-Ok-deliver-clause-taken c = λ setup records stands none form.
+returns-in-Ok-deliver-clause-taken c = λ past stands none form.
     let old = c.args.self.now in
     let to = c.args.replica in
     let label = c.args.label in
     let new : History = record { labels = old.labels; tracker = c.deliver.new.self; witness = c.deliver-2.new.self; taken = old.taken; fault = old.fault } in
     let known : to < replicas_in old.tracker.now = omega (arith, c.requires.replica, c.requires.stands.tracker.replicas) in
-    let accepted : refusal_at records to label ≡ None = sym (refused_as_the_records_say old.tracker.now setup.replicas records to label stands.tracker known) ∙ c.in-Ok.ensures.taken in
-    let delivered = stands_delivered old new setup records to label stands none
-    (c.in-Ok.ensures.stands setup.replicas records stands.tracker) (c.in-Ok.ensures.causal setup.replicas records stands.tracker stands.causal)
-    (c.in-Ok-deliver.ensures.delivered setup.kind setup.replicas records (witness_known old setup records stands none) (form ∙ accepted)) refl refl refl in
+    let accepted : refusal_at past.records to label ≡ None = sym (refused_as_the_records_say old.tracker.now past to label stands.tracker known) ∙ c.in-Ok.ensures.taken in
+    let delivered = stands_delivered old new past to label stands none
+    (c.in-Ok.ensures.stands past stands.tracker) (c.in-Ok.ensures.causal past stands.tracker stands.causal)
+    (c.in-Ok-deliver.ensures.delivered past (witness_known old past stands none) (form ∙ accepted)) refl refl refl in
     subst (λ (o : Option Refusal). (reply.Got label ≡ option_map_or reply.Refused o (reply.Got label))
-    × StandsFor new setup (if is_some o then records else Deliver to label ∷ records)) (sym accepted) (refl, delivered)
+    × StandsFor new (past_of past.kind past.first (if is_some o then past.records else Deliver to label ∷ past.records))) (sym accepted) (refl, delivered)
 
 pub returns-in-Err-Refused-clause-taken : goal.returns-in-Err-Refused-clause-taken
-returns-in-Err-Refused-clause-taken c = λ setup records stands none form.
+returns-in-Err-Refused-clause-taken c = λ past stands none form.
     let old = c.args.self.now in
     let to = c.args.replica in
     let label = c.args.label in
@@ -54,9 +53,9 @@ returns-in-Err-Refused-clause-taken c = λ setup records stands none form.
     let new : History = record { labels = old.labels; tracker = c.deliver.new.self; witness = old.witness; taken = old.taken; fault = old.fault } in
     let said = rw c.in-Err-Refused.field-0-is at c.in-Err-Refused.ensures.refused in
     let known : to < replicas_in old.tracker.now = omega (arith, c.requires.replica, c.requires.stands.tracker.replicas) in
-    let refused : refusal_at records to label ≡ Some why =
-    sym (refused_as_the_records_say old.tracker.now setup.replicas records to label stands.tracker known) ∙ said.2 ∙ ap Some (sym (same_refusal why said.0 said.1)) in
-    let same : StandsFor new setup records = record {
+    let refused : refusal_at past.records to label ≡ Some why =
+    sym (refused_as_the_records_say old.tracker.now past to label stands.tracker known) ∙ said.2 ∙ ap Some (sym (same_refusal why said.0 said.1)) in
+    let same : StandsFor new past = record {
       tracker = rw c.in-Err-Refused.ensures.same stands.tracker;
       causal = stands.causal;
       labels = stands.labels;
@@ -66,4 +65,4 @@ returns-in-Err-Refused-clause-taken c = λ setup records stands none form.
       fault = stands.fault;
     } in
     subst (λ (o : Option Refusal). (reply.Refused why ≡ option_map_or reply.Refused o (reply.Got label))
-    × StandsFor new setup (if is_some o then records else Deliver to label ∷ records)) (sym refused) (refl, same)
+    × StandsFor new (past_of past.kind past.first (if is_some o then past.records else Deliver to label ∷ past.records))) (sym refused) (refl, same)

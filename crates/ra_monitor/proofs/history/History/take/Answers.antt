@@ -10,9 +10,9 @@ use Rattle.ra_labels.specs.declared.reply.Reply.{Reply}
 use Rattle.ra_labels.specs.declared.reply.Reply.TheVariants.{Refused, Got}
 use Rattle.ra_labels.specs.Records.{Records}
 use Rattle.ra_labels.specs.Fault.{fault_of}
-use Rattle.ra_labels.specs.Answer.{no_at, misfit_of, refusal_of, refusal_at, answer_of, answer_to_accepted, records_after}
-use Rattle.ra_monitor.specs.History.{StandsFor, IsAtReplica, refusal_left}
-use Rattle.ra_monitor.proofs.Growth.{taken_known}
+use Rattle.ra_labels.specs.Answer.{no_at, refusal_of, refusal_at, answer_of, answer_to_accepted, records_after}
+use Rattle.ra_monitor.specs.History.{StandsFor, refusal_left, past_in}
+use Rattle.ra_monitor.proofs.NewRecords.{taken_known}
 use Rattle.ra_monitor.proofs.history.History.take.Goals as goal
 
 -- where nothing failed and nothing is refused, an operation joins the records
@@ -42,13 +42,12 @@ returns-in-Operate-clause-taken c = λ records stands.
     let clock = c.in-Operate.stamp in
     let none : fault_of setup.kind records ≡ None = sym stands.fault ∙ c.in_default.is in
     let accepted : refusal_of setup.kind setup.replicas records command ≡ None =
-    c.in_default-refusal_of.ensures.first records (taken_known c.args.self.now setup records stands none) ∙ nothing_left records command by op clock c.in-Operate.is in
-    let fits = ap (misfit_of setup.kind) (sym c.in-Operate.is) ∙ c.in_default-refusal_of.ensures.fits refl in
-    let taken = c.accept.ensures.taken setup records stands none
-    (ap (refusal_of setup.kind setup.replicas records) (sym c.in-Operate.is) ∙ accepted) fits in
-    let replied = subst (λ (r : Reply). IfOk c.accept.result (λ reply. (reply ≡ r) × StandsFor c.accept.new.self setup (Operate by op clock ∷ records)))
+    c.in_default-refusal_of.ensures.first records (taken_known c.args.self.now (past_in setup records) stands none) ∙ nothing_left records command by op clock c.in-Operate.is in
+    let taken = c.accept.ensures.taken (past_in setup records) stands none
+    (ap (refusal_of setup.kind setup.replicas records) (sym c.in-Operate.is) ∙ accepted) in
+    let replied = subst (λ (r : Reply). IfOk c.accept.result (λ reply. (reply ≡ r) × StandsFor c.accept.new.self (past_in setup (Operate by op clock ∷ records))))
     (answered setup.kind setup.replicas records command by op clock c.in-Operate.is none accepted) taken in
-    subst (λ (r : Records). IfOk c.accept.result (λ reply. (reply ≡ answer_of setup.kind setup.replicas records command) × StandsFor c.accept.new.self setup r))
+    subst (λ (r : Records). IfOk c.accept.result (λ reply. (reply ≡ answer_of setup.kind setup.replicas records command) × StandsFor c.accept.new.self (past_in setup r)))
     (joined setup.kind setup.replicas records command by op clock c.in-Operate.is none accepted) replied
 
 -- what is refused leaves the records
@@ -68,10 +67,10 @@ returns-in-Some-refusal_of-clause-taken c = λ records stands.
     let self = c.args.self.now in
     let none : fault_of setup.kind records ≡ None = sym stands.fault ∙ c.in_default.is in
     let is : refusal_of setup.kind setup.replicas records command ≡ Some c.in-Some-refusal_of.refusal =
-    c.refusal_of.ensures.first records (taken_known self setup records stands none)
+    c.refusal_of.ensures.first records (taken_known self (past_in setup records) stands none)
     ∙ ap (λ o. option_or o (refusal_left records command)) c.in-Some-refusal_of.is in
     let both = refused setup.kind setup.replicas records command c.in-Some-refusal_of.refusal none is in
-    (both.0, subst (StandsFor self setup) both.1 stands)
+    (both.0, subst (λ (r : Records). StandsFor self (past_in setup r)) both.1 stands)
 
 -- the answer to a delivery that nothing is left against but what the records say
 delivered : (kind : Kind) (replicas : ℕ) (records : Records) (command : Command) (to label : ℕ) → command ≡ Deliver to label
@@ -96,14 +95,14 @@ returns-in-Deliver-clause-taken c = λ records stands.
     let label = c.in-Deliver.label in
     let none : fault_of setup.kind records ≡ None = sym stands.fault ∙ c.in_default.is in
     let same : refusal_of setup.kind setup.replicas records command ≡ refusal_at records to label =
-    c.in_default-refusal_of.ensures.first records (taken_known c.args.self.now setup records stands none)
+    c.in_default-refusal_of.ensures.first records (taken_known c.args.self.now (past_in setup records) stands none)
     ∙ ap (refusal_left records) c.in-Deliver.is in
-    let taken = c.deliver.ensures.taken setup records stands none
+    let taken = c.deliver.ensures.taken (past_in setup records) stands none
     (ap (refusal_of setup.kind setup.replicas records) (sym c.in-Deliver.is) ∙ same) in
     let replied = subst (λ (r : Reply). IfOk c.deliver.result (λ reply. (reply ≡ r)
-    × StandsFor c.deliver.new.self setup (if is_some (refusal_at records to label) then records else Deliver to label ∷ records)))
+    × StandsFor c.deliver.new.self (past_in setup (if is_some (refusal_at records to label) then records else Deliver to label ∷ records))))
     (delivered setup.kind setup.replicas records command to label c.in-Deliver.is none same) taken in
-    subst (λ (r : Records). IfOk c.deliver.result (λ reply. (reply ≡ answer_of setup.kind setup.replicas records command) × StandsFor c.deliver.new.self setup r))
+    subst (λ (r : Records). IfOk c.deliver.result (λ reply. (reply ≡ answer_of setup.kind setup.replicas records command) × StandsFor c.deliver.new.self (past_in setup r)))
     (delivered_records setup.kind setup.replicas records command to label c.in-Deliver.is none same) replied
 
 pub accept-requires : goal.accept-requires
@@ -113,15 +112,12 @@ accept-requires c =
     let command = c.args.command.now in
     let none : fault_of setup.kind r.records ≡ None = sym r.stands.fault ∙ c.in_default.is in
     let accepted : refusal_of setup.kind setup.replicas r.records command ≡ None =
-    c.in_default-refusal_of.ensures.first r.records (taken_known c.args.self.now setup r.records r.stands none)
+    c.in_default-refusal_of.ensures.first r.records (taken_known c.args.self.now (past_in setup r.records) r.stands none)
     ∙ nothing_left r.records command c.in-Operate.replica c.in-Operate.op c.in-Operate.stamp c.in-Operate.is in
     record {
-      setup = setup;
-      records = r.records;
+      past = past_in setup r.records;
       stands = r.stands;
       few = r.few;
       none = none;
       accepted = ap (refusal_of setup.kind setup.replicas r.records) (sym c.in-Operate.is) ∙ accepted;
-      replica = subst (IsAtReplica setup.replicas) c.in-Operate.is (c.in_default-refusal_of.ensures.known refl);
-      fits = ap (misfit_of setup.kind) (sym c.in-Operate.is) ∙ c.in_default-refusal_of.ensures.fits refl;
     }

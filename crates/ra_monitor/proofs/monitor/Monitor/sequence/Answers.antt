@@ -8,6 +8,7 @@ use Rattle.ra_witness.specs.declared.part_ref.PartRef.{PartRef}
 use Rattle.ra_witness.specs.Sequence.{ref_of}
 use Rattle.ra_monitor.specs.Monitor.{Monitor, records_of}
 use Rattle.ra_monitor.proofs.monitor.Monitor.sequence.Goals as goal
+use Rattle.ra_monitor.specs.History.{past_in}
 
 -- the records of a log that the named sequence is of
 abbrev sound : Monitor → Records
@@ -18,7 +19,7 @@ returns-clause-named c =
     let m = c.self.inside in
     let all = ap (λ (l : Monitor). map ref_of (named_sequence l.setup.kind (sound l))) c.self.view_is in
     subst (λ (refs : List PartRef). IfOk c.sequence.result (λ parts. parts.items ≡ refs)) all
-    (c.sequence.ensures m.setup (records_of m.setup m.log.items) c.self.invariant.history)
+    (c.sequence.ensures (past_in m.setup (records_of m.setup m.log.items)) c.self.invariant.history)
 
 -- a fact holds after either outcome
 either_way : {T E P : Type 0} (r : Result T E) → P → OnOk r P

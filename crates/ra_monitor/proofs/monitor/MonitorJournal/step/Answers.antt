@@ -3,7 +3,7 @@ use Rattle.ra_labels.specs.declared.command.Command.{Command}
 use Rattle.ra_labels.specs.Answer.{answer_of}
 use Rattle.ra_monitor.specs.Monitor.{MonitorEntry, Monitor, records_of, IsRaLinearizable, IsNoAtFault, IsNextTicket}
 use Rattle.ra_monitor.proofs.Legal.{linearizable_after, no_after}
-use Rattle.ra_monitor.proofs.Keeping.{legal_after, kept_after}
+use Rattle.ra_monitor.proofs.NewEntries.{legal_after, kept_after}
 use Rattle.ra_monitor.proofs.monitor.MonitorJournal.step.Goals as goal
 
 -- the entry that joins the log, with this command

@@ -4,5 +4,5 @@ use Rattle.ra_monitor.specs.Order.{IsOrderOf}
 use Rattle.ra_monitor.proofs.order.OrderNamedOrder.spare.Goals as goal
 
 pub returns-in-Time-clause-stands : goal.returns-in-Time-clause-stands
-returns-in-Time-clause-stands c = λ kind first records stands.
-    c.spare-in-Time.ensures.stands kind first records (subst (λ (o : Order). IsOrderOf o kind first records) c.in-Time.is stands)
+returns-in-Time-clause-stands c = λ past stands.
+    c.spare-in-Time.ensures.stands past (subst (λ (o : Order). IsOrderOf o past) c.in-Time.is stands)

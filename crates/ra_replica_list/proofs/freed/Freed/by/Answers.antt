@@ -1,7 +1,7 @@
 use Rattle.std.proofs.Common.{◌<◌, length, sym, arith, rules}
 use Rattle.std.proofs.lemmas.List.{get_or_read}
-use Rattle.ra_replica_list.proofs.Following.{none_followed, amidst_at}
-use Rattle.ra_replica_list.proofs.Finishing.{not_many}
+use Rattle.ra_replica_list.proofs.Followers.{none_followed, amidst_at}
+use Rattle.ra_replica_list.proofs.LastFollowers.{not_many}
 use Rattle.ra_replica_list.proofs.freed.Freed.by.Goals as goal
 
 pub loop-done-init : goal.loop-done-init

@@ -3,8 +3,8 @@ use Rattle.ra_element_list.specs.ElementList.{is_marked}
 use Rattle.ra_replica_list.specs.declared.deed.Deed.TheVariants.{PutsIn, Removes}
 use Rattle.ra_replica_list.specs.Deeds.{element_at}
 use Rattle.ra_replica_list.proofs.Deeds.{put_in_later}
-use Rattle.ra_replica_list.proofs.Stepping.{remove_in_range}
-use Rattle.ra_replica_list.proofs.Following.{FindsNearest, insertion_follows, removal_follows, some_follows, root_amidst, deed_found}
+use Rattle.ra_replica_list.proofs.SingleSteps.{remove_in_range}
+use Rattle.ra_replica_list.proofs.Followers.{FindsNearest, insertion_follows, removal_follows, some_follows, root_amidst, deed_found}
 use Rattle.ra_replica_list.proofs.freed.Freed.follow.Goals as goal
 
 pub nearest_before-behind-requires-clause-some : goal.nearest_before-behind-requires-clause-some

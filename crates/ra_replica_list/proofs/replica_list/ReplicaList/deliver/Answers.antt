@@ -9,8 +9,8 @@ use Rattle.ra_replica_list.specs.declared.deed.Deed.TheVariants.{PutsIn, Removes
 use Rattle.ra_replica_list.specs.Deeds.{deed_at}
 use Rattle.ra_replica_list.specs.ReplicaList.{ReplicaList, IsGreatestOf, IsListOf}
 use Rattle.ra_replica_list.proofs.Deeds.{deeds_stand}
-use Rattle.ra_replica_list.proofs.Alike.{list_alike}
-use Rattle.ra_replica_list.proofs.Delivering.{if_ok_on, if_ok_map, delivered, few_steps, counted, some_step, one_step, with_stamp, with_none}
+use Rattle.ra_replica_list.proofs.AlikeLists.{list_alike}
+use Rattle.ra_replica_list.proofs.Deliveries.{if_ok_on, if_ok_map, delivered, few_steps, counted, some_step, one_step, with_stamp, with_none}
 use Rattle.ra_replica_list.proofs.replica_list.ReplicaList.deliver.Goals as goal
 
 pub returns-in_err-steps-in-PutsIn-clause-err : goal.returns-in_err-steps-in-PutsIn-clause-err

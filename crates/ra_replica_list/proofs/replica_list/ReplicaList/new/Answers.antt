@@ -1,6 +1,6 @@
 use Rattle.std.proofs.Common.{◌∙◌, ap, List, Bool, arith}
 use Rattle.ra_element_list.specs.ElementList.{is_marked}
-use Rattle.ra_replica_list.proofs.Starting.{starts}
+use Rattle.ra_replica_list.proofs.EmptyLists.{starts}
 use Rattle.ra_replica_list.proofs.replica_list.ReplicaList.new.Goals as goal
 
 pub returns : goal.returns

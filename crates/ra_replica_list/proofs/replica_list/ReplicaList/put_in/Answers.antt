@@ -7,10 +7,10 @@ use Rattle.ra_replica_list.specs.declared.deed.Deed.TheVariants.{PutsIn}
 use Rattle.ra_replica_list.specs.ReplicaList.{ReplicaList}
 use Rattle.ra_replica_list.specs.Deeds.{element_at}
 use Rattle.ra_replica_list.proofs.Deeds.{deeds_stand, put_in_later, root_marked}
-use Rattle.ra_replica_list.proofs.Alike.{kept_in}
-use Rattle.ra_replica_list.proofs.Getting.{IsAdded, held_back}
-use Rattle.ra_replica_list.proofs.Places.{empty_if}
-use Rattle.ra_replica_list.proofs.Taking.{insertion_goes}
+use Rattle.ra_replica_list.proofs.AlikeLists.{kept_in}
+use Rattle.ra_replica_list.proofs.HadLabels.{IsAdded, held_back}
+use Rattle.ra_replica_list.proofs.NoneTwice.{empty_if}
+use Rattle.ra_replica_list.proofs.TakenLabels.{insertion_goes}
 use Rattle.ra_replica_list.proofs.replica_list.ReplicaList.put_in.Goals as goal
 
 pub anchor-anchor-requires : goal.anchor-anchor-requires

@@ -3,9 +3,9 @@ use Rattle.ra_element_list.specs.ElementList.{arrival_at, is_marked}
 use Rattle.ra_replica_list.specs.declared.deed.Deed.TheVariants.{PutsIn}
 use Rattle.ra_replica_list.specs.ReplicaList.{ReplicaList}
 use Rattle.ra_replica_list.specs.Waiting.{labels_under}
-use Rattle.ra_replica_list.specs.Freed.{freed_under, IsKeptAfter}
-use Rattle.ra_replica_list.proofs.Alike.{kept_in}
-use Rattle.ra_replica_list.proofs.Finishing.{all_follow}
+use Rattle.ra_replica_list.specs.Freed.{freed_under, IsListWithAfter}
+use Rattle.ra_replica_list.proofs.AlikeLists.{kept_in}
+use Rattle.ra_replica_list.proofs.LastFollowers.{all_follow}
 use Rattle.ra_replica_list.proofs.replica_list.ReplicaList.put_in_with_waiting.Goals as goal
 
 pub returns-clause-got : goal.returns-clause-got
@@ -18,5 +18,5 @@ returns-clause-got c = λ records had stand held is new.
     let amidst = c.in_ok-freed.ensures records had held.settled (PutsIn c.args.number) stand kept is new needs in
     let says : (number : ℕ) → labels_under c.free_all.new.waiting number ≡ freed_under c.args.deeds.now freed.labels.items (labels_under c.self.inside.waiting) number =
     λ number. c.free_all.ensures number ∙ ap (λ (ls : List ℕ). freed_under c.args.deeds.now ls (labels_under c.self.inside.waiting) number) c.as_slice.ensures.value in
-    subst (λ (n : ℕ). IsKeptAfter freed.state freed.there.marks.items c.free_all.new.waiting all.arrivals c.args.deeds.now records had held.settled c.args.label n) (omega (arith, c.len-steps.ensures, freed.labels.ok.0))
+    subst (λ (n : ℕ). IsListWithAfter freed.state freed.there.marks.items c.free_all.new.waiting all.arrivals c.args.deeds.now records had held.settled c.args.label n) (omega (arith, c.len-steps.ensures, freed.labels.ok.0))
     (all_follow c.free_all.new.waiting stand kept amidst.freeing says)

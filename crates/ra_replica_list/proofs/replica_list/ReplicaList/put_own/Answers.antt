@@ -12,10 +12,10 @@ use Rattle.ra_replica_list.specs.Waiting.{labels_under}
 use Rattle.ra_replica_list.specs.Deeds.{element_at}
 use Rattle.ra_replica_list.specs.ReplicaList.{ReplicaList, IsGreatestOf, IsListOf}
 use Rattle.ra_replica_list.specs.Freed.{AreAlike}
-use Rattle.ra_replica_list.proofs.Alike.{kept_in, list_alike, unadded}
+use Rattle.ra_replica_list.proofs.AlikeLists.{kept_in, list_alike, unadded}
 use Rattle.ra_replica_list.proofs.Deeds.{AreMarksWith}
-use Rattle.ra_replica_list.proofs.Getting.{IsAdded}
-use Rattle.ra_replica_list.proofs.Owning.{owned, own_stamp, own_put, own_waits}
+use Rattle.ra_replica_list.proofs.HadLabels.{IsAdded}
+use Rattle.ra_replica_list.proofs.OwnLabels.{owned, own_stamp, own_put, own_waits}
 use Rattle.ra_replica_list.proofs.replica_list.ReplicaList.put_own.Goals as goal
 
 pub returns-in_err-add-clause-err : goal.returns-in_err-add-clause-err

@@ -7,13 +7,13 @@ use Rattle.ra_labels.proofs.Results.{on_err}
 use Rattle.ra_replica_list.specs.declared.deed.Deed.TheVariants.{Removes}
 use Rattle.ra_replica_list.specs.Deeds.{deed_at, element_at}
 use Rattle.ra_replica_list.specs.ReplicaList.{IsGreatestOf}
-use Rattle.ra_replica_list.specs.Freed.{IsKeptAfter}
-use Rattle.ra_replica_list.proofs.Alike.{list_alike}
-use Rattle.ra_replica_list.proofs.Delivering.{if_ok_on}
-use Rattle.ra_replica_list.proofs.Knowing.{not_had}
-use Rattle.ra_replica_list.proofs.Growing.{grown_by_removal}
-use Rattle.ra_replica_list.proofs.Staying.{known_other}
-use Rattle.ra_replica_list.proofs.Owning.{next_deed, owned, own_none}
+use Rattle.ra_replica_list.specs.Freed.{IsListWithAfter}
+use Rattle.ra_replica_list.proofs.AlikeLists.{list_alike}
+use Rattle.ra_replica_list.proofs.Deliveries.{if_ok_on}
+use Rattle.ra_replica_list.proofs.NewMarks.{not_had}
+use Rattle.ra_replica_list.proofs.NewDeeds.{grown_by_removal}
+use Rattle.ra_replica_list.proofs.LaterRecords.{known_other}
+use Rattle.ra_replica_list.proofs.OwnLabels.{next_deed, owned, own_none}
 use Rattle.ra_replica_list.proofs.replica_list.ReplicaList.remove_own.Goals as goal
 
 pub returns-clause-removed : goal.returns-clause-removed
@@ -26,7 +26,7 @@ returns-clause-removed c = if_ok_on c.remove.result c.remove.ensures.got (λ ste
     let known = known_other by op clock (Some (Removes number)) (had records by) stand held (not_had records by) (λ n. refl) in
     let is : deed_at more c.args.label ≡ Some (Removes number) = next_deed deeds (Removes number) c.args.label (stand.count ∙ sym label_is) in
     let after = got more now (had records by) grown known is (ap (had records by) label_is ∙ not_had records by) in
-    let after_it = subst (λ (n : ℕ). IsKeptAfter c.remove.new.self.state c.remove.new.self.marks c.remove.new.self.waiting all.arrivals more now (had records by) known.settled n steps) label_is after in
+    let after_it = subst (λ (n : ℕ). IsListWithAfter c.remove.new.self.state c.remove.new.self.marks c.remove.new.self.waiting all.arrivals more now (had records by) known.settled n steps) label_is after in
     let top = subst (λ (s : Stamp). IsGreatestOf records (had records by) s) (sym c.remove.ensures.greatest) held.greatest in
     owned records by op clock (RgaRemove (element_at all.arrivals number)) c.remove.new.self known.settled steps makes after_it (own_none op clock top unstamped))
 

@@ -1,5 +1,5 @@
-use Rattle.ra_replica_list.proofs.Alike.{kept_in}
-use Rattle.ra_replica_list.proofs.Telling.{told, untold}
+use Rattle.ra_replica_list.proofs.AlikeLists.{kept_in}
+use Rattle.ra_replica_list.proofs.SettledStates.{told, untold}
 use Rattle.ra_replica_list.proofs.replica_list.ReplicaList.state.Goals as goal
 
 pub returns-then-is_empty : goal.returns-then-is_empty

@@ -3,7 +3,7 @@ use Rattle.std.specs.Prelude.{◌-◌, ◌+◌, drop, option_map}
 use Rattle.std.specs.List.{slice_get}
 use Rattle.ra_time_order.specs.declared.entry.Entry.{Entry}
 use Rattle.ra_time_order.specs.Sorted.{joined}
-use Rattle.ra_time_order.proofs.Filing.{label_here, label_further}
+use Rattle.ra_time_order.proofs.FiledLabels.{label_here, label_further}
 use Rattle.ra_time_order.proofs.sorted.Sorted.at.Goals as goal
 
 pub returns-then-rest-len : goal.returns-then-rest-len

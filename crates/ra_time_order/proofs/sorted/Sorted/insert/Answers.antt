@@ -7,7 +7,7 @@ use Rattle.ra_time_order.specs.declared.entry.Entry.{Entry}
 use Rattle.ra_time_order.specs.Positions.{IsPositionOf}
 use Rattle.ra_time_order.specs.Stamps.{AtMost}
 use Rattle.ra_time_order.specs.Sorted.{Sorted, joined, IsRunOf}
-use Rattle.ra_time_order.proofs.Filing.{room_says, filed, under_with}
+use Rattle.ra_time_order.proofs.FiledLabels.{room_says, filed, under_with}
 use Rattle.ra_time_order.proofs.sorted.Sorted.insert.Goals as goal
 
 pub invariant_of-self : goal.invariant_of-self

@@ -2,7 +2,7 @@ use Rattle.std.proofs.Common.{List, length, ap, ◌∙◌, subst, ◌+◌, ◌-�
 use Rattle.ra_time_order.specs.declared.entry.Entry.{Entry}
 use Rattle.ra_time_order.specs.Positions.{IsPositionOf}
 use Rattle.ra_time_order.specs.Sorted.{Sorted, IsRunOf}
-use Rattle.ra_time_order.proofs.Filing.{behind_is, few_behind, position_in_all}
+use Rattle.ra_time_order.proofs.FiledLabels.{behind_is, few_behind, position_in_all}
 use Rattle.ra_time_order.proofs.sorted.Sorted.position.Goals as goal
 
 pub count-behind-requires : goal.count-behind-requires

@@ -4,7 +4,7 @@ use Rattle.ra_time_order.specs.declared.entry.Entry.{Entry}
 use Rattle.ra_time_order.specs.Stamps.{AtMost}
 use Rattle.ra_time_order.specs.Sorted.{Sorted}
 use Rattle.ra_time_order.proofs.Halves.{split_keeps}
-use Rattle.ra_time_order.proofs.Filing.{room_given, room_there}
+use Rattle.ra_time_order.proofs.FiledLabels.{room_given, room_there}
 use Rattle.ra_time_order.proofs.sorted.Sorted.spare.Goals as goal
 
 pub returns-then-has_room-clause-room : goal.returns-then-has_room-clause-room

@@ -4,7 +4,7 @@ use Rattle.ra_visibility.specs.Seen.{Seen, count_in}
 use Rattle.ra_visibility.specs.Tracked.{replicas_in, replica_at, had_count, seen_count}
 use Rattle.ra_visibility.specs.Least.{lesser_of}
 use Rattle.ra_visibility.specs.Kept.{issued_at}
-use Rattle.ra_visibility.proofs.Missing.{IsLeastOf, lacked_at, least_skips, least_takes, least_found}
+use Rattle.ra_visibility.proofs.MissingLabels.{IsLeastOf, lacked_at, least_skips, least_takes, least_found}
 use Rattle.ra_visibility.proofs.tracked.Tracked.first_missing.Goals as goal
 use Rattle.ra_visibility.proofs.tracked.Tracked.first_missing.Goals.{then-count, else-count}
 

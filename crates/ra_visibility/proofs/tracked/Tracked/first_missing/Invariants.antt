@@ -1,4 +1,4 @@
-use Rattle.ra_visibility.proofs.Missing.{IsLeastOf}
+use Rattle.ra_visibility.proofs.MissingLabels.{IsLeastOf}
 use Rattle.ra_visibility.proofs.tracked.Tracked.first_missing.Given as goal
 
 abbrev pub invariant-loop-from : goal.invariant-loop-from

@@ -1,7 +1,7 @@
 use Rattle.std.proofs.Common.{Some, ap, sym, ◌∙◌}
 use Rattle.ra_visibility.specs.Tracked.{refusal_in}
 use Rattle.ra_visibility.proofs.TheLaws.{records_stay_causal}
-use Rattle.ra_visibility.proofs.Changed.{delivers, delivery_keeps, delivery_taken_back, delivery_stands}
+use Rattle.ra_visibility.proofs.TrackerChanges.{delivers, delivery_keeps, delivery_taken_back, delivery_stands}
 use Rattle.ra_visibility.proofs.tracker.Tracker.deliver.Goals as goal
 
 pub invariant_of-self : goal.invariant_of-self
@@ -26,7 +26,7 @@ returns-clause-before c =
     ap Some (delivery_taken_back c.args.self.now.now c.deliver-from.new.self c.args.replica c.args.label c.deliver-from.result.0 c.deliver-from.result.1 is)
 
 pub returns-clause-causal : goal.returns-clause-causal
-returns-clause-causal c = λ first records stands causal.
+returns-clause-causal c = λ past stands causal.
     let t = c.args.self.now.now in
     let none = sym (ap (λ t. refusal_in t.now c.args.replica c.args.label) c.self.view_is) ∙ sym c.in_default.ensures in
-    records_stay_causal t first records c.args.replica c.args.label stands c.requires none causal
+    records_stay_causal t past c.args.replica c.args.label stands c.requires none causal

@@ -1,5 +1,5 @@
 use Rattle.std.proofs.Common.{Some, ap}
-use Rattle.ra_visibility.proofs.Changed.{issues, issue_keeps, issue_taken_back, issue_stands}
+use Rattle.ra_visibility.proofs.TrackerChanges.{issues, issue_keeps, issue_taken_back, issue_stands}
 use Rattle.ra_visibility.proofs.tracker.Tracker.issue.Goals as goal
 
 pub invariant_of-self-2 : goal.invariant_of-self-2

@@ -8,17 +8,18 @@ use Rattle.ra_labels.specs.declared.operation.Op.TheVariants as ops
 use Rattle.ra_labels.specs.declared.command.Command.TheVariants.{Operate}
 use Rattle.ra_labels.specs.NamedOrder.{named_sequence, stamp_cmp}
 use Rattle.ra_labels.specs.Linearization.{updates_admitted}
+use Rattle.ra_labels.specs.Situation.{past_of, next_of}
 use Rattle.ra_element_list.specs.ElementList.{Arrival, arrival_at}
 use Rattle.ra_replica_list.specs.Deeds.{element_at}
 use Rattle.ra_replica_list.proofs.TheLaws.{the_greatest_stamp_ranks_the_next_label}
 use Rattle.ra_witness.specs.Offered.{IsOffered}
-use Rattle.ra_witness.proofs.Admitted.{removal_admitted, removal_needs}
+use Rattle.ra_witness.proofs.AdmittedElements.{removal_admitted, removal_needs}
 use Rattle.ra_witness.proofs.rga.Rga.admits_removal.Goals as goal
 
 pub returns-in_default : goal.returns-in_default
 returns-in_default c = λ first records op clock label stands offered is.
     let self = c.args.self.now in
-    let after = subst (λ o. IsOffered variant.Rga first records c.args.replica o clock label) is offered in (
+    let after = subst (λ o. IsOffered (past_of variant.Rga first records) (next_of c.args.replica o clock) label) is offered in (
       (λ passes. absurd (false≢true passes)),
       λ admitted.
           let now_admitted = subst (λ o. updates_admitted variant.Rga (named_sequence variant.Rga (Operate c.args.replica o clock ∷ records)) ≡ true) is admitted in
@@ -37,7 +38,7 @@ returns-then-number-ne-ROOT c = λ first records op clock label stands offered i
     let list = c.index.result.now in
     let n = c.in-Some.number in
     let own = stands.lists by list (slice_get_read lists (length lists) by list refl (omega (arith, c.requires, self.lists.ok.0)) c.index.ensures) in
-    let after = subst (λ o. IsOffered variant.Rga first records by o clock label) is offered in
+    let after = subst (λ o. IsOffered (past_of variant.Rga first records) (next_of by o clock) label) is offered in
     let ranks = the_greatest_stamp_ranks_the_next_label list self.all.arrivals self.deeds.items records by (ops.RgaRemove c.args.element) own in
     let known = (c.in-Some.ensures n).0 refl in
     let said : c.is_up_to.result ≡ is_le (stamp_cmp (arrival_at self.all.arrivals n).stamp list.greatest) =
@@ -56,7 +57,7 @@ pub returns-else-number-ne-ROOT : goal.returns-else-number-ne-ROOT
 returns-else-number-ne-ROOT c = λ first records op clock label stands offered is.
     let self = c.args.self.now in
     let n = c.in-Some.number in
-    let after = subst (λ o. IsOffered variant.Rga first records c.args.replica o clock label) is offered in
+    let after = subst (λ o. IsOffered (past_of variant.Rga first records) (next_of c.args.replica o clock) label) is offered in
     let known = (c.in-Some.ensures n).0 refl in
     let zero_is : n ≡ 0 = c.if-number-ne-ROOT.false in (
       (λ passes. absurd (true≢false (sym passes ∙ ap not (eq-eqb n 0 zero_is)))),

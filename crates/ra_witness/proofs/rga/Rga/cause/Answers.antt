@@ -9,35 +9,36 @@ use Rattle.ra_rewrite.specs.Parts.{acts_in}
 use Rattle.ra_witness.specs.Offered.{IsOffered}
 use Rattle.ra_labels.specs.Specification.{state_after}
 use Rattle.ra_labels.specs.Insertion.{updates_had}
+use Rattle.ra_labels.specs.Situation.{past_of, next_of}
 use Rattle.ra_witness.specs.Labels.{cause_in}
 use Rattle.ra_witness.proofs.Forms.{of_its_kind, its_replica, its_op}
 use Rattle.ra_witness.proofs.RgaCauses.{asks_only, query_cause, update_cause}
 use Rattle.ra_witness.proofs.rga.Rga.cause.Goals as goal
 
 pub returns-in_default : goal.returns-in_default
-returns-in_default c = λ first records by op clock stands offered acts.
+returns-in_default c = λ first records next stands offered acts.
     let label = c.args.label.now in
-    let same = its_op variant.Rga first records by op clock label offered in
-    let asks = asks_only op (λ a x is. c.in_default.not-After a x (same ∙ is)) (λ x is. c.in_default.not-RgaRemove x (same ∙ is)) (of_its_kind variant.Rga first records by op clock label offered) in
+    let same = its_op (past_of variant.Rga first records) next label offered in
+    let asks = asks_only next.op (λ a x is. c.in_default.not-After a x (same ∙ is)) (λ x is. c.in_default.not-RgaRemove x (same ∙ is)) (of_its_kind (past_of variant.Rga first records) next label offered) in
     c.cause_of_query.ensures first records stands
-    ∙ ap (λ r. cause_in (state_after variant.Rga (updates_had variant.Rga records r)) (acts_in c.args.parts.now)) (its_replica variant.Rga first records by op clock label offered)
-    ∙ ap (cause_in (state_after variant.Rga (updates_had variant.Rga records by))) acts
-    ∙ query_cause first records by op clock label offered asks
+    ∙ ap (λ r. cause_in (state_after variant.Rga (updates_had variant.Rga records r)) (acts_in c.args.parts.now)) (its_replica (past_of variant.Rga first records) next label offered)
+    ∙ ap (cause_in (state_after variant.Rga (updates_had variant.Rga records next.by))) acts
+    ∙ query_cause first records next label offered asks
 
 pub returns-in-After : goal.returns-in-After
-returns-in-After c = λ first records by op clock stands offered acts.
+returns-in-After c = λ first records next stands offered acts.
     let label = c.args.label.now in
-    let is = sym (its_op variant.Rga first records by op clock label offered) ∙ c.in-After.is in
+    let is = sym (its_op (past_of variant.Rga first records) next label offered) ∙ c.in-After.is in
     c.update_unless.ensures
-    ∙ update_cause first records by op clock label offered c.admits_insertion.result (λ o. ap (λ p. cause_in o (acts_of p)) is)
-    (c.admits_insertion.ensures first records by op clock label stands offered is refl)
+    ∙ update_cause first records next label offered c.admits_insertion.result (λ o. ap (λ p. cause_in o (acts_of p)) is)
+    (c.admits_insertion.ensures first records next label stands offered is refl)
 
 pub returns-in-RgaRemove : goal.returns-in-RgaRemove
-returns-in-RgaRemove c = λ first records by op clock stands offered acts.
+returns-in-RgaRemove c = λ first records next stands offered acts.
     let label = c.args.label.now in
-    let is = sym (its_op variant.Rga first records by op clock label offered) ∙ c.in-RgaRemove.is in
-    let replica = its_replica variant.Rga first records by op clock label offered in
+    let is = sym (its_op (past_of variant.Rga first records) next label offered) ∙ c.in-RgaRemove.is in
+    let replica = its_replica (past_of variant.Rga first records) next label offered in
     c.update_unless-in-RgaRemove.ensures
-    ∙ update_cause first records by op clock label offered c.admits_removal.result (λ o. ap (λ p. cause_in o (acts_of p)) is)
-    (subst (λ r. (c.admits_removal.result ≡ true) ↔ (updates_admitted variant.Rga (named_sequence variant.Rga (Operate r op clock ∷ records)) ≡ true)) replica
-    (c.admits_removal.ensures first records op clock label stands (subst (λ r. IsOffered variant.Rga first records r op clock label) (sym replica) offered) is))
+    ∙ update_cause first records next label offered c.admits_removal.result (λ o. ap (λ p. cause_in o (acts_of p)) is)
+    (subst (λ r. (c.admits_removal.result ≡ true) ↔ (updates_admitted variant.Rga (named_sequence variant.Rga (Operate r next.op next.clock ∷ records)) ≡ true)) replica
+    (c.admits_removal.ensures first records next.op next.clock label stands (subst (λ r. IsOffered (past_of variant.Rga first records) (next_of r next.op next.clock) label) (sym replica) offered) is))

@@ -11,16 +11,17 @@ use Rattle.ra_labels.specs.NamedOrder.{named_sequence}
 use Rattle.ra_labels.specs.Linearization.{updates_admitted}
 use Rattle.ra_labels.specs.Insertion.{Makes}
 use Rattle.ra_labels.proofs.Results.{on_err_any}
+use Rattle.ra_labels.specs.Situation.{past_of, next_of}
 use Rattle.ra_replica_list.specs.declared.deed.Deed.TheVariants.{PutsIn}
 use Rattle.ra_replica_list.specs.Deeds.{element_at}
 use Rattle.ra_witness.specs.declared.rga.Rga.{Rga}
 use Rattle.ra_witness.specs.Rga.{IsRgaOf}
 use Rattle.ra_witness.specs.Offered.{IsOffered}
 use Rattle.ra_witness.proofs.Forms.{its_replica}
-use Rattle.ra_witness.proofs.Admitted.{makes_after}
+use Rattle.ra_witness.proofs.AdmittedElements.{makes_after}
 use Rattle.ra_witness.proofs.AllElements.{rga_like}
 use Rattle.ra_witness.proofs.ReplicaLists.{rga_same}
-use Rattle.ra_witness.proofs.RgaTaken.{rga_put}
+use Rattle.ra_witness.proofs.TakenElements.{rga_put}
 use Rattle.ra_witness.proofs.rga.Rga.put_in.Goals as goal
 
 pub unreachable-requires : goal.unreachable-requires
@@ -65,7 +66,7 @@ returns-in_err-steps-clause-same c = λ first records stands.
     (rga_same spared first records there_still r c.put_own.new.self within (c.in_err-steps.ensures.err spared.all.arrivals self.deeds.items records r (there_still.lists r list there)))
 
 pub returns-clause-taken : goal.returns-clause-taken
-returns-clause-taken c = λ first records by op clock stands offered admitted is.
+returns-clause-taken c = λ first records next stands offered admitted is.
     let self = c.args.self.now in
     let label = c.args.label.now in
     let r = label.replica in
@@ -79,24 +80,24 @@ returns-clause-taken c = λ first records by op clock stands offered admitted is
     let room = c.in_ok-spare.ensures in
     let there_still = rga_like self spared first records (sym room.elements) (sym room.arrivals) refl refl stands in
     let list = c.index_mut-list.result.now in
-    let replica = its_replica variant.Rga first records by op clock label offered in
+    let replica = its_replica (past_of variant.Rga first records) next label offered in
     let within : r < length lists = omega (arith, c.requires.replica, self.lists.ok.0) in
     let there = slice_get_read lists (length lists) r list refl within c.index_mut-list.ensures.value in
     let known = (c.in-Some.ensures m).0 refl in
     let count = ap length room.arrivals in
     let m_within : m < length all.arrivals = omega (arith, known.0, count) in
     let m_is : element_at all.arrivals m ≡ anchor = ap (λ rs. element_at rs m) room.arrivals ∙ known.1 in
-    let after = subst (λ b. IsOffered variant.Rga first records b (ops.After anchor x) clock label) (sym replica) (subst (λ o. IsOffered variant.Rga first records by o clock label) is offered) in
-    let now_admitted = subst (λ b. updates_admitted variant.Rga (named_sequence variant.Rga (Operate b (ops.After anchor x) clock ∷ records)) ≡ true) (sym replica)
-    (subst (λ o. updates_admitted variant.Rga (named_sequence variant.Rga (Operate by o clock ∷ records)) ≡ true) is admitted) in
+    let after = subst (λ b. IsOffered (past_of variant.Rga first records) (next_of b (ops.After anchor x) next.clock) label) (sym replica) (subst (λ o. IsOffered (past_of variant.Rga first records) (next_of next.by o next.clock) label) is offered) in
+    let now_admitted = subst (λ b. updates_admitted variant.Rga (named_sequence variant.Rga (Operate b (ops.After anchor x) next.clock ∷ records)) ≡ true) (sym replica)
+    (subst (λ o. updates_admitted variant.Rga (named_sequence variant.Rga (Operate next.by o next.clock ∷ records)) ≡ true) is admitted) in
     let makes = subst (λ y. Makes (ops.After anchor x) (After y x)) (sym m_is) (makes_after anchor x) in
-    let own = c.in_ok-steps.ensures.put self.deeds.items records r (ops.After anchor x) clock there_still.elements (there_still.lists r list there) (ap (λ l. l.number) after.next) makes
-    (sym (ap (λ l. l.stamp) after.next) ∙ c.in-Some-stamp.is) after.fits now_admitted in
-    let next : Rga = record { deeds = c.push_reserved.new.self; all = c.insert.new.self; lists = with_item self.lists r c.put_own.new.self } in
+    let own = c.in_ok-steps.ensures.put self.deeds.items records r (ops.After anchor x) next.clock there_still.elements (there_still.lists r list there) (ap (λ l. l.number) after.becomes) makes
+    (sym (ap (λ l. l.stamp) after.becomes) ∙ c.in-Some-stamp.is) after.fits now_admitted in
+    let grown : Rga = record { deeds = c.push_reserved.new.self; all = c.insert.new.self; lists = with_item self.lists r c.put_own.new.self } in
     let pushed : c.push_reserved.new.self.items ≡ self.deeds.items ++ Some (PutsIn (length all.arrivals)) ∷ [] =
     c.push_reserved.ensures.items ∙ ap (λ n. self.deeds.items ++ Some (PutsIn n) ∷ []) c.len-number.ensures in
-    subst (λ o. IsRgaOf next first (Operate by o clock ∷ records)) (sym is)
-    (subst (λ b. IsRgaOf next first (Operate b (ops.After anchor x) clock ∷ records)) replica
-    (rga_put spared next first records r clock label there_still anchor x m stamp c.put_own.new.self after c.in-Some-stamp.is m_within m_is
+    subst (λ o. IsRgaOf grown first (Operate next.by o next.clock ∷ records)) (sym is)
+    (subst (λ b. IsRgaOf grown first (Operate b (ops.After anchor x) next.clock ∷ records)) replica
+    (rga_put spared grown first records r next.clock label there_still anchor x m stamp c.put_own.new.self after c.in-Some-stamp.is m_within m_is
     (λ n there same. c.requires.new n (omega (arith, there, count)) (ap (λ rs. element_at rs n) (sym room.arrivals) ∙ same)) now_admitted pushed
     c.insert.ensures.arrivals c.insert.ensures.elements refl own))

@@ -9,13 +9,14 @@ use Rattle.ra_labels.specs.NamedOrder.{named_sequence}
 use Rattle.ra_labels.specs.Linearization.{updates_admitted}
 use Rattle.ra_labels.specs.Insertion.{Makes}
 use Rattle.ra_labels.proofs.Results.{on_err_any}
+use Rattle.ra_labels.specs.Situation.{past_of, next_of}
 use Rattle.ra_witness.specs.declared.rga.Rga.{Rga}
 use Rattle.ra_witness.specs.Rga.{IsRgaOf}
 use Rattle.ra_witness.specs.Offered.{IsOffered}
 use Rattle.ra_witness.proofs.Forms.{its_replica, its_clock}
-use Rattle.ra_witness.proofs.Admitted.{makes_removal}
+use Rattle.ra_witness.proofs.AdmittedElements.{makes_removal}
 use Rattle.ra_witness.proofs.ReplicaLists.{rga_same}
-use Rattle.ra_witness.proofs.RgaTaken.{rga_removed}
+use Rattle.ra_witness.proofs.TakenElements.{rga_removed}
 use Rattle.ra_witness.proofs.rga.Rga.remove.Goals as goal
 
 pub unreachable-requires : goal.unreachable-requires
@@ -38,7 +39,7 @@ returns-in_err-steps-clause-same c = λ first records stands.
     (rga_same self first records stands r c.remove_own.new.self within (c.in_err-steps.ensures.err self.all.arrivals self.deeds.items records r (stands.lists r list there)))
 
 pub returns-clause-taken : goal.returns-clause-taken
-returns-clause-taken c = λ first records by op clock stands offered admitted is.
+returns-clause-taken c = λ first records next stands offered admitted is.
     let self = c.args.self.now in
     let label = c.args.label.now in
     let r = label.replica in
@@ -46,17 +47,17 @@ returns-clause-taken c = λ first records by op clock stands offered admitted is
     let x = c.args.element in
     let number = c.in-Some.number in
     let list = c.index_mut-list.result.now in
-    let replica = its_replica variant.Rga first records by op clock label offered in
+    let replica = its_replica (past_of variant.Rga first records) next label offered in
     let within : r < length lists = omega (arith, c.requires.replica, self.lists.ok.0) in
     let there = slice_get_read lists (length lists) r list refl within c.index_mut-list.ensures.value in
     let known = (c.in-Some.ensures number).0 refl in
-    let after = subst (λ b. IsOffered variant.Rga first records b (ops.RgaRemove x) clock label) (sym replica) (subst (λ o. IsOffered variant.Rga first records by o clock label) is offered) in
-    let now_admitted = subst (λ b. updates_admitted variant.Rga (named_sequence variant.Rga (Operate b (ops.RgaRemove x) clock ∷ records)) ≡ true) (sym replica)
-    (subst (λ o. updates_admitted variant.Rga (named_sequence variant.Rga (Operate by o clock ∷ records)) ≡ true) is admitted) in
+    let after = subst (λ b. IsOffered (past_of variant.Rga first records) (next_of b (ops.RgaRemove x) next.clock) label) (sym replica) (subst (λ o. IsOffered (past_of variant.Rga first records) (next_of next.by o next.clock) label) is offered) in
+    let now_admitted = subst (λ b. updates_admitted variant.Rga (named_sequence variant.Rga (Operate b (ops.RgaRemove x) next.clock ∷ records)) ≡ true) (sym replica)
+    (subst (λ o. updates_admitted variant.Rga (named_sequence variant.Rga (Operate next.by o next.clock ∷ records)) ≡ true) is admitted) in
     let removes = subst (λ y. Makes (ops.RgaRemove x) (RgaRemove y)) (sym known.1) (makes_removal x) in
-    let unclocked = (its_clock variant.Rga first records r (ops.RgaRemove x) clock label after).1 refl in
-    let own = c.in_ok-steps.ensures.removed self.deeds.items records r (ops.RgaRemove x) clock stands.elements (stands.lists r list there) (ap (λ l. l.number) after.next) removes unclocked after.fits now_admitted in
-    let next : Rga = record { deeds = c.push_reserved.new.self; all = self.all; lists = with_item self.lists r c.remove_own.new.self } in
-    subst (λ o. IsRgaOf next first (Operate by o clock ∷ records)) (sym is)
-    (subst (λ b. IsRgaOf next first (Operate b (ops.RgaRemove x) clock ∷ records)) replica
-    (rga_removed self next first records r clock label stands x number c.remove_own.new.self after known.0 known.1 now_admitted c.push_reserved.ensures.items refl refl own))
+    let unclocked = (its_clock (past_of variant.Rga first records) (next_of r (ops.RgaRemove x) next.clock) label after).1 refl in
+    let own = c.in_ok-steps.ensures.removed self.deeds.items records r (ops.RgaRemove x) next.clock stands.elements (stands.lists r list there) (ap (λ l. l.number) after.becomes) removes unclocked after.fits now_admitted in
+    let grown : Rga = record { deeds = c.push_reserved.new.self; all = self.all; lists = with_item self.lists r c.remove_own.new.self } in
+    subst (λ o. IsRgaOf grown first (Operate next.by o next.clock ∷ records)) (sym is)
+    (subst (λ b. IsRgaOf grown first (Operate b (ops.RgaRemove x) next.clock ∷ records)) replica
+    (rga_removed self grown first records r next.clock label stands x number c.remove_own.new.self after known.0 known.1 now_admitted c.push_reserved.ensures.items refl refl own))

@@ -9,12 +9,12 @@ use Rattle.ra_witness.proofs.Halves.{refs_alike}
 use Rattle.ra_witness.proofs.witness.Witness.sequence.Goals as goal
 
 pub returns : goal.returns
-returns g c = λ kind first records stands.
+returns g c = λ past stands.
     let order = c.args.self.now.order in
-    let listed = (g.met.O.NamedOrder g.world.𝓛 g.world.𝓜 g.world.𝓡 ((λ s x. x), (λ x. x), (λ x. x), λ x. x)).lists order kind first records stands.order in
+    let listed = (g.met.O.NamedOrder g.world.𝓛 g.world.𝓜 g.world.𝓡 ((λ s x. x), (λ x. x), (λ x. x), λ x. x)).lists order past stands.order in
     let known = c.updates.result.now in
     IfOk-weaker c.part_refs.result _ _ (λ parts is.
     is
     ∙ ap (flat_map (refs_at known)) listed
-    ∙ refs_alike known (updates_by_number records) (numbers_in kind records) (λ n. c.updates.ensures kind first records n stands.kept stands.fits)
-    ∙ refs-named kind records) c.part_refs.ensures
+    ∙ refs_alike known (updates_by_number past.records) (numbers_in past.kind past.records) (λ n. c.updates.ensures past n stands.kept stands.fits)
+    ∙ refs-named past.kind past.records) c.part_refs.ensures

@@ -1,0 +1,34 @@
+-- What is kept true of a monitor when an entry joins its log.
+use Rattle.std.proofs.Common.{◌≡◌, ℕ, ◌+◌, ◌<◌, ◌≤◌, cond, [], ◌∷◌, ◌++◌, length, sym, ap, ◌∙◌, arith, length-append}
+use Rattle.ra_labels.specs.Answer.{answer_of, records_after}
+use Rattle.ra_monitor.specs.declared.monitor.Monitor.TheInside.{Inside}
+use Rattle.ra_monitor.specs.Replies.{is_refused}
+use Rattle.ra_monitor.specs.Monitor.{MonitorEntry, answer_after, records_of, refused_count, IsLegalLog, IsNextTicket}
+use Rattle.ra_monitor.specs.History.{StandsFor, past_in}
+use Rattle.ra_monitor.specs.Kept.{monitor_of, MonitorKept}
+use Rattle.ra_monitor.proofs.Legal.{legal-push, records_of-push, refused_count-push}
+
+-- the log stays legal
+pub legal_after : (m : Inside) (entry : MonitorEntry) → MonitorKept m → IsNextTicket (monitor_of m) entry.ticket
+    → entry.reply ≡ answer_of m.setup.kind m.setup.replicas (records_of m.setup m.log.items) entry.command
+    → IsLegalLog m.setup (m.log.items ++ entry ∷ [])
+legal_after m entry kept next answered = legal-push (answer_after m.setup) [] m.log.items entry kept.legal (answered, next)
+
+pub kept_after : (m n : Inside) (entry : MonitorEntry) → MonitorKept m → IsNextTicket (monitor_of m) entry.ticket → length m.log.items < m.setup.limit
+    → entry.reply ≡ answer_of m.setup.kind m.setup.replicas (records_of m.setup m.log.items) entry.command
+    → n.setup ≡ m.setup → n.log.items ≡ m.log.items ++ entry ∷ []
+    → StandsFor n.history (past_in m.setup (records_after m.setup.kind m.setup.replicas (records_of m.setup m.log.items) entry.command))
+    → n.history.labels ≤ m.history.labels + 1
+    → n.refused ≡ m.refused + cond (is_refused entry.reply) 1 0
+    → MonitorKept n
+kept_after m n entry kept next room answered setup log stands labels refused =
+    let grown : length n.log.items ≡ length m.log.items + 1 = ap length log ∙ length-append m.log.items (entry ∷ []) in
+    record {
+      replicas = rw setup kept.replicas;
+      limit = rw setup kept.limit;
+      fits = rw setup (omega (arith, grown));
+      legal = rw (setup, log) (legal_after m entry kept next answered);
+      history = rw (setup, log, records_of-push m.setup m.log.items entry) stands;
+      labels = omega (arith, grown, kept.labels, labels);
+      refused = refused ∙ ap (λ (k : ℕ). k + cond (is_refused entry.reply) 1 0) kept.refused ∙ sym (refused_count-push m.log.items entry) ∙ ap refused_count (sym log);
+    }

@@ -1,0 +1,193 @@
+-- What a history stands for after one record more.
+use Rattle.std.proofs.Common.{◌≡◌, ℕ, ◌+◌, ◌∷◌, Option, Some, None, refl, sym, ap, ◌∙◌, arith}
+use Rattle.std.specs.Prelude.{option_map, cond, is_none, vec_len}
+use Rattle.std.specs.Option.{option_or, option_map_or}
+use Rattle.ra_labels.specs.declared.kind.Kind.{Kind}
+use Rattle.ra_labels.specs.declared.label.Label.{Label}
+use Rattle.ra_labels.specs.declared.label.Stamp.{Stamp}
+use Rattle.ra_labels.specs.declared.command.Command.TheVariants.{Deliver}
+use Rattle.ra_labels.specs.declared.reply.Cause.{Cause}
+use Rattle.ra_labels.specs.declared.reply.Reply.TheVariants as reply
+use Rattle.ra_labels.specs.Records.{Records, label_count}
+use Rattle.ra_labels.specs.Visibility.{IsCausal}
+use Rattle.ra_labels.specs.Fault.{fault_of, fault_at, cause_of, records_before_fault}
+use Rattle.ra_labels.specs.Answer.{no_at, answer_to_accepted}
+use Rattle.ra_labels.specs.Situation.{Past, past_with, IsAccepted, Next, operate, label_of}
+use Rattle.ra_laws.proofs.TheLaws.{records_before_fault_have_none-all}
+use Rattle.ra_visibility.specs.Seen.{Seen}
+use Rattle.ra_visibility.specs.Tracked.{IsVisibilityOf, seen_in}
+use Rattle.ra_visibility.proofs.TheLaws.{what_a_label_sees}
+use Rattle.ra_witness.specs.Witness.{IsWitnessOf}
+use Rattle.ra_monitor.specs.declared.history.History.{History}
+use Rattle.ra_monitor.specs.declared.brought.Brought.{Brought}
+use Rattle.ra_monitor.specs.declared.taken.Taken.{Taken}
+use Rattle.ra_monitor.specs.Order.{IsOrderOf}
+use Rattle.ra_monitor.specs.Taken.{brought_by, is_stamp_in, is_identifier_in, IsTakenIn}
+use Rattle.ra_monitor.specs.History.{StandsFor, HasNewest, before_fault}
+use Rattle.ra_visibility.specs.Order.{ComesNext}
+
+-- where nothing failed, the records before the fault are all
+pub none_lost : (kind : Kind) (records : Records) → fault_of kind records ≡ None → records_before_fault kind records ≡ records
+none_lost kind records none = records_before_fault_have_none-all kind records none
+
+-- the newest label comes to the witness
+pub comes_next : (history : History) (past : Past) (next : Next) (label : Label) (brought : Brought) (seen : Seen)
+    → HasNewest history past next label brought → seen ≡ seen_in history.tracker.now label.number
+    → ComesNext past next label seen
+comes_next history past next label brought seen newest sees =
+    let is : label.number ≡ label_count past.records = ap (λ (l : Label). l.number) newest.becomes in
+    record {
+      causal = newest.causal;
+      accepted = newest.accepted;
+      becomes = newest.becomes;
+      sees = rw (sees, is) (what_a_label_sees history.tracker.now (past_with past (operate next)) (label_count past.records) newest.tracker (omega (arith, newest.tracker.labels)));
+    }
+
+-- the fault with the newest label
+pub fault_with : (kind : Kind) (records : Records) (next : Next) (why : Option Cause)
+    → fault_of kind records ≡ None → why ≡ cause_of kind (operate next ∷ records)
+    → fault_of kind (operate next ∷ records) ≡ option_map (fault_at (label_count records)) why
+fault_with kind records next why none because =
+    ap (λ o. option_or o (option_map (fault_at (label_count records)) (cause_of kind (operate next ∷ records)))) none
+    ∙ ap (option_map (fault_at (label_count records))) (sym because)
+
+-- with a newest label that fails, the records before the fault stay
+before_failed : (kind : Kind) (records : Records) (next : Next) (why : Cause)
+    → fault_of kind records ≡ None → Some why ≡ cause_of kind (operate next ∷ records)
+    → records_before_fault kind (operate next ∷ records) ≡ records
+before_failed kind records next why none because =
+    ap (λ o. cond (is_none o) (operate next ∷ records) (records_before_fault kind records)) (fault_with kind records next (Some why) none because)
+    ∙ none_lost kind records none
+
+-- the newest label is taken in
+pub stands_taken : (old new : History) (past : Past) (next : Next) (label : Label) (brought : Brought)
+    → HasNewest old past next label brought → None ≡ cause_of past.kind (operate next ∷ past.records)
+    → IsWitnessOf IsOrderOf new.witness (past_with past (operate next))
+    → IsTakenIn (operate next ∷ past.records) new.taken
+    → vec_len new.taken.clocks ≡ vec_len old.taken.clocks
+    → new.labels ≡ label.number + 1 → new.tracker ≡ old.tracker → new.fault ≡ old.fault
+    → StandsFor new (past_with past (operate next))
+stands_taken old new past next label brought newest because witness taken places labels tracker fault =
+    let now = operate next ∷ past.records in
+    let none : fault_of past.kind now ≡ None = fault_with past.kind past.records next None newest.none because in
+    record {
+      tracker = rw tracker newest.tracker;
+      causal = newest.causal;
+      labels = omega (arith, labels, ap (λ (l : Label). l.number) newest.becomes);
+      witness = rw (none_lost past.kind now none) witness;
+      taken = rw (none_lost past.kind now none) taken;
+      places = places ∙ newest.places;
+      fault = fault ∙ newest.fault ∙ sym none;
+    }
+
+-- or it fails
+pub stands_failed : (old new : History) (past : Past) (next : Next) (label : Label) (brought : Brought) (why : Cause)
+    → HasNewest old past next label brought → Some why ≡ cause_of past.kind (operate next ∷ past.records)
+    → IsWitnessOf IsOrderOf new.witness past
+    → new.taken ≡ old.taken
+    → new.labels ≡ label.number + 1 → new.tracker ≡ old.tracker → new.fault ≡ Some (fault_at label.number why)
+    → StandsFor new (past_with past (operate next))
+stands_failed old new past next label brought why newest because witness taken labels tracker fault =
+    let now = operate next ∷ past.records in
+    let is : label.number ≡ label_count past.records = ap (λ (l : Label). l.number) newest.becomes in
+    let before = before_failed past.kind past.records next why newest.none because in
+    record {
+      tracker = rw tracker newest.tracker;
+      causal = newest.causal;
+      labels = omega (arith, labels, is);
+      witness = rw before witness;
+      taken = rw (before, taken) newest.taken;
+      places = ap (λ (t : Taken). vec_len t.clocks) taken ∙ newest.places;
+      fault = fault ∙ ap (λ (k : ℕ). Some (fault_at k why)) is ∙ sym (fault_with past.kind past.records next (Some why) newest.none because);
+    }
+
+mapped : (n : ℕ) (why : Option Cause) → option_map_or (λ w. no_at (fault_at n w)) why (reply.Ok n) ≡ option_map_or no_at (option_map (fault_at n) why) (reply.Ok n)
+mapped n None = refl
+mapped n (Some why) = refl
+
+-- the reply to the newest label
+pub reply_to : (kind : Kind) (records : Records) (next : Next) (why : Option Cause) (n : ℕ)
+    → fault_of kind records ≡ None → why ≡ cause_of kind (operate next ∷ records) → n ≡ label_count records
+    → option_map_or (λ w. no_at (fault_at n w)) why (reply.Ok n) ≡ answer_to_accepted kind records (operate next)
+reply_to kind records next why n none because is =
+    ap (λ (k : ℕ). option_map_or (λ w. no_at (fault_at k w)) why (reply.Ok k)) is
+    ∙ mapped (label_count records) why
+    ∙ sym (ap (λ o. option_map_or no_at o (reply.Ok (label_count records))) (fault_with kind records next why none because))
+
+-- where nothing failed, what is taken is what all labels have
+pub taken_known : (history : History) (past : Past) → StandsFor history past
+    → fault_of past.kind past.records ≡ None → IsTakenIn past.records history.taken
+taken_known history past stands none = rw (none_lost past.kind past.records none) at stands.taken
+
+-- and the witness is that of all
+pub witness_known : (history : History) (past : Past) → StandsFor history past
+    → fault_of past.kind past.records ≡ None → IsWitnessOf IsOrderOf history.witness past
+witness_known history past stands none = rw (none_lost past.kind past.records none) at stands.witness
+
+-- what is taken is what looks up the same
+pub taken_alike : (records : Records) (old new : Taken) → ((stamp : Stamp) → is_stamp_in new stamp ≡ is_stamp_in old stamp)
+    → ((identifier : ℕ) → is_identifier_in new identifier ≡ is_identifier_in old identifier) → IsTakenIn records old → IsTakenIn records new
+taken_alike records old new stamps identifiers known = record {
+  stamps = λ stamp. stamps stamp ∙ known.stamps stamp;
+  identifiers = λ identifier. identifiers identifier ∙ known.identifiers identifier;
+}
+
+-- a delivery takes nothing
+taken_delivered : (records : Records) (to label : ℕ) (taken : Taken) → IsTakenIn records taken → IsTakenIn (Deliver to label ∷ records) taken
+taken_delivered records to label taken known = record { stamps = known.stamps; identifiers = known.identifiers }
+
+-- the history after a delivery
+pub stands_delivered : (old new : History) (past : Past) (to label : ℕ)
+    → StandsFor old past → fault_of past.kind past.records ≡ None
+    → IsVisibilityOf new.tracker.now (past_with past (Deliver to label)) → IsCausal (Deliver to label ∷ past.records)
+    → IsWitnessOf IsOrderOf new.witness (past_with past (Deliver to label))
+    → new.labels ≡ old.labels → new.taken ≡ old.taken → new.fault ≡ old.fault
+    → StandsFor new (past_with past (Deliver to label))
+stands_delivered old new past to label stands none tracker causal witness labels taken fault = record {
+  tracker = tracker;
+  causal = causal;
+  labels = labels ∙ stands.labels;
+  witness = rw (none_lost past.kind (Deliver to label ∷ past.records) none) witness;
+  taken = rw (none_lost past.kind (Deliver to label ∷ past.records) none, taken) (taken_delivered past.records to label old.taken (taken_known old past stands none));
+  places = ap (λ (t : Taken). vec_len t.clocks) taken ∙ stands.places;
+  fault = fault ∙ stands.fault;
+}
+
+-- the history with the newest label
+pub newest_stands : (old new : History) (past : Past) (next : Next) (label : Label) (brought : Brought)
+    → StandsFor old past → fault_of past.kind past.records ≡ None
+    → IsVisibilityOf new.tracker.now (past_with past (operate next))
+    → label ≡ label_of past.records next → brought ≡ brought_by next.by next.op next.clock
+    → new.labels ≡ old.labels → new.witness ≡ old.witness → new.fault ≡ old.fault
+    → IsTakenIn past.records new.taken → vec_len new.taken.clocks ≡ vec_len old.taken.clocks
+    → IsAccepted past (operate next)
+    → HasNewest new past next label brought
+newest_stands old new past next label brought stands none tracker is brings labels witness fault taken places accepted = record {
+  tracker = tracker;
+  causal = stands.causal;
+  labels = labels ∙ stands.labels;
+  witness = rw witness (witness_known old past stands none);
+  taken = taken;
+  places = places ∙ stands.places;
+  fault = fault ∙ stands.fault ∙ none;
+  none = none;
+  accepted = accepted;
+  becomes = is;
+  brings = brings;
+}
+
+-- the history with a label taken back, or room made
+pub stands_same : (old new : History) (past : Past) → StandsFor old past
+    → new.tracker.now ≡ old.tracker.now → new.labels ≡ old.labels
+    → IsWitnessOf IsOrderOf new.witness (before_fault past)
+    → IsTakenIn (records_before_fault past.kind past.records) new.taken → vec_len new.taken.clocks ≡ vec_len old.taken.clocks
+    → new.fault ≡ old.fault → StandsFor new past
+stands_same old new past stands tracker labels witness taken places fault = record {
+  tracker = rw tracker stands.tracker;
+  causal = stands.causal;
+  labels = labels ∙ stands.labels;
+  witness = witness;
+  taken = taken;
+  places = places ∙ stands.places;
+  fault = fault ∙ stands.fault;
+}

@@ -1,0 +1,100 @@
+-- Lists that say the same, and tests that do.
+use Rattle.std.proofs.Common.{◌≡◌, ◌≢◌, ℕ, Bool, List, ◌∷◌, Option, Some, refl, sym, ap, ◌∙◌, subst, inl, inr}
+use Rattle.std.specs.Prelude.{Contains}
+use Rattle.std.proofs.lemmas.Bool.{cases_eq}
+use Rattle.ra_labels.specs.declared.kind.Kind.TheVariants.{Rga}
+use Rattle.ra_labels.specs.declared.label.Stamp.{Stamp}
+use Rattle.ra_labels.specs.declared.command.Command.TheVariants.{Deliver}
+use Rattle.ra_labels.specs.Records.{Records}
+use Rattle.ra_labels.specs.Specification.{State, state_after}
+use Rattle.ra_labels.specs.Laws.{NoneTwice}
+use Rattle.ra_labels.specs.Waiting.{is_there}
+use Rattle.ra_laws.proofs.TheLaws.{settled_labels_stay_settled-delivery, settled_labels_stay_settled-alike, a_later_command_leaves_the_updates_that_pass-delivery}
+use Rattle.ra_element_list.specs.ElementList.{Arrival}
+use Rattle.ra_replica_list.specs.declared.deed.Deed.{Deed}
+use Rattle.ra_replica_list.specs.Waiting.{labels_under}
+use Rattle.ra_replica_list.specs.Deeds.{element_at}
+use Rattle.ra_replica_list.specs.ReplicaList.{ReplicaList, IsGreatestOf, IsListWith, IsListBy}
+use Rattle.ra_replica_list.specs.Freed.{AreAlike}
+
+-- what is kept of a list is kept of an equal one
+pub kept_in : {arrivals : List Arrival} {deeds : List (Option Deed)} {records : Records} {had settled : ℕ → Bool} (list next : ReplicaList) → next ≡ list → IsListWith list.state list.marks list.waiting arrivals deeds records had settled
+    → IsListWith next.state next.marks next.waiting arrivals deeds records had settled
+kept_in {arrivals = arrivals} {deeds = deeds} {records = records} {had = had} {settled = settled} list next is kept =
+    subst (λ (l : ReplicaList). IsListWith l.state l.marks l.waiting arrivals deeds records had settled) (sym is) kept
+
+module _ {arrivals : List Arrival} {deeds : List (Option Deed)} {records : Records} where
+  -- a list that says the same is that of the same labels
+  pub list_alike : {had : ℕ → Bool} (list next : ReplicaList) → AreAlike list next → IsListBy list arrivals deeds records had → IsListBy next arrivals deeds records had
+  list_alike {had = had} list next alike held = record {
+    settled = held.settled;
+    kept = record {
+      settles = held.kept.settles;
+      after = held.kept.after ∙ ap (λ (s : State). Some s) (sym alike.state);
+      there = record {
+        there = λ number known. alike.marks number ∙ held.kept.there.there number known;
+        others = λ number beyond. alike.marks number ∙ held.kept.there.others number beyond;
+      };
+      waiting_labels = record {
+        waits = λ n d d_is was_had fails. subst (λ ls. Contains ls n) (sym (alike.waiting _)) (held.kept.waiting_labels.waits n d d_is was_had fails);
+        only = λ number n found. held.kept.waiting_labels.only number n (subst (λ ls. Contains ls n) (alike.waiting number) found);
+        once = λ number. subst NoneTwice (sym (alike.waiting number)) (held.kept.waiting_labels.once number);
+      };
+    };
+    greatest = subst (IsGreatestOf records had) (sym alike.greatest) held.greatest;
+  }
+
+  -- tests that say the same of what was had
+  pub kept_alike : {state : State} {marks : List Bool} {waiting : List (ℕ × List ℕ)} {had settled : ℕ → Bool} (more : ℕ → Bool) → ((n : ℕ) → had n ≡ more n) → IsListWith state marks waiting arrivals deeds records had settled
+      → IsListWith state marks waiting arrivals deeds records more settled
+  kept_alike {had = had} {settled = settled} more same kept = record {
+    settles = settled_labels_stay_settled-alike records had more settled settled same (λ n. refl) kept.settles;
+    after = kept.after;
+    there = kept.there;
+    waiting_labels = record {
+      waits = λ n d d_is was_had fails. kept.waiting_labels.waits n d d_is (same n ∙ was_had) fails;
+      only = λ number n found.
+          let (d, d_is, d_needs, was_had, waits) = kept.waiting_labels.only number n found in
+          (d, d_is, d_needs, sym (same n) ∙ was_had, waits);
+      once = kept.waiting_labels.once;
+    };
+  }
+
+  -- a delivery leaves what is kept of the same labels
+  pub kept_delivered : {state : State} {marks : List Bool} {waiting : List (ℕ × List ℕ)} {had settled : ℕ → Bool} (to m : ℕ) → IsListWith state marks waiting arrivals deeds records had settled
+      → IsListWith state marks waiting arrivals deeds (Deliver to m ∷ records) had settled
+  kept_delivered {had = had} {settled = settled} to m kept =
+      let same = a_later_command_leaves_the_updates_that_pass-delivery Rga records to m settled in
+      record {
+        settles = settled_labels_stay_settled-delivery records to m had settled kept.settles;
+        after = ap (state_after Rga) same ∙ kept.after;
+        there = record {
+          there = λ number known. kept.there.there number known ∙ ap (is_there (element_at arrivals number)) (sym same);
+          others = kept.there.others;
+        };
+        waiting_labels = record {
+          waits = kept.waiting_labels.waits;
+          only = kept.waiting_labels.only;
+          once = kept.waiting_labels.once;
+        };
+      }
+
+pub greatest_delivered : {records : Records} {greatest : Stamp} {had : ℕ → Bool} (to m : ℕ) → IsGreatestOf records had greatest → IsGreatestOf (Deliver to m ∷ records) had greatest
+greatest_delivered to m top = record { above = top.above; own = top.own }
+
+pub greatest_alike : {records : Records} {greatest : Stamp} {had : ℕ → Bool} (more : ℕ → Bool) → ((n : ℕ) → had n ≡ more n) → IsGreatestOf records had greatest → IsGreatestOf records more greatest
+greatest_alike more same top = record {
+  above = λ l t l_in was_had t_is. top.above l t l_in (same l.number ∙ was_had) t_is;
+  own = elim top.own [
+    | inl none ↦ inl none
+    | inr (l, l_in, was_had, l_is) ↦ inr (l, l_in, sym (same l.number) ∙ was_had, l_is)
+  ];
+}
+
+-- a label that was not added
+pub unadded : (waiting next : List (ℕ × List ℕ)) (number : ℕ) → labels_under next number ≡ labels_under waiting number → ((other : ℕ) → other ≢ number → labels_under next other ≡ labels_under waiting other)
+    → (k : ℕ) → labels_under next k ≡ labels_under waiting k
+unadded waiting next number here others k = elim (cases_eq k number) [
+  | inl is ↦ ap (labels_under next) is ∙ here ∙ sym (ap (labels_under waiting) is)
+  | inr other ↦ others k other
+]

@@ -1,0 +1,192 @@
+-- One label after another follows.
+use Rattle.std.proofs.Common.{◌≡◌, ℕ, ◌+◌, ◌<◌, Bool, true, false, List, [], ◌∷◌, ◌++◌, length, take, drop, get_or, Option, Some, refl, sym, ap, ◌∙◌, subst, inl, inr, arith}
+use Rattle.std.specs.Prelude.{Contains}
+use Rattle.std.proofs.lemmas.Bool.{false≢true, cases_Bool, false_from_ne_true, eqb-true, eq-eqb, or_left, or_right, or_from}
+use Rattle.std.proofs.lemmas.Option.{same_Some}
+use Rattle.std.proofs.lemmas.List.{length-append, take-append-le, drop-append-le, take_more, drop_more}
+use Rattle.std.proofs.lemmas.List.Elements.{Contains-append_left, Contains-append_right, Contains-append_cases, Contains-push_cases}
+use Rattle.ra_labels.specs.declared.kind.Kind.TheVariants.{Rga}
+use Rattle.ra_labels.specs.Records.{Records}
+use Rattle.ra_labels.specs.Specification.{State, state_after}
+use Rattle.ra_labels.specs.Laws.{NoneTwice}
+use Rattle.ra_labels.specs.Insertion.{updates_passing, or_label}
+use Rattle.ra_labels.specs.Waiting.{NoneWaits, OthersWait}
+use Rattle.ra_labels.proofs.Members.{head_or_behind, at_head, behind_head, none_there}
+use Rattle.ra_laws.proofs.TheLaws.{what_is_settled_does_not_wait, one_more_label_puts_its_update_in-count}
+use Rattle.ra_element_list.specs.ElementList.{Arrival, is_marked}
+use Rattle.ra_replica_list.specs.declared.deed.Deed.{Deed}
+use Rattle.ra_replica_list.specs.declared.deed.Deed.TheVariants.{PutsIn, Removes}
+use Rattle.ra_replica_list.specs.Waiting.{labels_under}
+use Rattle.ra_replica_list.specs.Deeds.{deed_at, needed_number, update_of, AreDeedsOf}
+use Rattle.ra_replica_list.specs.ReplicaList.{AreThere, AreWaiting, IsListWith}
+use Rattle.ra_replica_list.specs.Freed.{puts, IsFreeing}
+use Rattle.ra_replica_list.proofs.NoneTwice.{none_twice-append, none_twice-one, not_both, it_passes, still_passes, others_pass, passes_or_is, not_before, not_it}
+use Rattle.ra_replica_list.proofs.Deeds.{needed_marked, marked_label, AreMarksWith, there_with}
+use Rattle.ra_replica_list.proofs.SingleSteps.{none_waits_with}
+
+module _ {arrivals : List Arrival} {deeds : List (Option Deed)} {records : Records} where
+  -- what a label needs that waits is not marked
+  pub unmarked : {marks : List Bool} {passes : ℕ → Bool} (had : ℕ → Bool) → AreDeedsOf arrivals deeds records → AreThere marks arrivals records passes → OthersWait records had passes → (n : ℕ) (deed : Deed) → deed_at deeds n ≡ Some deed
+      → had n ≡ true → passes n ≡ false → is_marked marks (needed_number arrivals deed) ≡ false
+  unmarked {passes = passes} had stand there others n deed is was_had waits =
+      let (l, l_in, l_num, l_makes) = stand.makes n deed is in
+      sym (needed_marked stand there n deed is) ∙ others l (update_of arrivals deed) l_in l_makes (ap had l_num ∙ was_had) (ap passes l_num ∙ waits)
+
+  pub marked : {marks : List Bool} {passes : ℕ → Bool} → AreDeedsOf arrivals deeds records → AreThere marks arrivals records passes → NoneWaits records passes → (n : ℕ) (deed : Deed) → deed_at deeds n ≡ Some deed
+      → passes n ≡ true → is_marked marks (needed_number arrivals deed) ≡ true
+  marked {passes = passes} stand there none n deed is passes_it =
+      let (l, l_in, l_num, l_makes) = stand.makes n deed is in
+      sym (needed_marked stand there n deed is) ∙ none l (update_of arrivals deed) l_in l_makes (ap passes l_num ∙ passes_it)
+
+  -- the first label may follow
+  pub first_freed : {state : State} {marks : List Bool} {waiting : List (ℕ × List ℕ)} {had settled : ℕ → Bool} (label : ℕ) (deed : Deed) → AreDeedsOf arrivals deeds records
+      → IsListWith state marks waiting arrivals deeds records had settled → deed_at deeds label ≡ Some deed → had label ≡ false → is_marked marks (needed_number arrivals deed) ≡ true
+      → IsFreeing state marks (label ∷ []) 0 arrivals deeds records had settled label
+  first_freed {had = had} {settled = settled} label deed stand kept is new needs =
+      let (had_them, none, others) = (what_is_settled_does_not_wait records had settled).0 kept.settles in
+      let not_settled : settled label ≡ false = false_from_ne_true (settled label) (λ it. not_both (had label) new (had_them label it)) in
+      record {
+        passes = settled;
+        had_them = λ n passes. still_passes had label n (had_them n passes);
+        none_waits = none;
+        after = kept.after;
+        there = kept.there;
+        older = λ n passes. passes;
+        only = λ n passes. inl passes;
+        gone = λ n found. absurd (none_there n found);
+        next = λ n found. elim (head_or_behind label [] n found) [
+          | inl here ↦ (deed, sym (ap (deed_at deeds) here) ∙ is, it_passes had label n (sym here), sym (ap settled here) ∙ not_settled, needs)
+          | inr none_behind ↦ absurd (none_there n none_behind)
+        ];
+        others = λ n d d_is was_had fails. inl (unmarked had stand kept.there others n d d_is was_had fails);
+        itself = inr (at_head label [] label refl);
+        once = none_twice-one label;
+        count = omega arith;
+        among = omega arith;
+      }
+
+  -- what a label that follows puts in was not there
+  pub unmarked_put : {marks : List Bool} {passes : ℕ → Bool} → AreDeedsOf arrivals deeds records → AreThere marks arrivals records passes → (label : ℕ) (deed : Deed) → deed_at deeds label ≡ Some deed → passes label ≡ false
+      → (number : ℕ) → puts number deed ≡ true → is_marked marks number ≡ false
+  unmarked_put {marks = marks} stand there label (PutsIn k) is new number puts_it =
+      ap (is_marked marks) (eqb-true number k puts_it) ∙ marked_label stand there label k is ∙ new
+  unmarked_put stand there label (Removes k) is new number puts_it = absurd (false≢true puts_it)
+
+-- those that the label frees: each that waits for what it puts in
+pub record AreFreedBy (arrivals : List Arrival) (deeds : List (Option Deed)) (had settled : ℕ → Bool) (deed : Deed) (more : List ℕ) : Type 0 where
+  pub only : (n : ℕ) → Contains more n → (d : Deed) × (deed_at deeds n ≡ Some d) × (had n ≡ true) × (settled n ≡ false) × (puts (needed_number arrivals d) deed ≡ true)
+  pub all : (n : ℕ) (d : Deed) → deed_at deeds n ≡ Some d → had n ≡ true → settled n ≡ false → puts (needed_number arrivals d) deed ≡ true → Contains more n
+  pub once : NoneTwice more
+
+pub freed_by : {arrivals : List Arrival} {deeds : List (Option Deed)} {records : Records} {had settled : ℕ → Bool} (waiting : List (ℕ × List ℕ)) → AreWaiting (labels_under waiting) arrivals deeds records had settled → (number : ℕ)
+    → AreFreedBy arrivals deeds had settled (PutsIn number) (labels_under waiting number)
+freed_by {arrivals = arrivals} waiting wait number = record {
+  only = λ n found.
+      let (d, d_is, d_needs, was_had, waits) = wait.only number n found in
+      (d, d_is, was_had, waits, eq-eqb (needed_number arrivals d) number d_needs);
+  all = λ n d d_is was_had waits puts_it. subst (λ (k : ℕ). Contains (labels_under waiting k) n) (eqb-true (needed_number arrivals d) number puts_it) (wait.waits n d d_is was_had waits);
+  once = wait.once number;
+}
+
+pub none_freed : {arrivals : List Arrival} {deeds : List (Option Deed)} {had settled : ℕ → Bool} (number : ℕ) → AreFreedBy arrivals deeds had settled (Removes number) []
+none_freed number = record {
+  only = λ n found. absurd (none_there n found);
+  all = λ n d d_is was_had waits puts_it. absurd (false≢true puts_it);
+  once = tt;
+}
+
+-- the next label
+pub drop_now : (labels : List ℕ) (done label : ℕ) → done < length labels → get_or labels done 0 ≡ label → drop done labels ≡ label ∷ drop (done + 1) labels
+drop_now labels done label within is = drop_more labels done 0 within ∙ ap (λ (n : ℕ). n ∷ drop (done + 1) labels) is
+
+take_next : (labels more : List ℕ) (done label : ℕ) → done < length labels → get_or labels done 0 ≡ label → take (done + 1) (labels ++ more) ≡ take done labels ++ label ∷ []
+take_next labels more done label within is =
+    take-append-le (done + 1) labels more (omega (arith, within)) ∙ take_more labels done 0 within ∙ ap (λ (n : ℕ). take done labels ++ n ∷ []) is
+
+drop_next : (labels more : List ℕ) (done : ℕ) → done < length labels → drop (done + 1) (labels ++ more) ≡ drop (done + 1) labels ++ more
+drop_next labels more done within = drop-append-le (done + 1) labels more (omega (arith, within))
+
+module _ {arrivals : List Arrival} {deeds : List (Option Deed)} {records : Records} {state : State} {marks : List Bool} {labels : List ℕ} {done : ℕ} {had settled : ℕ → Bool} {first : ℕ} where
+  pub follows : (next : State) (next_marks : List Bool) (more : List ℕ) (label : ℕ) (deed : Deed) → AreDeedsOf arrivals deeds records
+      → (free : IsFreeing state marks labels done arrivals deeds records had settled first) → done < length labels → get_or labels done 0 ≡ label → deed_at deeds label ≡ Some deed
+      → state_after Rga (updates_passing Rga records (or_label free.passes label)) ≡ Some next → AreMarksWith marks next_marks deed → AreFreedBy arrivals deeds had settled deed more
+      → IsFreeing next next_marks (labels ++ more) (done + 1) arrivals deeds records had settled first
+  follows next next_marks more label deed stand free within here is after with_it freed =
+      let passes = free.passes in
+      let rest = drop (done + 1) labels in
+      let now = drop_now labels done label within here in
+      let took = take_next labels more done label within here in
+      let left = drop_next labels more done within in
+      let at : Contains (drop done labels) label = subst (λ ls. Contains ls label) (sym now) (at_head label rest label refl) in
+      let behind : (n : ℕ) → Contains rest n → Contains (drop done labels) n = λ n found. subst (λ ls. Contains ls n) (sym now) (behind_head label rest n found) in
+      let (its, its_is, its_had, its_new, its_needs) = free.next label at in
+      let same : its ≡ deed = same_Some its deed (sym its_is ∙ is) in
+      let needs : is_marked marks (needed_number arrivals deed) ≡ true = ap (λ (d : Deed). is_marked marks (needed_number arrivals d)) (sym same) ∙ its_needs in
+      let alone = subst NoneTwice now free.once in
+      let not_behind : (n : ℕ) → Contains rest n → ¬ (n ≡ label) = λ n found it. alone.0 (subst (Contains rest) it found) in
+      let fresh : (n : ℕ) (d : Deed) → deed_at deeds n ≡ Some d → puts (needed_number arrivals d) deed ≡ true → is_marked marks (needed_number arrivals d) ≡ false =
+      λ n d d_is puts_it. unmarked_put stand free.there label deed is its_new (needed_number arrivals d) puts_it in
+      let not_freed : (n : ℕ) (d : Deed) → deed_at deeds n ≡ Some d → puts (needed_number arrivals d) deed ≡ true → ¬ (n ≡ label) = λ n d d_is puts_it it.
+      let d_same : deed ≡ d = same_Some deed d (sym is ∙ sym (ap (deed_at deeds) it) ∙ d_is) in
+      not_both (is_marked marks (needed_number arrivals d)) (fresh n d d_is puts_it) (ap (λ (e : Deed). is_marked marks (needed_number arrivals e)) (sym d_same) ∙ needs) in
+      let (l, l_in, l_num, l_makes) = stand.makes label deed is in
+      let counted = subst (λ (k : ℕ). length (updates_passing Rga records (or_label passes k)) ≡ length (updates_passing Rga records passes) + 1) l_num
+      (one_more_label_puts_its_update_in-count Rga records passes l (update_of arrivals deed) l_in l_makes (ap passes l_num ∙ its_new)) in
+      record {
+        passes = or_label passes label;
+        had_them = λ n it. elim (passes_or_is passes label n it) [
+          | inl old ↦ free.had_them n old
+          | inr is_it ↦ ap (or_label had first) is_it ∙ its_had
+        ];
+        none_waits = none_waits_with stand free.none_waits free.there label deed is its_new needs;
+        after = after;
+        there = there_with stand free.there label deed is its_new with_it;
+        older = λ n it. still_passes passes label n (free.older n it);
+        only = λ n it. elim (passes_or_is passes label n it) [
+          | inl old ↦ elim (free.only n old) [
+            | inl settled_it ↦ inl settled_it
+            | inr found ↦ inr (subst (λ ls. Contains ls n) (sym took) (Contains-append_left (take done labels) (label ∷ []) n found))
+          ]
+          | inr is_it ↦ inr (subst (λ ls. Contains ls n) (sym took) (Contains-append_right (take done labels) (label ∷ []) n (at_head label [] n (sym is_it))))
+        ];
+        gone = λ n found. elim (Contains-push_cases (take done labels) label n (subst (λ ls. Contains ls n) took found)) [
+          | inl old ↦ still_passes passes label n (free.gone n old)
+          | inr it ↦ it_passes passes label n (sym it)
+        ];
+        next = λ n found. elim (Contains-append_cases rest more n (subst (λ ls. Contains ls n) left found)) [
+          | inl old ↦
+              let (d, d_is, d_had, d_new, d_needs) = free.next n (behind n old) in
+              (d, d_is, d_had, others_pass passes label n (not_behind n old) ∙ d_new, with_it (needed_number arrivals d) ∙ or_left (is_marked marks (needed_number arrivals d)) (puts (needed_number arrivals d) deed) d_needs)
+          | inr it ↦
+              let (d, d_is, n_had, n_waits, d_puts) = freed.only n it in
+              let not_yet : passes n ≡ false = false_from_ne_true (passes n) (λ passes_it.
+              not_both (is_marked marks (needed_number arrivals d)) (fresh n d d_is d_puts) (marked stand free.there free.none_waits n d d_is passes_it)) in
+              (d, d_is, still_passes had first n n_had, others_pass passes label n (not_freed n d d_is d_puts) ∙ not_yet, with_it (needed_number arrivals d) ∙ or_right (is_marked marks (needed_number arrivals d)) (puts (needed_number arrivals d) deed) d_puts)
+        ];
+        others = λ n d d_is was_had fails. elim (cases_Bool (puts (needed_number arrivals d) deed)) [
+          | inl puts_it ↦
+              let waits : settled n ≡ false = false_from_ne_true (settled n) (λ it. not_both (passes n) (not_before passes label n fails) (free.older n it)) in
+              inr (subst (λ ls. Contains ls n) (sym left) (Contains-append_right rest more n (freed.all n d d_is was_had waits puts_it)))
+          | inr other ↦ elim (free.others n d d_is was_had (not_before passes label n fails)) [
+            | inl missing ↦ inl (with_it (needed_number arrivals d) ∙ or_from (is_marked marks (needed_number arrivals d)) (puts (needed_number arrivals d) deed) missing other)
+            | inr found ↦ elim (head_or_behind label rest n (subst (λ ls. Contains ls n) now found)) [
+              | inl it ↦ absurd (not_it passes label n fails (sym it))
+              | inr further ↦ inr (subst (λ ls. Contains ls n) (sym left) (Contains-append_left rest more n further))
+            ]
+          ]
+        ];
+        itself = elim free.itself [
+          | inl passes_it ↦ inl (still_passes passes label first passes_it)
+          | inr found ↦ elim (head_or_behind label rest first (subst (λ ls. Contains ls first) now found)) [
+            | inl it ↦ inl (it_passes passes label first (sym it))
+            | inr further ↦ inr (subst (λ ls. Contains ls first) (sym left) (Contains-append_left rest more first further))
+          ]
+        ];
+        once = subst NoneTwice (sym left) (none_twice-append rest more alone.1 freed.once (λ n old it.
+            let (d, d_is, d_had, d_new, d_needs) = free.next n (behind n old) in
+            let (e, e_is, e_had, e_waits, e_puts) = freed.only n it in
+            let e_same : d ≡ e = same_Some d e (sym d_is ∙ e_is) in
+            not_both (is_marked marks (needed_number arrivals e)) (fresh n e e_is e_puts) (ap (λ (x : Deed). is_marked marks (needed_number arrivals x)) (sym e_same) ∙ d_needs)));
+        count = omega (arith, counted, free.count);
+        among = omega (arith, within, length-append labels more);
+      }

@@ -1,0 +1,183 @@
+-- When all labels have followed.
+use Rattle.std.proofs.Common.{◌≡◌, ℕ, ◌<◌, ◌≤◌, Bool, true, false, cond, List, [], ◌∷◌, ◌++◌, filter, map, length, take, drop, Option, Some, None, refl, sym, ap, ◌∙◌, subst, inl, inr, arith}
+use Rattle.std.specs.Prelude.{Contains, flat_map}
+use Rattle.std.specs.Option.{option_map_or}
+use Rattle.std.specs.List.{list_any}
+use Rattle.std.proofs.lemmas.Bool.{false≢true, cases_Bool, cases_eq, false_from_ne_true, eqb-true, eq-eqb, cond-true, cond-false, or_left, or_right, or_cases}
+use Rattle.std.proofs.lemmas.List.{length-append}
+use Rattle.std.proofs.lemmas.List.Elements.{filter-append, filter_map-append}
+use Rattle.std.proofs.lemmas.List.Sorted.{length_permutation}
+use Rattle.std.proofs.Math.Seq.{take-length}
+use Rattle.std.proofs.Math.ListN.{drop_of_length-le}
+use Rattle.ra_labels.specs.declared.kind.Kind.TheVariants.{Rga}
+use Rattle.ra_labels.specs.declared.operation.Op.{Op}
+use Rattle.ra_labels.specs.declared.operation.Op.TheVariants as op
+use Rattle.ra_labels.specs.declared.operation.Update.{Update}
+use Rattle.ra_labels.specs.declared.operation.Query.{Query}
+use Rattle.ra_labels.specs.declared.label.Label.{Label}
+use Rattle.ra_labels.specs.Records.{Records, labels_of}
+use Rattle.ra_labels.specs.Rewriting.{Part, Half, Act, Does, Asks, acts_of, part_of, parts_of, update_of as act_update, updates_of}
+use Rattle.ra_labels.specs.Specification.{State}
+use Rattle.ra_labels.specs.NamedOrder.{named_labels}
+use Rattle.ra_labels.specs.Laws.{NoneTwice}
+use Rattle.ra_labels.specs.Insertion.{updates_among, updates_passing, or_label}
+use Rattle.ra_labels.specs.Waiting.{is_there, needed_by}
+use Rattle.ra_labels.proofs.Members.{head_or_behind, at_head, behind_head, none_there}
+use Rattle.ra_labels.proofs.Counted.{labels_counted}
+use Rattle.ra_laws.proofs.TheLaws.{what_is_settled_does_not_wait, named_labels_are_sorted-same}
+use Rattle.ra_element_list.specs.ElementList.{ElementList, is_marked}
+use Rattle.ra_replica_list.specs.declared.deed.Deed.{Deed}
+use Rattle.ra_replica_list.specs.declared.deed.Deed.TheVariants.{PutsIn, Removes}
+use Rattle.ra_replica_list.specs.Waiting.{labels_under}
+use Rattle.ra_replica_list.specs.Deeds.{deed_at, needed_number, AreElementsOf}
+use Rattle.ra_replica_list.specs.ReplicaList.{IsListWith}
+use Rattle.ra_replica_list.specs.Freed.{puts, is_put_by, freed_under, IsFreeing, IsListWithAfter}
+use Rattle.ra_replica_list.proofs.NoneTwice.{not_both, still_passes, others_pass}
+use Rattle.ra_replica_list.proofs.Deeds.{deeds_stand, needed_marked, needed_known, marked_label, root_marked}
+use Rattle.ra_replica_list.proofs.FreedLabels.{unmarked, marked}
+
+-- one of the labels passes a test
+one_passes : (p : ℕ → Bool) (xs : List ℕ) → list_any p xs ≡ true → (x : ℕ) × Contains xs x × (p x ≡ true)
+one_passes p [] none = absurd (false≢true none)
+one_passes p (x ∷ xs) some = elim (or_cases (p x) (list_any p xs) some) [
+  | inl here ↦ (x, at_head x xs x refl, here)
+  | inr further ↦ let rest = one_passes p xs further in (rest.0, behind_head x xs rest.0 rest.1, rest.2)
+]
+
+passes_one : (p : ℕ → Bool) (xs : List ℕ) (x : ℕ) → Contains xs x → p x ≡ true → list_any p xs ≡ true
+passes_one p [] x there is = absurd (none_there x there)
+passes_one p (y ∷ xs) x there is = elim (head_or_behind y xs x there) [
+  | inl here ↦ or_left (p y) (list_any p xs) (ap p here ∙ is)
+  | inr further ↦ or_right (p y) (list_any p xs) (passes_one p xs x further is)
+]
+
+-- a deed that puts the element in
+puts_at : (o : Option Deed) (number : ℕ) → option_map_or (puts number) o false ≡ true → o ≡ Some (PutsIn number)
+puts_at None number is = absurd (false≢true is)
+puts_at (Some (PutsIn k)) number is = ap (λ (n : ℕ). Some (PutsIn n)) (sym (eqb-true number k is))
+puts_at (Some (Removes k)) number is = absurd (false≢true is)
+
+at_puts : (o : Option Deed) (number : ℕ) → o ≡ Some (PutsIn number) → option_map_or (puts number) o false ≡ true
+at_puts o number is = ap (λ (d : Option Deed). option_map_or (puts number) d false) is ∙ eq-eqb number number refl
+
+module _ {all : ElementList} {deeds : List (Option Deed)} {records : Records} {old_state : State} {old_marks : List Bool} {waiting : List (ℕ × List ℕ)} {had settled : ℕ → Bool} {state : State} {marks : List Bool} {labels : List ℕ} {first : ℕ} where
+  pub all_follow : (left : List (ℕ × List ℕ)) → AreElementsOf all deeds records → IsListWith old_state old_marks waiting all.arrivals deeds records had settled
+      → IsFreeing state marks labels (length labels) all.arrivals deeds records had settled first → ((number : ℕ) → labels_under left number ≡ freed_under deeds labels (labels_under waiting) number)
+      → IsListWithAfter state marks left all.arrivals deeds records had settled first (length labels)
+  all_follow left stands kept free says =
+      let stand = deeds_stand stands in
+      let passes = free.passes in
+      let none_left : drop (length labels) labels ≡ [] = drop_of_length-le labels (omega arith) in
+      let taken : take (length labels) labels ≡ labels = take-length labels in
+      let nothing : (n : ℕ) → ¬ Contains (drop (length labels) labels) n = λ n found. none_there n (subst (λ ls. Contains ls n) none_left found) in
+      let first_passes : passes first ≡ true = elim free.itself [
+        | inl it ↦ it
+        | inr found ↦ absurd (nothing first found)
+      ] in
+      let not_first : (n : ℕ) → passes n ≡ false → ¬ (n ≡ first) = λ n fails it. not_both (passes n) fails (ap passes it ∙ first_passes) in
+      let was_had : (n : ℕ) → or_label had first n ≡ true → passes n ≡ false → had n ≡ true = λ n had_it fails. sym (others_pass had first n (not_first n fails)) ∙ had_it in
+      let missing : (n : ℕ) (d : Deed) → deed_at deeds n ≡ Some d → or_label had first n ≡ true → passes n ≡ false → is_marked marks (needed_number all.arrivals d) ≡ false =
+      λ n d d_is had_it fails. elim (free.others n d d_is (was_had n had_it fails) fails) [
+        | inl it ↦ it
+        | inr found ↦ absurd (nothing n found)
+      ] in
+      let waited : (n : ℕ) → passes n ≡ false → settled n ≡ false = λ n fails. false_from_ne_true (settled n) (λ it. not_both (passes n) fails (free.older n it)) in
+      let freed : (number : ℕ) → is_put_by deeds labels number ≡ true → is_marked marks number ≡ true = λ number is.
+      let (m, found, puts_it) = one_passes (λ label. option_map_or (puts number) (deed_at deeds label) false) labels is in
+      marked_label stand free.there m number (puts_at (deed_at deeds m) number puts_it) ∙ free.gone m (subst (λ ls. Contains ls m) (sym taken) found) in
+      record {
+        settled = passes;
+        kept = record {
+          settles = (what_is_settled_does_not_wait records (or_label had first) passes).1 (
+            free.had_them,
+            free.none_waits,
+            (λ l u l_in makes had_it fails.
+                let (d, d_is, d_does) = stand.made l u l_in makes in
+                ap (λ (v : Update). is_there (needed_by v) (updates_passing Rga records passes)) (sym d_does) ∙ needed_marked stand free.there l.number d d_is ∙ missing l.number d d_is had_it fails),
+          );
+          after = free.after;
+          there = free.there;
+          waiting_labels = record {
+            waits = λ n d d_is had_it fails.
+                let number = needed_number all.arrivals d in
+                let not_freed : is_put_by deeds labels number ≡ false = false_from_ne_true (is_put_by deeds labels number) (λ is. not_both (is_marked marks number) (missing n d d_is had_it fails) (freed number is)) in
+                subst (λ ls. Contains ls n) (sym (says number ∙ cond-false (is_put_by deeds labels number) [] (labels_under waiting number) not_freed))
+                (kept.waiting_labels.waits n d d_is (was_had n had_it fails) (waited n fails));
+            only = λ number n found. elim (cases_Bool (is_put_by deeds labels number)) [
+              | inl is ↦ absurd (none_there n (subst (λ ls. Contains ls n) (says number ∙ cond-true (is_put_by deeds labels number) [] (labels_under waiting number) is) found))
+              | inr not ↦
+                  let (d, d_is, d_needs, n_had, n_waits) = kept.waiting_labels.only number n (subst (λ ls. Contains ls n) (says number ∙ cond-false (is_put_by deeds labels number) [] (labels_under waiting number) not) found) in
+                  let old_missing : is_marked old_marks number ≡ false =
+                  ap (is_marked old_marks) (sym d_needs) ∙ unmarked had stand kept.there ((what_is_settled_does_not_wait records had settled).0 kept.settles).2 n d d_is n_had n_waits in
+                  let not_root : 0 < number = elim (cases_eq number 0) [
+                    | inl it ↦ absurd (not_both (is_marked old_marks number) old_missing (ap (is_marked old_marks) it ∙ root_marked stands kept.there))
+                    | inr other ↦ omega (arith, other)
+                  ] in
+                  let known : number < length all.arrivals = subst (λ (k : ℕ). k < length all.arrivals) d_needs (needed_known stand n d d_is) in
+                  let (m, m_is) = stands.came number not_root known in
+                  let not_yet : passes n ≡ false = false_from_ne_true (passes n) (λ passes_it.
+                  let m_passes : passes m ≡ true = sym (marked_label stand free.there m number m_is) ∙ ap (is_marked marks) (sym d_needs) ∙ marked stand free.there free.none_waits n d d_is passes_it in
+                  elim (free.only m m_passes) [
+                    | inl m_settled ↦ not_both (is_marked old_marks number) old_missing (marked_label stand kept.there m number m_is ∙ m_settled)
+                    | inr m_found ↦ not_both (is_put_by deeds labels number) not
+                        (passes_one (λ label. option_map_or (puts number) (deed_at deeds label) false) labels m (subst (λ ls. Contains ls m) taken m_found) (at_puts (deed_at deeds m) number m_is))
+                  ]) in
+                  (d, d_is, d_needs, still_passes had first n n_had, not_yet)
+            ];
+            once = λ number. elim (cases_Bool (is_put_by deeds labels number)) [
+              | inl is ↦ subst NoneTwice (sym (says number ∙ cond-true (is_put_by deeds labels number) [] (labels_under waiting number) is)) tt
+              | inr not ↦ subst NoneTwice (sym (says number ∙ cond-false (is_put_by deeds labels number) [] (labels_under waiting number) not)) (kept.waiting_labels.once number)
+            ];
+          };
+        };
+        count = free.count;
+      }
+
+-- there are no more updates than labels
+one_act : (b : Bool) (label : Label) (half : Half) (act : Act) → length (updates_of (cond b (part_of label (half, act) ∷ []) [])) ≤ 1
+one_act true label half (Does u) = omega arith
+one_act true label half (Asks q) = omega arith
+one_act false label half act = omega arith
+
+two_acts : (b : Bool) (label : Label) (half other : Half) (u : Update) (q : Query)
+    → length (updates_of (cond b (part_of label (half, Asks q) ∷ cond b (part_of label (other, Does u) ∷ []) []) (cond b (part_of label (other, Does u) ∷ []) []))) ≤ 1
+two_acts true label half other u q = omega arith
+two_acts false label half other u q = omega arith
+
+few_acts : (passes : ℕ → Bool) (label : Label) (o : Op) → length (updates_of (filter (λ (p : Part). passes p.label.number) (map (part_of label) (acts_of o)))) ≤ 1
+few_acts passes label op.Inc = one_act (passes label.number) label _ _
+few_acts passes label op.Dec = one_act (passes label.number) label _ _
+few_acts passes label (op.Count v) = one_act (passes label.number) label _ _
+few_acts passes label (op.Write v) = one_act (passes label.number) label _ _
+few_acts passes label (op.Last v) = one_act (passes label.number) label _ _
+few_acts passes label (op.LwwAdd x) = one_act (passes label.number) label _ _
+few_acts passes label (op.LwwRemove x) = one_act (passes label.number) label _ _
+few_acts passes label (op.LwwRead xs) = one_act (passes label.number) label _ _
+few_acts passes label (op.OrAdd x id) = one_act (passes label.number) label _ _
+few_acts passes label (op.OrRemove x ids) = two_acts (passes label.number) label _ _ _ _
+few_acts passes label (op.OrRead xs) = one_act (passes label.number) label _ _
+few_acts passes label (op.After anchor x) = one_act (passes label.number) label _ _
+few_acts passes label (op.RgaRemove x) = one_act (passes label.number) label _ _
+few_acts passes label (op.RgaRead xs) = one_act (passes label.number) label _ _
+
+few_updates : (passes : ℕ → Bool) (labels : List Label) → length (updates_among passes labels) ≤ length labels
+few_updates passes [] = omega arith
+few_updates passes (label ∷ labels) =
+    let test = λ (p : Part). passes p.label.number in
+    let own = updates_of (filter test (parts_of label)) in
+    let split : updates_among passes (label ∷ labels) ≡ own ++ updates_among passes labels =
+    ap updates_of (filter-append test (parts_of label) (flat_map parts_of labels))
+    ∙ filter_map-append (λ (p : Part). act_update p.act) (filter test (parts_of label)) (filter test (flat_map parts_of labels)) in
+    omega (arith, few_acts passes label label.op, few_updates passes labels, ap length split, length-append own (updates_among passes labels))
+
+-- so no more labels follow than there are
+pub not_many : {all : ElementList} {deeds : List (Option Deed)} {records : Records} {state : State} {marks : List Bool} {labels : List ℕ} {done : ℕ} {had settled : ℕ → Bool} {first : ℕ} → AreElementsOf all deeds records
+    → IsFreeing state marks labels done all.arrivals deeds records had settled first → done ≤ length deeds
+not_many {records = records} stand free = omega (
+  arith,
+  free.count,
+  few_updates free.passes (named_labels Rga records),
+  length_permutation (labels_of records) (named_labels Rga records) (named_labels_are_sorted-same Rga records),
+  labels_counted records,
+  stand.count,
+)

@@ -1,0 +1,69 @@
+-- What later labels and deliveries leave of the list of a replica.
+use Rattle.std.proofs.Common.{◌≡◌, ℕ, Bool, true, false, List, [], ◌∷◌, ◌++◌, length, Option, Some, None, refl}
+use Rattle.ra_labels.specs.declared.kind.Kind.TheVariants.{Rga}
+use Rattle.ra_labels.specs.declared.operation.Op.{Op}
+use Rattle.ra_labels.specs.declared.operation.Update.TheVariants.{After}
+use Rattle.ra_labels.specs.declared.command.Command.TheVariants.{Operate, Deliver}
+use Rattle.ra_labels.specs.Records.{Records, label_count}
+use Rattle.ra_labels.specs.Visibility.{is_update, had}
+use Rattle.ra_labels.specs.Linearization.{updates_admitted}
+use Rattle.ra_labels.specs.NamedOrder.{named_sequence}
+use Rattle.ra_labels.specs.Insertion.{Makes}
+use Rattle.ra_element_list.specs.ElementList.{Arrival, ElementList}
+use Rattle.ra_replica_list.specs.declared.deed.Deed.{Deed}
+use Rattle.ra_replica_list.specs.declared.deed.Deed.TheVariants.{PutsIn, Removes}
+use Rattle.ra_replica_list.specs.Deeds.{element_at, AreElementsOf}
+use Rattle.ra_replica_list.specs.ReplicaList.{ReplicaList, IsListOf, IsListBy}
+use Rattle.ra_replica_list.proofs.Deeds.{deeds_stand}
+use Rattle.ra_replica_list.proofs.AlikeLists.{kept_alike, kept_delivered, greatest_alike, greatest_delivered}
+use Rattle.ra_replica_list.proofs.TakenLabels.{not_settled}
+use Rattle.ra_replica_list.proofs.NewMarks.{not_had, had_by_other, had_no_query, had_to_other, none_longer, kept_known, greatest_known}
+use Rattle.ra_replica_list.proofs.NewDeeds.{needed_same, first_same, longer_by_one}
+
+-- with a label that was not had: it puts in an element, or does something else
+module _ {list : ReplicaList} {all : ElementList} {deeds : List (Option Deed)} {records : Records} (by : ℕ) (op : Op) (clock : Option ℕ) {test : ℕ → Bool} where
+  pub known_insertion : (new : Arrival) (d : Option Deed) (more : ℕ → Bool) → AreElementsOf all deeds records → IsListBy list all.arrivals deeds records test → test (label_count records) ≡ false
+      → Makes op (After (element_at all.arrivals new.anchor) new.element) → updates_admitted Rga (named_sequence Rga (Operate by op clock ∷ records)) ≡ true → ((n : ℕ) → test n ≡ more n)
+      → IsListBy list (all.arrivals ++ new ∷ []) (deeds ++ d ∷ []) (Operate by op clock ∷ records) more
+  known_insertion new d more stand held fresh makes admitted same = record {
+    settled = held.settled;
+    kept = kept_alike more same (kept_known (all.arrivals ++ new ∷ []) d by op clock held.kept fresh stand.count
+        (longer_by_one all.arrivals new by op clock (element_at all.arrivals new.anchor) admitted makes (not_settled held.kept (label_count records) fresh))
+        (needed_same (all.arrivals ++ new ∷ []) (deeds_stand stand) (first_same all.arrivals new)));
+    greatest = greatest_alike more same (greatest_known by op clock held.greatest fresh);
+  }
+
+  pub known_other : (d : Option Deed) (more : ℕ → Bool) → AreElementsOf all deeds records → IsListBy list all.arrivals deeds records test → test (label_count records) ≡ false → ((n : ℕ) → test n ≡ more n)
+      → IsListBy list all.arrivals (deeds ++ d ∷ []) (Operate by op clock ∷ records) more
+  known_other d more stand held fresh same = record {
+    settled = held.settled;
+    kept = kept_alike more same (kept_known all.arrivals d by op clock held.kept fresh stand.count
+        (none_longer all.arrivals (Operate by op clock ∷ records) held.settled) (λ n deed is. refl));
+    greatest = greatest_alike more same (greatest_known by op clock held.greatest fresh);
+  }
+
+pub insertion-stays : (list : ReplicaList) (all : ElementList) (new : Arrival) (deeds : List (Option Deed)) (records : Records) (replica by : ℕ) (op : Op) (clock : Option ℕ) → AreElementsOf all deeds records → IsListOf list all.arrivals deeds records replica
+    → ¬ (by ≡ replica) → Makes op (After (element_at all.arrivals new.anchor) new.element) → updates_admitted Rga (named_sequence Rga (Operate by op clock ∷ records)) ≡ true
+    → IsListOf list (all.arrivals ++ new ∷ []) (deeds ++ Some (PutsIn (length all.arrivals)) ∷ []) (Operate by op clock ∷ records) replica
+insertion-stays list all new deeds records replica by op clock stand held other makes admitted =
+    known_insertion by op clock new (Some (PutsIn (length all.arrivals))) (had (Operate by op clock ∷ records) replica) stand held (not_had records replica) makes admitted (had_by_other records by op clock replica other)
+
+pub removal-stays : (list : ReplicaList) (all : ElementList) (deeds : List (Option Deed)) (records : Records) (replica by number : ℕ) (op : Op) (clock : Option ℕ) → AreElementsOf all deeds records → IsListOf list all.arrivals deeds records replica
+    → ¬ (by ≡ replica) → IsListOf list all.arrivals (deeds ++ Some (Removes number) ∷ []) (Operate by op clock ∷ records) replica
+removal-stays list all deeds records replica by number op clock stand held other =
+    known_other by op clock (Some (Removes number)) (had (Operate by op clock ∷ records) replica) stand held (not_had records replica) (had_by_other records by op clock replica other)
+
+pub query-stays : (list : ReplicaList) (all : ElementList) (deeds : List (Option Deed)) (records : Records) (replica by : ℕ) (op : Op) (clock : Option ℕ) → AreElementsOf all deeds records → IsListOf list all.arrivals deeds records replica
+    → is_update op ≡ false → IsListOf list all.arrivals (deeds ++ None ∷ []) (Operate by op clock ∷ records) replica
+query-stays list all deeds records replica by op clock stand held query =
+    known_other by op clock None (had (Operate by op clock ∷ records) replica) stand held (not_had records replica) (had_no_query records by op clock replica query)
+
+pub delivery-stays : (list : ReplicaList) (all : ElementList) (deeds : List (Option Deed)) (records : Records) (replica to n : ℕ) → AreElementsOf all deeds records → IsListOf list all.arrivals deeds records replica → ¬ (to ≡ replica)
+    → IsListOf list all.arrivals deeds (Deliver to n ∷ records) replica
+delivery-stays list all deeds records replica to n stand held other =
+    let same = had_to_other records to n replica other in
+    record {
+      settled = held.settled;
+      kept = kept_alike (had (Deliver to n ∷ records) replica) same (kept_delivered to n held.kept);
+      greatest = greatest_alike (had (Deliver to n ∷ records) replica) same (greatest_delivered to n held.greatest);
+    }

@@ -1,0 +1,308 @@
+-- The state of a register or an LWW set, once the update that counts is made.
+use Rattle.std.proofs.Common.{◌≡◌, ℕ, ◌<◌, true, false, List, ◌∷◌, ◌++◌, length, Option, Some, None, refl, sym, ap, ◌∙◌, subst, inl, inr, arith}
+use Rattle.std.specs.Prelude.{◌⊎◌, Contains, is_some}
+use Rattle.std.proofs.lemmas.Bool.{cases_Bool, and_parts, and_from, false≢true, eqb-true, eq-eqb}
+use Rattle.std.proofs.lemmas.Option.{same_Some, none-some}
+use Rattle.std.proofs.lemmas.List.Folds.{list_all-append}
+use Rattle.std.proofs.lemmas.List.Elements.{Contains-append_right}
+use Rattle.std.proofs.lemmas.List.Sorted.{Contains-permutation, IsPermutation-sym}
+use Rattle.ra_labels.specs.declared.kind.Kind.{Kind}
+use Rattle.ra_labels.specs.declared.kind.Kind.TheVariants.{Register, LwwSet, Rga}
+use Rattle.ra_labels.specs.declared.operation.Update.{Update}
+use Rattle.ra_labels.specs.declared.operation.Update.TheVariants.{Inc, Dec, Write, LwwAdd, LwwRemove, OrAdd, TakeOut, After, RgaRemove}
+use Rattle.ra_labels.specs.declared.label.Stamp.{Stamp}
+use Rattle.ra_labels.specs.declared.label.Label.{Label}
+use Rattle.ra_labels.specs.declared.command.Command.TheVariants.{Deliver}
+use Rattle.ra_labels.specs.Records.{Records, labels_of}
+use Rattle.ra_labels.specs.Visibility.{had}
+use Rattle.ra_labels.specs.Specification.{State, state_after, is_admitted}
+use Rattle.ra_labels.specs.NamedOrder.{rank_of, named_labels}
+use Rattle.ra_labels.specs.Fault.{Holds}
+use Rattle.ra_labels.specs.Answer.{is_kind}
+use Rattle.ra_labels.specs.Laws.{IsStampBelow, StampsAreOneLabels, acts_on, kind_of_update}
+use Rattle.ra_labels.specs.Insertion.{updates_had_of, updates_had, Makes}
+use Rattle.ra_labels.specs.Commuting.{then_step, last_written, last_on}
+use Rattle.ra_labels.proofs.Members.{behind_head, split_at}
+use Rattle.ra_labels.proofs.StampOrder.{not_below_itself, not_both_below}
+use Rattle.ra_labels.specs.Situation.{Past, past_of}
+use Rattle.ra_laws.proofs.TheLaws.{a_timestamp_is_the_greatest_seen-own, a_label_stands_before_those_that_it_is_below-behind, labels_by_rank_and_then_by_number, named_labels_are_sorted-same, the_last_label_has_the_last_update-register, the_last_label_has_the_last_update-lww_set, a_delivery_is_one_step-register, a_delivery_is_one_step-lww_set, a_delivery_puts_its_update_in-own, updates_of_the_kind_are_admitted-only, updates_of_the_kind_are_admitted-exactly, states_are_of_their_kind}
+use Rattle.ra_visibility.specs.Order.{IsByTimestamp}
+use Rattle.ra_witness.specs.declared.written.Written.{Written}
+use Rattle.ra_witness.specs.Labels.{updates_by_number}
+use Rattle.ra_witness.specs.States.{state_at, update_at, after_step, states_after}
+use Rattle.ra_witness.specs.Standing.{AreStatesOf}
+use Rattle.ra_witness.specs.Numbers.{element_of}
+use Rattle.ra_witness.specs.Overriding.{updates_of, write_at, counting}
+use Rattle.ra_witness.specs.Overridden.{IsNumberOf, AreWritesOf, IsLastOn, AreLastOf}
+use Rattle.ra_witness.proofs.Causes.{are_of}
+use Rattle.ra_witness.proofs.ReplicaStates.{kept-delivery, stepped}
+use Rattle.ra_witness.proofs.DoneUpdates.{its_write, written_made, update_of_write, had_makes, done_of_kind}
+use Rattle.ra_witness.proofs.DeliveredLasts.{one_write, IsNewWrite, counting-last}
+
+-- with one update more of the kind, updates that led to a state are admitted
+pub still_led : (kind : Kind) (first later : List Update) (u : Update) (s : State) → ¬ (kind ≡ Rga) → state_after kind (first ++ later) ≡ Some s
+    → is_kind kind (kind_of_update u) ≡ true → is_admitted kind (first ++ u ∷ later) ≡ true
+still_led kind first later u s not_rga led of_kind =
+    let test = λ (v : Update). is_kind kind (kind_of_update v) in
+    let all = updates_of_the_kind_are_admitted-only kind (first ++ later) (ap is_some led) in
+    let two = and_parts (are_of kind first) (are_of kind later) (sym (list_all-append test first later) ∙ all) in
+    updates_of_the_kind_are_admitted-exactly kind (first ++ u ∷ later) not_rga
+    ∙ list_all-append test first (u ∷ later)
+    ∙ and_from (are_of kind first) (are_of kind (u ∷ later)) two.0 (and_from (test u) (are_of kind later) of_kind two.1)
+
+pub admitted_delivered : (kind : Kind) (records : Records) (to : ℕ) (label : Label) (u : Update) (s : State) → ¬ (kind ≡ Rga) → Contains (labels_of records) label → Makes label.op u
+    → had records to label.number ≡ false → state_after kind (updates_had kind records to) ≡ Some s → is_kind kind (kind_of_update u) ≡ true
+    → is_admitted kind (updates_had kind (Deliver to label.number ∷ records) to) ≡ true
+admitted_delivered kind records to label u s not_rga there makes new led of_kind =
+    let (before, behind, is, was, now) = a_delivery_puts_its_update_in-own kind records to label u there makes new in
+    ap (is_admitted kind) now
+    ∙ still_led kind (updates_had_of records to before) (updates_had_of records to behind) u s not_rga (sym (ap (state_after kind) was) ∙ led) of_kind
+
+-- a label's own stamp is its rank
+rank_is : (kind : Kind) (records : Records) (label : Label) (s : Stamp) → IsByTimestamp kind → label.stamp ≡ Some s → rank_of kind records label ≡ s
+rank_is kind records label s sorts is = sorts records label ∙ a_timestamp_is_the_greatest_seen-own records label s is
+
+module _ (kind : Kind) (writes : List (Option Written)) (number_of : ℕ → Option ℕ) (records : Records) (to c k : ℕ)
+    (sorts : IsByTimestamp kind) (kept : updates_of writes ≡ updates_by_number records) (are : AreWritesOf writes number_of records)
+    (last : IsLastOn writes records to c k) where
+  own_stamp : last.label.stamp ≡ Some last.write.stamp
+  own_stamp = are.stamps last.label last.write last.there (ap (write_at writes) last.number ∙ last.found)
+
+  -- none that stands behind the last label is on its element
+  pub none_behind : (before behind : List Label) → named_labels kind records ≡ before ++ last.label ∷ behind → (other : Label) (v : Written) → Contains behind other
+      → had records to other.number ≡ true → write_at writes other.number ≡ Some v → ¬ (v.on ≡ c)
+  none_behind before behind is other v late h at on =
+      let named : Contains (named_labels kind records) other = subst (λ ls. Contains ls other) (sym is) (Contains-append_right before (last.label ∷ behind) other (behind_head last.label behind other late)) in
+      let there = Contains-permutation (named_labels kind records) (labels_of records) other (IsPermutation-sym (labels_of records) (named_labels kind records) (named_labels_are_sorted-same kind records)) named in
+      let less = (a_label_stands_before_those_that_it_is_below-behind kind records before behind last.label other is there).0 late in
+      let own = rank_is kind records last.label last.write.stamp sorts own_stamp in
+      let its = rank_is kind records other v.stamp sorts (are.stamps other v there at) in
+      by own its ((labels_by_rank_and_then_by_number kind records last.label other).0 less) (last.above other v there h at on)
+    where
+      same_stamp : other.number ≡ k → v.stamp ≡ last.write.stamp
+      same_stamp same = ap (λ (w : Written). w.stamp) (one_write writes other.number k v last.write same at last.found)
+
+      by : rank_of kind records last.label ≡ last.write.stamp → rank_of kind records other ≡ v.stamp
+          → IsStampBelow (rank_of kind records last.label) (rank_of kind records other) ⊎ ((rank_of kind records last.label ≡ rank_of kind records other) × (last.label.number < other.number))
+          → (other.number ≡ k) ⊎ IsStampBelow v.stamp last.write.stamp → ⊥
+      by own its (inl below) (inl same) = not_below_itself (rank_of kind records last.label) (rank_of kind records other) (own ∙ sym (same_stamp same) ∙ sym its) below
+      by own its (inl below) (inr lower) =
+          not_both_below last.write.stamp v.stamp (subst (λ s. IsStampBelow s v.stamp) own (subst (λ s. IsStampBelow (rank_of kind records last.label) s) its below)) lower
+      by own its (inr tie) (inl same) = let n = last.number in omega (arith, tie.1, same, n)
+      by own its (inr tie) (inr lower) = not_below_itself v.stamp last.write.stamp (sym its ∙ sym tie.0 ∙ own) lower
+
+  pub split : (before behind : List Label) × (named_labels kind records ≡ before ++ last.label ∷ behind)
+  split = split_at (named_labels kind records) last.label (Contains-permutation (labels_of records) (named_labels kind records) last.label (named_labels_are_sorted-same kind records) last.there)
+
+  pub last_makes : Makes last.label.op last.write.update
+  last_makes = written_made writes records last.label last.write kept last.there (ap (write_at writes) last.number ∙ last.found)
+
+  pub last_had : had records to last.label.number ≡ true
+  last_had = ap (had records to) last.number ∙ last.had_it
+
+-- what a register's label does is a write, and on no element
+only_writes : (u : Update) → is_kind Register (kind_of_update u) ≡ true → (value : ℕ) × (u ≡ Write value)
+only_writes (Write value) is = (value, refl)
+only_writes u is = absurd (false≢true is)
+
+no_element : (u : Update) → is_kind Register (kind_of_update u) ≡ true → element_of u ≡ None
+no_element (Write value) is = refl
+no_element u is = absurd (false≢true is)
+
+-- what a set's label does is on an element
+on_element : (u : Update) → is_kind LwwSet (kind_of_update u) ≡ true → (x : ℕ) × (element_of u ≡ Some x)
+on_element (LwwAdd x) is = (x, refl)
+on_element (LwwRemove x) is = (x, refl)
+on_element u is = absurd (false≢true is)
+
+acts_there : (x : ℕ) (u : Update) → element_of u ≡ Some x → acts_on x u ≡ true
+acts_there x (LwwAdd y) is = eq-eqb x y (sym (same_Some y x is))
+acts_there x (LwwRemove y) is = eq-eqb x y (sym (same_Some y x is))
+acts_there x Inc is = absurd (none-some x is)
+acts_there x Dec is = absurd (none-some x is)
+acts_there x (Write value) is = absurd (none-some x is)
+acts_there x (OrAdd y id) is = absurd (none-some x is)
+acts_there x (TakeOut y ids) is = absurd (none-some x is)
+acts_there x (After anchor y) is = absurd (none-some x is)
+acts_there x (RgaRemove y) is = absurd (none-some x is)
+
+there_acts : (x : ℕ) (u : Update) → acts_on x u ≡ true → element_of u ≡ Some x
+there_acts x (LwwAdd y) is = ap Some (sym (eqb-true x y is))
+there_acts x (LwwRemove y) is = ap Some (sym (eqb-true x y is))
+there_acts x u is = absurd (false≢true is)
+
+numbered : (number_of : ℕ → Option ℕ) (e : Option ℕ) (x number : ℕ) → e ≡ Some x → IsNumberOf number_of e number → number_of x ≡ Some number
+numbered number_of e x number is known = subst (λ o. IsNumberOf number_of o number) is known
+
+unnumbered : (number_of : ℕ → Option ℕ) (e : Option ℕ) (number : ℕ) → e ≡ None → IsNumberOf number_of e number → number ≡ 0
+unnumbered number_of e number is known = subst (λ o. IsNumberOf number_of o number) is known
+
+module _ (writes : List (Option Written)) (lasts : List (List (Option ℕ))) (number_of : ℕ → Option ℕ) (states : List State) (past : Past) (to n : ℕ) (not_rga : ¬ (past.kind ≡ Rga)) (sorts : IsByTimestamp past.kind) (kept : AreStatesOf (updates_of writes) states past) (are : AreWritesOf writes number_of past.records)
+    (lastof : AreLastOf writes lasts past.records) (once : StampsAreOneLabels past.records) (holds : Holds past.kind past.records) (within : to < length lasts) (there : to < length states)
+    (it : IsNewWrite writes past.records to n) where
+  abbrev now : Records
+  now = Deliver to n ∷ past.records
+
+  abbrev counts : ℕ
+  counts = counting writes lasts to n it.write
+
+  abbrev are_now : AreWritesOf writes number_of now
+  are_now = record { stamps = are.stamps; numbers = are.numbers; one = are.one }
+
+  abbrev last : IsLastOn writes now to it.write.on counts
+  last = counting-last writes lasts number_of past.records to n are lastof once within it
+
+  its_makes : Makes it.label.op it.write.update
+  its_makes = written_made writes past.records it.label it.write kept.labels it.there (ap (write_at writes) it.number ∙ it.found)
+
+  its_new : had past.records to it.label.number ≡ false
+  its_new = ap (had past.records to) it.number ∙ it.new
+
+  of_kind : (label : Label) (u : Update) → Contains (labels_of past.records) label → Makes label.op u → is_kind past.kind (kind_of_update u) ≡ true
+  of_kind label u found makes = done_of_kind past.kind past.records label u holds found makes
+
+  admitted : is_admitted past.kind (updates_had past.kind (Deliver to it.label.number ∷ past.records) to) ≡ true
+  admitted = admitted_delivered past.kind past.records to it.label it.write.update (state_at states to) not_rga it.there its_makes its_new (kept.folded to there) (of_kind it.label it.write.update it.there its_makes)
+
+  last_own : Makes last.label.op last.write.update
+  last_own = last_makes past.kind writes number_of now to it.write.on counts sorts kept.labels are_now last
+
+  -- once the update that counts is made
+  led_by : state_after past.kind (updates_had past.kind (Deliver to it.label.number ∷ past.records) to) ≡ then_step (state_after past.kind (updates_had past.kind past.records to)) last.write.update
+      → state_after past.kind (updates_had past.kind now to) ≡ Some (after_step (state_at states to) (update_at (updates_of writes) counts))
+  led_by step =
+      let led = kept.folded to there in
+      ap (λ m. state_after past.kind (updates_had past.kind (Deliver to m ∷ past.records) to)) (sym it.number)
+      ∙ step
+      ∙ stepped past.kind (state_after past.kind (updates_had past.kind past.records to)) (state_at states to) last.write.update led
+      (states_are_of_their_kind past.kind (updates_had past.kind past.records to) (state_at states to) led) (of_kind last.label last.write.update last.there last_own) not_rga
+      ∙ ap (λ o. Some (after_step (state_at states to) o)) (sym (update_of_write writes counts last.write last.found))
+
+  pub kept-made : state_after past.kind (updates_had past.kind (Deliver to it.label.number ∷ past.records) to) ≡ then_step (state_after past.kind (updates_had past.kind past.records to)) last.write.update
+      → AreStatesOf (updates_of writes) (states_after states to (update_at (updates_of writes) counts)) (past_of past.kind past.first now)
+  kept-made step = kept-delivery (updates_of writes) states past kept to n (update_at (updates_of writes) counts) there (led_by step)
+
+  -- none behind the last label that counts is on its element
+  none_on : (before behind : List Label) → named_labels past.kind now ≡ before ++ last.label ∷ behind → (other : Label) (v : Written) → Contains behind other
+      → had now to other.number ≡ true → write_at writes other.number ≡ Some v → ¬ (v.on ≡ it.write.on)
+  none_on = none_behind past.kind writes number_of now to it.write.on counts sorts kept.labels are_now last
+
+  named_there : (before behind : List Label) → named_labels past.kind now ≡ before ++ last.label ∷ behind → (other : Label) → Contains behind other → Contains (labels_of past.records) other
+  named_there before behind is other late =
+      let named : Contains (named_labels past.kind now) other = subst (λ ls. Contains ls other) (sym is) (Contains-append_right before (last.label ∷ behind) other (behind_head last.label behind other late)) in
+      Contains-permutation (named_labels past.kind now) (labels_of now) other (IsPermutation-sym (labels_of now) (named_labels past.kind now) (named_labels_are_sorted-same past.kind now)) named
+
+-- of a register
+module _ (writes : List (Option Written)) (lasts : List (List (Option ℕ))) (number_of : ℕ → Option ℕ) (states : List State) (first : ℕ)
+    (records : Records) (to n : ℕ) (sorts : IsByTimestamp Register) (kept : AreStatesOf (updates_of writes) states (past_of Register first records)) (are : AreWritesOf writes number_of records)
+    (lastof : AreLastOf writes lasts records) (once : StampsAreOneLabels records) (holds : Holds Register records) (within : to < length lasts) (there : to < length states)
+    (it : IsNewWrite writes records to n) where
+  abbrev now_r : Records
+  now_r = Deliver to n ∷ records
+
+  abbrev last_r : IsLastOn writes now_r to it.write.on (counting writes lasts to n it.write)
+  last_r = counting-last writes lasts number_of records to n are lastof once within it
+
+  not_rga : ¬ (Register ≡ Rga)
+  not_rga r = cc (r)
+
+  -- each write is on the one value
+  on_zero : (label : Label) (write : Written) → Contains (labels_of records) label → write_at writes label.number ≡ Some write → write.on ≡ 0
+  on_zero label write found at =
+      let of_it = done_of_kind Register records label write.update holds found (written_made writes records label write kept.labels found at) in
+      unnumbered number_of (element_of write.update) write.on (no_element write.update of_it) (are.numbers label.number write at)
+
+  none_had : (before behind : List Label) → named_labels Register now_r ≡ before ++ last_r.label ∷ behind → (other : Label) → Contains behind other → had now_r to other.number ≡ false
+  none_had before behind is other late = elim (cases_Bool (had now_r to other.number)) [
+    | inl h ↦
+        let found = named_there writes lasts number_of states (past_of Register first records) to n not_rga sorts kept are lastof once holds within there it before behind is other late in
+        let (u, makes) = had_makes now_r to other found h in
+        let (v, at, same) = its_write writes now_r other u kept.labels found makes in
+        let on : v.on ≡ it.write.on = on_zero other v found at ∙ sym (on_zero it.label it.write it.there (ap (write_at writes) it.number ∙ it.found)) in
+        absurd (none_on writes lasts number_of states (past_of Register first records) to n not_rga sorts kept are lastof once holds within there it before behind is other v late h at on)
+    | inr not_had ↦ not_had
+  ]
+
+  last_value : (value : ℕ) → last_r.write.update ≡ Write value → last_written (updates_had Register now_r to) ≡ Some value
+  last_value value is_write =
+      let (before, behind, is) = split Register writes number_of now_r to it.write.on (counting writes lasts to n it.write) sorts kept.labels (are_now writes lasts number_of states (past_of Register first records) to n not_rga sorts kept are lastof once holds within there it) last_r in
+      let makes = last_own writes lasts number_of states (past_of Register first records) to n not_rga sorts kept are lastof once holds within there it in
+      the_last_label_has_the_last_update-register now_r (had now_r to) before behind last_r.label value is (subst (λ u. Makes last_r.label.op u) is_write makes)
+      (ap (had now_r to) last_r.number ∙ last_r.had_it) (none_had before behind is)
+
+  register_step : state_after Register (updates_had Register (Deliver to it.label.number ∷ records) to) ≡ then_step (state_after Register (updates_had Register records to)) last_r.write.update
+  register_step =
+      let makes = its_makes writes lasts number_of states (past_of Register first records) to n not_rga sorts kept are lastof once holds within there it in
+      let own = only_writes it.write.update (done_of_kind Register records it.label it.write.update holds it.there makes) in
+      let last_makes_it = last_own writes lasts number_of states (past_of Register first records) to n not_rga sorts kept are lastof once holds within there it in
+      let counted = only_writes last_r.write.update (done_of_kind Register records last_r.label last_r.write.update holds last_r.there last_makes_it) in
+      let says = subst (λ m. last_written (updates_had Register (Deliver to m ∷ records) to) ≡ Some counted.0) (sym it.number) (last_value counted.0 counted.1) in
+      a_delivery_is_one_step-register records to it.label own.0 counted.0 it.there (subst (λ u. Makes it.label.op u) own.1 makes)
+      (its_new writes lasts number_of states (past_of Register first records) to n not_rga sorts kept are lastof once holds within there it)
+      (admitted writes lasts number_of states (past_of Register first records) to n not_rga sorts kept are lastof once holds within there it) says
+      ∙ ap (then_step (state_after Register (updates_had Register records to))) (sym counted.1)
+
+  pub kept-register : AreStatesOf (updates_of writes) (states_after states to (update_at (updates_of writes) (counting writes lasts to n it.write))) (past_of Register first (Deliver to n ∷ records))
+  kept-register = kept-made writes lasts number_of states (past_of Register first records) to n not_rga sorts kept are lastof once holds within there it register_step
+
+-- of an LWW set
+module _ (writes : List (Option Written)) (lasts : List (List (Option ℕ))) (number_of : ℕ → Option ℕ) (states : List State) (first : ℕ)
+    (records : Records) (to n : ℕ) (sorts : IsByTimestamp LwwSet) (kept : AreStatesOf (updates_of writes) states (past_of LwwSet first records)) (are : AreWritesOf writes number_of records)
+    (lastof : AreLastOf writes lasts records) (once : StampsAreOneLabels records) (holds : Holds LwwSet records) (within : to < length lasts) (there : to < length states)
+    (it : IsNewWrite writes records to n) where
+  abbrev now_s : Records
+  now_s = Deliver to n ∷ records
+
+  abbrev last_s : IsLastOn writes now_s to it.write.on (counting writes lasts to n it.write)
+  last_s = counting-last writes lasts number_of records to n are lastof once within it
+
+  not_rga_s : ¬ (LwwSet ≡ Rga)
+  not_rga_s r = cc (r)
+
+  its_element : (x : ℕ) × (element_of it.write.update ≡ Some x)
+  its_element =
+      let makes = its_makes writes lasts number_of states (past_of LwwSet first records) to n not_rga_s sorts kept are lastof once holds within there it in
+      on_element it.write.update (done_of_kind LwwSet records it.label it.write.update holds it.there makes)
+
+  -- its number is that of the element
+  its_number : (x : ℕ) → element_of it.write.update ≡ Some x → number_of x ≡ Some it.write.on
+  its_number x is = numbered number_of (element_of it.write.update) x it.write.on is (are.numbers n it.write it.found)
+
+  last_element : (x : ℕ) → element_of it.write.update ≡ Some x → element_of last_s.write.update ≡ Some x
+  last_element x is =
+      let makes = last_own writes lasts number_of states (past_of LwwSet first records) to n not_rga_s sorts kept are lastof once holds within there it in
+      let y = on_element last_s.write.update (done_of_kind LwwSet records last_s.label last_s.write.update holds last_s.there makes) in
+      let known = numbered number_of (element_of last_s.write.update) y.0 last_s.write.on y.1 (are.numbers (counting writes lasts to n it.write) last_s.write last_s.found) in
+      y.1 ∙ ap Some (are.one y.0 x it.write.on (known ∙ ap Some last_s.on) (its_number x is))
+
+  none_acts : (x : ℕ) → element_of it.write.update ≡ Some x → (before behind : List Label) → named_labels LwwSet now_s ≡ before ++ last_s.label ∷ behind
+      → (other : Label) (later : Update) → Contains behind other → had now_s to other.number ≡ true → Makes other.op later → acts_on x later ≡ false
+  none_acts x element before behind is other later late h makes = elim (cases_Bool (acts_on x later)) [
+    | inl acts ↦
+        let found = named_there writes lasts number_of states (past_of LwwSet first records) to n not_rga_s sorts kept are lastof once holds within there it before behind is other late in
+        let (v, at, same) = its_write writes now_s other later kept.labels found makes in
+        let known = numbered number_of (element_of v.update) x v.on (ap element_of same ∙ there_acts x later acts) (are.numbers other.number v at) in
+        absurd (none_on writes lasts number_of states (past_of LwwSet first records) to n not_rga_s sorts kept are lastof once holds within there it before behind is other v late h at
+        (same_Some v.on it.write.on (sym known ∙ its_number x element)))
+    | inr elsewhere ↦ elsewhere
+  ]
+
+  last_update : (x : ℕ) → element_of it.write.update ≡ Some x → last_on x (updates_had LwwSet now_s to) ≡ Some last_s.write.update
+  last_update x element =
+      let (before, behind, is) = split LwwSet writes number_of now_s to it.write.on (counting writes lasts to n it.write) sorts kept.labels (are_now writes lasts number_of states (past_of LwwSet first records) to n not_rga_s sorts kept are lastof once holds within there it) last_s in
+      let makes = last_own writes lasts number_of states (past_of LwwSet first records) to n not_rga_s sorts kept are lastof once holds within there it in
+      the_last_label_has_the_last_update-lww_set now_s (had now_s to) before behind last_s.label last_s.write.update x is makes
+      (ap (had now_s to) last_s.number ∙ last_s.had_it) (acts_there x last_s.write.update (last_element x element)) (none_acts x element before behind is)
+
+  set_step : state_after LwwSet (updates_had LwwSet (Deliver to it.label.number ∷ records) to) ≡ then_step (state_after LwwSet (updates_had LwwSet records to)) last_s.write.update
+  set_step =
+      let (x, element) = its_element in
+      let says = subst (λ m. last_on x (updates_had LwwSet (Deliver to m ∷ records) to) ≡ Some last_s.write.update) (sym it.number) (last_update x element) in
+      a_delivery_is_one_step-lww_set records to it.label it.write.update last_s.write.update x it.there
+      (its_makes writes lasts number_of states (past_of LwwSet first records) to n not_rga_s sorts kept are lastof once holds within there it)
+      (its_new writes lasts number_of states (past_of LwwSet first records) to n not_rga_s sorts kept are lastof once holds within there it)
+      (admitted writes lasts number_of states (past_of LwwSet first records) to n not_rga_s sorts kept are lastof once holds within there it)
+      (acts_there x it.write.update element) says
+
+  pub kept-lww_set : AreStatesOf (updates_of writes) (states_after states to (update_at (updates_of writes) (counting writes lasts to n it.write))) (past_of LwwSet first (Deliver to n ∷ records))
+  kept-lww_set = kept-made writes lasts number_of states (past_of LwwSet first records) to n not_rga_s sorts kept are lastof once holds within there it set_step

@@ -1,0 +1,172 @@
+-- What a witness stands for with one label or delivery more.
+use Rattle.std.proofs.Common.{◌≡◌, ℕ, ◌<◌, Bool, true, false, cond, List, ◌∷◌, length, Option, Some, None, refl, sym, ap, ◌∙◌}
+use Rattle.std.specs.Prelude.{◌&&◌, ◌||◌, not, is_some, option_map}
+use Rattle.std.specs.Option.{option_or, option_to_list}
+use Rattle.std.proofs.lemmas.List.{length-map}
+use Rattle.std.proofs.lemmas.List.Sorted.{length_permutation}
+use Rattle.ra_labels.specs.declared.kind.Kind.{Kind}
+use Rattle.ra_labels.specs.declared.operation.Op.{Op}
+use Rattle.ra_labels.specs.declared.label.Label.{Label}
+use Rattle.ra_labels.specs.declared.command.Command.{Command}
+use Rattle.ra_labels.specs.declared.command.Command.TheVariants.{Deliver}
+use Rattle.ra_labels.specs.declared.refusal.Refusal.{Refusal}
+use Rattle.ra_labels.specs.declared.reply.Cause.TheVariants as cause
+use Rattle.ra_labels.specs.declared.operation.Update.{Update}
+use Rattle.ra_labels.specs.Records.{Records, label_count, labels_of}
+use Rattle.ra_labels.specs.Rewriting.{Half, Act, acts_of}
+use Rattle.ra_labels.specs.Linearization.{extends_visibility, updates_admitted}
+use Rattle.ra_labels.specs.NamedOrder.{named_labels, named_sequence}
+use Rattle.ra_labels.specs.Fault.{fault_of, fault_at, cause_of}
+use Rattle.ra_labels.specs.Answer.{refusal_of, records_after, with_accepted}
+use Rattle.ra_labels.proofs.Counted.{labels_counted}
+use Rattle.ra_labels.specs.Situation.{Past, past_with, IsAccepted, Next, operate, label_of}
+use Rattle.ra_laws.proofs.TheLaws.{no_fault_holds, named_labels_are_sorted-same, operations_are_accepted_where_nothing_is_taken, stamps_are_given_once-one, identifiers_are_given_once-one, accepted_labels_fit-one, delivered_where_causal, no_cause_where_records_hold}
+use Rattle.ra_visibility.specs.declared.order.Place.{Place}
+use Rattle.ra_visibility.specs.declared.limits.TheConstants.{MOST_LABELS}
+use Rattle.ra_visibility.specs.Seen.{Seen}
+use Rattle.ra_visibility.specs.Order.{IsPlaceOf, numbers_in, ComesNext}
+use Rattle.ra_visibility.proofs.TheLaws.{visibility_is_extended_where_a_label_fits}
+use Rattle.ra_witness.specs.declared.witness.Witness.{Witness}
+use Rattle.ra_witness.specs.Labels.{updates_in, first_of, update_in}
+use Rattle.ra_witness.specs.Offered.{IsOffered, IsTold}
+use Rattle.ra_witness.specs.Effects.{AreEffectsOf}
+use Rattle.ra_witness.specs.Witness.{IsWitnessOf}
+
+pub from_not : (b c : Bool) → not b ≡ not c → b ≡ c
+from_not true true e = refl
+from_not true false e = sym e
+from_not false true e = sym e
+from_not false false e = refl
+
+-- the records extend visibility with a new label exactly where it fits
+extends_where : (kind : Kind) (records : Records) (next : Next) (place : Place) (fits : Bool)
+    → fault_of kind records ≡ None → IsPlaceOf kind records next place → place.fits ≡ fits
+    → extends_visibility (operate next ∷ records) (named_sequence kind (operate next ∷ records)) ≡ fits
+extends_where kind records next place fits none is said =
+    visibility_is_extended_where_a_label_fits kind records next place is
+    ∙ ap (λ b. b && place.fits) (no_fault_holds kind records none).visibility
+    ∙ said
+
+-- a label that does not fit fails by the order
+pub order_fails : (kind : Kind) (records : Records) (next : Next) (place : Place)
+    → fault_of kind records ≡ None → IsPlaceOf kind records next place → place.fits ≡ false
+    → Some cause.Order ≡ cause_of kind (operate next ∷ records)
+order_fails kind records next place none is said =
+    sym (by_order kind (operate next ∷ records) (extends_where kind records next place false none is said))
+  where
+    by_order : (k : Kind) (rs : Records) → extends_visibility rs (named_sequence k rs) ≡ false → cause_of k rs ≡ Some cause.Order
+    by_order k rs fails = rw fails refl
+
+-- a command that is not refused is kept
+accepted_after : (past : Past) (command : Command) → fault_of past.kind past.records ≡ None → IsAccepted past command
+    → records_after past.kind past.first past.records command ≡ with_accepted past.records command
+accepted_after past command none accepted =
+    ap (λ o. cond (is_some o || is_some (refusal_of past.kind past.first past.records command)) past.records (with_accepted past.records command)) none
+    ∙ ap (λ (o : Option Refusal). cond (is_some o) past.records (with_accepted past.records command)) accepted
+
+-- as many labels as are listed
+pub listed_count : (kind : Kind) (records : Records) (listed : List ℕ) → listed ≡ numbers_in kind records → length listed ≡ label_count records
+listed_count kind records listed is =
+    let named = named_labels kind records in
+    ap length is
+    ∙ length-map named (λ (label : Label). label.number)
+    ∙ length_permutation (labels_of records) named (named_labels_are_sorted-same kind records)
+    ∙ labels_counted records
+
+first_listed : {A : Type 0} (o : Option A) → o ≡ first_of (option_to_list o)
+first_listed None = refl
+first_listed (Some x) = refl
+
+-- what the parts do is what the operation does
+pub update_known : (o : Option Update) (acts : List (Half × Act)) (op : Op) → option_to_list o ≡ updates_in acts → acts ≡ acts_of op → o ≡ update_in op
+update_known o acts op listed is = first_listed o ∙ ap first_of listed ∙ ap (λ acts. first_of (updates_in acts)) is
+
+-- where no condition fails with the label, the updates of all labels are admitted
+pub all_admitted : (kind : Kind) (records : Records) → None ≡ cause_of kind records → updates_admitted kind (named_sequence kind records) ≡ true
+all_admitted kind records because = ((no_cause_where_records_hold kind records).0 (sym because)).updates
+
+pub same_op : (label : Label) (records : Records) (next : Next) → label ≡ label_of records next → acts_of label.op ≡ acts_of next.op
+same_op label records next is = ap (λ (l : Label). acts_of l.op) is
+
+no_fault_more : (kind : Kind) (records : Records) (next : Next) → fault_of kind records ≡ None
+    → cause_of kind (operate next ∷ records) ≡ None → fault_of kind (operate next ∷ records) ≡ None
+no_fault_more kind records next none because =
+    ap (λ o. option_or o (option_map (fault_at (label_count records)) (cause_of kind (operate next ∷ records)))) none
+    ∙ ap (option_map (fault_at (label_count records))) because
+
+module _ {O : Type 0} (stands_for : O → Past → Type 0) where
+  -- the label that comes next is offered where it fits
+  pub is_offered : (w : Witness O) (past : Past) (next : Next) (label : Label) (seen : Seen) (place : Place)
+      → IsWitnessOf stands_for w past → ComesNext past next label seen → IsPlaceOf past.kind past.records next place
+      → place.fits ≡ true → label_count past.records < MOST_LABELS → IsOffered past next label
+  is_offered w past next label seen place stands comes is fits few =
+      let free = (operations_are_accepted_where_nothing_is_taken past.kind past.first past.records next.by next.op next.clock).0 comes.accepted in
+      record {
+        holds = no_fault_holds past.kind past.records stands.none;
+        replica = free.0;
+        form = free.1;
+        becomes = comes.becomes;
+        fits = extends_where past.kind past.records next place true stands.none is fits;
+        stamps = rw (accepted_after past (operate next) stands.none comes.accepted) at (stamps_are_given_once-one past.kind past.first past.records (operate next) stands.stamps);
+        few = few;
+      }
+
+  -- and a delivery that is not refused is told
+  pub is_told : (w : Witness O) (past : Past) (to n : ℕ) → IsWitnessOf stands_for w past
+      → IsAccepted past (Deliver to n) → IsTold past to n
+  is_told w past to n stands accepted =
+      let (there, is_update, causal) = (delivered_where_causal past.first past.records to n).0 accepted in
+      record {
+        holds = no_fault_holds past.kind past.records stands.none;
+        replica = there;
+        update = is_update;
+        causal = (causal.0, causal.1, stands.causal);
+        stamps = stands.stamps;
+        identifiers = stands.identifiers;
+      }
+
+  -- the witness with the label
+  pub taken : (old new : Witness O) (past : Past) (next : Next) (label : Label) (seen : Seen)
+      → IsWitnessOf stands_for old past → ComesNext past next label seen
+      → None ≡ cause_of past.kind (operate next ∷ past.records) → stands_for new.order (past_with past (operate next))
+      → AreEffectsOf new.kept (past_with past (operate next)) → IsWitnessOf stands_for new (past_with past (operate next))
+  taken old new past next label seen stands comes because order kept =
+      let after = accepted_after past (operate next) stands.none comes.accepted in
+      record {
+        order = order;
+        kept = kept;
+        causal = stands.causal;
+        none = no_fault_more past.kind past.records next stands.none (sym because);
+        fits = rw after at (accepted_labels_fit-one past.kind past.first past.records (operate next) stands.fits);
+        stamps = rw after at (stamps_are_given_once-one past.kind past.first past.records (operate next) stands.stamps);
+        identifiers = rw after at (identifiers_are_given_once-one past.kind past.first past.records (operate next) stands.identifiers);
+      }
+
+  -- the witness with the delivery
+  pub delivered : (old new : Witness O) (past : Past) (to n : ℕ) → IsWitnessOf stands_for old past
+      → IsAccepted past (Deliver to n) → stands_for new.order (past_with past (Deliver to n))
+      → AreEffectsOf new.kept (past_with past (Deliver to n)) → IsWitnessOf stands_for new (past_with past (Deliver to n))
+  delivered old new past to n stands accepted order kept =
+      let told = is_told old past to n stands accepted in
+      record {
+        order = order;
+        kept = kept;
+        causal = told.causal;
+        none = stands.none;
+        fits = stands.fits;
+        stamps = stands.stamps;
+        identifiers = stands.identifiers;
+      }
+
+  -- the witness as it was
+  pub kept_same : (old new : Witness O) (past : Past) → IsWitnessOf stands_for old past
+      → stands_for new.order past → AreEffectsOf new.kept past → IsWitnessOf stands_for new past
+  kept_same old new past stands order kept = record {
+    order = order;
+    kept = kept;
+    causal = stands.causal;
+    none = stands.none;
+    fits = stands.fits;
+    stamps = stands.stamps;
+    identifiers = stands.identifiers;
+  }

@@ -1,0 +1,53 @@
+use Rattle.std.proofs.Common.{◌≡◌, ◌∷◌, true, subst, arith}
+use Rattle.ra_labels.specs.NamedOrder.{named_sequence}
+use Rattle.ra_labels.specs.Linearization.{updates_admitted}
+use Rattle.ra_labels.proofs.Results.{on_ok, on_err}
+use Rattle.ra_labels.specs.Situation.{past_of, operate}
+use Rattle.ra_witness.specs.Offered.{IsOffered}
+use Rattle.ra_witness.proofs.CommutingKinds.{on_ok_two, is_commuting, is_overriding, is_rga, not_rga-commuting, can_take, commuting_taken}
+use Rattle.ra_witness.proofs.effects.Effects.take.Goals as goal
+
+pub take-requires-clause-can : goal.take-requires-clause-can
+take-requires-clause-can c =
+    let may = c.requires in
+    let kept = c.in-Commuting.kept in
+    let known = is_commuting c.args.self.now may.past may.stands kept c.in-Commuting.is in
+    can_take kept.updates.items kept.states.items may.past known.states may.next c.args.label.now c.args.update
+    (not_rga-commuting may.past.kind known.one) may.offered may.update_is
+
+pub returns-in-Commuting-clause-taken : goal.returns-in-Commuting-clause-taken
+returns-in-Commuting-clause-taken c = λ past next stands offered admitted same.
+    let kept = c.in-Commuting.kept in
+    let known = is_commuting c.args.self.now past stands kept c.in-Commuting.is in
+    on_ok_two c.take.result c.take.ensures.updates c.take.ensures.states
+    (commuting_taken kept c.take.new.self past next c.args.label.now c.args.update known offered same)
+
+pub returns-in-Overriding-clause-taken : goal.returns-in-Overriding-clause-taken
+returns-in-Overriding-clause-taken c = λ past next stands offered admitted same.
+    let known = is_overriding c.args.self.now past stands c.in-Overriding.kept c.in-Overriding.is in
+    on_ok c.take_write.result (c.take_write.ensures.taken past next known offered same)
+    (λ form. record { few = omega (arith, offered.few); form = form })
+
+pub returns-in-Overriding-clause-same : goal.returns-in-Overriding-clause-same
+returns-in-Overriding-clause-same c = λ past stands.
+    let known = is_overriding c.args.self.now past stands c.in-Overriding.kept c.in-Overriding.is in
+    on_err c.take_write.result (c.take_write.ensures.same past known)
+    (λ form. record { few = stands.few; form = form })
+
+pub returns-in-Rga-clause-taken : goal.returns-in-Rga-clause-taken
+returns-in-Rga-clause-taken c = λ past next stands offered admitted same.
+    let known = is_rga c.args.self.now past stands c.in-Rga.kept c.in-Rga.is in
+    on_ok c.take-in-Rga.result
+    (c.take-in-Rga.ensures.taken past.first past.records next known.1 (subst (λ k. IsOffered (past_of k past.first past.records) next c.args.label.now) known.0 offered)
+    (subst (λ k. updates_admitted k (named_sequence k (operate next ∷ past.records)) ≡ true) known.0 admitted))
+    (λ form. record { few = omega (arith, offered.few); form = (known.0, form) })
+
+pub returns-in-Rga-clause-same : goal.returns-in-Rga-clause-same
+returns-in-Rga-clause-same c = λ past stands.
+    let known = is_rga c.args.self.now past stands c.in-Rga.kept c.in-Rga.is in
+    on_err c.take-in-Rga.result (c.take-in-Rga.ensures.same past.first past.records known.1)
+    (λ form. record { few = stands.few; form = (known.0, form) })
+
+pub returns-in-Rga-clause-counted : goal.returns-in-Rga-clause-counted
+returns-in-Rga-clause-counted c = λ past stands other.
+    absurd (other (is_rga c.args.self.now past stands c.in-Rga.kept c.in-Rga.is).0)
