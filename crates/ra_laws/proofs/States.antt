@@ -243,13 +243,7 @@ number_is n (Dec ∷ updates) state is =
     let as_many : increments_in (Dec ∷ updates) ≡ increments_in updates = refl in
     let one_more : decrements_in (Dec ∷ updates) ≡ decrements_in updates + 1 = refl in
     number_is (n -ℤ pos 1) updates state is ∙ ap Number (omega (arith, ints, as_many, one_more))
-number_is n (Write value ∷ updates) state is = absurd (none-some state (sym (stuck updates) ∙ is))
-number_is n (LwwAdd x ∷ updates) state is = absurd (none-some state (sym (stuck updates) ∙ is))
-number_is n (LwwRemove x ∷ updates) state is = absurd (none-some state (sym (stuck updates) ∙ is))
-number_is n (OrAdd x id ∷ updates) state is = absurd (none-some state (sym (stuck updates) ∙ is))
-number_is n (TakeOut x ids ∷ updates) state is = absurd (none-some state (sym (stuck updates) ∙ is))
-number_is n (After anchor x ∷ updates) state is = absurd (none-some state (sym (stuck updates) ∙ is))
-number_is n (RgaRemove x ∷ updates) state is = absurd (none-some state (sym (stuck updates) ∙ is))
+number_is n (_ ∷ updates) state is = absurd (none-some state (sym (stuck updates) ∙ is))
 
 pub counter_is : (updates : List Update) (state : State) → state_after Counter updates ≡ Some state
     → state ≡ Number (pos (increments_in updates) -ℤ pos (decrements_in updates))

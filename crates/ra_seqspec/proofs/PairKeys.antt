@@ -19,7 +19,7 @@ use Rattle.std.proofs.lemmas.Bool.{not_from_false}
 use Rattle.std.proofs.lemmas.Bool.Decides.{nat_tests}
 use Rattle.std.proofs.Math.Bool.{or-false, or_comm, or_assoc}
 use Rattle.ra_labels.specs.Lists.{is_among, rises, pair_cmp, identifiers_of, elements_of, without_pairs}
-use Rattle.ra_labels.proofs.Rising.{all_lower}
+use Rattle.ra_labels.proofs.RisingLists.{all_lower}
 use Rattle.ra_labels.proofs.Comparisons.{then_eq, eqb-comm, is_eq-nat_cmp}
 use Rattle.ra_seqspec.specs.Pairs.{identifiers_in_front, elements_behind, distinct_elements}
 use Rattle.ra_seqspec.proofs.Keys.{removed, filter_none_left}
