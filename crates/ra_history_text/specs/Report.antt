@@ -1,14 +1,11 @@
 -- The report's object: its keys in the order of their bytes, and no space.
-use Rattle.std.specs.Prelude.{◌≡◌, ℕ, ◌<◌, List, length, [], ◌∷◌, ◌++◌, Option, Some, None, codes, decimal}
+use Rattle.std.specs.Prelude.{ℕ, List, [], ◌∷◌, ◌++◌, Option, Some, None, codes, decimal}
 use Rattle.ra_labels.specs.declared.kind.Kind.{Kind}
 use Rattle.ra_labels.specs.declared.reply.Fault.{Fault}
 use Rattle.ra_monitor.specs.declared.report.Report.{Report}
 use Rattle.serde_json.specs.Data.{Data, string, number, unsigned, object, member, no_members}
 use Rattle.ra_lines.specs.Grammar.{kind_word}
-use Rattle.ra_history_text.specs.declared.fault.CheckFault.{CheckFault}
-use Rattle.ra_history_text.specs.declared.fault.CheckFault.TheVariants as fault
 use Rattle.ra_lines.specs.Replies.{cause_word}
-use Rattle.ra_history_text.specs.Written.{HasWritten}
 
 -- from the key `kind` to the key `labels`, or to the key `label` on a no
 abbrev pub kind_members : Kind → List ℕ
@@ -34,13 +31,6 @@ report_object report = codes "{\"calls\":" ++ (decimal report.calls ++ members_b
 -- the object on a line of its own
 abbrev pub report_line : Report → List ℕ
 report_line report = report_object report ++ 10 ∷ []
-
--- why the line is not written: it could not be made, and nothing was; or a part of it was, and not all
-abbrev pub StopsReport : Report → (old new : Option (List ℕ)) → CheckFault → Type 0
-StopsReport report old new fault.NoMemory = new ≡ old
-StopsReport report old new fault.Write =
-    (rest : List ℕ) × (0 < length rest) × HasWritten old new (report_line report) rest
-StopsReport report old new _ = ⊥
 
 -- ---- the same as data
 

@@ -13,6 +13,7 @@ mod fault;
 mod history;
 pub mod laws;
 pub mod limits;
+mod line;
 mod outcome;
 mod report;
 mod run;
@@ -21,6 +22,7 @@ mod write;
 mod writing;
 
 pub use fault::{CheckFault, WriteFault};
+pub use line::write_line;
 pub use outcome::{Outcome, status};
 pub use ra_lines::{Header, Item, LineFault, Names, NamesFault, Reading};
 pub use report::{report_json, write_report};

@@ -2,10 +2,11 @@
 ghost use Rattle.std.specs.Prelude.{◌≡◌, IfErr, IfOk, OnOk, string_bytes};
 ghost use Rattle.std.specs.Io.KnownBytes.{Appends};
 ghost use Rattle.serde_json.specs.View.{view};
-ghost use Rattle.ra_history_text.specs.Report.{report_data, report_object, report_line, StopsReport};
+ghost use Rattle.ra_history_text.specs.Report.{report_data, report_object, report_line};
+ghost use Rattle.ra_history_text.specs.Written.{StopsLine};
 
 use crate::fault::CheckFault;
-use crate::write::write_out;
+use crate::line::write_line;
 use ra_labels::{Fault, NoMemory};
 use ra_lines::kind_line::kind_word;
 use ra_lines::reply::cause_word;
@@ -61,10 +62,8 @@ pub fn write_report<W: Write>(
     writer: &mut W,
 ) -> Result<(), CheckFault>
     ensures written { OnOk result (Appends (W.contents writer.old) (W.contents writer.new) (report_line report.now)) }
-    ensures stopped { IfErr result (StopsReport report.now (W.contents writer.old) (W.contents writer.new)) }
+    ensures stopped { IfErr result (StopsLine (report_line report.now)
+        (W.contents writer.old) (W.contents writer.new)) }
 {
-    let mut line = report_json(alloc, report)?;
-    line.push('\n')?;
-    write_out(writer, line.as_bytes())?;
-    Ok(())
+    write_line(report_json(alloc, report)?, writer)
 }

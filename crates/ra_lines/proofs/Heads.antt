@@ -6,8 +6,8 @@ use Rattle.std.proofs.lemmas.Bool.{cases_Bool, and_parts, and_from, ltb-true, lt
 use Rattle.std.proofs.lemmas.Map.Keys.{IsDistinct-head, IsDistinct-tail, IsDistinct-cons}
 use Rattle.ra_labels.specs.declared.kind.Kind.{Kind}
 use Rattle.ra_labels.specs.declared.kind.Kind.TheVariants.{Counter, Register, LwwSet, OrSet, Rga}
-use Rattle.ra_lines.specs.Grammar.{is_name, fields_of, first_line, AreNames, ListsNames}
-use Rattle.ra_lines.specs.Reading.{kind_read, are_distinct, are_names, names_listed, names_read}
+use Rattle.ra_lines.specs.Grammar.{is_name, fields_of, kind_word, first_line, AreNames, ListsNames}
+use Rattle.ra_lines.specs.Reading.{kind_spelled, kind_read, kind_named, are_distinct, are_names, names_listed, names_read}
 use Rattle.ra_lines.proofs.Operations.{same_bytes, chosen}
 
 -- what no value can be
@@ -24,30 +24,46 @@ kind_only LwwSet = refl
 kind_only OrSet = refl
 kind_only Rga = refl
 
-kind_is : (line : List ℕ) (own kind : Kind) → bytes_eq line (first_line own) ≡ true → Some own ≡ Some kind
-    → line ≡ first_line kind
-kind_is line own kind same e =
+kind_is : (spelling : Kind → List ℕ) (line : List ℕ) (own kind : Kind) → bytes_eq line (spelling own) ≡ true
+    → Some own ≡ Some kind → line ≡ spelling kind
+kind_is spelling line own kind same e =
     let kinds : own ≡ kind = cc in
-    same_bytes line (first_line own) same ∙ ap first_line kinds
+    same_bytes line (spelling own) same ∙ ap spelling kinds
 
-pub kind_found : (line : List ℕ) (kind : Kind) → kind_read line ≡ Some kind → line ≡ first_line kind
-kind_found line kind e =
-    elim (chosen (bytes_eq line (first_line Counter)) _ _ _ e) [
-      | inl is ↦ kind_is line Counter kind is.0 is.1
-      | inr not_counter ↦ elim (chosen (bytes_eq line (first_line Register)) _ _ _ not_counter.1) [
-        | inl is ↦ kind_is line Register kind is.0 is.1
-        | inr not_register ↦ elim (chosen (bytes_eq line (first_line LwwSet)) _ _ _ not_register.1) [
-          | inl is ↦ kind_is line LwwSet kind is.0 is.1
-          | inr not_set ↦ elim (chosen (bytes_eq line (first_line OrSet)) _ _ _ not_set.1) [
-            | inl is ↦ kind_is line OrSet kind is.0 is.1
-            | inr not_or_set ↦ elim (chosen (bytes_eq line (first_line Rga)) _ _ _ not_or_set.1) [
-              | inl is ↦ kind_is line Rga kind is.0 is.1
+pub spelled_found : (spelling : Kind → List ℕ) (line : List ℕ) (kind : Kind)
+    → kind_spelled spelling line ≡ Some kind → line ≡ spelling kind
+spelled_found spelling line kind e =
+    elim (chosen (bytes_eq line (spelling Counter)) _ _ _ e) [
+      | inl is ↦ kind_is spelling line Counter kind is.0 is.1
+      | inr not_counter ↦ elim (chosen (bytes_eq line (spelling Register)) _ _ _ not_counter.1) [
+        | inl is ↦ kind_is spelling line Register kind is.0 is.1
+        | inr not_register ↦ elim (chosen (bytes_eq line (spelling LwwSet)) _ _ _ not_register.1) [
+          | inl is ↦ kind_is spelling line LwwSet kind is.0 is.1
+          | inr not_set ↦ elim (chosen (bytes_eq line (spelling OrSet)) _ _ _ not_set.1) [
+            | inl is ↦ kind_is spelling line OrSet kind is.0 is.1
+            | inr not_or_set ↦ elim (chosen (bytes_eq line (spelling Rga)) _ _ _ not_or_set.1) [
+              | inl is ↦ kind_is spelling line Rga kind is.0 is.1
               | inr none ↦ absurd (let never = none.1 in cc)
             ]
           ]
         ]
       ]
     ]
+
+pub kind_found : (line : List ℕ) (kind : Kind) → kind_read line ≡ Some kind → line ≡ first_line kind
+kind_found = spelled_found first_line
+
+-- ---- the word of a kind
+
+pub word_only : (kind : Kind) → kind_named (kind_word kind) ≡ Some kind
+word_only Counter = refl
+word_only Register = refl
+word_only LwwSet = refl
+word_only OrSet = refl
+word_only Rga = refl
+
+pub word_found : (word : List ℕ) (kind : Kind) → kind_named word ≡ Some kind → word ≡ kind_word kind
+word_found = spelled_found kind_word
 
 -- ---- the second line
 

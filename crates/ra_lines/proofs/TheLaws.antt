@@ -1,5 +1,7 @@
 -- The laws of lines, under the names of the functions whose clauses they are; and two facts of options and tests. The
 -- crates above cite these, and no other file of this folder.
+pub use Rattle.ra_lines.proofs.Heads.{word_found as a_word_names_a_kind-found, word_only as a_word_names_a_kind-only}
+pub use Rattle.ra_lines.proofs.Numbers.{number_read-Some as a_number_is_read-found, number_read-decimal as a_number_is_read-only}
 pub use Rattle.ra_lines.proofs.Heads.{kind_found as a_first_line_is_read-found, kind_only as a_first_line_is_read-only}
 pub use Rattle.ra_lines.proofs.Heads.{names_read-Some as a_line_of_names_is_read-found}
 pub use Rattle.ra_lines.proofs.Heads.{names_read-listed as a_line_of_names_is_read-only}

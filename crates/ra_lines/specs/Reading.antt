@@ -10,20 +10,28 @@ use Rattle.ra_labels.specs.declared.command.Command.{Command}
 use Rattle.ra_labels.specs.declared.command.Command.TheVariants.{Operate, Deliver, Verdict}
 use Rattle.std.specs.List.{list_all, list_any}
 use Rattle.ra_lines.specs.declared.limits.TheConstants.{MOST_NAMES}
-use Rattle.ra_lines.specs.Grammar.{is_name, place_of, first_line, fields_of}
+use Rattle.ra_lines.specs.Grammar.{is_name, place_of, kind_word, first_line, fields_of}
 use Rattle.ra_lines.specs.Fields.{pieces_at}
 
 -- ---- the two lines before the commands
 
+-- the kind that these bytes spell, by what spells each kind
+abbrev pub kind_spelled : (Kind → List ℕ) → List ℕ → Option Kind
+kind_spelled spelling bytes =
+    if bytes_eq bytes (spelling Counter) then Some Counter
+    else if bytes_eq bytes (spelling Register) then Some Register
+    else if bytes_eq bytes (spelling LwwSet) then Some LwwSet
+    else if bytes_eq bytes (spelling OrSet) then Some OrSet
+    else if bytes_eq bytes (spelling Rga) then Some Rga
+    else None
+
 -- the kind that a first line names
 abbrev pub kind_read : List ℕ → Option Kind
-kind_read line =
-    if bytes_eq line (first_line Counter) then Some Counter
-    else if bytes_eq line (first_line Register) then Some Register
-    else if bytes_eq line (first_line LwwSet) then Some LwwSet
-    else if bytes_eq line (first_line OrSet) then Some OrSet
-    else if bytes_eq line (first_line Rga) then Some Rga
-    else None
+kind_read line = kind_spelled first_line line
+
+-- the kind whose word this is
+abbrev pub kind_named : List ℕ → Option Kind
+kind_named word = kind_spelled kind_word word
 
 -- is none of the words one of those behind it?
 abbrev pub are_distinct : List (List ℕ) → Bool

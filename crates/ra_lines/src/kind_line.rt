@@ -1,9 +1,9 @@
-//! A text's first line.
+//! A text's first line, and the words of the kinds.
 ghost use Rattle.std.specs.Prelude.{◌≡◌, IfSome, Some};
 ghost use Rattle.ra_labels.specs.declared.kind.Kind.{Kind};
 ghost use Rattle.ra_lines.specs.Grammar as grammar;
 ghost use Rattle.ra_lines.specs.Grammar.{first_line};
-ghost use Rattle.ra_lines.specs.Reading.{kind_read};
+ghost use Rattle.ra_lines.specs.Reading.{kind_read, kind_named};
 
 use ra_labels::Kind;
 
@@ -22,6 +22,25 @@ pub fn kind_of(line: &[u8]) -> Option<Kind>
     } else if line == b"RAH 1 orset".as_slice() {
         Some(Kind::OrSet)
     } else if line == b"RAH 1 rga".as_slice() {
+        Some(Kind::Rga)
+    } else {
+        None
+    }
+}
+
+/// The kind whose word this is.
+pub fn kind_of_word(word: &[u8]) -> Option<Kind>
+    ensures { result ≡ kind_named word.now }
+{
+    if word == b"counter".as_slice() {
+        Some(Kind::Counter)
+    } else if word == b"register".as_slice() {
+        Some(Kind::Register)
+    } else if word == b"lwwset".as_slice() {
+        Some(Kind::LwwSet)
+    } else if word == b"orset".as_slice() {
+        Some(Kind::OrSet)
+    } else if word == b"rga".as_slice() {
         Some(Kind::Rga)
     } else {
         None

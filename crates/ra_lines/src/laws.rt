@@ -1,12 +1,13 @@
 //! Laws above the definitions of lines, each the clause of a function that does nothing.
-ghost use Rattle.std.specs.Prelude.{◌≡◌, ◌↔◌, ◌≤◌, ℕ, List, Option, Some, length};
+ghost use Rattle.std.specs.Prelude.{◌≡◌, ◌↔◌, ◌≤◌, ℕ, List, Option, Some, decimal, length};
 ghost use Rattle.std.specs.List.{AllByRecursion};
 ghost use Rattle.ra_labels.specs.declared.kind.Kind.{Kind};
 ghost use Rattle.ra_labels.specs.declared.command.Command.{Command};
 ghost use Rattle.ra_labels.specs.declared.reply.Fault.{Fault};
 ghost use Rattle.ra_labels.specs.declared.reply.Reply.{Reply};
-ghost use Rattle.ra_lines.specs.Grammar.{AreNames, first_line, fields_of, ListsNames, Spells, IsAtReplica, Says};
-ghost use Rattle.ra_lines.specs.Reading.{kind_read, names_read, command_read};
+ghost use Rattle.ra_lines.specs.Grammar.{kind_word, first_line, fields_of};
+ghost use Rattle.ra_lines.specs.Grammar.{AreNames, IsSmall, ListsNames, Spells, IsAtReplica, Says};
+ghost use Rattle.ra_lines.specs.Reading.{kind_read, kind_named, names_read, number_read, command_read};
 ghost use Rattle.ra_lines.specs.Replies.{reply_line, end_line};
 ghost use Rattle.ra_lines.specs.Spelling.{AreSmall, AreShort, HasLine, line_of, text_of};
 ghost use Rattle.ra_lines.specs.declared.limits.TheConstants.{MOST_COMMANDS, LONGEST_LINE, MOST_NAMES, LONGEST_NAME};
@@ -17,6 +18,16 @@ pub fn limits()
     ensures commands { MOST_COMMANDS ≡ 1048576 }
     ensures names { MOST_NAMES ≡ 16 }
     ensures name { LONGEST_NAME ≡ 16 }
+{}
+
+/// The kind that is read of a word is the one whose word it is.
+pub fn a_word_names_a_kind()
+    ensures { (kind : Kind) (word : List ℕ) → (kind_named word ≡ Some kind) ↔ (word ≡ kind_word kind) }
+{}
+
+/// The number that is read of a field is the one of 32 bits whose digits these are.
+pub fn a_number_is_read()
+    ensures { (n : ℕ) (field : List ℕ) → (number_read field ≡ Some n) ↔ ((field ≡ decimal n) × IsSmall n) }
 {}
 
 /// The kind that is read of a first line is the one whose first line it is.

@@ -19,7 +19,7 @@ pub mod laws;
 pub mod limits;
 mod list;
 mod name;
-mod number;
+pub mod number;
 mod operation;
 mod reading;
 pub mod reply;

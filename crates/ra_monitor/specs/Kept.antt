@@ -1,12 +1,17 @@
 -- What the fields of a monitor stand for, and what is kept true of them.
-use Rattle.std.specs.Prelude.{◌≡◌, ◌≤◌, length}
+use Rattle.std.specs.Prelude.{◌≡◌, ℕ, ◌-◌, ◌≤◌, length, min, vec_capacity}
+use Rattle.std.specs.Global as global
 use Rattle.ra_monitor.specs.declared.monitor.Monitor.TheInside.{Inside}
-use Rattle.ra_monitor.specs.Monitor.{Monitor, records_of, refused_count, IsLegalLog}
+use Rattle.ra_monitor.specs.Monitor.{Monitor, MonitorEntry, records_of, refused_count, IsLegalLog}
 use Rattle.ra_monitor.specs.History.{past_in, StandsFor}
 use Rattle.ra_monitor.specs.Limits.{AreReplicas, IsLimit}
 
+-- how many entries more a log has room for, up to its limit
+abbrev pub room_in : ℕ → global.Vec MonitorEntry → ℕ
+room_in limit log = min (vec_capacity log - length log.items) (limit - length log.items)
+
 abbrev pub monitor_of : Inside → Monitor
-monitor_of m = record { setup = m.setup; log = m.log.items }
+monitor_of m = record { setup = m.setup; log = m.log.items; room = room_in m.setup.limit m.log }
 
 pub record MonitorKept (m : Inside) : Type 0 where
   pub replicas : AreReplicas m.setup.replicas

@@ -1,4 +1,4 @@
--- What contracts see of a monitor: its setup and its log, and nothing else.
+-- What contracts see of a monitor: its setup and its log, and beside them how many entries there is room for.
 use Rattle.std.specs.Prelude.{◌≡◌, ℕ, List, [], map, count_by, Option, Some, option_map, ◌↔◌}
 use Rattle.ra_journal.specs.declared.entry.Entry.{Entry}
 use Rattle.ra_journal.specs.Log.{IsLegal, IsAboveLast}
@@ -22,6 +22,8 @@ pub record Monitor : Type 0 where
   pub setup : Setup
   -- the oldest entry first
   pub log : List MonitorEntry
+  -- how many more entries can be logged without a growth, as far as the limit lets them
+  pub room : ℕ
 
 abbrev pub commands_of : List MonitorEntry → List Command
 commands_of log = map (λ entry. entry.command) log

@@ -78,6 +78,9 @@ impl History {
             → OnErr result (StandsFor self.new (past_in setup.now records)) }
         ensures one { self.new.labels ≤ self.old.labels + 1 }
         ensures kept { OnErr result (self.new.labels ≡ self.old.labels) }
+        // It gives up only where the command joins the records.
+        ensures joins { (records : Records) → StandsFor self.old (past_in setup.now records) → OnErr result
+            (records_after setup.now.kind setup.now.replicas records command.old ≡ command.old ∷ records) }
     {
         if let Some(fault) = self.fault {
             return Ok(no_at(fault));
@@ -176,6 +179,8 @@ impl History {
             × StandsFor self.new (past_of past.kind past.first (if is_some (refusal_at past.records replica label)
             then past.records else Command.Deliver replica label ∷ past.records))) }
         ensures err { (past : Past) → StandsFor self.old past → OnErr result (StandsFor self.new past) }
+        ensures joins { (past : Past) → StandsFor self.old past
+            → OnErr result (refusal_at past.records replica label ≡ None) }
         ensures labels { self.new.labels ≡ self.old.labels }
     {
         match self.tracker.deliver(replica, label) {

@@ -1,9 +1,9 @@
 //! The monitor of one thread: a log, and the history that it amounts to.
-ghost use Rattle.std.specs.Prelude.{◌≡◌, ℕ, ◌<◌, ◌≤◌, ◌++◌, ◌∷◌, ◌↔◌, [], length, map, cond, vec_len, vec_capacity, option_map, IsTrue, IfSome, IfOk, IfErr, OnErr, OnOk, IsErrOf};
+ghost use Rattle.std.specs.Prelude.{◌≡◌, ℕ, ◌+◌, ◌-◌, ◌<◌, ◌≤◌, ◌++◌, ◌∷◌, ◌↔◌, [], length, map, min, cond, vec_len, vec_capacity, option_map, IsTrue, IfSome, IfOk, IfErr, IsOk, OnErr, OnOk, IsErrOf};
 ghost use Rattle.ra_labels.specs.Records.{label_count};
 ghost use Rattle.ra_labels.specs.Linearization.{IsRaLinearization};
 ghost use Rattle.ra_labels.specs.NamedOrder.{named_sequence};
-ghost use Rattle.ra_labels.specs.Answer.{answer_of};
+ghost use Rattle.ra_labels.specs.Answer.{answer_of, records_after};
 ghost use Rattle.ra_monitor.specs.Limits.{AreReplicas, IsLimit};
 ghost use Rattle.ra_journal.specs.Log.{last_ticket_of, unstepped};
 ghost use Rattle.ra_witness.specs.Sequence.{ref_of};
@@ -93,6 +93,32 @@ impl Monitor {
         ensures range { AreReplicas result }
     {
         self.setup.replicas
+    }
+
+    /// How many entries can be logged without a growth, as far as the limit lets them. It takes no memory.
+    pub fn room(&self) -> u32
+        ensures room { result ≡ self.now.room }
+        ensures within { length self.now.log + result ≤ self.now.setup.limit }
+    {
+        let left = self.setup.limit as usize - self.log.len();
+        let free = self.log.capacity() - self.log.len();
+        free.min(left) as u32
+    }
+
+    /// Makes room for this many entries, or for as many as the limit lets come. With room left, a call that leaves the
+    /// records as they are (`step`, clause `settled`) is never answered `NoMemory`. An entry takes 72 bytes.
+    ///
+    /// `NoMemory` where the growth was refused. Log and records are as before in each case.
+    /// It may move the log, a step for each of its entries.
+    pub fn reserve(&mut self, entries: u32) -> Result<(), NoMemory>
+        ensures room { OnOk result (min entries (self.old.setup.limit - length self.old.log) ≤ self.new.room) }
+        ensures kept_room { self.old.room ≤ self.new.room }
+        ensures log { self.new.log ≡ self.old.log }
+        ensures same_setup { self.new.setup ≡ self.old.setup }
+    {
+        let left = self.setup.limit as usize - self.log.len();
+        self.log.reserve(left.min(entries as usize))?;
+        Ok(())
     }
 
     /// All parts in the named order: of the labels before a fault, or of all where there is none.
@@ -198,11 +224,20 @@ impl Journal for Monitor {
         ensures full { (result ≡ Err (StepFault.Full command)) ↔ (length self.old.log ≡ self.old.setup.limit) }
         ensures unchanged { OnErr result (self.new.log ≡ self.old.log) }
         ensures handed_back { IfErr result (λ fault. unstepped fault ≡ command) }
+
+        // With room left, a command that leaves the records as they are is answered, and each answer takes room for one
+        // entry: a refusal, a yes, a no of an earlier label.
+        ensures settled { 0 < self.old.room
+            → records_after self.old.setup.kind self.old.setup.replicas
+            (records_of self.old.setup self.old.log) command ≡ records_of self.old.setup self.old.log
+            → IsOk result }
+        ensures spent { 0 < self.old.room → OnOk result (self.old.room ≡ self.new.room + 1) }
+        ensures kept_room { OnErr result (self.old.room ≤ self.new.room) }
     {
         if self.log.len() == self.setup.limit as usize {
             return Err(StepFault::Full(command));
         }
-        if self.log.reserve(1).is_err() {
+        if reserve_one(&mut self.log).is_err() {
             return Err(StepFault::NoMemory(command));
         }
         let mut command = command;
@@ -233,10 +268,25 @@ fn refusals(reply: Reply) -> u32
     }
 }
 
+// Makes room for one more entry, unless there is some.
+fn reserve_one(log: &mut Vec<Entry<Command, Reply>>) -> Result<(), NoMemory>
+    ensures items { log.new.items ≡ log.old.items }
+    ensures room { OnOk result (vec_len log.new < vec_capacity log.new) }
+    ensures there { vec_len log.old < vec_capacity log.old
+        → IsOk result × (vec_capacity log.new ≡ vec_capacity log.old) }
+    ensures capacity { vec_capacity log.old ≤ vec_capacity log.new }
+{
+    if log.len() == log.capacity() {
+        log.reserve(1)?;
+    }
+    Ok(())
+}
+
 // Puts the entry at the log's end, where room was made for it.
 fn append(log: &mut Vec<Entry<Command, Reply>>, entry: Entry<Command, Reply>)
     requires { vec_len log.old < vec_capacity log.old }
-    ensures { log.new.items ≡ log.old.items ++ entry ∷ [] }
+    ensures items { log.new.items ≡ log.old.items ++ entry ∷ [] }
+    ensures capacity { vec_capacity log.new ≡ vec_capacity log.old }
 {
-    log.push(entry).unwrap();
+    log.push_reserved(entry);
 }

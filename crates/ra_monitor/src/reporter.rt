@@ -1,6 +1,6 @@
 //! A monitor with its tickets, for programs that prove nothing of tickets themselves.
-ghost use Rattle.std.specs.Prelude.{◌≡◌, ◌++◌, ◌∷◌, ◌↔◌, [], length, IsTrue, IfOk, IfErr, OnErr, IsErrOf};
-ghost use Rattle.ra_labels.specs.Answer.{answer_of};
+ghost use Rattle.std.specs.Prelude.{◌≡◌, ◌+◌, ◌-◌, ◌<◌, ◌≤◌, ◌++◌, ◌∷◌, ◌↔◌, [], length, min, IsTrue, IfOk, IfErr, IsOk, OnOk, OnErr, IsErrOf};
+ghost use Rattle.ra_labels.specs.Answer.{answer_of, records_after};
 ghost use Rattle.ra_monitor.specs.Limits.{AreReplicas, IsLimit};
 ghost use Rattle.ra_monitor.specs.Replies.{is_yes};
 ghost use Rattle.ra_journal.specs.Log.{unstepped};
@@ -8,7 +8,7 @@ ghost use Rattle.ra_journal.specs.Log.{unstepped};
 use crate::faults::NewFault;
 use crate::monitor::Monitor;
 use ra_journal::{Journal, StepFault};
-use ra_labels::{Command, Kind, Reply};
+use ra_labels::{Command, Kind, NoMemory, Reply};
 use std::alloc::Global;
 use std::marker::Model;
 
@@ -70,9 +70,28 @@ impl Reporter {
         ensures full { (result ≡ Err (StepFault.Full command)) ↔ (length self.old.log ≡ self.old.setup.limit) }
         ensures unchanged { OnErr result (self.new.log ≡ self.old.log) }
         ensures handed_back { IfErr result (λ fault. unstepped fault ≡ command) }
+
+        // With room left, a command that leaves the records as they are is answered, and each answer takes room for one
+        // entry: a refusal, a yes, a no of an earlier label.
+        ensures settled { 0 < self.old.room
+            → records_after self.old.setup.kind self.old.setup.replicas
+            (records_of self.old.setup self.old.log) command ≡ records_of self.old.setup self.old.log
+            → IsOk result }
+        ensures spent { 0 < self.old.room → OnOk result (self.old.room ≡ self.new.room + 1) }
+        ensures kept_room { OnErr result (self.old.room ≤ self.new.room) }
     {
         let ticket = u64::from(self.monitor.calls());
         self.monitor.step(0, ticket, command)
+    }
+
+    /// Makes room for this many entries, as `Monitor::reserve` does, at the same cost.
+    pub fn reserve(&mut self, entries: u32) -> Result<(), NoMemory>
+        ensures room { OnOk result (min entries (self.old.setup.limit - length self.old.log) ≤ self.new.room) }
+        ensures kept_room { self.old.room ≤ self.new.room }
+        ensures log { self.new.log ≡ self.old.log }
+        ensures same_setup { self.new.setup ≡ self.old.setup }
+    {
+        self.monitor.reserve(entries)
     }
 
     /// The monitor, to look at: its log, its sequence, its report.

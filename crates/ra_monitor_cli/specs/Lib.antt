@@ -1,1 +1,4 @@
+pub mod Words
+pub mod Bench
+pub mod Endings
 pub mod Program

@@ -1,73 +1,33 @@
--- The program: its words, what it reads and writes, and how it ends.
-use Rattle.std.specs.Prelude.{◌≡◌, ◌⊎◌, ℕ, Bool, true, false, ◌&&◌, List, [], ◌∷◌, ◌++◌, map, Option, IfSome, Some, None, Result, Ok, Err, String, codes, string_bytes, bytes_eq, if◌then◌else◌}
-use Rattle.std.specs.Borrow.{Bor}
-use Rattle.std.specs.Global as global
-use Rattle.std.specs.Io.KnownBytes.{Appends, IsAtEnd}
+-- The program: what it reads and writes, and how it ends.
+use Rattle.std.specs.Prelude.{◌≡◌, ℕ, Bool, true, false, List, Option, IfSome, Result, Ok, Err, codes}
+use Rattle.std.specs.Io.KnownBytes.{IsAtEnd}
+use Rattle.ra_labels.specs.declared.kind.Kind.{Kind}
+use Rattle.ra_bench.specs.declared.report.BenchReport.{BenchReport}
+use Rattle.ra_bench.specs.declared.fault.BenchFault.{BenchFault}
 use Rattle.ra_history_text.specs.declared.fault.CheckFault.{CheckFault}
 use Rattle.ra_history_text.specs.declared.fault.CheckFault.TheVariants.{Endless}
 use Rattle.ra_history_text.specs.declared.outcome.Outcome.{Outcome}
 use Rattle.ra_history_text.specs.declared.limits.TheConstants.{MOST_READS}
 use Rattle.ra_history_text.specs.Faults.{check_fault_words}
 use Rattle.ra_history_text.specs.Output.{status_of}
-use Rattle.ra_history_text.specs.Report.{report_line, StopsReport}
+use Rattle.ra_history_text.specs.Report.{report_line}
 use Rattle.ra_history_text.specs.Run.{WritesAnswer, StopsCheck, HasGiven}
-use Rattle.ra_monitor_cli.specs.declared.run.Ending.{Ending}
-use Rattle.ra_monitor_cli.specs.declared.words.Run.{Run}
-use Rattle.ra_monitor_cli.specs.declared.words.Run.TheVariants.{Check}
-use Rattle.ra_monitor_cli.specs.declared.words.WordsFault.{WordsFault}
-use Rattle.ra_monitor_cli.specs.declared.words.WordsFault.TheVariants.{NoMemory, NotText}
+use Rattle.ra_monitor_cli.specs.declared.ending.Ending.{Ending}
+use Rattle.ra_monitor_cli.specs.Bench.{bench_line, status_of_verdict, status_of_fault}
+use Rattle.ra_monitor_cli.specs.Endings.{ends_silently, EndsTelling, EndsWithLine, StopsProgram}
 
--- ---- words
+-- ---- a check
 
--- what words ask for
-abbrev pub run_named : List (List ℕ) → Option Run
-run_named (word ∷ []) = if bytes_eq word (codes "check") then Some (Check false) else None
-run_named (word ∷ option ∷ []) =
-    if bytes_eq word (codes "check") && bytes_eq option (codes "--report") then Some (Check true) else None
-run_named words = None
+-- the status of a check that found this
+abbrev pub status_of_outcome : Outcome → ℕ
+status_of_outcome outcome = status_of (Ok outcome)
 
--- the bytes of each of the texts
-abbrev pub texts_of : List (Bor (List ℕ)) → List (List ℕ)
-texts_of texts = map (λ text. text.now) texts
-
--- what stands on the command line behind the program's name, or why that is not known
-abbrev pub Words : Type 0
-Words = Result (global.Vec (String global.Global)) WordsFault
-
-abbrev pub asked_by : Words → Option Run
-asked_by (Ok words) = run_named (map string_bytes words.items)
-asked_by (Err fault) = None
-
--- what is told of words that ask for nothing
-abbrev pub stop_words : Words → List ℕ
-stop_words (Ok words) = codes "usage"
-stop_words (Err NotText) = codes "usage"
-stop_words (Err NoMemory) = codes "no memory"
-
--- ---- how the program ends
-
--- The program stops with status 2. Where it could tell these words, the error writer's bytes grew by them and a line
--- feed.
-pub record StopsProgram (ending : Ending) (old new : Option (List ℕ)) (words : List ℕ) : Type 0 where
-  pub status : ending.status ≡ 2
-  pub line : ending.told ≡ true → Appends old new (words ++ 10 ∷ [])
-
--- the status of a check that found this, with nothing to tell
-abbrev pub ends_with : Outcome → Ending
-ends_with outcome = record { status = status_of (Ok outcome); told = true }
-
--- the report's line stands behind the answer; or it could not be made or written, and that is told
-abbrev pub ReportsOutcome : Outcome → Ending → (answered new err_old err_new : Option (List ℕ)) → Type 0
-ReportsOutcome outcome ending answered new err_old err_new =
-    ((ending ≡ ends_with outcome) × Appends answered new (report_line outcome.report))
-    ⊎ ((fault : CheckFault) × StopsReport outcome.report answered new fault
-    × StopsProgram ending err_old err_new (check_fault_words fault))
-
--- the answer is written, and the report behind it where it is asked for
+-- the answer is written, and the report's line behind it where it is asked for
 abbrev pub EndsAnswered : Bool → Outcome → Ending → (answered new err_old err_new : Option (List ℕ)) → Type 0
-EndsAnswered false outcome ending answered new err_old err_new = (ending ≡ ends_with outcome) × (new ≡ answered)
+EndsAnswered false outcome ending answered new err_old err_new =
+    (ending ≡ ends_silently (status_of_outcome outcome)) × (new ≡ answered)
 EndsAnswered true outcome ending answered new err_old err_new =
-    ReportsOutcome outcome ending answered new err_old err_new
+    EndsWithLine (report_line outcome.report) (status_of_outcome outcome) ending answered new err_old err_new
 
 -- A check that has this answer: all was read, and what is stated of it was written; or it stopped, and its fault is
 -- told.
@@ -86,3 +46,21 @@ EndsProgram report (Err fault) ending text left old new err_old err_new =
 abbrev pub ChecksText : Bool → Ending → (text left old new err_old err_new : Option (List ℕ)) → Type 0
 ChecksText report ending text left old new err_old err_new =
     (answer : Result Outcome CheckFault) × EndsProgram report answer ending text left old new err_old err_new
+
+-- ---- a bench
+
+-- A bench that has this answer: its line is written; or it faulted, nothing is written, and that is told.
+abbrev pub EndsBench : Kind → (replicas rounds : ℕ) → Result BenchReport BenchFault → Ending →
+    (old new err_old err_new : Option (List ℕ)) → Type 0
+EndsBench kind replicas rounds (Ok report) ending old new err_old err_new =
+    EndsWithLine (bench_line kind replicas rounds report) (status_of_verdict report.verdict) ending
+    old new err_old err_new
+EndsBench kind replicas rounds (Err fault) ending old new err_old err_new =
+    (new ≡ old) × EndsTelling (status_of_fault fault) ending err_old err_new (codes "bench fault")
+
+-- the program runs a bench, which gives an answer, and ends as that answer says
+abbrev pub RunsBench : (gives : Result BenchReport BenchFault → Type 0) → Kind → (replicas rounds : ℕ) → Ending →
+    (old new err_old err_new : Option (List ℕ)) → Type 0
+RunsBench gives kind replicas rounds ending old new err_old err_new =
+    (answer : Result BenchReport BenchFault) × gives answer
+    × EndsBench kind replicas rounds answer ending old new err_old err_new

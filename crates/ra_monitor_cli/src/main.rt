@@ -1,11 +1,14 @@
-//! Checks histories of replicated data types, given as a text on standard input.
+//! Checks histories of replicated data types, given as a text on standard input, and runs benches of replicas.
 #![tactic(auto)]
 
+mod bench;
+mod ending;
 mod run;
 mod words;
 
 use crate::run::run;
 use crate::words::WordsFault;
+use ra_bench::{OpenGate, run_bench};
 use std::env::Env;
 use std::process::ExitCode;
 use std::{env, io};
@@ -15,6 +18,7 @@ fn main(rt: HostRuntime) -> ExitCode {
     let ending = run(
         rt.alloc(),
         &words,
+        |kind, replicas, rounds| run_bench(&rt, rt.alloc(), kind, replicas, rounds, &OpenGate),
         &mut rt.reader(),
         &mut io::writer(&rt),
         &mut rt.stderr(),

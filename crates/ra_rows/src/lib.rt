@@ -15,6 +15,8 @@ mod lists;
 #[cfg(test)]
 mod or_sets;
 #[cfg(test)]
+mod room;
+#[cfg(test)]
 mod rows;
 #[cfg(test)]
 mod sizes;

@@ -66,3 +66,11 @@ returns-in-Err-Refused-clause-taken c = λ past stands none form.
     } in
     subst (λ (o : Option Refusal). (reply.Refused why ≡ option_map_or reply.Refused o (reply.Got label))
     × StandsFor new (past_of past.kind past.first (if is_some o then past.records else Deliver to label ∷ past.records))) (sym refused) (refl, same)
+
+pub returns-in-Err-clause-joins : goal.returns-in-Err-clause-joins
+returns-in-Err-clause-joins c = λ past stands.
+    let old = c.args.self.now in
+    let known : c.args.replica < replicas_in old.tracker.now =
+    omega (arith, c.requires.replica, c.requires.stands.tracker.replicas) in
+    sym (refused_as_the_records_say old.tracker.now past c.args.replica c.args.label stands.tracker known)
+    ∙ c.in-Ok.ensures.taken

@@ -1,6 +1,7 @@
 use Rattle.std.proofs.Common.{◌≡◌, ℕ, ◌∷◌, Option, Some, None, refl, sym, ap, ◌∙◌, subst}
 use Rattle.std.specs.Prelude.{IfOk, is_some, if◌then◌else◌}
 use Rattle.std.specs.Option.{option_or, option_map_or}
+use Rattle.ra_labels.proofs.Results.{on_err, on_err_any}
 use Rattle.ra_labels.specs.declared.kind.Kind.{Kind}
 use Rattle.ra_labels.specs.declared.operation.Op.{Op}
 use Rattle.ra_labels.specs.declared.command.Command.{Command}
@@ -121,3 +122,33 @@ accept-requires c =
       none = none;
       accepted = ap (refusal_of setup.kind setup.replicas r.records) (sym c.in-Operate.is) ∙ accepted;
     }
+
+-- An operation that is not refused joins the records, whether there is memory for it or not.
+pub returns-in-Operate-clause-joins : goal.returns-in-Operate-clause-joins
+returns-in-Operate-clause-joins c = λ records stands.
+    let setup = c.args.setup.now in
+    let command = c.args.command.now in
+    let is = c.in-Operate.is in
+    let none : fault_of setup.kind records ≡ None = sym stands.fault ∙ c.in_default.is in
+    let accepted : refusal_of setup.kind setup.replicas records command ≡ None =
+    c.in_default-refusal_of.ensures.first records (taken_known c.args.self.now (past_in setup records) stands none)
+    ∙ nothing_left records command c.in-Operate.replica c.in-Operate.op c.in-Operate.stamp is in
+    on_err_any c.accept.result (
+    sym (joined setup.kind setup.replicas records command c.in-Operate.replica c.in-Operate.op c.in-Operate.stamp is none accepted)
+    ∙ ap (λ (d : Command). d ∷ records) (sym is))
+
+pub returns-in-Deliver-clause-joins : goal.returns-in-Deliver-clause-joins
+returns-in-Deliver-clause-joins c = λ records stands.
+    let setup = c.args.setup.now in
+    let command = c.args.command.now in
+    let to = c.in-Deliver.replica in
+    let label = c.in-Deliver.label in
+    let is = c.in-Deliver.is in
+    let none : fault_of setup.kind records ≡ None = sym stands.fault ∙ c.in_default.is in
+    let same : refusal_of setup.kind setup.replicas records command ≡ refusal_at records to label =
+    c.in_default-refusal_of.ensures.first records (taken_known c.args.self.now (past_in setup records) stands none)
+    ∙ ap (refusal_left records) is in
+    on_err c.deliver.result (c.deliver.ensures.joins (past_in setup records) stands) (λ left.
+    sym (delivered_records setup.kind setup.replicas records command to label is none same)
+    ∙ ap (λ (o : Option Refusal). if is_some o then records else Deliver to label ∷ records) left
+    ∙ ap (λ (d : Command). d ∷ records) (sym is))

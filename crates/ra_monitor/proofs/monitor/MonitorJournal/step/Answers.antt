@@ -1,7 +1,9 @@
-use Rattle.std.proofs.Common.{◌≡◌, ℕ, ◌+◌, ◌<◌, ◌∷◌, ◌++◌, [], List, length, refl, sym, ap, ◌∙◌, subst, arith}
+use Rattle.std.proofs.Common.{◌≡◌, ℕ, suc, ◌+◌, ◌<◌, ◌∷◌, ◌++◌, [], List, length, refl, sym, ap, ◌∙◌, subst, arith}
 use Rattle.ra_labels.specs.declared.command.Command.{Command}
-use Rattle.ra_labels.specs.Answer.{answer_of}
+use Rattle.ra_labels.specs.Records.{Records}
+use Rattle.ra_labels.specs.Answer.{answer_of, records_after}
 use Rattle.ra_monitor.specs.Monitor.{MonitorEntry, Monitor, records_of, IsRaLinearizable, IsNoAtFault, IsNextTicket}
+use Rattle.ra_monitor.specs.Kept.{monitor_of}
 use Rattle.ra_monitor.proofs.Legal.{linearizable_after, no_after}
 use Rattle.ra_monitor.proofs.NewEntries.{legal_after, kept_after}
 use Rattle.ra_monitor.proofs.monitor.MonitorJournal.step.Goals as goal
@@ -16,11 +18,11 @@ entry_of c = entry_with c c.args.command
 
 log_is : (c : goal.After-append) → c.append.new.log.items ≡ c.self.inside.log.items ++ entry_of c ∷ []
 log_is c =
-    c.append.ensures
-    ∙ ap (λ (l : List MonitorEntry). l ++ entry_with c c.take.new.command ∷ []) c.reserve.ensures.items
+    c.append.ensures.items
+    ∙ ap (λ (l : List MonitorEntry). l ++ entry_with c c.take.new.command ∷ []) c.reserve_one.ensures.items
     ∙ ap (λ (command : Command). c.self.inside.log.items ++ entry_with c command ∷ []) c.take.ensures.command
 
-next_is : (c : goal.After-append) → IsNextTicket (record { setup = c.self.inside.setup; log = c.self.inside.log.items }) c.args.ticket
+next_is : (c : goal.After-append) → IsNextTicket (monitor_of c.self.inside) c.args.ticket
 next_is c = subst (λ (l : Monitor). IsNextTicket l c.args.ticket) (sym c.self.view_is) c.requires
 
 answered : (c : goal.After-append)
@@ -44,3 +46,15 @@ returns-in-Ok-clause-yes c = λ said.
 pub returns-in-Ok-clause-no : goal.returns-in-Ok-clause-no
 returns-in-Ok-clause-no c =
     subst (λ (l : List MonitorEntry). IsNoAtFault c.self.inside.setup l c.in-Ok.reply) (sym (log_is c)) (no_after c.self.inside.setup c.self.inside.log.items (entry_of c) (answered c))
+
+-- It gave up, so the command would have joined the records.
+pub returns-in-Err-clause-settled : goal.returns-in-Err-clause-settled
+returns-in-Err-clause-settled c = λ room stays.
+    let m = c.self.inside in
+    let records = records_of m.setup m.log.items in
+    let joins = c.in-Err.ensures.joins records c.self.invariant.history in
+    let stays_there : records_after m.setup.kind m.setup.replicas records c.args.command ≡ records =
+    subst (λ (l : Monitor). records_after l.setup.kind l.setup.replicas (records_of l.setup l.log) c.args.command
+    ≡ records_of l.setup l.log) (sym c.self.view_is) stays in
+    let longer : suc (length records) ≡ length records = ap (λ (r : Records). length r) (sym joins ∙ stays_there) in
+    absurd (omega (arith, longer))

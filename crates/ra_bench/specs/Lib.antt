@@ -1,0 +1,5 @@
+pub mod Faults
+pub mod Lies
+pub mod Limits
+pub mod Post
+pub mod Report

@@ -1,0 +1,123 @@
+//! Why a bench gives no report.
+ghost use Rattle.std.specs.Prelude.{IfOk, IsTrue, IsFalse};
+ghost use Rattle.ra_bench.specs.Faults.{is_wanted, TellsUnwanted, IsOfRun};
+
+use ra_labels::{NoMemory, Reply};
+use std::alloc::{AllocError, AllocFailed};
+use thiserror::Error;
+
+/// Why a bench gives no report. Where several replicas fail in one round, the fault is the lowest one's.
+#[derive(Clone, Copy, Debug, PartialEq, Eq, Error)]
+pub enum BenchFault {
+    /// The number of replicas is not 1 to 16.
+    #[error("bench fault")]
+    BadReplicas,
+    /// The number of rounds is not 1 to 1,000.
+    #[error("bench fault")]
+    BadRounds,
+    /// The gate did not let the replica in.
+    #[error("bench fault")]
+    Stalled {
+        /// The replica's number.
+        replica: u8,
+    },
+    /// What the replica reported was answered neither by a label number nor by a taken delivery.
+    #[error("bench fault")]
+    Answered {
+        /// The replica's number.
+        replica: u8,
+        /// The answer: a no, mostly.
+        reply: Reply,
+    },
+    /// The desk took no report any more: its log is full, or its tickets are at their end. After the last round the
+    /// number is that of the pass behind all replicas.
+    #[error("bench fault")]
+    Lock {
+        /// The number of the replica, which is that of its pass.
+        replica: u8,
+    },
+    /// A growth was refused for want of memory.
+    #[error("bench fault")]
+    NoMemory,
+    /// A thread could not be started.
+    #[error("bench fault")]
+    Thread,
+}
+
+/// A reply that no honest replica gets: neither `Ok` nor `Got`.
+#[derive(Clone, Copy)]
+pub struct Unwanted {
+    reply: Reply,
+    ghost unwanted: { IsFalse (is_wanted reply) },
+}
+
+impl Unwanted {
+    /// The reply.
+    pub fn reply(self) -> Reply
+        ensures { IsFalse (is_wanted result) }
+    {
+        self.reply
+    }
+}
+
+/// The label that the reply speaks of, where it is one that honest replicas get.
+pub fn label_in(reply: Reply) -> Result<u32, Unwanted>
+    ensures { IfOk result (λ _. IsTrue (is_wanted reply)) }
+{
+    match reply {
+        Reply::Ok(label) | Reply::Got(label) => Ok(label),
+        reply => Err(Unwanted { reply }),
+    }
+}
+
+/// Why a run came to no end.
+#[derive(Clone, Copy)]
+pub enum RunFault {
+    /// The gate did not let the replica in.
+    Stalled { replica: u8 },
+    /// The replica got this answer.
+    Answered { replica: u8, unwanted: Unwanted },
+    /// The desk took no report of this pass any more.
+    Lock { replica: u8 },
+    /// A growth was refused.
+    NoMemory,
+    /// A thread could not be started.
+    Thread,
+}
+
+impl RunFault {
+    /// As the bench tells it.
+    pub fn told(self) -> BenchFault
+        ensures of_run { IsOfRun result }
+        ensures answered { TellsUnwanted result }
+    {
+        match self {
+            RunFault::Stalled { replica } => BenchFault::Stalled { replica },
+            RunFault::Answered { replica, unwanted } => BenchFault::Answered {
+                replica,
+                reply: unwanted.reply(),
+            },
+            RunFault::Lock { replica } => BenchFault::Lock { replica },
+            RunFault::NoMemory => BenchFault::NoMemory,
+            RunFault::Thread => BenchFault::Thread,
+        }
+    }
+}
+
+impl From<NoMemory> for RunFault {
+    fn from(_refused: NoMemory) -> RunFault {
+        RunFault::NoMemory
+    }
+}
+
+impl From<AllocError> for RunFault {
+    fn from(_refused: AllocError) -> RunFault {
+        RunFault::NoMemory
+    }
+}
+
+impl<T: Drop> From<AllocFailed<T>> for RunFault {
+    fn from(_refused: AllocFailed<T>) -> RunFault {
+        RunFault::NoMemory
+    }
+}

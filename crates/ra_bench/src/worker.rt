@@ -1,0 +1,142 @@
+//! One replica with its reporter, on a thread of its own: what a data type of one's own would do.
+use crate::fault::{RunFault, Unwanted, label_in};
+use crate::gate::Gate;
+use crate::lie::falsified;
+use crate::tell::tell;
+use crate::turn::Turn;
+use ra_desk::DeskReporter;
+use ra_labels::{Command, Op};
+use ra_replicas::{Message, Replica};
+use std::alloc::Global;
+use std::sync::Wait;
+
+/// A replica with its reporter.
+#[derive(Drop)]
+pub struct Worker {
+    replica: Replica,
+    reporter: DeskReporter,
+}
+
+/// What comes back from a worker's thread.
+#[derive(Drop)]
+pub struct Done {
+    /// The worker itself.
+    pub worker: Worker,
+    /// The update that it made, if it made one, or why it stopped.
+    pub sent: Result<Option<Message>, RunFault>,
+}
+
+impl Worker {
+    /// A replica that reports by this reporter.
+    pub fn new(replica: Replica, reporter: DeskReporter) -> Worker {
+        Worker { replica, reporter }
+    }
+
+    /// The replica's number.
+    pub fn number(&self) -> u8 {
+        self.replica.number()
+    }
+
+    /// Takes the worker and its inbox to a thread, and gives them back with what was sent.
+    pub fn work<R: Wait, G: Gate>(
+        self,
+        rt: &R,
+        alloc: Global,
+        gate: &G,
+        inbox: Vec<Message>,
+        turn: Turn,
+    ) -> Done {
+        let mut worker = self;
+        let sent = worker.pass_gate(rt, alloc, gate, inbox, turn);
+        Done { worker, sent }
+    }
+
+    // One round, between the gate's two calls.
+    fn pass_gate<R: Wait, G: Gate>(
+        &mut self,
+        rt: &R,
+        alloc: Global,
+        gate: &G,
+        inbox: Vec<Message>,
+        turn: Turn,
+    ) -> Result<Option<Message>, RunFault> {
+        let replica = self.number();
+        if !gate.enter(replica, turn.round) {
+            return Err(RunFault::Stalled { replica });
+        }
+        let sent = self.take_turn(rt, inbox, turn)?;
+        gate.left(replica, turn.round);
+        Ok(sent)
+    }
+
+    // What comes, then an update, then a read.
+    fn take_turn<R: Wait>(
+        &mut self,
+        rt: &R,
+        inbox: Vec<Message>,
+        turn: Turn,
+    ) -> Result<Option<Message>, RunFault> {
+        for message in inbox {
+            self.replica.hold(message)?;
+        }
+        self.deliver(rt)?;
+        let sent = if turn.has_update() {
+            Some(self.update(rt, turn.round)?)
+        } else {
+            None
+        };
+        if turn.has_read() {
+            self.read(rt, turn.is_lie_of(self.number()))?;
+        }
+        Ok(sent)
+    }
+
+    // Applies what can be, and reports each.
+    fn deliver<R: Wait>(&mut self, rt: &R) -> Result<(), RunFault> {
+        for _ in 0..self.replica.held() {
+            let Some(label) = self.replica.apply_next()? else {
+                break;
+            };
+            let replica = self.number();
+            self.report(rt, Command::Deliver { replica, label })?;
+        }
+        Ok(())
+    }
+
+    // Makes the round's update and reports it. The message is for the others.
+    fn update<R: Wait>(&mut self, rt: &R, round: u32) -> Result<Message, RunFault> {
+        let made = self.replica.update(round)?;
+        let op = made.op.clone()?;
+        let label = self.report_operation(rt, op, made.clock)?;
+        Ok(Message {
+            label,
+            from: self.number(),
+            made,
+        })
+    }
+
+    // Reads, and reports what was read or a lie.
+    fn read<R: Wait>(&mut self, rt: &R, is_lie: bool) -> Result<(), RunFault> {
+        let read = self.replica.read()?;
+        let told = if is_lie { falsified(read)? } else { read };
+        self.report_operation(rt, told, None)?;
+        Ok(())
+    }
+
+    fn report_operation<R: Wait>(
+        &mut self,
+        rt: &R,
+        op: Op,
+        stamp: Option<u32>,
+    ) -> Result<u32, RunFault> {
+        let replica = self.number();
+        self.report(rt, Command::Operate { replica, op, stamp })
+    }
+
+    // Tells the desk, and gives the label that it answers with.
+    fn report<R: Wait>(&mut self, rt: &R, command: Command) -> Result<u32, RunFault> {
+        let reply = tell(rt, &mut self.reporter, command)?;
+        let replica = self.number();
+        label_in(reply).map_err(|unwanted: Unwanted| RunFault::Answered { replica, unwanted })
+    }
+}

@@ -1,0 +1,13 @@
+//! Tests of the bench, of its replicas, and of a replica that does it wrong. There is nothing else here.
+#![tactic(auto)]
+
+#[cfg(test)]
+mod arrivals;
+#[cfg(test)]
+mod gates;
+#[cfg(test)]
+mod lies;
+#[cfg(test)]
+mod replicas;
+#[cfg(test)]
+mod runs;

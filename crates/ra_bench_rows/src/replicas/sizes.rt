@@ -1,0 +1,144 @@
+//! Thousands of elements, of identifiers and of messages that wait.
+
+use super::{apply_next, bring, hold, list, made, message, replica_of};
+use ra_labels::{Kind, Op};
+use ra_replicas::{Made, Replica};
+use std::alloc::Global;
+use std::process::Abort;
+
+// What is brought for each number.
+#[derive(Clone, Copy)]
+enum Many {
+    Members,
+    Pairs,
+    // Each element under the one before it.
+    Deep,
+    // All elements under the root.
+    Wide,
+}
+
+// The update with this number.
+fn numbered(many: Many, number: u32) -> Op {
+    match many {
+        Many::Members => Op::LwwAdd(number),
+        Many::Pairs => Op::OrAdd {
+            element: number,
+            id: 7,
+        },
+        Many::Deep => Op::After {
+            anchor: number.saturating_sub(1),
+            element: number,
+        },
+        Many::Wide => Op::After {
+            anchor: 0,
+            element: number,
+        },
+    }
+}
+
+// The elements that a set or a list shows.
+fn elements(rt: &impl Abort, replica: &Replica) -> Vec<u32> {
+    match replica.read() {
+        Ok(Op::LwwRead(list) | Op::OrRead(list) | Op::RgaRead(list)) => list.into_vec(),
+        _ => panic!(rt; "no list"),
+    }
+}
+
+// A replica to which 5,000 numbered updates came, with their numbers as clocks.
+fn with_many(rt: &impl Abort, alloc: Global, kind: Kind, many: Many) -> Replica {
+    let mut replica = replica_of(rt, alloc, kind, 0, 16);
+    for number in 1..5001 {
+        bring(
+            rt,
+            alloc,
+            &mut replica,
+            1,
+            numbered(many, number),
+            Some(number),
+        );
+    }
+    replica
+}
+
+// The children of one element fall by their stamps; all else rises here.
+#[test]
+fn thousands_of_elements_are_shown(rt: HostRuntime) {
+    for (kind, many, falls) in [
+        (Kind::LwwSet, Many::Members, false),
+        (Kind::OrSet, Many::Pairs, false),
+        (Kind::Rga, Many::Deep, false),
+        (Kind::Rga, Many::Wide, true),
+    ] {
+        let replica = with_many(&rt, rt.alloc(), kind, many);
+        let mut shown = elements(&rt, &replica);
+        if falls {
+            shown.reverse();
+        }
+        assert_eq!(rt; shown.len(), 5000);
+        let mut next = 1;
+        for element in &shown {
+            assert_eq!(rt; *element, next);
+            next = next.wrapping_add(1);
+        }
+    }
+}
+
+// The removal of an element names all that it is there under, rising.
+#[test]
+fn thousands_of_identifiers_are_taken_out(rt: HostRuntime) {
+    let mut replica = replica_of(&rt, rt.alloc(), Kind::OrSet, 0, 16);
+    for below in 0..5000 {
+        let id = 4999u32.saturating_sub(below);
+        let op = Op::OrAdd { element: 3, id };
+        bring(&rt, rt.alloc(), &mut replica, 1, op, None);
+    }
+    let Made { op, .. } = made(&rt, &mut replica, 2);
+    let Op::OrRemove { element, ids } = op else {
+        panic!(rt; "no removal");
+    };
+    assert_eq!(rt; (element, ids.as_slice().len()), (3, 5000));
+    let mut next = 0;
+    for id in ids.as_slice() {
+        assert_eq!(rt; *id, next);
+        next = next.wrapping_add(1);
+    }
+    assert_eq!(rt; elements(&rt, &replica).len(), 0);
+}
+
+// 300 elements at the front are removed one by one, the first that is shown each time, and 5,000 messages wait.
+#[test]
+fn thousands_wait_and_are_removed(rt: HostRuntime) {
+    let mut replica = with_many(&rt, rt.alloc(), Kind::Rga, Many::Wide);
+    for removed in 0..300 {
+        let made = made(&rt, &mut replica, 2);
+        assert!(rt; made.op == Op::RgaRemove(5000u32.saturating_sub(removed)));
+    }
+    assert_eq!(rt; elements(&rt, &replica).len(), 4700);
+    for number in 0..5000 {
+        let had = list(&rt, rt.alloc(), &[0, 5000, 1]);
+        hold(
+            &rt,
+            &mut replica,
+            message(number, 1, Op::RgaRemove(1), None, had),
+        );
+    }
+    assert_eq!(rt;
+        (apply_next(&rt, &mut replica), replica.held()),
+        (None, 5000)
+    );
+    bring_cause(&rt, rt.alloc(), &mut replica);
+    assert_eq!(rt;
+        (apply_next(&rt, &mut replica), replica.held()),
+        (Some(0), 4999)
+    );
+}
+
+// One update of replica 2, which is applied though 5,000 others wait.
+fn bring_cause(rt: &impl Abort, alloc: Global, replica: &mut Replica) {
+    hold(
+        rt,
+        replica,
+        message(9000, 2, Op::RgaRemove(1), None, Vec::new(alloc)),
+    );
+    assert_eq!(rt; apply_next(rt, replica), Some(9000));
+}

@@ -1,0 +1,26 @@
+//! A line to a writer.
+ghost use Rattle.std.specs.Prelude.{◌∷◌, ◌++◌, [], IfErr, OnOk, string_bytes};
+ghost use Rattle.std.specs.Io.KnownBytes.{Appends};
+ghost use Rattle.ra_history_text.specs.Written.{StopsLine};
+
+use crate::fault::CheckFault;
+use crate::write::write_out;
+use std::io::Write;
+
+/// Writes the words on a line of their own.
+///
+/// # Errors
+///
+/// `NoMemory` where a growth is refused: nothing was written. `Write` where the writer fails, or takes no byte: a part
+/// of the line was.
+pub fn write_line<W: Write>(words: String, writer: &mut W) -> Result<(), CheckFault>
+    ensures written { OnOk result (Appends (W.contents writer.old) (W.contents writer.new)
+        (string_bytes words ++ 10 ∷ [])) }
+    ensures stopped { IfErr result (StopsLine (string_bytes words ++ 10 ∷ [])
+        (W.contents writer.old) (W.contents writer.new)) }
+{
+    let mut line = words;
+    line.push('\n')?;
+    write_out(writer, line.as_bytes())?;
+    Ok(())
+}

@@ -1,0 +1,51 @@
+-- The line of a bench, and the status that it ends with.
+use Rattle.std.specs.Prelude.{ℕ, List, [], ◌∷◌, ◌++◌, codes, decimal}
+use Rattle.ra_labels.specs.declared.kind.Kind.{Kind}
+use Rattle.ra_labels.specs.declared.reply.Reply.{Reply}
+use Rattle.ra_labels.specs.declared.reply.Reply.TheVariants as reply
+use Rattle.ra_lines.specs.Grammar.{kind_word}
+use Rattle.ra_bench.specs.declared.report.BenchReport.{BenchReport}
+use Rattle.ra_bench.specs.declared.fault.BenchFault.{BenchFault}
+use Rattle.ra_bench.specs.declared.fault.BenchFault.TheVariants.{Answered}
+
+-- the last word of the line
+abbrev pub verdict_word : Reply → List ℕ
+verdict_word (reply.Yes labels) = codes "yes"
+verdict_word other = codes "no"
+
+-- what was asked for, and what was counted
+abbrev pub asked_words : Kind → (replicas rounds : ℕ) → List ℕ
+asked_words kind replicas rounds =
+    codes "bench " ++ (kind_word kind ++ (codes " replicas " ++ (decimal replicas
+    ++ (codes " rounds " ++ decimal rounds))))
+
+abbrev pub counted_words : BenchReport → List ℕ
+counted_words report =
+    codes "labels " ++ (decimal report.labels ++ (codes " deliveries " ++ (decimal report.deliveries
+    ++ (codes " calls " ++ decimal report.calls))))
+
+-- the line of a bench, with no line feed
+abbrev pub bench_words : Kind → (replicas rounds : ℕ) → BenchReport → List ℕ
+bench_words kind replicas rounds report =
+    asked_words kind replicas rounds ++ (codes " " ++ (counted_words report
+    ++ (codes " " ++ verdict_word report.verdict)))
+
+-- and with it
+abbrev pub bench_line : Kind → (replicas rounds : ℕ) → BenchReport → List ℕ
+bench_line kind replicas rounds report = bench_words kind replicas rounds report ++ 10 ∷ []
+
+-- ---- the status
+
+-- 0 for a yes, and 1 for a no
+abbrev pub status_of_verdict : Reply → ℕ
+status_of_verdict (reply.Yes labels) = 0
+status_of_verdict other = 1
+
+-- 1 where a call was answered by a no, and 2 for every other fault
+abbrev pub status_of_answer : Reply → ℕ
+status_of_answer (reply.No label cause) = 1
+status_of_answer other = 2
+
+abbrev pub status_of_fault : BenchFault → ℕ
+status_of_fault (Answered replica answer) = status_of_answer answer
+status_of_fault other = 2

@@ -1,0 +1,4 @@
+pub mod Counts
+pub mod Data
+pub mod Turn
+pub mod Replica

@@ -1,0 +1,70 @@
+//! Room for entries: what a monitor has reserved, it answers with.
+
+use crate::commands::{got, increment, read, reply_to, reporter_of};
+use ra_journal::Entry;
+use ra_labels::{Cause, Command, Kind, Refusal, Reply};
+use ra_monitor::Reporter;
+use std::mem;
+use std::process::Abort;
+
+// Reserves, once more where a growth was refused, and has log and records as before.
+fn reserve(rt: &impl Abort, reporter: &mut Reporter, entries: u32) {
+    let before = reporter.monitor().report();
+    if reporter.reserve(entries).is_err() {
+        assert_eq!(rt; reporter.monitor().report(), before);
+        assert!(rt; reporter.reserve(entries).is_ok());
+    }
+    assert_eq!(rt; reporter.monitor().report(), before);
+}
+
+// The command is answered at the first time, and takes room for one entry.
+fn is_answered(rt: &impl Abort, reporter: &mut Reporter, command: Command, want: Reply) {
+    let room = reporter.monitor().room();
+    let reply = reporter.tell(command).ok();
+    assert_eq!(rt; reply, Some(want));
+    assert_eq!(rt; Some(reporter.monitor().room()), room.checked_sub(1));
+}
+
+#[test]
+fn what_is_reserved_is_answered(rt: HostRuntime) {
+    let no = Reply::No {
+        label: 1,
+        cause: Cause::Query,
+    };
+    let mut reporter = reporter_of(&rt, rt.alloc(), Kind::Counter, 2, 300);
+    reserve(&rt, &mut reporter, 260);
+    assert!(rt; reporter.monitor().room() >= 260);
+    for _ in 0..64 {
+        let unknown = Reply::Refused(Refusal::UnknownReplica);
+        is_answered(&rt, &mut reporter, increment(2), unknown);
+        let missing = Reply::Refused(Refusal::UnknownLabel);
+        is_answered(&rt, &mut reporter, got(1, 0), missing);
+        is_answered(&rt, &mut reporter, Command::Verdict, Reply::Yes(0));
+    }
+    assert_eq!(rt; reply_to(&rt, &mut reporter, increment(0)), Reply::Ok(0));
+    assert_eq!(rt; reply_to(&rt, &mut reporter, read(1, 1)), no);
+    for command in [increment(0), increment(2), got(1, 0), Command::Verdict] {
+        is_answered(&rt, &mut reporter, command, no);
+    }
+}
+
+// What docs/USING.md says that an entry costs, in bytes.
+#[test]
+fn an_entry_has_its_size(rt: HostRuntime) {
+    assert_eq!(rt; mem::size_of::<Entry<Command, Reply>>(), 72);
+}
+
+// As much as the limit lets come, and no more.
+#[test]
+fn room_ends_at_the_limit(rt: HostRuntime) {
+    let mut reporter = reporter_of(&rt, rt.alloc(), Kind::Rga, 1, 3);
+    reserve(&rt, &mut reporter, 4_294_967_295);
+    assert_eq!(rt; reporter.monitor().room(), 3);
+    for left in [2, 1, 0] {
+        is_answered(&rt, &mut reporter, Command::Verdict, Reply::Yes(0));
+        assert_eq!(rt; reporter.monitor().room(), left);
+    }
+    reserve(&rt, &mut reporter, 7);
+    assert_eq!(rt; reporter.monitor().room(), 0);
+    assert!(rt; reporter.tell(Command::Verdict).is_err());
+}
