@@ -1,19 +1,22 @@
 -- Which replies honest replicas get, and what a run may end in.
-use Rattle.std.specs.Prelude.{Bool, true, false, IsFalse}
+use Rattle.std.specs.Prelude.{◌≡◌, ℕ, Option, Some, None}
 use Rattle.ra_labels.specs.declared.reply.Reply.{Reply}
 use Rattle.ra_labels.specs.declared.reply.Reply.TheVariants.{Ok, Got}
 use Rattle.ra_bench.specs.declared.fault.BenchFault.{BenchFault}
 use Rattle.ra_bench.specs.declared.fault.BenchFault.TheVariants.{BadReplicas, BadRounds, Answered}
+use Rattle.ra_bench.specs.declared.fault.BenchFault.TheVariants as told
+use Rattle.ra_bench.specs.declared.fault.RunFault.{RunFault}
+use Rattle.ra_bench.specs.declared.fault.RunFault.TheVariants as run
 
--- a label number, or a taken delivery
-abbrev pub is_wanted : Reply → Bool
-is_wanted (Ok label) = true
-is_wanted (Got label) = true
-is_wanted _ = false
+-- the label number of a reply that honest replicas get
+abbrev pub label_of : Reply → Option ℕ
+label_of (Ok label) = Some label
+label_of (Got label) = Some label
+label_of _ = None
 
 -- the answer that a fault tells of is none that honest replicas get
 abbrev pub TellsUnwanted : BenchFault → Type 0
-TellsUnwanted (Answered replica reply) = IsFalse (is_wanted reply)
+TellsUnwanted (Answered replica reply) = label_of reply ≡ None
 TellsUnwanted _ = Unit {0}
 
 -- the fault is of a run that began
@@ -21,3 +24,11 @@ abbrev pub IsOfRun : BenchFault → Type 0
 IsOfRun BadReplicas = ⊥
 IsOfRun BadRounds = ⊥
 IsOfRun _ = Unit {0}
+
+-- as the bench tells it
+abbrev pub told_of : RunFault → BenchFault
+told_of (run.Stalled replica) = told.Stalled replica
+told_of (run.Answered replica unwanted) = told.Answered replica unwanted.reply
+told_of (run.Lock replica) = told.Lock replica
+told_of run.NoMemory = told.NoMemory
+told_of run.Thread = told.Thread

@@ -7,7 +7,7 @@ use Rattle.ra_labels.specs.declared.reply.Reply.{Reply}
 use Rattle.ra_labels.specs.declared.reply.Reply.TheVariants.{Got}
 use Rattle.ra_labels.specs.Records.{label_count}
 use Rattle.ra_monitor.specs.declared.setup.Setup.{Setup}
-use Rattle.ra_monitor.specs.Monitor.{MonitorEntry, records_of, IsLegalLog}
+use Rattle.ra_monitor.specs.Monitor.{MonitorEntry, records_of, refused_count, IsLegalLog}
 use Rattle.ra_bench.specs.declared.report.BenchReport.{BenchReport}
 
 abbrev pub is_got : Reply → Bool
@@ -28,6 +28,7 @@ pub record IsReportOf (setup : Setup) (log : List MonitorEntry) (report : BenchR
   pub labels : report.labels ≡ label_count (records_of setup log)
   pub deliveries : report.deliveries ≡ deliveries_in log
   pub calls : report.calls ≡ length log
+  pub none_refused : refused_count log ≡ 0
   pub verdict : EndsInVerdict log report.verdict
 
 -- the report is that of a legal log of a monitor of this kind, at so many replicas

@@ -14,8 +14,8 @@ use crate::lie::Lie;
 use crate::limits::{MOST_BENCH_REPLICAS, MOST_ROUNDS};
 use crate::post::Post;
 use crate::report::BenchReport;
-use crate::round::take_turns;
-use crate::turn::Turn;
+use crate::round::Round;
+use crate::threads::run_round;
 use crate::worker::Worker;
 use ra_desk::DeskReporter;
 use ra_labels::Kind;
@@ -74,8 +74,8 @@ pub fn run_bench_with<R: Threads + Wait + Sync, G: Gate + Sync>(
     if rounds < 1 || rounds > MOST_ROUNDS {
         return Err(BenchFault::BadRounds);
     }
-    let first = Turn {
-        round: 0,
+    let first = Round {
+        number: 0,
         rounds,
         lie,
     };
@@ -91,7 +91,7 @@ fn run<R: Threads + Wait + Sync, G: Gate + Sync>(
     alloc: Global,
     kind: Kind,
     replicas: u8,
-    first: Turn,
+    first: Round,
     gate: &G,
 ) -> Result<BenchReport, RunFault>
     requires { AreBenchReplicas replicas × AreRounds first.rounds }
@@ -142,15 +142,15 @@ fn run_rounds<R: Threads + Wait + Sync, G: Gate + Sync>(
     alloc: Global,
     gate: &G,
     workers: Vec<Worker>,
-    first: Turn,
+    first: Round,
 ) -> Result<(), RunFault>
     requires { AreRounds first.rounds }
 {
     let mut workers = workers;
     let mut post = Post::new(alloc);
-    for round in 0..=first.rounds + 1 {
-        let turn = Turn { round, ..first };
-        workers = take_turns(rt, alloc, gate, workers, &mut post, turn)?;
+    for number in 0..=first.rounds + 1 {
+        let round = Round { number, ..first };
+        workers = run_round(rt, alloc, gate, workers, &mut post, round)?;
     }
     Ok(())
 }

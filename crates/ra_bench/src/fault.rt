@@ -1,6 +1,6 @@
 //! Why a bench gives no report.
-ghost use Rattle.std.specs.Prelude.{IfOk, IsTrue, IsFalse};
-ghost use Rattle.ra_bench.specs.Faults.{is_wanted, TellsUnwanted, IsOfRun};
+ghost use Rattle.std.specs.Prelude.{◌≡◌, IfOk, IfErr, Some, None};
+ghost use Rattle.ra_bench.specs.Faults.{label_of, told_of, TellsUnwanted, IsOfRun};
 
 use ra_labels::{NoMemory, Reply};
 use std::alloc::{AllocError, AllocFailed};
@@ -48,13 +48,14 @@ pub enum BenchFault {
 #[derive(Clone, Copy)]
 pub struct Unwanted {
     reply: Reply,
-    ghost unwanted: { IsFalse (is_wanted reply) },
+    ghost unwanted: { label_of reply ≡ None },
 }
 
 impl Unwanted {
     /// The reply.
     pub fn reply(self) -> Reply
-        ensures { IsFalse (is_wanted result) }
+        ensures same { result ≡ self.reply }
+        ensures unwanted { label_of result ≡ None }
     {
         self.reply
     }
@@ -62,7 +63,8 @@ impl Unwanted {
 
 /// The label that the reply speaks of, where it is one that honest replicas get.
 pub fn label_in(reply: Reply) -> Result<u32, Unwanted>
-    ensures { IfOk result (λ _. IsTrue (is_wanted reply)) }
+    ensures ok { IfOk result (λ label. label_of reply ≡ Some label) }
+    ensures err { IfErr result (λ unwanted. unwanted.reply ≡ reply) }
 {
     match reply {
         Reply::Ok(label) | Reply::Got(label) => Ok(label),
@@ -88,6 +90,7 @@ pub enum RunFault {
 impl RunFault {
     /// As the bench tells it.
     pub fn told(self) -> BenchFault
+        ensures same { result ≡ told_of self }
         ensures of_run { IsOfRun result }
         ensures answered { TellsUnwanted result }
     {

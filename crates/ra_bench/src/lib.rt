@@ -20,7 +20,7 @@ mod post;
 mod report;
 mod round;
 mod tell;
-mod turn;
+mod threads;
 mod worker;
 
 pub use bench::{run_bench, run_bench_with};

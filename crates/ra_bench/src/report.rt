@@ -20,12 +20,15 @@ pub struct BenchReport {
     pub verdict: Reply,
 }
 
-/// What the log says, where its last call asked for the verdict. Costs a look at each entry.
+/// What the log says, where no call was refused and the last one asked for the verdict. Costs a look at each entry.
 pub fn report_of(monitor: &Monitor) -> Option<BenchReport>
     ensures { IfSome result (λ report. IsReportOf monitor.now.setup monitor.now.log report) }
 {
     let verdict = verdict_in(monitor.log())?;
     let report = monitor.report();
+    if report.refused > 0 {
+        return None;
+    }
     Some(BenchReport {
         labels: report.labels,
         deliveries: deliveries_of(monitor.log()),

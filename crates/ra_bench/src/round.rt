@@ -1,84 +1,34 @@
-//! A round: each worker on a thread of its own, all joined before the next one begins.
-use crate::fault::RunFault;
-use crate::gate::Gate;
-use crate::post::Post;
-use crate::turn::Turn;
-use crate::worker::{Done, Worker};
-use ra_labels::NoMemory;
-use ra_replicas::Message;
-use std::alloc::Global;
-use std::sync::Wait;
-use std::thread;
-use std::thread::{JoinHandle, Threads};
+//! What each replica does in a round.
+use crate::lie::Lie;
 
-/// Has all workers take their turn, and gives them back. What they sent is on its way then.
-pub fn take_turns<R: Threads + Wait + Sync, G: Gate + Sync>(
-    rt: &R,
-    alloc: Global,
-    gate: &G,
-    workers: Vec<Worker>,
-    post: &mut Post,
-    turn: Turn,
-) -> Result<Vec<Worker>, RunFault> {
-    let inboxes = inboxes_of(alloc, &workers, post, turn.round)?;
-    let done = in_threads(rt, alloc, gate, workers, inboxes, turn)?;
-    let mut workers = Vec::with_capacity(alloc, done.len())?;
-    let mut messages = Vec::with_capacity(alloc, done.len())?;
-    for Done { worker, sent } in done {
-        workers.push(worker)?;
-        if let Some(message) = sent? {
-            messages.push(message)?;
+/// One round of a run. Rounds count from 0. In the first ones, as many as the run has rounds, each replica makes an
+/// update and reads. In the next one it only takes what comes, and in the last one it takes what comes and reads.
+#[derive(Clone, Copy)]
+pub struct Round {
+    /// The number of this round.
+    pub number: u32,
+    /// How many rounds have an update.
+    pub rounds: u32,
+    /// The read that is reported falsely, if there is one.
+    pub lie: Option<Lie>,
+}
+
+impl Round {
+    /// Does each replica make an update?
+    pub fn has_update(&self) -> bool {
+        self.number < self.rounds
+    }
+
+    /// Does each replica read?
+    pub fn has_read(&self) -> bool {
+        self.number != self.rounds
+    }
+
+    /// Does this replica report its read falsely?
+    pub fn is_lie_of(&self, replica: u8) -> bool {
+        match self.lie {
+            Some(lie) => lie.replica == replica && lie.round == self.number,
+            None => false,
         }
     }
-    post.send(messages);
-    Ok(workers)
-}
-
-// What reaches each of the workers.
-fn inboxes_of(
-    alloc: Global,
-    workers: &[Worker],
-    post: &Post,
-    round: u32,
-) -> Result<Vec<Vec<Message>>, NoMemory> {
-    let mut inboxes = Vec::with_capacity(alloc, workers.len())?;
-    for worker in workers {
-        inboxes.push(post.inbox(alloc, worker.number(), round)?)?;
-    }
-    Ok(inboxes)
-}
-
-// Each worker takes its turn on a thread. All that were started have ended when this returns.
-fn in_threads<R: Threads + Wait + Sync, G: Gate + Sync>(
-    rt: &R,
-    alloc: Global,
-    gate: &G,
-    workers: Vec<Worker>,
-    inboxes: Vec<Vec<Message>>,
-    turn: Turn,
-) -> Result<Vec<Done>, RunFault> {
-    thread::scope(thread::scope_env(), rt, |scope| {
-        let mut handles = Vec::with_capacity(alloc, workers.len())?;
-        for (worker, inbox) in workers.into_iter().zip(inboxes) {
-            let started = scope.spawn(move || worker.work(rt, alloc, gate, inbox, turn));
-            match started {
-                Ok(handle) => handles.push(handle)?,
-                Err(_) => return Err(RunFault::Thread),
-            }
-        }
-        joined(rt, alloc, handles)
-    })
-}
-
-// What each thread gives, in their order.
-fn joined<R: Threads + Wait>(
-    rt: &R,
-    alloc: Global,
-    handles: Vec<JoinHandle<Done>>,
-) -> Result<Vec<Done>, RunFault> {
-    let mut done = Vec::with_capacity(alloc, handles.len())?;
-    for handle in handles {
-        done.push(handle.join(rt))?;
-    }
-    Ok(done)
 }

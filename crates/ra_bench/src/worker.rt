@@ -1,9 +1,12 @@
 //! One replica with its reporter, on a thread of its own: what a data type of one's own would do.
-use crate::fault::{RunFault, Unwanted, label_in};
+ghost use Rattle.ra_ticket.specs.Callers.{pass_of};
+ghost use Rattle.ra_bench.specs.Calls.{IsReported};
+
+use crate::fault::{RunFault, label_in};
 use crate::gate::Gate;
 use crate::lie::falsified;
+use crate::round::Round;
 use crate::tell::tell;
-use crate::turn::Turn;
 use ra_desk::DeskReporter;
 use ra_labels::{Command, Op};
 use ra_replicas::{Message, Replica};
@@ -44,10 +47,10 @@ impl Worker {
         alloc: Global,
         gate: &G,
         inbox: Vec<Message>,
-        turn: Turn,
+        round: Round,
     ) -> Done {
         let mut worker = self;
-        let sent = worker.pass_gate(rt, alloc, gate, inbox, turn);
+        let sent = worker.pass_gate(rt, alloc, gate, inbox, round);
         Done { worker, sent }
     }
 
@@ -58,35 +61,35 @@ impl Worker {
         alloc: Global,
         gate: &G,
         inbox: Vec<Message>,
-        turn: Turn,
+        round: Round,
     ) -> Result<Option<Message>, RunFault> {
         let replica = self.number();
-        if !gate.enter(replica, turn.round) {
+        if !gate.enter(replica, round.number) {
             return Err(RunFault::Stalled { replica });
         }
-        let sent = self.take_turn(rt, inbox, turn)?;
-        gate.left(replica, turn.round);
+        let sent = self.take_part(rt, inbox, round)?;
+        gate.left(replica, round.number);
         Ok(sent)
     }
 
     // What comes, then an update, then a read.
-    fn take_turn<R: Wait>(
+    fn take_part<R: Wait>(
         &mut self,
         rt: &R,
         inbox: Vec<Message>,
-        turn: Turn,
+        round: Round,
     ) -> Result<Option<Message>, RunFault> {
         for message in inbox {
             self.replica.hold(message)?;
         }
         self.deliver(rt)?;
-        let sent = if turn.has_update() {
-            Some(self.update(rt, turn.round)?)
+        let sent = if round.has_update() {
+            Some(self.update(rt, round.number)?)
         } else {
             None
         };
-        if turn.has_read() {
-            self.read(rt, turn.is_lie_of(self.number()))?;
+        if round.has_read() {
+            self.read(rt, round.is_lie_of(self.number()))?;
         }
         Ok(sent)
     }
@@ -134,9 +137,14 @@ impl Worker {
     }
 
     // Tells the desk, and gives the label that it answers with.
-    fn report<R: Wait>(&mut self, rt: &R, command: Command) -> Result<u32, RunFault> {
+    fn report<R: Wait>(&mut self, rt: &R, command: Command) -> Result<u32, RunFault>
+        ensures { IsReported (pass_of self.old.reporter) (pass_of self.new.reporter) command result }
+    {
+        let replica = self.reporter.number();
         let reply = tell(rt, &mut self.reporter, command)?;
-        let replica = self.number();
-        label_in(reply).map_err(|unwanted: Unwanted| RunFault::Answered { replica, unwanted })
+        match label_in(reply) {
+            Ok(label) => Ok(label),
+            Err(unwanted) => Err(RunFault::Answered { replica, unwanted }),
+        }
     }
 }
