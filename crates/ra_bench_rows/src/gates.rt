@@ -1,48 +1,50 @@
 //! Gates that hold a replica back, or stop it.
 
-use ra_bench::{BenchFault, BenchReport, Gate, run_bench};
-use ra_labels::{Kind, Reply};
-use std::sync::atomic::{AtomicBool, Ordering};
+use ra_bench::{BenchFault, BenchReport, Gate, Lie, run_bench, run_bench_with};
+use ra_labels::{Cause, Kind, Reply};
+use std::sync::atomic::{AtomicU32, Ordering};
+use std::thread;
 
-/// How often the held replica asks whether the other one has left, each time by so many loads.
-const TURNS: u32 = 1_000_000;
+/// How often the held replica asks whether the others have left.
+const TURNS: u32 = 10_000_000;
 
-const LOADS: u32 = 64;
-
-// Holds one replica in the first round until the other one has left it.
+// Holds one replica in one round until so many others have left it.
 #[derive(Drop)]
 struct Holding {
     held: u8,
-    left: AtomicBool,
+    round: u32,
+    others: u32,
+    left: AtomicU32,
 }
 
 impl Holding {
-    fn has_left(&self) -> bool {
-        for _ in 0..LOADS {
-            if self.left.load(Ordering::Acquire) {
-                return true;
-            }
+    fn new(held: u8, round: u32, others: u32) -> Holding {
+        Holding {
+            held,
+            round,
+            others,
+            left: AtomicU32::new(0),
         }
-        false
     }
 }
 
 impl Gate for Holding {
     fn enter(&self, replica: u8, round: u32) -> bool {
-        if replica != self.held || round != 0 {
+        if replica != self.held || round != self.round {
             return true;
         }
         for _ in 0..TURNS {
-            if self.has_left() {
+            if self.left.load(Ordering::Acquire) >= self.others {
                 return true;
             }
+            thread::yield_now();
         }
         false
     }
 
     fn left(&self, replica: u8, round: u32) {
-        if replica != self.held && round == 0 {
-            self.left.store(true, Ordering::Release);
+        if replica != self.held && round == self.round {
+            self.left.fetch_add(1, Ordering::Release);
         }
     }
 }
@@ -57,12 +59,45 @@ fn two_in_flight(rt: HostRuntime) {
         verdict: Reply::Yes(6),
     };
     for held in [0, 1] {
-        let gate = Holding {
-            held,
-            left: AtomicBool::new(false),
-        };
+        let gate = Holding::new(held, 0, 1);
         let answer = run_bench(&rt, rt.alloc(), Kind::Counter, 2, 1, &gate);
         assert_eq!(rt; answer, Ok(wanted));
+    }
+}
+
+// Each of three waits for both others, in each round.
+#[test]
+fn three_in_flight(rt: HostRuntime) {
+    let wanted = BenchReport {
+        labels: 15,
+        deliveries: 12,
+        calls: 28,
+        verdict: Reply::Yes(15),
+    };
+    for held in [0, 1, 2] {
+        for round in [0, 1, 2, 3] {
+            let gate = Holding::new(held, round, 2);
+            let answer = run_bench(&rt, rt.alloc(), Kind::OrSet, 3, 2, &gate);
+            assert_eq!(rt; answer, Ok(wanted));
+        }
+    }
+}
+
+// The others have made their calls of the round before the one that lies begins: so it is the first that gets a no, and
+// its read is the last label so far.
+#[test]
+fn the_one_that_lies_is_told(rt: HostRuntime) {
+    for replica in [0, 1, 2] {
+        for (round, label) in [(0, 5), (1, 11), (3, 14)] {
+            let gate = Holding::new(replica, round, 2);
+            let lie = Some(Lie { replica, round });
+            let answer = run_bench_with(&rt, rt.alloc(), Kind::LwwSet, 3, 2, lie, &gate);
+            let no = Reply::No {
+                label,
+                cause: Cause::Query,
+            };
+            assert_eq!(rt; answer, Err(BenchFault::Answered { replica, reply: no }));
+        }
     }
 }
 

@@ -2,6 +2,7 @@
 
 mod held;
 mod late;
+mod memory;
 mod rounds;
 mod schedule;
 mod sizes;

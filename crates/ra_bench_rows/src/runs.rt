@@ -65,6 +65,19 @@ fn two_replicas_and_one_round(rt: HostRuntime) {
     each_kind_has(&rt, rt.alloc(), 2, 1, 6, 2, 9);
 }
 
+// The most of both, of the kind whose run is the shortest.
+#[test]
+fn sixteen_replicas_and_a_thousand_rounds(rt: HostRuntime) {
+    let wanted = BenchReport {
+        labels: 32_016,
+        deliveries: 240_000,
+        calls: 272_017,
+        verdict: Reply::Yes(32_016),
+    };
+    let answer = run_bench(&rt, rt.alloc(), Kind::Counter, 16, 1_000, &OpenGate);
+    assert_eq!(rt; answer, Ok(wanted));
+}
+
 // The most rounds.
 #[test]
 fn one_replica_and_a_thousand_rounds(rt: HostRuntime) {

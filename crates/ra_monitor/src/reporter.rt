@@ -34,22 +34,22 @@ impl Model for Reporter {
 impl Reporter {
     ghost use Rattle.ra_monitor.specs.Monitor.{records_of, IsLegalLog, IsRaLinearizable, IsNoAtFault};
 
-    /// A reporter with a monitor of a history of this kind, at this many replicas, whose log may have `room` entries.
-    pub fn new(alloc: Global, kind: Kind, replicas: u8, room: u32) -> Result<Reporter, NewFault>
+    /// A reporter with a monitor of a history of this kind, at this many replicas, whose log may have `limit` entries.
+    pub fn new(alloc: Global, kind: Kind, replicas: u8, limit: u32) -> Result<Reporter, NewFault>
         ensures log { IfOk result (λ reporter. reporter.log ≡ []) }
         ensures kind { IfOk result (λ reporter. reporter.setup.kind ≡ kind) }
         ensures replicas { IfOk result (λ reporter. reporter.setup.replicas ≡ replicas) }
-        ensures limit { IfOk result (λ reporter. reporter.setup.limit ≡ room) }
+        ensures limit { IfOk result (λ reporter. reporter.setup.limit ≡ limit) }
         ensures bad_replicas { IsErrOf result NewFault.BadReplicas ↔ (AreReplicas replicas → ⊥) }
-        ensures bad_limit { IsErrOf result NewFault.BadLimit ↔ (AreReplicas replicas × (IsLimit room → ⊥)) }
+        ensures bad_limit { IsErrOf result NewFault.BadLimit ↔ (AreReplicas replicas × (IsLimit limit → ⊥)) }
     {
-        let monitor = Monitor::new(alloc, kind, replicas, room)?;
+        let monitor = Monitor::new(alloc, kind, replicas, limit)?;
         Ok(Reporter { monitor })
     }
 
     /// Tells the monitor of a command and answers its reply, which is logged under pass 0.
     ///
-    /// `Full` comes exactly where the log has as many entries as its room, and is tested first; `NoMemory` where a
+    /// `Full` comes exactly where the log has as many entries as its limit, and is tested first; `NoMemory` where a
     /// growth was refused. After both nothing changed, and the command is handed back. It costs what `Monitor::step`
     /// does.
     pub fn tell(&mut self, command: Command) -> Result<Reply, StepFault<Command>>

@@ -135,6 +135,25 @@ fn each_round_has_its_update(rt: HostRuntime) {
     }
 }
 
+// What a replica that is alone shows then.
+#[test]
+fn the_fortieth_round_has_its_read(rt: HostRuntime) {
+    for (kind, read) in [
+        (Kind::Counter, "0"),
+        (Kind::Register, "40"),
+        (Kind::LwwSet, "0,4,5,6,7"),
+        (Kind::OrSet, "0,4,5,6,7"),
+        (Kind::Rga, "40,35,37,29,31,23,25,17,19,11,13,5,7,1"),
+    ] {
+        let mut replica = replica_of(&rt, rt.alloc(), kind, 0, 1);
+        for round in 0..40 {
+            made(&rt, &mut replica, round);
+        }
+        let shown = shown(&rt, rt.alloc(), &replica);
+        assert_eq!(rt; shown.as_str(), read);
+    }
+}
+
 // Before any update.
 #[test]
 fn at_first_nothing_is_shown(rt: HostRuntime) {

@@ -44,10 +44,10 @@ fn elements(rt: &impl Abort, replica: &Replica) -> Vec<u32> {
     }
 }
 
-// A replica to which 5,000 numbered updates came, with their numbers as clocks.
+// A replica to which 20,000 numbered updates came, with their numbers as clocks.
 fn with_many(rt: &impl Abort, alloc: Global, kind: Kind, many: Many) -> Replica {
     let mut replica = replica_of(rt, alloc, kind, 0, 16);
-    for number in 1..5001 {
+    for number in 1..20_001 {
         bring(
             rt,
             alloc,
@@ -74,7 +74,7 @@ fn thousands_of_elements_are_shown(rt: HostRuntime) {
         if falls {
             shown.reverse();
         }
-        assert_eq!(rt; shown.len(), 5000);
+        assert_eq!(rt; shown.len(), 20_000);
         let mut next = 1;
         for element in &shown {
             assert_eq!(rt; *element, next);
@@ -87,8 +87,8 @@ fn thousands_of_elements_are_shown(rt: HostRuntime) {
 #[test]
 fn thousands_of_identifiers_are_taken_out(rt: HostRuntime) {
     let mut replica = replica_of(&rt, rt.alloc(), Kind::OrSet, 0, 16);
-    for below in 0..5000 {
-        let id = 4999u32.saturating_sub(below);
+    for below in 0..20_000 {
+        let id = 19_999u32.saturating_sub(below);
         let op = Op::OrAdd { element: 3, id };
         bring(&rt, rt.alloc(), &mut replica, 1, op, None);
     }
@@ -96,7 +96,7 @@ fn thousands_of_identifiers_are_taken_out(rt: HostRuntime) {
     let Op::OrRemove { element, ids } = op else {
         panic!(rt; "no removal");
     };
-    assert_eq!(rt; (element, ids.as_slice().len()), (3, 5000));
+    assert_eq!(rt; (element, ids.as_slice().len()), (3, 20_000));
     let mut next = 0;
     for id in ids.as_slice() {
         assert_eq!(rt; *id, next);
@@ -105,17 +105,17 @@ fn thousands_of_identifiers_are_taken_out(rt: HostRuntime) {
     assert_eq!(rt; elements(&rt, &replica).len(), 0);
 }
 
-// 300 elements at the front are removed one by one, the first that is shown each time, and 5,000 messages wait.
+// 300 elements at the front are removed one by one, the first that is shown each time, and 20,000 messages wait.
 #[test]
 fn thousands_wait_and_are_removed(rt: HostRuntime) {
     let mut replica = with_many(&rt, rt.alloc(), Kind::Rga, Many::Wide);
     for removed in 0..300 {
         let made = made(&rt, &mut replica, 2);
-        assert!(rt; made.op == Op::RgaRemove(5000u32.saturating_sub(removed)));
+        assert!(rt; made.op == Op::RgaRemove(20_000u32.saturating_sub(removed)));
     }
-    assert_eq!(rt; elements(&rt, &replica).len(), 4700);
-    for number in 0..5000 {
-        let had = list(&rt, rt.alloc(), &[0, 5000, 1]);
+    assert_eq!(rt; elements(&rt, &replica).len(), 19_700);
+    for number in 0..20_000 {
+        let had = list(&rt, rt.alloc(), &[0, 20_000, 1]);
         hold(
             &rt,
             &mut replica,
@@ -124,21 +124,21 @@ fn thousands_wait_and_are_removed(rt: HostRuntime) {
     }
     assert_eq!(rt;
         (apply_next(&rt, &mut replica), replica.held()),
-        (None, 5000)
+        (None, 20_000)
     );
     bring_cause(&rt, rt.alloc(), &mut replica);
     assert_eq!(rt;
         (apply_next(&rt, &mut replica), replica.held()),
-        (Some(0), 4999)
+        (Some(0), 19_999)
     );
 }
 
-// One update of replica 2, which is applied though 5,000 others wait.
+// One update of replica 2, which is applied though 20,000 others wait.
 fn bring_cause(rt: &impl Abort, alloc: Global, replica: &mut Replica) {
     hold(
         rt,
         replica,
-        message(9000, 2, Op::RgaRemove(1), None, Vec::new(alloc)),
+        message(90_000, 2, Op::RgaRemove(1), None, Vec::new(alloc)),
     );
-    assert_eq!(rt; apply_next(rt, replica), Some(9000));
+    assert_eq!(rt; apply_next(rt, replica), Some(90_000));
 }
