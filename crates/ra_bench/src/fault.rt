@@ -6,7 +6,8 @@ use ra_labels::{NoMemory, Reply};
 use std::alloc::{AllocError, AllocFailed};
 use thiserror::Error;
 
-/// Why a bench gives no report. Where several replicas fail in one round, the fault is the lowest one's.
+/// Why a bench gives no report. Where several replicas fail in one round, the fault is the lowest one's; `Thread` comes
+/// before all of them.
 #[derive(Clone, Copy, Debug, PartialEq, Eq, Error)]
 pub enum BenchFault {
     /// The number of replicas is not 1 to 16.
@@ -39,7 +40,7 @@ pub enum BenchFault {
     /// A growth was refused for want of memory.
     #[error("bench fault")]
     NoMemory,
-    /// A thread could not be started.
+    /// A thread could not be started. Those that had been are joined.
     #[error("bench fault")]
     Thread,
 }

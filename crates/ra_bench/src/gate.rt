@@ -2,10 +2,11 @@
 
 /// Lets replicas go on, one round at a time. A test holds one back by it, to have the others go first.
 pub trait Gate {
-    /// Called by the replica's thread before its first call of the round. The replica stops where it answers false.
+    /// Called once by the replica's thread before its first call of the round. Where it answers false, the replica
+    /// makes no call any more, and the run ends in `Stalled` when the others' threads have ended.
     fn enter(&self, replica: u8, round: u32) -> bool;
 
-    /// Called by the replica's thread after its last call of the round was answered.
+    /// Called once by the replica's thread after its last call of the round was answered; not where one failed.
     fn left(&self, replica: u8, round: u32);
 }
 

@@ -31,13 +31,13 @@ EndsAnswered true outcome ending answered new err_old err_new =
 
 -- A check that has this answer: all was read, and what is stated of it was written; or it stopped, and its fault is
 -- told.
-abbrev pub EndsProgram : Bool → Result Outcome CheckFault → Ending →
+abbrev pub EndsCheck : Bool → Result Outcome CheckFault → Ending →
     (text left old new err_old err_new : Option (List ℕ)) → Type 0
-EndsProgram report (Ok outcome) ending text left old new err_old err_new =
+EndsCheck report (Ok outcome) ending text left old new err_old err_new =
     IsAtEnd left × ((answered : Option (List ℕ))
     × IfSome text (λ bytes. WritesAnswer bytes old answered outcome.report)
     × EndsAnswered report outcome ending answered new err_old err_new)
-EndsProgram report (Err fault) ending text left old new err_old err_new =
+EndsCheck report (Err fault) ending text left old new err_old err_new =
     StopsProgram ending err_old err_new (check_fault_words fault)
     × IfSome text (λ bytes. StopsCheck bytes left old new fault)
     × (fault ≡ Endless → HasGiven text left MOST_READS)
@@ -45,7 +45,7 @@ EndsProgram report (Err fault) ending text left old new err_old err_new =
 -- the program checks a text, and ends as that check does
 abbrev pub ChecksText : Bool → Ending → (text left old new err_old err_new : Option (List ℕ)) → Type 0
 ChecksText report ending text left old new err_old err_new =
-    (answer : Result Outcome CheckFault) × EndsProgram report answer ending text left old new err_old err_new
+    (answer : Result Outcome CheckFault) × EndsCheck report answer ending text left old new err_old err_new
 
 -- ---- a bench
 
