@@ -5,8 +5,11 @@ use ra_labels::{Cause, Kind, Reply};
 use std::sync::atomic::{AtomicU32, Ordering};
 use std::thread;
 
-/// How often the held replica asks whether the others have left.
-const TURNS: u32 = 10_000_000;
+/// How often the held replica asks whether the others have left, each time by so many loads. It lets other threads run
+/// after each time.
+const TURNS: u32 = 1_000_000;
+
+const LOADS: u32 = 64;
 
 // Holds one replica in one round until so many others have left it.
 #[derive(Drop)]
@@ -26,6 +29,15 @@ impl Holding {
             left: AtomicU32::new(0),
         }
     }
+
+    fn have_left(&self) -> bool {
+        for _ in 0..LOADS {
+            if self.left.load(Ordering::Acquire) >= self.others {
+                return true;
+            }
+        }
+        false
+    }
 }
 
 impl Gate for Holding {
@@ -34,7 +46,7 @@ impl Gate for Holding {
             return true;
         }
         for _ in 0..TURNS {
-            if self.left.load(Ordering::Acquire) >= self.others {
+            if self.have_left() {
                 return true;
             }
             thread::yield_now();
