@@ -4,9 +4,6 @@ use Rattle.ra_labels.specs.declared.reply.Reply.{Reply}
 use Rattle.ra_labels.specs.declared.reply.Reply.TheVariants.{Ok, Got}
 use Rattle.ra_bench.specs.declared.fault.BenchFault.{BenchFault}
 use Rattle.ra_bench.specs.declared.fault.BenchFault.TheVariants.{BadReplicas, BadRounds, Answered}
-use Rattle.ra_bench.specs.declared.fault.BenchFault.TheVariants as told
-use Rattle.ra_bench.specs.declared.fault.RunFault.{RunFault}
-use Rattle.ra_bench.specs.declared.fault.RunFault.TheVariants as run
 
 -- the label number of a reply that honest replicas get
 abbrev pub label_of : Reply → Option ℕ
@@ -24,11 +21,3 @@ abbrev pub IsOfRun : BenchFault → Type 0
 IsOfRun BadReplicas = ⊥
 IsOfRun BadRounds = ⊥
 IsOfRun _ = Unit {0}
-
--- as the bench tells it
-abbrev pub told_of : RunFault → BenchFault
-told_of (run.Stalled replica) = told.Stalled replica
-told_of (run.Answered replica unwanted) = told.Answered replica unwanted.reply
-told_of (run.Lock replica) = told.Lock replica
-told_of run.NoMemory = told.NoMemory
-told_of run.Thread = told.Thread

@@ -4,3 +4,4 @@ pub mod Lies
 pub mod Limits
 pub mod Post
 pub mod Report
+pub mod RunFaults

@@ -21,6 +21,7 @@ mod report;
 mod round;
 mod tell;
 mod threads;
+mod unwanted;
 mod worker;
 
 pub use bench::{run_bench, run_bench_with};

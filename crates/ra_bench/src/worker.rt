@@ -2,11 +2,12 @@
 ghost use Rattle.ra_ticket.specs.Callers.{pass_of};
 ghost use Rattle.ra_bench.specs.Calls.{IsReported};
 
-use crate::fault::{RunFault, label_in};
+use crate::fault::RunFault;
 use crate::gate::Gate;
 use crate::lie::falsified;
 use crate::round::Round;
 use crate::tell::tell;
+use crate::unwanted::label_in;
 use ra_desk::DeskReporter;
 use ra_labels::{Command, Op};
 use ra_replicas::{Message, Replica};
