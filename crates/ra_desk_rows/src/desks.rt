@@ -1,4 +1,4 @@
-//! Desks of a register at three replicas, what is told to them, and what they answer.
+//! Desks of a register or a counter at three replicas, what is told to them, and what they answer.
 
 ghost use Rattle.std.specs.Prelude.{◌≡◌, [], All};
 ghost use Rattle.ra_ticket.specs.Passes.{IsPassOf};
@@ -54,6 +54,26 @@ pub fn opened(
     ensures { All (IsPassOf result.0) result.1.items }
 {
     match TicketLock::open(alloc, register_of(rt, alloc, limit), passes, first) {
+        Ok(opened) => opened,
+        Err(_) => panic!(rt; "no desk"),
+    }
+}
+
+/// A desk of a counter whose log may have this many entries, and its passes.
+pub fn counted(
+    rt: &impl Abort,
+    alloc: Global,
+    limit: u32,
+    passes: u8,
+    first: u64,
+) -> (Desk, Vec<Pass<Monitor>>)
+    ensures { All (IsPassOf result.0) result.1.items }
+{
+    let monitor = match Monitor::new(alloc, Kind::Counter, 3, limit) {
+        Ok(monitor) => monitor,
+        Err(_) => panic!(rt; "no monitor"),
+    };
+    match TicketLock::open(alloc, monitor, passes, first) {
         Ok(opened) => opened,
         Err(_) => panic!(rt; "no desk"),
     }

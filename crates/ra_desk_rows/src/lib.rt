@@ -5,6 +5,8 @@
 #[cfg(test)]
 mod callers;
 #[cfg(test)]
+mod contention;
+#[cfg(test)]
 mod desk;
 #[cfg(test)]
 mod desks;

@@ -263,7 +263,7 @@ fn a_call_under_way_keeps_others_out_and_lets_them_glance(rt: HostRuntime) {
     let (lock, mut passes) = opened(&rt, rt.alloc(), tally, 2, 10);
     let other = last_pass(&rt, &lock, &mut passes);
     let pass = last_pass(&rt, &lock, &mut passes);
-    let (reply, found, calls) = call_and_look_on(&rt, &lock, pass, other, &inside, &go_on);
+    let (reply, found, then) = call_and_look_on(&rt, &lock, pass, other, &inside, &go_on);
     let busy = CallFault::Busy {
         at: 10,
         found: 11,
@@ -273,7 +273,11 @@ fn a_call_under_way_keeps_others_out_and_lets_them_glance(rt: HostRuntime) {
         call: Err(busy),
         calls: 0,
     };
-    assert_eq!(rt; (reply, found, calls), (Ok(5), Some(meanwhile), 1));
+    let afterwards = Found {
+        call: Ok(12),
+        calls: 2,
+    };
+    assert_eq!(rt; (reply, found, then), (Ok(5), Some(meanwhile), afterwards));
 }
 
 // Sixty-three passes on eight threads make calls, try, glance and meet, and a further pass closes the lock.

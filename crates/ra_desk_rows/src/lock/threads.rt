@@ -15,8 +15,8 @@ use std::thread::Threads;
 // How often a thread looks whether all have started.
 const MOST_LOOKS: u32 = 1_000_000;
 
-// Waits until `count` threads stand here, or for so long that some cannot run beside this one.
-fn start_together(started: &AtomicUsize, count: usize) {
+/// Waits until `count` threads stand here, or for so long that some cannot run beside this one.
+pub fn start_together(started: &AtomicUsize, count: usize) {
     started.fetch_add(1, Ordering::SeqCst);
     for _ in 0..MOST_LOOKS {
         if started.load(Ordering::SeqCst) >= count {
@@ -68,7 +68,7 @@ fn look_on(
     Some(Found { call, calls })
 }
 
-/// One pass calls, and another one looks on meanwhile, and glances once more when the call is over.
+/// One pass calls, and another one looks on meanwhile, and tries and glances once more when the call is over.
 pub fn call_and_look_on<R: Threads + Wait + Sync>(
     rt: &R,
     lock: &TicketLock<Tally>,
@@ -76,7 +76,7 @@ pub fn call_and_look_on<R: Threads + Wait + Sync>(
     mut other: Pass<Tally>,
     inside: &AtomicU64,
     go_on: &AtomicU64,
-) -> (Result<u32, CallFault<u32>>, Option<Found>, u32)
+) -> (Result<u32, CallFault<u32>>, Option<Found>, Found)
     requires { IsPassOf lock.now pass × IsPassOf lock.now other }
 {
     let (reply, (mut other, found)) = thread::join(
@@ -92,8 +92,9 @@ pub fn call_and_look_on<R: Threads + Wait + Sync>(
             (other, found)
         },
     );
+    let call = lock.try_submit(&mut other, 7);
     let calls = lock.glance(&mut other).calls;
-    (reply, found, calls)
+    (reply, found, Found { call, calls })
 }
 
 /// Makes calls that each add one, and puts the replies of those that were answered behind the others.
