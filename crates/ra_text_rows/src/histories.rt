@@ -90,7 +90,7 @@ fn histories_are_written_byte_by_byte(rt: HostRuntime) {
             Ok(())
         };
         for fails in [true, false] {
-            let mut writer = Trickle::new(rt.alloc(), good_writes, fails);
+            let mut writer = Trickle::new(rt.alloc(), 1, good_writes, fails);
             let wrote = write_history(rt.alloc(), &monitor, &names, &mut writer);
             assert_eq!(rt; wrote, wanted, "after {good_writes} writes");
             assert_eq!(rt;

@@ -51,3 +51,29 @@ got 2
 ok 3
 end yes 4
 ";
+
+// Three elements in a list, the last one behind the first.
+#[cfg(test)]
+const LIST: &str = "RAH 1 rga
+replicas a b c
+a after 0 1 @1
+b got 0
+a after 0 2 @3
+b after 0 3 @2
+c got 0
+c got 1
+c got 2
+c read 2,3,1
+";
+
+#[cfg(test)]
+const LIST_REPLIES: &str = "ok 0
+got 0
+ok 1
+ok 2
+got 0
+got 1
+got 2
+ok 3
+end yes 4
+";

@@ -1,34 +1,41 @@
 //! Texts that come from readers of all sorts.
 
-use super::{TEXT, WRITTEN};
+use super::{LIST, LIST_REPLIES, REPLIES, SETS, TEXT, WRITTEN};
 use ra_history_text::CheckFault::{self, Full, LineTooLong, Syntax, Truncated};
 use ra_history_text::check;
+use std::alloc::Global;
 use std::cell::Cell;
 use std::io;
 use std::io::{ErrorKind, Read, Write};
+use std::process::Abort;
 
-// How many bytes of `TEXT` stand before and with each of its lines, and of `WRITTEN` with each reply line.
-const ENDS: [usize; 5] = [14, 27, 33, 41, 50];
-
-const REPLIES: [usize; 5] = [0, 0, 5, 11, 16];
-
-// The line that the byte behind so many stands in, from 1, and how much is written for the lines before it.
-fn place(bytes: usize) -> (u32, usize) {
-    let mut line = 1;
-    let mut written = 0;
-    for (end, replied) in ENDS.iter().zip(REPLIES.iter()) {
-        if bytes >= *end && line < 100 {
-            line += 1;
-            written = *replied;
-        }
-    }
-    (line, written)
+// How much a read gives.
+#[derive(Clone, Copy)]
+enum Pace {
+    // So many bytes at most.
+    Bytes(usize),
+    // All of a line but its last byte, and then that.
+    ButOne,
 }
 
-// Gives the text a byte at a time, and at one read fails, or gives nothing: one who asks again gets the rest.
+impl Pace {
+    // How many bytes of what is left the next read gives.
+    fn of(self, left: &[u8]) -> usize {
+        match self {
+            Pace::Bytes(most) => most.min(left.len()),
+            Pace::ButOne => match left.iter().position(|byte| *byte == b'\n') {
+                Some(before) => before.max(1),
+                None => left.len(),
+            },
+        }
+    }
+}
+
+// Gives the text at some pace, and at one read fails, or gives nothing: one who asks again gets the rest.
 #[derive(Drop)]
 struct Drip<'a> {
     text: &'a [u8],
+    pace: Pace,
     good_reads: usize,
     fails: bool,
 }
@@ -44,46 +51,99 @@ impl Read for Drip<'_> {
             };
         }
         self.good_reads -= 1;
-        match (self.text, buf) {
-            ([first, more @ ..], [place, ..]) => {
-                *place = *first;
-                self.text = more;
-                Ok(1)
+        let given = self.pace.of(self.text).min(buf.len());
+        self.text.read(&mut buf[..given])
+    }
+}
+
+// What is left of the text after so many reads, and how many of them gave some.
+fn left_after(text: &[u8], pace: Pace, reads: usize) -> (&[u8], usize) {
+    let mut left = text;
+    let mut gave = 0usize;
+    for _ in 0..reads {
+        if left.is_empty() {
+            break;
+        }
+        left = left.get(pace.of(left)..).unwrap_or(b"");
+        gave = gave.wrapping_add(1);
+    }
+    (left, gave)
+}
+
+// The text fails, or ends, after each number of reads.
+#[test]
+fn reads_of_a_few_bytes(rt: HostRuntime) {
+    for (text, written) in [(TEXT, WRITTEN), (SETS, REPLIES), (LIST, LIST_REPLIES)] {
+        for pace in [Pace::Bytes(1), Pace::Bytes(3), Pace::ButOne] {
+            let (_, reads) = left_after(text.as_bytes(), pace, text.len());
+            for good_reads in 0..reads.saturating_add(2) {
+                for fails in [true, false] {
+                    let reader = Drip {
+                        text: text.as_bytes(),
+                        pace,
+                        good_reads,
+                        fails,
+                    };
+                    let is_whole = good_reads > reads;
+                    ends_as_it_must(&rt, rt.alloc(), reader, is_whole, text, written);
+                }
             }
-            _ => Ok(0),
         }
     }
 }
 
-// The text fails, or ends, after each number of bytes.
-#[test]
-fn reads_of_one_byte(rt: HostRuntime) {
-    for good_reads in 0..52usize {
-        for fails in [true, false] {
-            let mut reader = Drip {
-                text: TEXT.as_bytes(),
-                good_reads,
-                fails,
-            };
-            let mut out = Vec::new(rt.alloc());
-            let fault = check(rt.alloc(), &mut reader, &mut out).err();
-            let (line, replied) = place(good_reads);
-            let ends = !fails && matches!(good_reads, 27 | 33 | 41 | 50) || good_reads == 51;
-            let wanted = match (ends, fails) {
-                (true, _) => None,
-                (false, true) => Some(CheckFault::Read),
-                (false, false) => Some(Truncated(line)),
-            };
-            assert_eq!(rt; fault, wanted, "after {good_reads} reads");
-            let written = out.get(..replied);
-            assert_eq!(rt;
-                written,
-                WRITTEN.as_bytes().get(..replied),
-                "after {good_reads} reads"
-            );
-            assert_eq!(rt; out.len() > replied, ends, "after {good_reads} reads");
+// What was given is answered line by line. If the reader gives less than all it fails, or the text ends there.
+fn ends_as_it_must(
+    rt: &impl Abort,
+    alloc: Global,
+    mut reader: Drip<'_>,
+    is_whole: bool,
+    text: &str,
+    written: &str,
+) {
+    let (reads, fails) = (reader.good_reads, reader.fails);
+    let (left, _) = left_after(text.as_bytes(), reader.pace, reads);
+    let given = first_bytes(text, text.len().saturating_sub(left.len()));
+    let lines = lines_in(given);
+    let ends = is_whole || (!fails && lines > 1 && given.last() == Some(&b'\n'));
+    let wanted = match (ends, fails) {
+        (true, _) => None,
+        (false, true) => Some(CheckFault::Read),
+        (false, false) => Some(Truncated(lines.saturating_add(1) as u32)),
+    };
+    let mut out = Vec::new(alloc);
+    let fault = check(alloc, &mut reader, &mut out).err();
+    assert_eq!(rt; fault, wanted, "after {reads} reads");
+    let replied = first_lines(written, lines.saturating_sub(2));
+    assert_eq!(rt;
+        out.get(..replied.len()),
+        Some(replied),
+        "after {reads} reads"
+    );
+    assert_eq!(rt; out.len() > replied.len(), ends, "after {reads} reads");
+    if is_whole {
+        assert_eq!(rt; out.as_slice(), written.as_bytes());
+    }
+}
+
+fn first_bytes(text: &str, count: usize) -> &[u8] {
+    text.as_bytes().get(..count).unwrap_or(b"")
+}
+
+fn lines_in(bytes: &[u8]) -> usize {
+    bytes.iter().filter(|byte| **byte == b'\n').count()
+}
+
+// The first lines of the text, so many.
+fn first_lines(text: &str, lines: usize) -> &[u8] {
+    let mut end = 0usize;
+    for _ in 0..lines {
+        let left = text.as_bytes().get(end..).unwrap_or(b"");
+        if let Some(before) = left.iter().position(|byte| *byte == b'\n') {
+            end = end.saturating_add(before).saturating_add(1);
         }
     }
+    first_bytes(text, end)
 }
 
 /// Gives a front, then a part again and again, and then a rest, each read at most so many bytes.

@@ -1,7 +1,7 @@
 //! Worked histories as texts: what `check` writes for each, and its status.
 
 use super::readers::Repeats;
-use super::{REPLIES, SETS};
+use super::{LIST, LIST_REPLIES, REPLIES, SETS};
 use ra_history_text::{check, status};
 use std::alloc::Global;
 use std::test::Fail;
@@ -134,9 +134,8 @@ b remove 9 @3\nc got 0\nc got 1\nc read 4\n",
     },
     Text {
         name: "rga_two_behind_one_anchor",
-        text: "RAH 1 rga\nreplicas a b c\na after 0 1 @1\nb got 0\na after 0 2 @3\n\
-b after 0 3 @2\nc got 0\nc got 1\nc got 2\nc read 2,3,1\n",
-        written: "ok 0\ngot 0\nok 1\nok 2\ngot 0\ngot 1\ngot 2\nok 3\nend yes 4\n",
+        text: LIST,
+        written: LIST_REPLIES,
         status: 0,
     },
     Text {
