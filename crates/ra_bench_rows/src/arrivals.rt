@@ -173,7 +173,10 @@ fn whoever_applies_in_order_of_arrival_is_named(rt: HostRuntime) {
         for (reader, last) in [(careful, Reply::Ok(8)), (careless, no)] {
             match answers(&rt, rt.alloc(), kind, reader) {
                 Ok(answers) => {
-                    assert_eq!(rt; answers.as_slice(), [Reply::Ok(2), Reply::Ok(5), last].as_slice());
+                    assert_eq!(rt;
+                        answers.as_slice(),
+                        [Reply::Ok(2), Reply::Ok(5), last].as_slice()
+                    );
                 }
                 Err(_) => panic!(rt; "no memory"),
             }
