@@ -5,7 +5,7 @@ ghost use Rattle.ra_labels.specs.Specification.{start_of};
 
 use ra_journal::{Journal, StepFault};
 use ra_labels::{Command, Elements, Kind, Op, Reply};
-use ra_monitor::{Monitor, PartRef, Reporter};
+use ra_monitor::{Monitor, PartRef, Report, Reporter};
 use ra_seqspec::State;
 use std::alloc::Global;
 use std::process::Abort;
@@ -102,14 +102,40 @@ pub fn stepped(
     step_by(rt, monitor, pass, ticket, command).ok()
 }
 
-/// The reply to one command.
+// What the monitor tells without a growth: its report, how many replicas and entries there are, and the last ticket.
+fn told(monitor: &Monitor) -> (Report, u8, usize, Option<u64>) {
+    (
+        monitor.report(),
+        monitor.replicas(),
+        monitor.log().len(),
+        monitor.last_ticket(),
+    )
+}
+
+/// The reply to one command. Where a growth was refused, the monitor tells the same as before, and is asked again.
 pub fn reply_to(rt: &impl Abort, reporter: &mut Reporter, command: Command) -> Reply {
+    reply_behind(rt, reporter, command, None)
+}
+
+/// The same, where the parts of the monitor's labels are these, in this order.
+pub fn reply_behind(
+    rt: &impl Abort,
+    reporter: &mut Reporter,
+    command: Command,
+    sequence: Option<&[PartRef]>,
+) -> Reply {
+    let before = told(reporter.monitor());
     let mut command = command;
     for _attempt in 0..ATTEMPTS {
         match reporter.tell(command) {
             Ok(reply) => return reply,
             Err(StepFault::Full(_)) => panic!(rt; "full"),
             Err(StepFault::NoMemory(back)) => command = back,
+        }
+        assert_eq!(rt; told(reporter.monitor()), before);
+        if let Some(parts) = sequence {
+            let same = sequence_of(rt, reporter.monitor());
+            assert_eq!(rt; same.as_slice(), parts);
         }
     }
     panic!(rt; "no memory")

@@ -1,7 +1,7 @@
 //! Worked histories of any kind, as rows of a table: what is said, and what is answered.
 
 use crate::commands::{
-    bare, elements_of, got, increment, read, reply_to, reporter_of, sequence_of, stamped,
+    bare, elements_of, got, increment, read, reply_behind, reporter_of, sequence_of, stamped,
 };
 use ra_labels::{Command, Fault, Kind, Op, Reply};
 use ra_monitor::{Half, PartRef, Report};
@@ -102,7 +102,8 @@ pub fn are_answered(rt: &impl Abort, alloc: Global, rows: &[Row]) {
         let mut reporter = reporter_of(rt, alloc, row.kind, 3, 100);
         for (say, want) in row.steps {
             let command = command_of(rt, alloc, *say);
-            let reply = reply_to(rt, &mut reporter, command);
+            let sequence = sequence_of(rt, reporter.monitor());
+            let reply = reply_behind(rt, &mut reporter, command, Some(sequence.as_slice()));
             assert_eq!(rt; reply, *want, "{}, at {say:?}", row.name);
         }
         let Ok(calls) = u32::try_from(row.steps.len()) else {

@@ -12,6 +12,8 @@ mod lines;
 #[cfg(test)]
 mod readers;
 #[cfg(test)]
+mod refused;
+#[cfg(test)]
 mod sessions;
 #[cfg(test)]
 mod worked;
