@@ -135,12 +135,7 @@ fn last_of(desk: &Desk, asked: &mut Vec<Option<Asked>>) -> Option<Pass<Monitor>>
 }
 
 // The last pass meets each other one, and so many calls are found each time. The last pass.
-fn meet_all(
-    rt: &impl Abort,
-    desk: &Desk,
-    asked: Vec<Option<Asked>>,
-    calls: u32,
-) -> Pass<Monitor>
+fn meet_all(rt: &impl Abort, desk: &Desk, asked: Vec<Option<Asked>>, calls: u32) -> Pass<Monitor>
     requires { All (λ one. IfSome one (λ a. IsPassOf desk.now a.pass)) asked.items }
     ensures { IsPassOf desk.now result }
 {
