@@ -67,7 +67,8 @@ fn calls_of_the_text_are_made_again(rt: HostRuntime) {
         fault: None,
     };
     let object = report_again(&rt, rt.alloc(), &report);
-    let wanted = "{\"calls\":3,\"kind\":\"rga\",\"labels\":2,\"refused\":1,\"verdict\":\"yes\"}";
+    let wanted = "{\"calls\":3,\"kind\":\"rga\",\"labels\":2,\"refused\":1,\
+\"verdict\":\"yes\"}";
     assert_eq!(rt; object.as_str(), wanted);
 }
 
