@@ -1,5 +1,5 @@
-//! Calls that are refused a growth: made again, they are answered as if none had been; and a check tells whose growth it
-//! was. `tests/refused_memory` refuses each growth in its turn; where none is refused, each call is made once.
+//! Calls that are refused a growth: made again, they are answered as if none had been, and a check tells whose growth
+//! it was. `tests/refused_memory` refuses each growth in its turn; where none is refused, each call is made once.
 
 use super::{REPLIES, SETS};
 use ra_history_text::{
