@@ -1,16 +1,14 @@
 //! A monitor behind the ticket lock.
 
-ghost use Rattle.std.specs.Prelude.{All};
 ghost use Rattle.ra_ticket.specs.Passes.{IsPassOf};
 
 use crate::desks::{got_the_first, is_full, is_worn, last, opened, reply_in, write};
 use crate::lock::GREATEST;
 use crate::lock::threads::last_pass;
 use ra_desk::Desk;
-use ra_labels::{Cause, Command, Kind, Reply};
+use ra_labels::{Cause, Command, Reply};
 use ra_monitor::Monitor;
-use ra_ticket::{CallFault, Glance, Pass, TicketLock};
-use std::alloc::Global;
+use ra_ticket::{Glance, Pass};
 use std::process::Abort;
 use std::sync::Wait;
 
@@ -133,67 +131,6 @@ fn a_glance_tells_the_label_of_a_fault(rt: HostRuntime) {
         fault: Some(1),
     };
     assert_eq!(rt; desk.glance(&mut other), fault);
-}
-
-// A desk of a register with two passes; once more where a growth was refused.
-fn opened_again(rt: &impl Abort, alloc: Global) -> (Desk, Vec<Pass<Monitor>>)
-    ensures { All (IsPassOf result.0) result.1.items }
-{
-    for _ in 0..2 {
-        if let Ok(monitor) = Monitor::new(alloc, Kind::Register, 3, 100) {
-            if let Ok(opened) = TicketLock::open(alloc, monitor, 2, 0) {
-                return opened;
-            }
-        }
-    }
-    panic!(rt; "no desk")
-}
-
-// The reply to a call, which waits or tries. Where it is refused a growth, the other pass finds the desk as it was, and
-// has a call of its own answered; then the command that was handed back is replied to.
-fn answered_again<R: Abort + Wait>(
-    rt: &R,
-    desk: &Desk,
-    pass: &mut Pass<Monitor>,
-    other: &mut Pass<Monitor>,
-    command: Command,
-    waits: bool,
-) -> Option<Reply>
-    requires { IsPassOf desk.now pass.old × IsPassOf desk.now other.old }
-    ensures { IsPassOf desk.now pass.new × IsPassOf desk.now other.new }
-{
-    let before = desk.glance(other);
-    let answer = if waits {
-        desk.submit(rt, pass, command)
-    } else {
-        desk.try_submit(pass, command)
-    };
-    match answer {
-        Ok(reply) => Some(reply),
-        Err(CallFault::NoMemory(back)) => {
-            assert_eq!(rt; desk.glance(other), before);
-            let verdict = submitted(rt, desk, other, Command::Verdict);
-            assert!(rt; matches!(verdict, Some(Reply::Yes(_))));
-            submitted(rt, desk, pass, back)
-        }
-        Err(_) => None,
-    }
-}
-
-// `tests/refused_memory` refuses each growth in its turn.
-#[test]
-fn a_refused_call_leaves_the_desk(rt: HostRuntime) {
-    let (desk, mut passes) = opened_again(&rt, rt.alloc());
-    let mut other = last_pass(&rt, &desk, &mut passes);
-    let mut pass = last_pass(&rt, &desk, &mut passes);
-    for clock in 1..41 {
-        let waits = clock % 2 == 0;
-        let command = write(0, clock);
-        let reply = answered_again(&rt, &desk, &mut pass, &mut other, command, waits);
-        assert_eq!(rt; reply, Some(Reply::Ok(clock - 1)));
-    }
-    let calls = desk.glance(&mut other).calls;
-    assert!(rt; calls == 40 || calls == 41);
 }
 
 // A read of what its replica has not got.
