@@ -1,0 +1,149 @@
+"""The program behind a pipe: replies, windows, threads, and programs that are gone."""
+import os
+import stat
+import tempfile
+import threading
+import unittest
+from pathlib import Path
+
+from yehatu import Monitor, MonitorGone, Report
+
+
+def script(folder: str, *lines: str) -> str:
+    """A program of these lines."""
+    path = Path(folder) / "program"
+    path.write_text("\n".join(["#!/bin/sh", *lines, ""]))
+    path.chmod(path.stat().st_mode | stat.S_IXUSR)
+    return str(path)
+
+
+class Replies(unittest.TestCase):
+    def test_each_line_has_its_reply(self) -> None:
+        with Monitor("counter", ["a", "b"]) as monitor:
+            self.assertEqual(monitor.tell("a inc"), "ok 0")
+            self.assertEqual(monitor.tell("b got 0"), "got 0")
+            self.assertEqual(monitor.tell("b got 0"), "refused already-seen")
+            self.assertEqual(monitor.verdict(), "yes 1")
+        self.assertEqual(monitor.close(), Report("counter", "yes", 1, 4, 1))
+
+    def test_a_no_is_told_in_the_report(self) -> None:
+        monitor = Monitor("counter", ["a"])
+        self.assertEqual(monitor.tell("a read 1"), "no 0 query")
+        self.assertEqual(monitor.close(), Report("counter", "no", 1, 1, 0, 0, "query"))
+
+    def test_lines_in_flight_keep_their_order(self) -> None:
+        monitor = Monitor("counter", ["a"], window=7)
+        for number in range(1000):
+            monitor.post("a inc", f"ok {number}")
+        self.assertEqual(monitor.tell("a read 1000"), "ok 1000")
+        self.assertIsNone(monitor.unexpected)
+        self.assertEqual(monitor.close().labels, 1001)
+
+    def test_the_first_other_reply_is_kept(self) -> None:
+        monitor = Monitor("counter", ["a"])
+        for number, read in enumerate((0, 5, 6)):
+            monitor.post(f"a read {read}", f"ok {number}")
+        monitor.settle()
+        self.assertEqual(monitor.unexpected, (1, "no 1 query"))
+        self.assertEqual(monitor.history(2), "RAH 1 counter\nreplicas a\na read 0\na read 5\n")
+        monitor.close()
+
+    def test_what_waits_for_company_is_written_all_the_same(self) -> None:
+        monitor = Monitor("counter", ["a"])
+        monitor.post("a read 1", "ok 0")
+        for _ in range(1000):
+            if monitor.unexpected is not None:
+                break
+            threading.Event().wait(0.01)
+        self.assertEqual(monitor.unexpected, (0, "no 0 query"))
+        monitor.close()
+
+    def test_many_threads_report_to_one_monitor(self) -> None:
+        monitor = Monitor("counter", ["a"])
+        replies = []
+
+        def work() -> None:
+            replies.extend(monitor.tell("a inc") for _ in range(50))
+
+        threads = [threading.Thread(target=work) for _ in range(8)]
+        for thread in threads:
+            thread.start()
+        for thread in threads:
+            thread.join()
+        self.assertEqual(sorted(replies), sorted(f"ok {number}" for number in range(400)))
+        self.assertEqual(monitor.close().verdict, "yes")
+
+
+class Gone(unittest.TestCase):
+    def setUp(self) -> None:
+        self.folder = tempfile.TemporaryDirectory()
+        self.addCleanup(self.folder.cleanup)
+
+    def test_there_is_no_program(self) -> None:
+        with self.assertRaisesRegex(MonitorGone, "nowhere/program is no program"):
+            Monitor("counter", ["a"], program="/nowhere/program")
+
+    def test_it_ends_at_once_and_says_why(self) -> None:
+        monitor = Monitor("counter", ["a"], program=script(self.folder.name, "echo out of luck >&2", "exit 7"))
+        with self.assertRaisesRegex(MonitorGone, "status 7, and said 'out of luck'"):
+            monitor.tell("a inc")
+        with self.assertRaisesRegex(MonitorGone, "out of luck"):
+            monitor.close()
+
+    def test_it_ends_while_lines_are_in_flight(self) -> None:
+        program = script(self.folder.name, "read a; read b; read c; echo ok 0; echo tired >&2; exit 2")
+        monitor = Monitor("counter", ["a"], program=program)
+        with self.assertRaisesRegex(MonitorGone, "status 2, and said 'tired'"):
+            for number in range(100_000):
+                monitor.post("a inc", f"ok {number}")
+            monitor.settle()
+
+    def test_a_fault_of_the_text_is_told(self) -> None:
+        monitor = Monitor("counter", ["a"])
+        with self.assertRaisesRegex(MonitorGone, "line 3: syntax"):
+            monitor.tell("a increments")
+
+    def test_a_stopped_monitor_takes_nothing_more(self) -> None:
+        monitor = Monitor("counter", ["a"])
+        monitor.stop()
+        with self.assertRaises(MonitorGone):
+            monitor.tell("a inc")
+
+    def test_a_closed_monitor_takes_nothing_more(self) -> None:
+        monitor = Monitor("counter", ["a"])
+        monitor.close()
+        with self.assertRaisesRegex(MonitorGone, "was closed"):
+            monitor.post("a inc", "ok 0")
+
+    def test_threads_that_wait_are_told_too(self) -> None:
+        program = script(self.folder.name, "read a; read b; read c; sleep 0.1; exit 2")
+        monitor = Monitor("counter", ["a"], program=program)
+        told = []
+
+        def work() -> None:
+            try:
+                monitor.tell("a inc")
+            except MonitorGone as gone:
+                told.append(gone)
+
+        threads = [threading.Thread(target=work) for _ in range(4)]
+        for thread in threads:
+            thread.start()
+        for thread in threads:
+            thread.join(20)
+        self.assertEqual(len(told), 4)
+
+    def test_the_environment_names_the_program(self) -> None:
+        before = os.environ.get("RA_MONITOR")
+        os.environ["RA_MONITOR"] = script(self.folder.name, "echo of the environment >&2; exit 3")
+        try:
+            with self.assertRaisesRegex(MonitorGone, "of the environment"):
+                Monitor("counter", ["a"]).tell("a inc")
+        finally:
+            os.environ.pop("RA_MONITOR")
+            if before is not None:
+                os.environ["RA_MONITOR"] = before
+
+
+if __name__ == "__main__":
+    unittest.main()

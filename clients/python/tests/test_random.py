@@ -1,0 +1,143 @@
+"""Random runs: right replicas pass, and each planted bug is found and shrunk."""
+import contextlib
+import io
+import os
+import subprocess
+import unittest
+from typing import Any, Dict, Hashable, List, Tuple
+from unittest import mock
+
+import planted
+from replicas import RIGHT, Counter, Message, Rga
+from yehatu import NotLinearizable, Refused, ReplicaRaised, check_random, program, random_runs
+from yehatu.plans import Planner
+
+# How many runs of right replicas: a thousand were tried, and the gate tries fewer.
+RUNS = int(os.environ.get("YEHATU_RUNS", "100"))
+# How soon a bug is found, and how small its history is.
+FOUND_WITHIN, LONGEST_HISTORY = 200, 12
+
+
+class MergedCounter:
+    """A counter whose states are merged: of each replica the greatest numbers of steps up and down."""
+
+    def __init__(self, name: str) -> None:
+        self.name = name
+        self.steps: Dict[Tuple[str, int], int] = {}
+
+    def increment(self) -> None:
+        self.steps[self.name, 1] = self.steps.get((self.name, 1), 0) + 1
+
+    def decrement(self) -> None:
+        self.steps[self.name, -1] = self.steps.get((self.name, -1), 0) + 1
+
+    def state(self) -> Dict[Tuple[str, int], int]:
+        return dict(self.steps)
+
+    def merge(self, state: Dict[Tuple[str, int], int]) -> None:
+        for key, number in state.items():
+            self.steps[key] = max(self.steps.get(key, 0), number)
+
+    def read(self) -> int:
+        return sum(sign * number for (_, sign), number in self.steps.items())
+
+
+class SummingCounter(MergedCounter):
+    """A merge adds, so that what both had counts twice."""
+
+    def merge(self, state: Dict[Tuple[str, int], int]) -> None:
+        for key, number in state.items():
+            self.steps[key] = self.steps.get(key, 0) + number
+
+
+class RaisingRga(Rga):
+    """A third element behind one is too much."""
+
+    def insert(self, message: Message) -> None:
+        if len(self.nodes[message["anchor"]].children) == 2:
+            raise IndexError("too many children")
+        super().insert(message)
+
+
+class StandingClock(Rga):
+    """The clock stands still."""
+
+    def tick(self) -> Tuple[int, str]:
+        return 1, self.name
+
+
+class RightReplicas(unittest.TestCase):
+    def test_all_runs_of_each_kind_are_right(self) -> None:
+        for kind, make in RIGHT.items():
+            with self.subTest(kind=kind):
+                self.assertEqual(check_random(make, kind, seeds=RUNS), RUNS)
+
+    def test_states_that_are_merged(self) -> None:
+        self.assertEqual(check_random(MergedCounter, "counter", seeds=RUNS), RUNS)
+
+    def test_replicas_with_names_of_their_own(self) -> None:
+        names = ["Ann", "Bob", "Carol", "Dave"]
+        self.assertEqual(check_random(RIGHT["register"], "register", names, 20, range(7, 17)), 10)
+
+    def test_a_seed_makes_one_plan(self) -> None:
+        plans = [Planner("rga", 3, 30, seed, False).plan() for seed in (5, 5, 6)]
+        self.assertEqual(plans[0], plans[1])
+        self.assertNotEqual(plans[1], plans[2])
+
+
+class PlantedBugs(unittest.TestCase):
+    def test_each_bug_that_shows_is_found_and_shrunk(self) -> None:
+        for bug, kinds in planted.SEEN.items():
+            for kind, make in kinds.items():
+                with self.subTest(bug=bug, kind=kind):
+                    with self.assertRaises(NotLinearizable) as caught:
+                        check_random(make, kind, seeds=FOUND_WITHIN)
+                    self.is_small_and_fails_again(caught.exception)
+
+    def test_a_merge_that_counts_twice(self) -> None:
+        with self.assertRaises(NotLinearizable) as caught:
+            check_random(SummingCounter, "counter", seeds=FOUND_WITHIN)
+        self.is_small_and_fails_again(caught.exception)
+
+    def test_other_bugs_change_no_answer(self) -> None:
+        for bug, kinds in planted.NEVER_SEEN.items():
+            for kind, make in kinds.items():
+                with self.subTest(bug=bug, kind=kind):
+                    self.assertEqual(check_random(make, kind, seeds=RUNS // 2), RUNS // 2)
+
+    def is_small_and_fails_again(self, failed: NotLinearizable) -> None:
+        with open(failed.history or "") as file:
+            text = file.read()
+        self.assertLessEqual(len(text.splitlines()) - 2, LONGEST_HISTORY)
+        self.assertIn(text, str(failed))
+        self.assertIn("seed ", str(failed))
+        self.assertEqual(program.check_text(program.find_for_many(), text.encode()).status, 1)
+
+
+class OtherFailures(unittest.TestCase):
+    def test_an_exception_of_a_replica_is_shrunk_too(self) -> None:
+        with self.assertRaises(ReplicaRaised) as caught:
+            check_random(RaisingRga, "rga")
+        self.assertIsInstance(caught.exception.__cause__, IndexError)
+        self.assertIn("too many children", str(caught.exception))
+        self.assertIn("steps made 3;", str(caught.exception))
+
+    def test_a_refused_report_is_shrunk_too(self) -> None:
+        with self.assertRaises(Refused) as caught:
+            check_random(StandingClock, "rga")
+        self.assertEqual(caught.exception.cause, "stamp-taken")
+        self.assertIn("steps made 2;", str(caught.exception))
+
+    def test_a_class_that_lacks_methods_is_told(self) -> None:
+        with self.assertRaisesRegex(TypeError, r"lacks \['write'\]"):
+            check_random(Counter, "register")
+
+    def test_long_runs_say_how_far_they_are(self) -> None:
+        said = io.StringIO()
+        with mock.patch.object(random_runs, "SILENCE", -1.0), contextlib.redirect_stderr(said):
+            check_random(Counter, "counter", seeds=2)
+        self.assertIn("check_random counter: 2 runs, all right so far", said.getvalue())
+
+
+if __name__ == "__main__":
+    unittest.main()

@@ -1,0 +1,251 @@
+"""Reports in the user's own names."""
+import subprocess
+import threading
+import unittest
+from typing import Any, Dict, List
+
+from yehatu import CannotTell, MonitorGone, NotLinearizable, Recorder, Refused, program, write
+
+NOW = 1_764_076_489_000  # A clock of milliseconds since 1970.
+
+
+def lines(recorder: Recorder) -> str:
+    """The commands that were reported."""
+    return recorder.history().split("\n", 2)[2]
+
+
+class Names(unittest.TestCase):
+    def test_replicas_and_values_have_any_names(self) -> None:
+        with Recorder("register", ["Ann's phone", 7, ("a", "pair")]) as recorder:
+            recorder.write("Ann's phone", "milk", (1, "Ann's phone"), message=("m", 1))
+            recorder.deliver(7, ("m", 1))
+            recorder.read(7, "milk")
+            recorder.read(("a", "pair"), None)
+        self.assertEqual(recorder.history(), (
+            "RAH 1 register\nreplicas r0 r1 r2\nr0 write 1 @1\nr1 got 0\nr1 read 1\nr2 read none\n"
+        ))
+
+    def test_good_names_stay(self) -> None:
+        with Recorder("counter", ["r1", "Bob", "ann", "verdict"]) as recorder:
+            pass
+        self.assertIn("replicas r1 r0 ann r2\n", recorder.history())
+
+    def test_a_list_is_read_back_in_its_order(self) -> None:
+        with Recorder("rga", ["ann", "bob"]) as recorder:
+            recorder.insert_after("ann", None, "h", (1, "ann"), message=1)
+            recorder.insert_after("ann", "h", "i", 2, message=2)
+            recorder.merge("bob", [2, 1])
+            recorder.remove("bob", "h")
+            recorder.read("bob", ["i"])
+        self.assertEqual(lines(recorder), (
+            "ann after 0 1 @1\nann after 1 2 @2\nbob got 0\nbob got 1\nbob remove 1\nbob read 2\n"
+        ))
+
+    def test_a_set_may_be_read_in_any_order(self) -> None:
+        with Recorder("lwwset", ["a"]) as recorder:
+            for clock, element in enumerate(("x", "y", "z"), 1):
+                recorder.add("a", element, clock)
+            recorder.remove("a", "y", 4)
+            recorder.read("a", {"z", "x"})
+        self.assertIn("a read 1,3\n", recorder.history())
+
+    def test_what_is_no_key_cannot_be_told(self) -> None:
+        with Recorder("register", ["a"]) as recorder:
+            with self.assertRaisesRegex(CannotTell, "no key of a dictionary"):
+                recorder.write("a", ["a", "list"], 1)
+            with self.assertRaisesRegex(CannotTell, "no key of a dictionary"):
+                recorder.read("a", None)
+
+    def test_what_nothing_written_reads_as_can_be_named(self) -> None:
+        with Recorder("register", ["a"], nothing=0) as recorder:
+            recorder.read("a", 0)
+            recorder.write("a", None, 1)
+            recorder.read("a", None)
+        recorder = Recorder("register", ["a"])
+        with self.assertRaisesRegex(CannotTell, "name another `nothing`"):
+            recorder.write("a", None, 1)
+        recorder.stop()
+
+
+class Clocks(unittest.TestCase):
+    def test_great_clocks_are_counted_from_the_first_one(self) -> None:
+        with Recorder("register", ["a", "b"]) as recorder:
+            recorder.write("a", 1, (NOW, "a"), message=1)
+            recorder.write("b", 2, (NOW - 5, "b"), message=2)
+            recorder.deliver("b", 1)
+            recorder.read("b", 1)
+        self.assertIn("write 1 @268435456\n", recorder.history())
+
+    def test_what_cannot_be_told_says_so(self) -> None:
+        for clocks, said in [
+            ([NOW, NOW - (1 << 28)], "too early"),
+            ([NOW, NOW + (1 << 32)], "too late"),
+            ([1, 1 << 32], "too late"),
+            ([0], "too early"),
+            ([1.5], "no whole number"),
+            ([True], "no whole number"),
+            ([(1, "b")], "of another replica than 'a'"),
+            ([None], "there is no stamp"),
+        ]:
+            with self.subTest(said=said):
+                recorder = Recorder("register", ["a", "b"])
+                with self.assertRaisesRegex(CannotTell, said):
+                    for number, clock in enumerate(clocks):
+                        recorder.write("a", number, clock)
+                recorder.stop()
+
+
+class Steps(unittest.TestCase):
+    def test_what_is_known_after_the_act_is_given_as_a_function(self) -> None:
+        with Recorder("register", ["a", "b"]) as recorder:
+            sent = recorder.update(
+                "a",
+                lambda sent: write(sent["value"], sent["stamp"]),
+                act=lambda: {"value": 3, "stamp": (9, "a"), "id": "m"},
+                message=lambda sent: sent["id"],
+            )
+            recorder.write("a", 4, lambda clock: clock, act=lambda: 10)
+            recorder.deliver("b", lambda sent: sent["id"], act=lambda: sent)
+            self.assertEqual(recorder.read("b", lambda: 3), 3)
+
+    def test_an_act_that_raises_is_not_reported(self) -> None:
+        with Recorder("counter", ["a"]) as recorder:
+            with self.assertRaises(ZeroDivisionError):
+                recorder.increment("a", act=lambda: 1 // 0)
+            recorder.read("a", 0)
+
+    def test_a_second_arrival_and_ones_own_message_are_not_reported(self) -> None:
+        with Recorder("counter", ["a", "b"]) as recorder:
+            recorder.increment("a", message=1)
+            for replica in ("a", "b", "b"):
+                recorder.deliver(replica, 1)
+        self.assertEqual(lines(recorder), "a inc\nb got 0\n")
+
+    def test_a_message_of_no_update_cannot_be_told(self) -> None:
+        with Recorder("counter", ["a"]) as recorder:
+            with self.assertRaisesRegex(CannotTell, "no message 5"):
+                recorder.deliver("a", 5)
+
+    def test_an_operation_of_another_kind_cannot_be_told(self) -> None:
+        with Recorder("counter", ["a"]) as recorder:
+            with self.assertRaisesRegex(CannotTell, "write is no operation of the kind counter"):
+                recorder.write("a", 5, 1)
+
+    def test_a_merge_is_all_that_the_other_had_seen_at_that_moment(self) -> None:
+        with Recorder("counter", ["a", "b", "c"]) as recorder:
+            recorder.increment("a")
+            recorder.merge("b", recorder.seen("a"))
+            recorder.decrement("b")
+            state = recorder.seen("b")
+            recorder.increment("b")
+            recorder.merge("c", state)
+            recorder.read("c", 0)
+
+    def test_identifiers_that_the_type_does_not_tell(self) -> None:
+        with Recorder("orset", ["a", "b"]) as recorder:
+            recorder.add("a", "milk", message=1)
+            recorder.deliver("b", 1)
+            recorder.add("b", "milk", message=2)
+            recorder.remove("a", "milk", message=3)
+            recorder.deliver("b", 3)
+            recorder.deliver("a", 2)
+            recorder.read("a", ["milk"])
+            recorder.read("b", ["milk"])
+        self.assertIn("a remove 1 #1\n", recorder.history())
+
+    def test_identifiers_that_the_type_tells(self) -> None:
+        recorder = Recorder("orset", ["a"], window=1)
+        recorder.add("a", "milk", identifier=("a", 1))
+        recorder.add("a", "milk", identifier=("a", 2))
+        with self.assertRaisesRegex(NotLinearizable, r"'a' removes 'milk' under \('a', 2\)"):
+            recorder.remove("a", "milk", identifiers=[("a", 2)])
+        recorder.stop()
+
+    def test_threads_with_a_replica_each(self) -> None:
+        names = ["a", "b", "c", "d"]
+        counters = dict.fromkeys(names, 0)
+        inboxes: Dict[str, List[Any]] = {name: [] for name in names}
+
+        def work(recorder: Recorder, name: str) -> None:
+            for number in range(100):
+                with recorder.step():
+                    counters[name] += 1
+                    recorder.increment(name, message=(name, number))
+                    for inbox in inboxes.values():
+                        inbox.append((name, number))
+                with recorder.step():
+                    counters[name] += inboxes[name][0][0] != name
+                    recorder.deliver(name, inboxes[name].pop(0))
+                recorder.read(name, lambda: counters[name])
+
+        with Recorder("counter", names) as recorder:
+            threads = [threading.Thread(target=work, args=(recorder, name)) for name in names]
+            for thread in threads:
+                thread.start()
+            for thread in threads:
+                thread.join()
+        self.assertEqual(recorder.close().verdict, "yes")
+        self.assertEqual(recorder.close().refused, 0)
+
+
+class Failures(unittest.TestCase):
+    def failed(self, window: int) -> NotLinearizable:
+        recorder = Recorder("lwwset", ["Ann", "Bob"], window=window)
+        with self.assertRaises(NotLinearizable) as caught:
+            recorder.add("Ann", "milk", (NOW, "Ann"), message="m")
+            recorder.deliver("Bob", "m")
+            recorder.read("Bob", [])
+            recorder.settle()
+        with self.assertRaises(NotLinearizable):
+            recorder.read("Ann", ["milk"])
+        with self.assertRaises(NotLinearizable):
+            recorder.close()
+        return caught.exception
+
+    def test_a_no_is_told_in_the_users_words_with_its_file(self) -> None:
+        for window in (1, 2, 4096):
+            with self.subTest(window=window):
+                failed = self.failed(window)
+                self.assertEqual((failed.operation, failed.cause), ("'Bob' reads []", "query"))
+                self.assertIn(f"'Ann' adds 'milk' at clock {NOW}", str(failed))
+                self.assertIn("'Bob' gets message 'm', label 0 ('Ann' adds 'milk'", str(failed))
+                with open(failed.history or "") as text:
+                    again = subprocess.run([program.find(), "check"], stdin=text, stdout=subprocess.PIPE)
+                self.assertEqual((again.returncode, again.stdout[-13:]), (1, b"end no 1 query\n"[-13:]))
+
+    def test_an_arrival_before_its_cause_is_refused(self) -> None:
+        recorder = Recorder("counter", ["a", "b", "c"])
+        recorder.increment("a", message=1)
+        recorder.deliver("b", 1)
+        recorder.increment("b", message=2)
+        with self.assertRaises(Refused) as caught:
+            recorder.deliver("c", 2)
+            recorder.settle()
+        self.assertEqual(caught.exception.cause, "not-causal 0")
+        self.assertIn("its replica lacks an update", str(caught.exception))
+        recorder.stop()
+
+    def test_what_is_not_reported_ends_the_history(self) -> None:
+        recorder = Recorder("register", ["a"])
+        with self.assertRaises(CannotTell):
+            recorder.write("a", 1, "noon", act=lambda: None)
+        with self.assertRaises(CannotTell):
+            recorder.read("a", 1)
+        recorder.stop()
+
+    def test_a_program_that_is_no_monitor(self) -> None:
+        recorder = Recorder("counter", ["a"], program="cat")
+        with self.assertRaises(MonitorGone):
+            recorder.increment("a")
+            recorder.settle()
+        recorder.stop()
+
+    def test_an_exception_in_the_block_is_what_is_told(self) -> None:
+        with self.assertRaises(KeyError):
+            with Recorder("counter", ["a"]) as recorder:
+                recorder.increment("a")
+                raise KeyError("the user's own")
+
+
+if __name__ == "__main__":
+    unittest.main()

@@ -1,0 +1,83 @@
+"""Tells a history in the user's words, and what is wrong with it."""
+import os
+import tempfile
+from typing import Dict, Hashable, List, Optional, Sequence
+
+from .errors import MonitorGone, NotLinearizable, Refused
+from .spelling import Speller
+
+# How many of a history's last lines a message shows.
+SHOWN_LINES = 16
+HEAD_LINES = 2
+MEANINGS = {
+    "order": "its clock is not above all that its replica had seen",
+    "update": "with it the updates can no longer be made one after another in the order of their clocks",
+    "query": "what its replica had seen does not lead to its answer",
+    "not-causal": "its replica lacks an update that the delivered one had seen",
+    "stamp-taken": "its replica gave this clock to another operation before",
+    "id-taken": "an addition had this identifier before",
+}
+
+
+class Account:
+    """A history's lines, with the label of each operation."""
+
+    def __init__(self, speller: Speller, text: str, keys: Dict[int, Hashable]) -> None:
+        self._speller = speller
+        self._keys = keys
+        self.commands = text.splitlines()[HEAD_LINES:]
+        operations = (it for it in self.commands if it.split(" ", 2)[1] != "got")
+        self._line_of = dict(enumerate(operations))
+
+    def words(self, command: int) -> str:
+        """What the command with this number says."""
+        return self._speller.words(self.commands[command], self._delivered)
+
+    def _delivered(self, label: int) -> str:
+        message = f"message {self._keys[label]!r}, " if label in self._keys else ""
+        return f"{message}label {label} ({self._speller.words(self._line_of[label], self._delivered)})"
+
+    def shown(self, replies: Sequence[str] = (), first: int = 0) -> str:
+        """The commands from this one on, each with its reply, where there are some, and what it says."""
+        rows = [
+            (line, replies[number] if replies else "", self.words(number))
+            for number, line in enumerate(self.commands)
+            if number >= first
+        ]
+        widths = [max((len(row[column]) for row in rows), default=0) for column in (0, 1)]
+        return "\n".join(f"    {line:{widths[0]}}  {reply:{widths[1]}}  {words}" for line, reply, words in rows)
+
+
+def failure(
+    speller: Speller, text: str, reply: str, keys: Dict[int, Hashable], path: Optional[str]
+) -> Exception:
+    """The exception for a history whose last command had this reply."""
+    account = Account(speller, text, keys)
+    last = len(account.commands) - 1
+    if reply.split(" ")[0] not in ("no", "refused"):
+        return MonitorGone(f"{reply!r} is no reply to {account.commands[last]!r}: this program is no monitor")
+    kept = kept_history(text, path)
+    operation = account.words(last)
+    first = max(0, last + 1 - SHOWN_LINES)
+    message = (
+        f"{operation}: {meaning(reply)}\n"
+        f"line {last + HEAD_LINES + 1} of {kept}, answered {reply!r}; the last lines:\n{account.shown(first=first)}"
+    )
+    return (NotLinearizable if reply.startswith("no ") else Refused)(message, operation, reply, kept)
+
+
+def meaning(reply: str) -> str:
+    """What a reply says."""
+    words = [it for it in reply.split(" ") if it in MEANINGS]
+    verdict = "not RA-linearizable" if reply.startswith("no ") else "refused"
+    return f"{verdict}, {MEANINGS[words[0]]}" if words else reply
+
+
+def kept_history(text: str, path: Optional[str]) -> str:
+    """Writes the history into this file, or into a new one of the folder for temporary files."""
+    if path is None:
+        number, path = tempfile.mkstemp(prefix="yehatu_", suffix=".rah")
+        os.close(number)
+    with open(path, "w", encoding="ascii", newline="\n") as file:
+        file.write(text)
+    return path

@@ -1,0 +1,276 @@
+"""Reports what replicas do, in the user's own names."""
+import threading
+from typing import Any, Callable, ContextManager, Dict, Hashable, Iterable, List, NamedTuple, Optional, Sequence, Union
+
+from . import account, operations
+from .errors import CannotTell
+from .monitor import Monitor, Report
+from .observed import Effect, Observed
+from .operations import Operation, Stamp
+from .program import Program
+from .spelling import Speller
+
+Act = Optional[Callable[[], Any]]
+
+
+class Seen(NamedTuple):
+    """What a replica had seen at one moment: how many updates of each replica."""
+
+    counts: Sequence[int]
+
+
+class Recorder:
+    """Speaks to the monitor for replicas with any names, in the order in which the type breaks ties, lowest first.
+
+    Each call is one step: it runs the act, and reports it before another thread's act runs. So an act does not wait
+    for another replica. What is known only after the act (an operation, a message's key, a value that is read) may be
+    given as a function, which is called with what the act returned.
+
+    Values, elements, identifiers and keys are anything that can be a key of a dictionary, and what is equal there is
+    one thing here. The first report that is not answered as right raises `NotLinearizable` or `Refused`, as soon as
+    the reply is seen, and so does each call after it; with a `window` of 1 it is seen in the call itself. `history` is
+    the file that is then written, and `nothing` what a register reads where nothing was written.
+    """
+
+    def __init__(
+        self,
+        kind: str,
+        replicas: Sequence[Hashable],
+        *,
+        program: Program = None,
+        window: int = 4096,
+        history: Optional[str] = None,
+        nothing: Any = None,
+        monitor: Any = None,
+    ) -> None:
+        self._speller = Speller(kind, replicas, nothing)
+        names = self._speller.replicas.names
+        self._monitor = monitor or Monitor(kind, names, program=program, window=window)
+        self._lock = threading.RLock()
+        self._history = history
+        self._labels = 0
+        self._had = [[0] * len(names) for _ in names]
+        self._updates: List[List[int]] = [[] for _ in names]
+        self._messages: Dict[Hashable, Sequence[int]] = {}
+        self._observed = Observed(len(names)) if kind == "orset" else None
+        self._failure: Optional[Exception] = None
+
+    # Steps of any kind.
+
+    def update(
+        self, replica: Hashable, operation: Union[Operation, Callable[[Any], Operation]], *, act: Act = None,
+        message: Any = None,
+    ) -> Any:
+        """The replica changes something, and answers what the act returns; others get it as the message of this key."""
+        def report(place: int, done: Any) -> None:
+            self._update(place, _told(operation, done), _told(message, done))
+
+        return self._step(replica, act, report)
+
+    def deliver(self, replica: Hashable, message: Any, *, act: Act = None) -> Any:
+        """The message of this key reaches the replica, which applies it. One that it has already is not reported."""
+        return self._step(replica, act, lambda place, done: self._deliver(place, self._sent(_told(message, done))))
+
+    def merge(self, replica: Hashable, messages: Union[Seen, Iterable[Hashable]], *, act: Act = None) -> Any:
+        """The replica merges what has these messages in it, or what another replica had `seen`."""
+        return self._step(replica, act, lambda place, done: self._merge(place, _told(messages, done)))
+
+    def read(self, replica: Hashable, value: Any) -> Any:
+        """The replica's value is read: this one, or the one that this function answers."""
+        return self._step(replica, value if callable(value) else lambda: value, self._read)
+
+    def seen(self, replica: Hashable) -> Seen:
+        """What the replica has seen by now, for a `merge` of the state that it has now."""
+        with self._lock:
+            return Seen(tuple(self._had[self._speller.replicas.place(replica)]))
+
+    def step(self) -> ContextManager[Any]:
+        """`with recorder.step():` makes one step of an act and its reports, where `act` is not at hand."""
+        return self._lock
+
+    # The operations of each kind.
+
+    def increment(self, replica: Hashable, *, act: Act = None, message: Any = None) -> Any:
+        """A counter: one more."""
+        return self.update(replica, operations.increment(), act=act, message=message)
+
+    def decrement(self, replica: Hashable, *, act: Act = None, message: Any = None) -> Any:
+        """A counter: one less."""
+        return self.update(replica, operations.decrement(), act=act, message=message)
+
+    def write(
+        self, replica: Hashable, value: Hashable, stamp: Union[Stamp, Callable[[Any], Stamp]], *, act: Act = None,
+        message: Any = None,
+    ) -> Any:
+        """A register: this value is written."""
+        return self.update(replica, lambda done: operations.write(value, _told(stamp, done)), act=act, message=message)
+
+    def add(
+        self, replica: Hashable, element: Hashable, stamp: Any = None, *, identifier: Any = None, act: Act = None,
+        message: Any = None,
+    ) -> Any:
+        """A set: this element is put in, at a stamp (LWW set) or under an identifier (OR-Set)."""
+        def told(done: Any) -> Operation:
+            return operations.add(element, _told(stamp, done), _told(identifier, done))
+
+        return self.update(replica, told, act=act, message=message)
+
+    def remove(
+        self, replica: Hashable, element: Hashable, stamp: Any = None, *, identifiers: Any = None, act: Act = None,
+        message: Any = None,
+    ) -> Any:
+        """A set or a list: this element is taken out, at a stamp (LWW set) or with its identifiers (OR-Set)."""
+        def told(done: Any) -> Operation:
+            return operations.remove(element, _told(stamp, done), _told(identifiers, done))
+
+        return self.update(replica, told, act=act, message=message)
+
+    def insert_after(
+        self, replica: Hashable, anchor: Hashable, element: Hashable, stamp: Union[Stamp, Callable[[Any], Stamp]], *,
+        act: Act = None, message: Any = None,
+    ) -> Any:
+        """A list: this element is put directly behind the anchor, or at the beginning where that is None."""
+        def told(done: Any) -> Operation:
+            return operations.insert_after(anchor, element, _told(stamp, done))
+
+        return self.update(replica, told, act=act, message=message)
+
+    # The end.
+
+    def settle(self) -> None:
+        """Waits for all replies, and raises what they say."""
+        self._monitor.settle()
+        with self._lock:
+            self._look()
+
+    def close(self) -> Report:
+        """Ends the history, and answers what all came to. Raises what the replies say, if they say no."""
+        try:
+            report = self._monitor.close()
+        finally:
+            if self._monitor.unexpected is not None:
+                with self._lock:
+                    self._look()
+        return report
+
+    def __enter__(self) -> "Recorder":
+        return self
+
+    def __exit__(self, kind: object, *_: object) -> None:
+        if kind is None:
+            self.close()
+        else:
+            self.stop()
+
+    def stop(self) -> None:
+        """Gives the history up, without asking how it ended."""
+        self._monitor.stop()
+
+    def history(self) -> str:
+        """The text so far, which `ra_monitor check` reads."""
+        return self._monitor.history()
+
+    def head(self) -> str:
+        """The first two lines of the text."""
+        return self._speller.head()
+
+    def account(self, text: str) -> account.Account:
+        """This text, which is one of this recorder's, in the user's words."""
+        keys = {sent[0]: key for key, sent in self._messages.items()}
+        return account.Account(self._speller, text, keys)
+
+    # Under the lock.
+
+    def _step(self, replica: Hashable, act: Act, report: Callable[[int, Any], None]) -> Any:
+        with self._lock:
+            self._look()
+            place = self._speller.replicas.place(replica)
+            done = None if act is None else act()
+            try:
+                report(place, done)
+            except CannotTell as fault:
+                # The act was made and is not reported, so what follows would be judged wrongly.
+                self._failure = fault
+                raise
+            return done
+
+    def _look(self) -> None:
+        if self._failure is None and self._monitor.unexpected is not None:
+            command, reply = self._monitor.unexpected
+            text = self._monitor.history(command + 1)
+            keys = {sent[0]: key for key, sent in self._messages.items()}
+            self._failure = account.failure(self._speller, text, reply, keys, self._history)
+        if self._failure is not None:
+            raise self._failure
+
+    def _post(self, line: str, expected: str) -> None:
+        self._monitor.post(line, expected)
+        if self._monitor.unexpected is not None:
+            self._look()
+
+    def _update(self, place: int, operation: Operation, message: Hashable) -> None:
+        if message is not None and message in self._messages:
+            raise CannotTell(f"there was a message {message!r} before: give each its own key")
+        label, effect = self._labels, None
+        if self._observed is not None:
+            operation, effect = self._identified(place, operation)
+        line = self._speller.operation(place, operation)
+        self._labels += 1
+        if message is not None:
+            self._messages[message] = (label, place, len(self._updates[place]))
+        self._updates[place].append(label)
+        self._had[place][place] += 1
+        if effect is not None and self._observed is not None:
+            self._observed.issue(place, label, effect)
+        self._post(line, f"ok {label}")
+
+    def _identified(self, place: int, operation: Operation) -> "tuple[Operation, Effect]":
+        """The operation of an OR-Set with identifiers by number, and what it does."""
+        numbers, is_addition = self._speller.identifiers, operation.word == "add"
+        if operation.identifiers is not None:
+            named = [numbers.of(it) for it in operation.identifiers]
+        elif is_addition:
+            named = [numbers.fresh()]
+        else:
+            named = self._observed.at(place, operation.value)  # type: ignore[union-attr]
+        return operation._replace(identifiers=named), Effect(operation.value, named, is_addition)
+
+    def _deliver(self, place: int, sent: Sequence[int]) -> None:
+        label, issuer, number = sent
+        had = self._had[place]
+        if number < had[issuer]:
+            return
+        had[issuer] = number + 1
+        if self._observed is not None:
+            self._observed.deliver(place, label)
+        self._post(self._speller.got(place, label), f"got {label}")
+
+    def _merge(self, place: int, messages: Union[Seen, Iterable[Hashable]]) -> None:
+        if isinstance(messages, Seen):
+            had = self._had[place]
+            merged = [
+                (self._updates[issuer][number], issuer, number)
+                for issuer, count in enumerate(messages.counts)
+                for number in range(had[issuer], count)
+            ]
+        else:
+            merged = [self._sent(it) for it in messages]
+        for sent in sorted(merged):
+            self._deliver(place, sent)
+
+    def _read(self, place: int, value: Any) -> None:
+        line = self._speller.read(place, value)
+        label = self._labels
+        self._labels += 1
+        self._post(line, f"ok {label}")
+
+    def _sent(self, message: Hashable) -> Sequence[int]:
+        sent = self._messages.get(message)
+        if sent is None:
+            raise CannotTell(f"there was no message {message!r}: report the update that sends it first")
+        return sent
+
+
+def _told(given: Any, done: Any) -> Any:
+    """What is given, or what it answers of what the act returned."""
+    return given(done) if callable(given) else given

@@ -1,0 +1,142 @@
+"""Spells what replicas do as lines of the text, and reads lines back in the user's words."""
+from typing import Any, Callable, Dict, Hashable, Iterable, List, Sequence
+
+from .errors import CannotTell
+from .numbers import Clocks, Numbers, Replicas
+from .operations import OPERATIONS, Operation, Stamp
+
+LEAST_COUNT, GREATEST_COUNT = -(1 << 31), (1 << 31) - 1
+KINDS_WITH_CLOCKS = ("register", "lwwset", "rga")
+
+
+class Speller:
+    """The lines of one history, with what its numbers stand for.
+
+    `nothing` is what a register reads where nothing was written.
+    """
+
+    def __init__(self, kind: str, replicas: Sequence[Hashable], nothing: Any = None) -> None:
+        if kind not in OPERATIONS:
+            raise CannotTell(f"there is no kind {kind!r}, but {', '.join(OPERATIONS)}")
+        self.kind = kind
+        self.replicas = Replicas(replicas)
+        self.identifiers = Numbers("identifier")
+        self._values = Numbers("value" if kind == "register" else "element")
+        self._clocks = Clocks()
+        self._nothing = nothing
+        self._bodies: Dict[str, Callable[[int, Operation], str]] = {
+            "increment": lambda place, operation: "inc",
+            "decrement": lambda place, operation: "dec",
+            "write": self._write,
+            "add": self._add,
+            "remove": self._remove,
+            "insert_after": self._insert,
+        }
+
+    def head(self) -> str:
+        """The two first lines."""
+        return f"RAH 1 {self.kind}\nreplicas {' '.join(self.replicas.names)}\n"
+
+    def operation(self, place: int, operation: Operation) -> str:
+        """The line of an operation at the replica with this number. An OR-Set's has identifiers by number."""
+        if operation.word not in OPERATIONS[self.kind]:
+            raise CannotTell(f"{operation.word} is no operation of the kind {self.kind}: {OPERATIONS[self.kind]} are")
+        return f"{self.replicas.names[place]} {self._bodies[operation.word](place, operation)}"
+
+    def got(self, place: int, label: int) -> str:
+        """The line of a delivery."""
+        return f"{self.replicas.names[place]} got {label}"
+
+    def read(self, place: int, value: Any) -> str:
+        """The line of a read that returned this."""
+        return f"{self.replicas.names[place]} read {self._answer(value)}"
+
+    # What follows a name.
+
+    def _write(self, place: int, operation: Operation) -> str:
+        if _is_same(operation.value, self._nothing):
+            raise CannotTell(f"{operation.value!r} is what is read where nothing was written: name another `nothing`")
+        return f"write {self._values.of(operation.value)} {self._clock(place, operation.stamp)}"
+
+    def _add(self, place: int, operation: Operation) -> str:
+        return f"add {self._values.of(operation.value)} {self._mark(place, operation)}"
+
+    def _remove(self, place: int, operation: Operation) -> str:
+        if self.kind == "rga":
+            return f"remove {self._values.of(operation.value)}"
+        return f"remove {self._values.of(operation.value)} {self._mark(place, operation)}"
+
+    def _insert(self, place: int, operation: Operation) -> str:
+        anchor = 0 if operation.anchor is None else self._values.of(operation.anchor)
+        return f"after {anchor} {self._values.of(operation.value)} {self._clock(place, operation.stamp)}"
+
+    def _mark(self, place: int, operation: Operation) -> str:
+        if self.kind == "lwwset":
+            return self._clock(place, operation.stamp)
+        return "#" + _joined(sorted(set(operation.identifiers or ())))  # type: ignore[type-var]
+
+    def _clock(self, place: int, stamp: "Stamp | None") -> str:
+        if isinstance(stamp, (tuple, list)) and len(stamp) == 2:
+            clock, replica = stamp
+            if self.replicas.place(replica) != place:
+                raise CannotTell(f"the stamp {stamp!r} is of another replica than {self.replicas.given[place]!r}")
+            return f"@{self._clocks.of(clock)}"
+        if stamp is None:
+            raise CannotTell("there is no stamp: give the clock, or the clock and the replica, under which it counts")
+        return f"@{self._clocks.of(stamp)}"
+
+    def _answer(self, value: Any) -> str:
+        if self.kind == "counter":
+            if not isinstance(value, int) or not LEAST_COUNT <= value <= GREATEST_COUNT:
+                raise CannotTell(f"a counter's read of {value!r} is no whole number of 32 bits")
+            return str(int(value))
+        if self.kind == "register":
+            return "none" if _is_same(value, self._nothing) else str(self._values.of(value))
+        numbers = [self._values.of(it) for it in value]
+        return _joined(numbers if self.kind == "rga" else sorted(set(numbers)))
+
+    # Lines in the user's words.
+
+    def words(self, line: str, delivered: Callable[[int], str]) -> str:
+        """What a line says; `delivered` says what a label is."""
+        name, word, *fields = line.split(" ")
+        clock = f" at clock {self._clocks.back(int(fields.pop()[1:]))}" if fields[-1:] and fields[-1][0] == "@" else ""
+        said = self._said(word, fields, delivered)
+        return f"{self.replicas.back(name)!r} {said}{clock}"
+
+    def _said(self, word: str, fields: List[str], delivered: Callable[[int], str]) -> str:
+        if word == "got":
+            return f"gets {delivered(int(fields[0]))}"
+        if word == "read":
+            return f"reads {self._read_back(fields[0])}"
+        if word == "after":
+            anchor = "the beginning" if fields[0] == "0" else repr(self._values.back(int(fields[0])))
+            return f"inserts {self._values.back(int(fields[1]))!r} behind {anchor}"
+        if word in ("inc", "dec"):
+            return {"inc": "increments", "dec": "decrements"}[word]
+        said = {"write": "writes", "add": "adds", "remove": "removes"}[word]
+        under = f" under {self._identifiers_back(fields[1][1:])}" if len(fields) > 1 else ""
+        return f"{said} {self._values.back(int(fields[0]))!r}{under}"
+
+    def _read_back(self, answer: str) -> str:
+        if self.kind == "counter":
+            return answer
+        if self.kind == "register":
+            return repr(self._nothing if answer == "none" else self._values.back(int(answer)))
+        return "[" + ", ".join(repr(self._values.back(it)) for it in _numbers(answer)) + "]"
+
+    def _identifiers_back(self, identifiers: str) -> str:
+        named = (self.identifiers.back(it) for it in _numbers(identifiers))
+        return ", ".join("one of its own" if it is None else repr(it) for it in named) or "none"
+
+
+def _joined(numbers: Iterable[int]) -> str:
+    return ",".join(map(str, numbers)) or "-"
+
+
+def _numbers(text: str) -> List[int]:
+    return [] if text == "-" else [int(it) for it in text.split(",")]
+
+
+def _is_same(one: Any, other: Any) -> bool:
+    return one is other or (type(one) is type(other) and bool(one == other))
