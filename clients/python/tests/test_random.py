@@ -120,7 +120,7 @@ class OtherFailures(unittest.TestCase):
             check_random(RaisingRga, "rga")
         self.assertIsInstance(caught.exception.__cause__, IndexError)
         self.assertIn("too many children", str(caught.exception))
-        self.assertIn("steps made 3;", str(caught.exception))
+        self.assertRegex(str(caught.exception), "steps made [34];")
 
     def test_a_refused_report_is_shrunk_too(self) -> None:
         with self.assertRaises(Refused) as caught:

@@ -45,7 +45,8 @@ class Account:
             if number >= first
         ]
         widths = [max((len(row[column]) for row in rows), default=0) for column in (0, 1)]
-        return "\n".join(f"    {line:{widths[0]}}  {reply:{widths[1]}}  {words}" for line, reply, words in rows)
+        padded = ((line.ljust(widths[0]), reply.ljust(widths[1]), words) for line, reply, words in rows)
+        return "\n".join("    " + "  ".join(it for it in row if it) for row in padded)
 
 
 def failure(

@@ -1,0 +1,144 @@
+/** What a whole run came to (docs/FORMAT.md, *The report*). */
+export interface Report {
+  kind: Kind;
+  verdict: "yes" | "no";
+  labels: number;
+  calls: number;
+  refused: number;
+  label?: number;
+  cause?: Cause;
+}
+
+export type Kind = "counter" | "register" | "lwwset" | "orset" | "rga";
+export type Cause = "order" | "update" | "query";
+export type Clock = number | bigint;
+/** A clock, or a clock and the replica that made it. */
+export type Stamp = Clock | readonly [Clock, unknown];
+/** A value, or what makes it of what the act returned. */
+export type Told<Value, Done = any> = Value | ((done: Done) => Value);
+
+export class MonitorGone extends Error {}
+export class CannotTell extends Error {}
+
+export class ReportFailed extends Error {
+  /** What the replica did, in the user's words. */
+  operation: string;
+  /** What the program answered. */
+  reply: string;
+  /** The file with the history up to this report. */
+  history: string;
+}
+
+export class NotLinearizable extends ReportFailed {
+  get cause(): Cause;
+}
+
+export class Refused extends ReportFailed {
+  get cause(): string;
+}
+
+export class ReplicaRaised extends ReportFailed {
+  cause: unknown;
+}
+
+export interface MonitorOptions {
+  /** The program's path; else that of RA_MONITOR, else the repository's own `ra_monitor`. */
+  program?: string;
+  /** How many commands are at most in flight. */
+  window?: number;
+}
+
+export class Monitor {
+  constructor(kind: Kind, names: readonly string[], options?: MonitorOptions);
+  readonly program: string;
+  /** The first reply that was not the one that was expected. */
+  readonly unexpected: { command: number; reply: string } | null;
+  post(line: string, expected: string): Promise<void> | undefined;
+  tell(line: string): Promise<string>;
+  verdict(): Promise<string>;
+  settle(): Promise<void>;
+  history(commands?: number): string;
+  close(): Promise<Report>;
+  stop(): Promise<void>;
+}
+
+/** What `increment` and its fellows make. */
+export interface Operation {
+  readonly word: string;
+  readonly value?: unknown;
+  readonly anchor?: unknown;
+  readonly stamp?: Stamp;
+  readonly identifiers?: readonly unknown[];
+}
+
+export function increment(): Operation;
+export function decrement(): Operation;
+export function write(value: unknown, stamp: Stamp): Operation;
+export function add(element: unknown, mark?: { stamp?: Stamp; identifier?: unknown }): Operation;
+export function remove(element: unknown, mark?: { stamp?: Stamp; identifiers?: Iterable<unknown> }): Operation;
+export function insertAfter(anchor: unknown, element: unknown, stamp: Stamp): Operation;
+
+export interface RecorderOptions extends MonitorOptions {
+  /** The file that the history is written into at the first report that is not answered as right. */
+  history?: string;
+  /** What a register reads where nothing was written; null, where nothing is said, which undefined is then too. */
+  nothing?: unknown;
+}
+
+export interface Act<Done> {
+  /** What the replica does. It may be awaited: later steps wait for it. */
+  act?: () => Done | Promise<Done>;
+}
+
+export interface Sent<Done> extends Act<Done> {
+  /** The key by which the update's delivery names it. */
+  message?: Told<unknown, Done>;
+}
+
+/** What a replica had seen at one moment. */
+export interface Seen {
+  readonly counts: readonly number[];
+}
+
+export class Recorder {
+  constructor(kind: Kind, replicas: readonly unknown[], options?: RecorderOptions);
+  update<Done>(replica: unknown, operation: Told<Operation, Done>, options?: Sent<Done>): Promise<Done>;
+  deliver<Done>(replica: unknown, message: Told<unknown, Done>, options?: Act<Done>): Promise<Done>;
+  merge<Done>(replica: unknown, messages: Told<Seen | Iterable<unknown>, Done>, options?: Act<Done>): Promise<Done>;
+  read<Value>(replica: unknown, value: Value | (() => Value | Promise<Value>)): Promise<Value>;
+  seen(replica: unknown): Seen;
+  increment<Done>(replica: unknown, options?: Sent<Done>): Promise<Done>;
+  decrement<Done>(replica: unknown, options?: Sent<Done>): Promise<Done>;
+  write<Done>(replica: unknown, value: unknown, stamp: Told<Stamp, Done>, options?: Sent<Done>): Promise<Done>;
+  add<Done>(
+    replica: unknown,
+    element: unknown,
+    options?: Sent<Done> & { stamp?: Told<Stamp, Done>; identifier?: Told<unknown, Done> },
+  ): Promise<Done>;
+  remove<Done>(
+    replica: unknown,
+    element: unknown,
+    options?: Sent<Done> & { stamp?: Told<Stamp, Done>; identifiers?: Told<Iterable<unknown>, Done> },
+  ): Promise<Done>;
+  insertAfter<Done>(
+    replica: unknown,
+    anchor: unknown,
+    element: unknown,
+    stamp: Told<Stamp, Done>,
+    options?: Sent<Done>,
+  ): Promise<Done>;
+  settle(): Promise<void>;
+  close(): Promise<Report>;
+  stop(): Promise<void>;
+  history(): string;
+}
+
+/** Drives replicas through random runs, and rejects with the smallest history of the first one that goes wrong. */
+export function checkRandom(
+  makeReplica: (name: any) => any,
+  kind: Kind,
+  replicas?: number | readonly unknown[],
+  operations?: number,
+  seeds?: number | Iterable<number>,
+  options?: { program?: string },
+): Promise<number>;

@@ -1,0 +1,80 @@
+// Tells a history in the user's words, and what is wrong with it.
+import { mkdtempSync, writeFileSync } from "node:fs";
+import { tmpdir } from "node:os";
+import { join } from "node:path";
+import { inspect } from "node:util";
+import { MonitorGone, NotLinearizable, Refused } from "./errors.js";
+
+// How many of a history's last lines a message shows.
+const SHOWN_LINES = 16;
+const HEAD_LINES = 2;
+const MEANINGS = {
+  order: "its clock is not above all that its replica had seen",
+  update: "with it the updates can no longer be made one after another in the order of their clocks",
+  query: "what its replica had seen does not lead to its answer",
+  "not-causal": "its replica lacks an update that the delivered one had seen",
+  "stamp-taken": "its replica gave this clock to another operation before",
+  "id-taken": "an addition had this identifier before",
+};
+
+/** A history's lines, with the label of each operation. `keys` are the messages' keys by label. */
+export class Account {
+  #speller;
+  #keys;
+  #lineOf;
+
+  constructor(speller, text, keys) {
+    this.#speller = speller;
+    this.#keys = keys;
+    this.commands = text.split("\n").slice(HEAD_LINES, -1);
+    this.#lineOf = this.commands.filter((it) => it.split(" ", 2)[1] !== "got");
+  }
+
+  /** What the command with this number says. */
+  words(command) {
+    return this.#speller.words(this.commands[command], (label) => this.#delivered(label));
+  }
+
+  #delivered(label) {
+    const message = this.#keys.has(label) ? `message ${inspect(this.#keys.get(label))}, ` : "";
+    return `${message}label ${label} (${this.#speller.words(this.#lineOf[label], (it) => this.#delivered(it))})`;
+  }
+
+  /** The commands from this one on, each with its reply, where there are some, and what it says. */
+  shown(replies = [], first = 0) {
+    const rows = this.commands.map((line, number) => [line, replies[number] ?? "", this.words(number)]).slice(first);
+    const widths = [0, 1].map((column) => Math.max(0, ...rows.map((row) => row[column].length)));
+    const padded = rows.map(([line, reply, words]) => [line.padEnd(widths[0]), reply.padEnd(widths[1]), words]);
+    return padded.map((row) => `    ${row.filter((it) => it !== "").join("  ")}`).join("\n");
+  }
+}
+
+/** The error for a history whose last command had this reply. */
+export function failure(speller, text, reply, keys, path) {
+  const account = new Account(speller, text, keys);
+  const last = account.commands.length - 1;
+  if (!/^(no|refused) /.test(reply)) {
+    const command = JSON.stringify(account.commands[last]);
+    return new MonitorGone(`${JSON.stringify(reply)} is no reply to ${command}: this program is no monitor`);
+  }
+  const kept = keptHistory(text, path);
+  const operation = account.words(last);
+  const shown = account.shown([], Math.max(0, last + 1 - SHOWN_LINES));
+  const place = `line ${last + HEAD_LINES + 1} of ${kept}, answered "${reply}"`;
+  const message = `${operation}: ${meaning(reply)}\n${place}; the last lines:\n${shown}`;
+  return new (reply.startsWith("no ") ? NotLinearizable : Refused)(message, operation, reply, kept);
+}
+
+/** What a reply says. */
+export function meaning(reply) {
+  const word = reply.split(" ").find((it) => it in MEANINGS);
+  const verdict = reply.startsWith("no ") ? "not RA-linearizable" : "refused";
+  return word === undefined ? reply : `${verdict}, ${MEANINGS[word]}`;
+}
+
+/** Writes the history into this file, or into a new one of the folder for temporary files. */
+export function keptHistory(text, path) {
+  const kept = path ?? join(mkdtempSync(join(tmpdir(), "yehatu_")), "history.rah");
+  writeFileSync(kept, text);
+  return kept;
+}

@@ -1,0 +1,57 @@
+// Finds the program, and has it check whole histories.
+import { spawnSync } from "node:child_process";
+import { accessSync, constants, realpathSync, statSync } from "node:fs";
+import { delimiter, join } from "node:path";
+import { fileURLToPath } from "node:url";
+import { MonitorGone } from "./errors.js";
+
+const REPOSITORY = fileURLToPath(new URL("../../..", import.meta.url));
+const OWN = join(REPOSITORY, "ra_monitor");
+const BUILT = join(REPOSITORY, "crates", "ra_monitor_cli", "out", "ra_monitor_cli");
+// The statuses of a run that read its whole input: yes, no, and yes with a refused report.
+export const WHOLE = [0, 1, 3];
+
+/** The program: the one that is given, else that of RA_MONITOR, else the repository's own `ra_monitor`. */
+export function find(program) {
+  const chosen = program || process.env.RA_MONITOR || OWN;
+  const places = chosen.includes("/") ? [chosen] : process.env.PATH.split(delimiter).map((it) => join(it, chosen));
+  const found = places.find(isProgram);
+  if (found === undefined) throw new MonitorGone(`${chosen} is no program: give its path, or set RA_MONITOR to it`);
+  return found;
+}
+
+/** The program for many short runs. The repository's own looks first, each time, whether it has to be built. */
+export function findForMany(program) {
+  const found = find(program);
+  if (realpathSync(found) !== OWN) return found;
+  // What it says is passed on, so that a first build says how far it is.
+  const ran = spawnSync(found, ["check"], {
+    input: "RAH 1 counter\nreplicas a\n",
+    stdio: ["pipe", "ignore", "inherit"],
+  });
+  if (ran.status !== 0) throw new MonitorGone(`${found} ended with status ${ran.status}, before it read anything`);
+  return BUILT;
+}
+
+/** The replies of the program to a whole history, one for each command and the `end` line, and its status. */
+export function checkText(program, text) {
+  const ran = spawnSync(program, ["check"], { input: text, encoding: "utf8", maxBuffer: 1 << 30 });
+  if (ran.error) throw new MonitorGone(`${program} could not be started: ${ran.error.message}`);
+  if (!WHOLE.includes(ran.status)) throw new MonitorGone(howItEnded(program, ran.status ?? ran.signal, ran.stderr));
+  return { replies: ran.stdout.split("\n").slice(0, -1), status: ran.status };
+}
+
+/** How a run ended that should not have, with what it said. */
+export function howItEnded(program, status, said) {
+  const words = said.trim();
+  return `${program} ended with status ${status}, and said ${words ? JSON.stringify(words) : "nothing"}`;
+}
+
+function isProgram(path) {
+  try {
+    accessSync(path, constants.X_OK);
+    return statSync(path).isFile();
+  } catch {
+    return false;
+  }
+}

@@ -1,0 +1,140 @@
+// Runs of a plan on the user's own replicas, judged by the program.
+import { CannotTell } from "./errors.js";
+import * as operations from "./operations.js";
+import { Reach } from "./plans.js";
+import { checkText } from "./program.js";
+import { Recorder } from "./recorder.js";
+
+/** Takes a recorder's lines in place of the monitor, so that they are checked in one go. */
+class Transcript {
+  unexpected = null;
+  lines = [];
+
+  post(line) {
+    this.lines.push(`${line}\n`);
+  }
+}
+
+/** The replicas of one run, and what they were told to do. */
+class Run {
+  taken = [];
+  #kind;
+  #names = new Map();
+  #replicas = new Map();
+  #reach;
+  #messages = new Map();
+  #transcript = new Transcript();
+  #ends = [];
+
+  constructor(setting, steps) {
+    this.#kind = setting.kind;
+    const places = steps.flatMap((it) => (it.what === "merge" ? [it.replica, it.update] : [it.replica]));
+    for (const place of [...new Set(places)].sort((one, other) => one - other)) {
+      this.#names.set(place, setting.replicas[place]);
+      this.#replicas.set(place, setting.makeReplica(setting.replicas[place]));
+    }
+    this.#reach = new Reach(setting.kind, setting.replicas.length);
+    this.recorder = new Recorder(setting.kind, [...this.#names.values()], { monitor: this.#transcript });
+  }
+
+  /** Takes those steps that can be taken: others need one that was left out. Ends with an error, which it answers. */
+  async takeAll(steps) {
+    const takers = {
+      update: (it) => this.#update(it),
+      deliver: (it) => this.#deliver(it),
+      merge: (it) => this.#merge(it),
+      read: (it) => this.#read(it),
+    };
+    for (const step of steps) {
+      try {
+        if (!(await takers[step.what](step))) continue;
+      } catch (fault) {
+        if (fault instanceof CannotTell) throw fault;
+        this.taken.push(step);
+        return { fault };
+      }
+      this.taken.push(step);
+      this.#ends.push(this.#transcript.lines.length);
+    }
+    return null;
+  }
+
+  /** The history, or its first commands. */
+  text(commands) {
+    return this.recorder.head() + this.#transcript.lines.slice(0, commands).join("");
+  }
+
+  /** The steps up to the one that made the command with this number. */
+  stepsTo(command) {
+    return this.taken.slice(0, this.#ends.findIndex((end) => end > command) + 1);
+  }
+
+  async #update(step) {
+    if (!this.#reach.canUpdate(step)) return false;
+    const message = await this.#replicas.get(step.replica)[step.method](...step.arguments);
+    this.#messages.set(step.update, message);
+    const operation = operationOf(this.#kind, step, message ?? {});
+    await this.recorder.update(this.#names.get(step.replica), operation, { message: step.update });
+    this.#reach.update(step);
+    return true;
+  }
+
+  async #deliver(step) {
+    if (!this.#reach.canDeliver(step.replica, step.update)) return false;
+    await this.#replicas.get(step.replica).receive(this.#messages.get(step.update));
+    await this.recorder.deliver(this.#names.get(step.replica), step.update);
+    this.#reach.deliver(step.replica, step.update);
+    return true;
+  }
+
+  async #merge(step) {
+    if (!this.#reach.lacks(step.replica, step.update)) return false;
+    await this.#replicas.get(step.replica).merge(await this.#replicas.get(step.update).state());
+    await this.recorder.merge(this.#names.get(step.replica), this.recorder.seen(this.#names.get(step.update)));
+    this.#reach.merge(step.replica, step.update);
+    return true;
+  }
+
+  async #read(step) {
+    await this.recorder.read(this.#names.get(step.replica), await this.#replicas.get(step.replica).read());
+    return true;
+  }
+}
+
+/** Runs these steps, as far as they can be taken, and answers how that failed, without the steps behind the fault. */
+export async function failureOf(setting, steps) {
+  if (steps.length === 0) return null;
+  const run = new Run(setting, steps);
+  const raised = await run.takeAll(steps);
+  const { replies } = checkText(setting.program, run.text());
+  const at = replies.findIndex((it) => /^(no|refused) /.test(it));
+  const { recorder } = run;
+  if (at >= 0) {
+    const cause = replies[at].startsWith("no ") ? "no" : replies[at].split(" ", 2).join(" ");
+    return { cause, steps: run.stepsTo(at), recorder, text: run.text(at + 1), replies: replies.slice(0, at + 1) };
+  }
+  if (raised === null) return null;
+  const cause = `raised ${raised.fault?.name}`;
+  return { cause, steps: run.taken, recorder, text: run.text(), replies, raised };
+}
+
+/** Does the user's class merge states, rather than receive messages? Throws what it lacks. */
+export function lookAt(setting) {
+  const replica = setting.makeReplica(setting.replicas[0]);
+  const has = (it) => typeof replica[it] === "function";
+  const merges = !has("receive") && has("merge");
+  const wanted = [...operations.OPERATIONS[setting.kind], "read", ...(merges ? ["state", "merge"] : ["receive"])];
+  const lacking = wanted.filter((it) => !has(it));
+  if (lacking.length > 0) {
+    throw new TypeError(`a replica of the kind ${setting.kind} has the methods ${wanted}, and this one lacks ${lacking}`);
+  }
+  return merges;
+}
+
+/** What the update did, with the stamp or the identifiers that its message tells. */
+function operationOf(kind, step, { stamp, identifier, identifiers }) {
+  if (kind === "counter") return operations[step.method]();
+  if (step.method === "write" || step.method === "insertAfter") return operations[step.method](...step.arguments, stamp);
+  if (step.method === "add") return operations.add(step.arguments[0], { stamp, identifier });
+  return operations.remove(step.arguments[0], { stamp, identifiers });
+}

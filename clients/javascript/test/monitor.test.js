@@ -1,0 +1,121 @@
+// The program behind a pipe: replies, windows, and programs that are gone.
+import assert from "node:assert/strict";
+import { mkdtempSync, rmSync, writeFileSync } from "node:fs";
+import { tmpdir } from "node:os";
+import { join } from "node:path";
+import { after, test } from "node:test";
+import { Monitor, MonitorGone } from "../index.js";
+
+const folder = mkdtempSync(join(tmpdir(), "yehatu_"));
+after(() => rmSync(folder, { recursive: true }));
+let scripts = 0;
+
+/** A program of these lines. */
+function script(...lines) {
+  scripts += 1;
+  const path = join(folder, `program${scripts}`);
+  writeFileSync(path, ["#!/bin/sh", ...lines, ""].join("\n"), { mode: 0o755 });
+  return path;
+}
+
+const gone = (message) => (fault) => fault instanceof MonitorGone && message.test(fault.message);
+
+test("each line has its reply", async () => {
+  const monitor = new Monitor("counter", ["a", "b"]);
+  assert.equal(await monitor.tell("a inc"), "ok 0");
+  assert.equal(await monitor.tell("b got 0"), "got 0");
+  assert.equal(await monitor.tell("b got 0"), "refused already-seen");
+  assert.equal(await monitor.verdict(), "yes 1");
+  const report = { kind: "counter", verdict: "yes", labels: 1, calls: 4, refused: 1 };
+  assert.deepEqual(await monitor.close(), report);
+  assert.deepEqual(await monitor.close(), report);
+});
+
+test("a no is told in the report", async () => {
+  const monitor = new Monitor("counter", ["a"]);
+  assert.equal(await monitor.tell("a read 1"), "no 0 query");
+  const report = { kind: "counter", verdict: "no", labels: 1, calls: 1, refused: 0, label: 0, cause: "query" };
+  assert.deepEqual(await monitor.close(), report);
+});
+
+test("lines in flight keep their order", async () => {
+  const monitor = new Monitor("counter", ["a"], { window: 7 });
+  for (let number = 0; number < 1000; number += 1) await monitor.post("a inc", `ok ${number}`);
+  assert.equal(await monitor.tell("a read 1000"), "ok 1000");
+  assert.equal(monitor.unexpected, null);
+  assert.equal((await monitor.close()).labels, 1001);
+});
+
+test("calls that are not awaited one by one keep their order too", async () => {
+  const monitor = new Monitor("counter", ["a"]);
+  const replies = await Promise.all(Array.from({ length: 400 }, () => monitor.tell("a inc")));
+  assert.deepEqual(replies, Array.from({ length: 400 }, (_, number) => `ok ${number}`));
+  await monitor.close();
+});
+
+test("the first other reply is kept", async () => {
+  const monitor = new Monitor("counter", ["a"]);
+  for (const [number, read] of [0, 5, 6].entries()) monitor.post(`a read ${read}`, `ok ${number}`);
+  await monitor.settle();
+  assert.deepEqual(monitor.unexpected, { command: 1, reply: "no 1 query" });
+  assert.equal(monitor.history(2), "RAH 1 counter\nreplicas a\na read 0\na read 5\n");
+  await monitor.close();
+});
+
+test("what waits for company is written all the same", async () => {
+  const monitor = new Monitor("counter", ["a"]);
+  monitor.post("a read 1", "ok 0");
+  for (let turn = 0; turn < 1000 && monitor.unexpected === null; turn += 1) {
+    await new Promise((resolve) => setTimeout(resolve, 10));
+  }
+  assert.deepEqual(monitor.unexpected, { command: 0, reply: "no 0 query" });
+  await monitor.close();
+});
+
+test("there is no program", () => {
+  assert.throws(() => new Monitor("counter", ["a"], { program: "/nowhere/program" }), gone(/program is no program/));
+});
+
+test("it ends at once and says why", async () => {
+  const monitor = new Monitor("counter", ["a"], { program: script("echo out of luck >&2", "exit 7") });
+  await assert.rejects(monitor.tell("a inc"), gone(/status 7, and said "out of luck"/));
+  await assert.rejects(monitor.close(), gone(/out of luck/));
+});
+
+test("it ends while lines are in flight", async () => {
+  const program = script("read a; read b; read c; echo ok 0; echo tired >&2; exit 2");
+  const monitor = new Monitor("counter", ["a"], { program });
+  const work = async () => {
+    for (let number = 0; number < 100_000; number += 1) await monitor.post("a inc", `ok ${number}`);
+    await monitor.settle();
+  };
+  await assert.rejects(work(), gone(/status 2, and said "tired"/));
+});
+
+test("those who wait are all told", async () => {
+  const monitor = new Monitor("counter", ["a"], { program: script("read a; sleep 0.1; exit 2") });
+  const told = await Promise.allSettled([monitor.tell("a inc"), monitor.tell("a inc"), monitor.settle()]);
+  assert.deepEqual(told.map((it) => it.reason?.name), Array(3).fill("MonitorGone"));
+});
+
+test("a fault of the text is told", async () => {
+  await assert.rejects(new Monitor("counter", ["a"]).tell("a increments"), gone(/line 3: syntax/));
+});
+
+test("a stopped and a closed monitor take nothing more", async () => {
+  const stopped = new Monitor("counter", ["a"]);
+  await stopped.stop();
+  assert.throws(() => stopped.post("a inc", "ok 0"), MonitorGone);
+  const closed = new Monitor("counter", ["a"]);
+  await closed.close();
+  assert.throws(() => closed.post("a inc", "ok 0"), gone(/was closed/));
+});
+
+test("the environment names the program", async () => {
+  const before = process.env.RA_MONITOR;
+  process.env.RA_MONITOR = script("echo of the environment >&2; exit 3");
+  const monitor = new Monitor("counter", ["a"]);
+  if (before === undefined) delete process.env.RA_MONITOR;
+  else process.env.RA_MONITOR = before;
+  await assert.rejects(monitor.tell("a inc"), gone(/of the environment/));
+});

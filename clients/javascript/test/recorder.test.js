@@ -1,0 +1,207 @@
+// Reports in the user's own names.
+import assert from "node:assert/strict";
+import { readFileSync } from "node:fs";
+import { test } from "node:test";
+import { CannotTell, MonitorGone, NotLinearizable, Recorder, Refused, write } from "../index.js";
+import { checkText, find } from "../src/program.js";
+
+const NOW = 1_764_076_489_000; // A clock of milliseconds since 1970.
+const commands = (recorder) => recorder.history().split("\n").slice(2, -1);
+const cannot = (message) => (fault) => fault instanceof CannotTell && message.test(fault.message);
+
+test("replicas and values have any names", async () => {
+  const recorder = new Recorder("register", ["Ann's phone", 7, ["a", "pair"]]);
+  await recorder.write("Ann's phone", { milk: 2 }.milk, [1, "Ann's phone"], { message: ["m", 1] });
+  await recorder.deliver(7, ["m", 1]);
+  await recorder.read(7, 2);
+  await recorder.read(["a", "pair"], null);
+  assert.equal((await recorder.close()).verdict, "yes");
+  assert.deepEqual(commands(recorder), ["r0 write 1 @1", "r1 got 0", "r1 read 1", "r2 read none"]);
+});
+
+test("good names stay", async () => {
+  const recorder = new Recorder("counter", ["r1", "Bob", "ann", "verdict"]);
+  assert.match(recorder.history(), /replicas r1 r0 ann r2\n/);
+  await recorder.close();
+});
+
+test("a list is read back in its order, and a set in any", async () => {
+  const list = new Recorder("rga", ["ann", "bob"]);
+  await list.insertAfter("ann", null, "h", [1, "ann"], { message: 1 });
+  await list.insertAfter("ann", "h", "i", 2, { message: 2 });
+  await list.merge("bob", [2, 1]);
+  await list.remove("bob", "h");
+  await list.read("bob", ["i"]);
+  assert.equal((await list.close()).verdict, "yes");
+  const rest = ["bob got 0", "bob got 1", "bob remove 1", "bob read 2"];
+  assert.deepEqual(commands(list), ["ann after 0 1 @1", "ann after 1 2 @2", ...rest]);
+  const set = new Recorder("lwwset", ["a"]);
+  for (const [at, element] of ["x", "y", "z"].entries()) await set.add("a", element, { stamp: at + 1 });
+  await set.remove("a", "y", { stamp: 4 });
+  await set.read("a", new Set(["z", "x"]));
+  assert.equal((await set.close()).verdict, "yes");
+});
+
+test("what nothing written reads as can be named", async () => {
+  const recorder = new Recorder("register", ["a"], { nothing: 0 });
+  await recorder.read("a", 0);
+  await recorder.write("a", null, 1);
+  await recorder.read("a", null);
+  await recorder.close();
+  const other = new Recorder("register", ["a"]);
+  await assert.rejects(other.write("a", undefined, 1), cannot(/name another `nothing`/));
+  await other.stop();
+});
+
+test("great clocks are counted from the first one", async () => {
+  for (const [now, back] of [[NOW, NOW - 5], [BigInt(NOW) * 1_000_000n, BigInt(NOW) * 1_000_000n - 5n]]) {
+    const recorder = new Recorder("register", ["a", "b"]);
+    await recorder.write("a", 1, [now, "a"], { message: 1 });
+    await recorder.write("b", 2, [back, "b"]);
+    await recorder.deliver("b", 1);
+    await recorder.read("b", 1);
+    assert.equal((await recorder.close()).verdict, "yes");
+    assert.equal(commands(recorder)[0], "a write 1 @268435456");
+  }
+});
+
+test("clocks that cannot be told say so", async () => {
+  const wrong = [
+    [[NOW, NOW - 2 ** 28], /too early/],
+    [[NOW, NOW + 2 ** 32], /too late/],
+    [[1, 2 ** 32], /too late/],
+    [[0], /too early/],
+    [[1.5], /no whole number/],
+    [["noon"], /no whole number/],
+    [[[1, "b"]], /of another replica than 'a'/],
+    [[undefined], /there is no stamp/],
+  ];
+  for (const [clocks, said] of wrong) {
+    const recorder = new Recorder("register", ["a", "b"]);
+    const work = async () => {
+      for (const [number, clock] of clocks.entries()) await recorder.write("a", number, clock);
+    };
+    await assert.rejects(work(), cannot(said));
+    await assert.rejects(recorder.read("a", 1), CannotTell);
+    await recorder.stop();
+  }
+});
+
+test("what is known after the act is given as a function", async () => {
+  const recorder = new Recorder("register", ["a", "b"]);
+  const sent = await recorder.update("a", (it) => write(it.value, it.stamp), {
+    act: () => ({ value: 3, stamp: [9, "a"], id: "m" }),
+    message: (it) => it.id,
+  });
+  await recorder.write("a", 4, (clock) => clock, { act: () => 10 });
+  await recorder.deliver("b", (it) => it.id, { act: () => sent });
+  assert.equal(await recorder.read("b", () => 3), 3);
+  assert.equal((await recorder.close()).verdict, "yes");
+});
+
+test("an act that is awaited is one step with its report", async () => {
+  const recorder = new Recorder("counter", ["a"]);
+  let number = 0;
+  const slow = async () => {
+    const before = number;
+    await new Promise((resolve) => setTimeout(resolve, 5));
+    number = before + 1;
+  };
+  const reads = [1, 2, 3].flatMap(() => [recorder.increment("a", { act: slow }), recorder.read("a", () => number)]);
+  assert.deepEqual(await Promise.all(reads), [undefined, 1, undefined, 2, undefined, 3]);
+  assert.equal((await recorder.close()).verdict, "yes");
+});
+
+test("an act that throws is not reported", async () => {
+  const recorder = new Recorder("counter", ["a"]);
+  const broken = [() => { throw new RangeError("sync"); }, async () => { throw new RangeError("awaited"); }];
+  for (const act of broken) await assert.rejects(recorder.increment("a", { act }), RangeError);
+  await recorder.read("a", 0);
+  assert.equal((await recorder.close()).verdict, "yes");
+});
+
+test("a second arrival and one's own message are not reported", async () => {
+  const recorder = new Recorder("counter", ["a", "b"]);
+  await recorder.increment("a", { message: 1 });
+  for (const replica of ["a", "b", "b"]) await recorder.deliver(replica, 1);
+  await recorder.close();
+  assert.deepEqual(commands(recorder), ["a inc", "b got 0"]);
+});
+
+test("a merge is all that the other had seen at that moment", async () => {
+  const recorder = new Recorder("counter", ["a", "b", "c"]);
+  await recorder.increment("a");
+  await recorder.merge("b", recorder.seen("a"));
+  await recorder.decrement("b");
+  const state = recorder.seen("b");
+  await recorder.increment("b");
+  await recorder.merge("c", state);
+  await recorder.read("c", 0);
+  assert.equal((await recorder.close()).verdict, "yes");
+});
+
+test("identifiers that the type does not tell, and those that it tells", async () => {
+  const hidden = new Recorder("orset", ["a", "b"]);
+  await hidden.add("a", "milk", { message: 1 });
+  await hidden.deliver("b", 1);
+  await hidden.add("b", "milk", { message: 2 });
+  await hidden.remove("a", "milk", { message: 3 });
+  await hidden.deliver("b", 3);
+  await hidden.deliver("a", 2);
+  for (const replica of ["a", "b"]) await hidden.read(replica, ["milk"]);
+  assert.equal((await hidden.close()).verdict, "yes");
+  const told = new Recorder("orset", ["a"], { window: 1 });
+  await told.add("a", "milk", { identifier: ["a", 1] });
+  await told.add("a", "milk", { identifier: ["a", 2] });
+  const removal = told.remove("a", "milk", { identifiers: [["a", 2]] });
+  await assert.rejects(removal, (it) => it instanceof NotLinearizable && it.message.includes("under [ 'a', 2 ]"));
+  await told.stop();
+});
+
+test("what has no words cannot be told", async () => {
+  const recorder = new Recorder("counter", ["a"]);
+  await assert.rejects(recorder.deliver("a", 5), cannot(/no message 5/));
+  await recorder.stop();
+  const other = new Recorder("counter", ["a"]);
+  await assert.rejects(other.write("a", 5, 1), cannot(/write is no operation of the kind counter/));
+  await other.stop();
+  assert.throws(() => new Recorder("counter", []), cannot(/1 to 16 replicas/));
+  assert.throws(() => new Recorder("map", ["a"]), cannot(/no kind map/));
+});
+
+for (const window of [1, 2, 4096]) {
+  test(`a no is told in the user's words with its file, with a window of ${window}`, async () => {
+    const recorder = new Recorder("lwwset", ["Ann", "Bob"], { window });
+    const work = async () => {
+      await recorder.add("Ann", "milk", { stamp: [NOW, "Ann"], message: "m" });
+      await recorder.deliver("Bob", "m");
+      await recorder.read("Bob", []);
+      await recorder.settle();
+    };
+    const failed = await work().catch((fault) => fault);
+    assert.ok(failed instanceof NotLinearizable);
+    assert.deepEqual([failed.operation, failed.cause], ["'Bob' reads []", "query"]);
+    assert.ok(failed.message.includes(`'Ann' adds 'milk' at clock ${NOW}`));
+    assert.ok(failed.message.includes("'Bob' gets message 'm', label 0 ('Ann' adds 'milk'"));
+    assert.equal(checkText(find(), readFileSync(failed.history)).status, 1);
+    await assert.rejects(recorder.read("Ann", ["milk"]), NotLinearizable);
+    await assert.rejects(recorder.close(), NotLinearizable);
+  });
+}
+
+test("an arrival before its cause is refused", async () => {
+  const recorder = new Recorder("counter", ["a", "b", "c"]);
+  await recorder.increment("a", { message: 1 });
+  await recorder.deliver("b", 1);
+  await recorder.increment("b", { message: 2 });
+  await recorder.deliver("c", 2);
+  await assert.rejects(recorder.settle(), (it) => it instanceof Refused && it.cause === "not-causal 0");
+  await recorder.stop();
+});
+
+test("a program that is no monitor", async () => {
+  const recorder = new Recorder("counter", ["a"], { program: "cat" });
+  await recorder.increment("a");
+  await assert.rejects(recorder.settle(), MonitorGone);
+  await recorder.stop();
+});
