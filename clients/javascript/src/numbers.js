@@ -94,8 +94,8 @@ export class Replicas {
 
   place(replica) {
     const place = this.#places.get(replica);
-    if (place === undefined) throw new CannotTell(`there is no replica ${inspect(replica)}, but ${inspect(this.given)}`);
-    return place;
+    if (place !== undefined) return place;
+    throw new CannotTell(`there is no replica ${inspect(replica)}, but ${inspect(this.given)}`);
   }
 
   back(name) {

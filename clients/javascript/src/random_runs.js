@@ -77,13 +77,17 @@ function raised(found, seed, runs, failure) {
   const shown = `${found.text}\n${account.shown(found.replies)}`;
   const ran = `run ${runs}, seed ${seed}, ${made}; the history is ${kept}:\n${shown}`;
   if (found.raised !== undefined) {
-    const step = found.steps.at(-1);
-    const what = `${step.method ?? step.what}(${(step.arguments ?? []).map((it) => inspect(it)).join(", ")})`;
-    const said = `${what} threw ${found.raised.fault}`;
+    const said = `${called(found.steps.at(-1))} threw ${found.raised.fault}`;
     return new ReplicaRaised(`${said}\n${ran}`, said, "", kept, { cause: found.raised.fault });
   }
   const reply = found.replies.at(-1);
   const operation = account.words(account.commands.length - 1);
   const failed = found.cause === "no" ? NotLinearizable : Refused;
   return new failed(`${operation}: ${meaning(reply)}\n${ran}`, operation, reply, kept);
+}
+
+/** The call of a replica that a step makes. */
+function called(step) {
+  if (step.what === "update") return `${step.method}(${step.arguments.map((it) => inspect(it)).join(", ")})`;
+  return { deliver: `receive(message ${step.update})`, merge: "merge", read: "read()" }[step.what];
 }

@@ -228,7 +228,8 @@ export class Recorder {
   }
 
   #merge(place, messages) {
-    const merged = messages instanceof Seen ? this.#lacking(place, messages) : [...messages].map((it) => this.#sent(it));
+    const isSeen = messages instanceof Seen;
+    const merged = isSeen ? this.#lacking(place, messages) : Array.from(messages, (it) => this.#sent(it));
     merged.sort((one, other) => one.label - other.label);
     const full = merged.map((it) => this.#deliver(place, it)).filter((it) => it !== undefined);
     return full.length === 0 ? undefined : Promise.all(full);

@@ -125,16 +125,16 @@ export function lookAt(setting) {
   const merges = !has("receive") && has("merge");
   const wanted = [...operations.OPERATIONS[setting.kind], "read", ...(merges ? ["state", "merge"] : ["receive"])];
   const lacking = wanted.filter((it) => !has(it));
-  if (lacking.length > 0) {
-    throw new TypeError(`a replica of the kind ${setting.kind} has the methods ${wanted}, and this one lacks ${lacking}`);
-  }
-  return merges;
+  if (lacking.length === 0) return merges;
+  const { kind } = setting;
+  throw new TypeError(`a replica of the kind ${kind} has the methods ${wanted}, and this one lacks ${lacking}`);
 }
 
 /** What the update did, with the stamp or the identifiers that its message tells. */
 function operationOf(kind, step, { stamp, identifier, identifiers }) {
   if (kind === "counter") return operations[step.method]();
-  if (step.method === "write" || step.method === "insertAfter") return operations[step.method](...step.arguments, stamp);
+  if (kind === "register") return operations.write(...step.arguments, stamp);
+  if (step.method === "insertAfter") return operations.insertAfter(...step.arguments, stamp);
   if (step.method === "add") return operations.add(step.arguments[0], { stamp, identifier });
   return operations.remove(step.arguments[0], { stamp, identifiers });
 }

@@ -113,7 +113,8 @@ export class Speller {
     if (word === "got") return `gets ${delivered(Number(fields[0]))}`;
     if (word === "read") return `reads ${this.#readBack(fields[0], value)}`;
     if (word === "inc" || word === "dec") return `${word}rements`;
-    if (word === "after") return `inserts ${value(fields[1])} behind ${fields[0] === "0" ? "the beginning" : value(fields[0])}`;
+    if (word === "after" && fields[0] === "0") return `inserts ${value(fields[1])} at the beginning`;
+    if (word === "after") return `inserts ${value(fields[1])} behind ${value(fields[0])}`;
     const said = { write: "writes", add: "adds", remove: "removes" }[word];
     const under = fields.length > 1 ? ` under ${this.#identifiersBack(fields[1].slice(1))}` : "";
     return `${said} ${value(fields[0])}${under}`;

@@ -116,7 +116,7 @@ test("an error of a replica is shrunk too", async () => {
   const failed = await checkRandom(made(RaisingRga), "rga").catch((fault) => fault);
   assert.ok(failed instanceof ReplicaRaised && failed.cause instanceof RangeError);
   assert.match(failed.message, /too many children/);
-  assert.match(failed.message, /steps made [34];/);
+  assert.match(failed.message, /steps made [345];/);
 });
 
 test("a refused report is shrunk too", async () => {

@@ -2,9 +2,8 @@
 import contextlib
 import io
 import os
-import subprocess
 import unittest
-from typing import Any, Dict, Hashable, List, Tuple
+from typing import Dict, Tuple
 from unittest import mock
 
 import planted
@@ -120,7 +119,7 @@ class OtherFailures(unittest.TestCase):
             check_random(RaisingRga, "rga")
         self.assertIsInstance(caught.exception.__cause__, IndexError)
         self.assertIn("too many children", str(caught.exception))
-        self.assertRegex(str(caught.exception), "steps made [34];")
+        self.assertRegex(str(caught.exception), "steps made [345];")
 
     def test_a_refused_report_is_shrunk_too(self) -> None:
         with self.assertRaises(Refused) as caught:

@@ -6,7 +6,7 @@ from typing import Any, Callable, Hashable, Iterable, Sequence, Union
 from . import program as programs
 from .account import kept_history, meaning
 from .errors import NotLinearizable, Refused, ReplicaRaised, ReportFailed
-from .plans import Planner
+from .plans import Planner, Step
 from .program import Program
 from .runs import Failure, Setting, failure_of, look_at
 from .shrinking import shrunk
@@ -90,8 +90,7 @@ def _raised(small: Failure, seed: int, runs: int, failure: Failure) -> ReportFai
     made = f"{len(failure.steps)} steps made {len(small.steps)}"
     ran = f"run {runs}, seed {seed}, {made}; the history is {kept}:\n{shown}"
     if small.raised is not None:
-        step = small.steps[-1]
-        what = f"{step.method or step.what}{step.arguments!r} raised {small.raised!r}"
+        what = f"{_called(small.steps[-1])} raised {small.raised!r}"
         error: ReportFailed = ReplicaRaised(f"{what}\n{ran}", what, "", kept)
         error.__cause__ = small.raised
         return error
@@ -99,3 +98,10 @@ def _raised(small: Failure, seed: int, runs: int, failure: Failure) -> ReportFai
     operation = account.words(len(account.commands) - 1)
     failed = NotLinearizable if small.cause == ("no",) else Refused
     return failed(f"{operation}: {meaning(reply)}\n{ran}", operation, reply, kept)
+
+
+def _called(step: Step) -> str:
+    """The call of a replica that a step makes."""
+    arguments = ", ".join(repr(it) for it in step.arguments)
+    calls = {"update": f"{step.method}({arguments})", "deliver": f"receive(message {step.update})", "read": "read()"}
+    return calls.get(step.what, step.what)

@@ -110,8 +110,8 @@ class Speller:
         if word == "read":
             return f"reads {self._read_back(fields[0])}"
         if word == "after":
-            anchor = "the beginning" if fields[0] == "0" else repr(self._values.back(int(fields[0])))
-            return f"inserts {self._values.back(int(fields[1]))!r} behind {anchor}"
+            where = "at the beginning" if fields[0] == "0" else f"behind {self._values.back(int(fields[0]))!r}"
+            return f"inserts {self._values.back(int(fields[1]))!r} {where}"
         if word in ("inc", "dec"):
             return {"inc": "increments", "dec": "decrements"}[word]
         said = {"write": "writes", "add": "adds", "remove": "removes"}[word]
