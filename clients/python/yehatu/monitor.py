@@ -43,7 +43,7 @@ class _Waiter:
     """Stands in the place of an expected reply, for a caller who waits for it."""
 
     def __init__(self) -> None:
-        self.reply: Optional[bytes] = None
+        self.reply: Optional[str] = None
         self.came = threading.Event()
 
 
@@ -68,7 +68,7 @@ class Monitor:
         self._expected: List[Any] = []
         self._sent = 0
         self._answered = 0
-        self._rest: List[bytes] = []
+        self._rest: List[str] = []
         self._said: Deque[bytes] = deque(maxlen=SAID_LINES)
         self._report: Optional[Report] = None
         self._closing = self._ended = False
@@ -78,7 +78,7 @@ class Monitor:
     def post(self, line: str, expected: str) -> None:
         """Reports a command, and does not wait for its reply. If that differs, it is `unexpected`."""
         with self._lock:
-            self._append(line, expected.encode())
+            self._append(line, expected)
             if len(self._lines) >= self._at_once:
                 self._write()
             elif self._is_asleep:
@@ -95,7 +95,7 @@ class Monitor:
         waiter.came.wait()
         if waiter.reply is None:
             self._raise_gone()
-        return waiter.reply.decode()
+        return waiter.reply
 
     def verdict(self) -> str:
         """The reply to `verdict`: is all right so far?"""
@@ -229,7 +229,7 @@ class Monitor:
                     self._write()
 
     def _read_replies(self) -> None:
-        source, left = self._process.stdout.fileno(), b""  # type: ignore[union-attr]
+        source, left = self._process.stdout.fileno(), ""  # type: ignore[union-attr]
         while True:
             try:
                 chunk = os.read(source, 1 << 16)
@@ -237,7 +237,7 @@ class Monitor:
                 chunk = b""
             if not chunk:
                 break
-            replies = (left + chunk).split(b"\n")
+            replies = (left + chunk.decode("latin-1")).split("\n")
             left = replies.pop()
             self._take(replies)
         self._process.stdout.close()  # type: ignore[union-attr]
@@ -245,7 +245,7 @@ class Monitor:
         self._listener.join()
         self._end()
 
-    def _take(self, replies: List[bytes]) -> None:
+    def _take(self, replies: List[str]) -> None:
         """Compares replies with what was expected: all at once, since nearly always they are the same."""
         expected = self._expected[: len(replies)]
         if replies != expected:
@@ -257,12 +257,12 @@ class Monitor:
             self._answered += len(expected)
             self._answered_more.notify_all()
 
-    def _take_one(self, number: int, wanted: Any, reply: bytes) -> None:
+    def _take_one(self, number: int, wanted: Any, reply: str) -> None:
         if isinstance(wanted, _Waiter):
             wanted.reply = reply
             wanted.came.set()
         elif reply != wanted and self.unexpected is None:
-            self.unexpected = Unexpected(number, reply.decode("ascii", "replace"))
+            self.unexpected = Unexpected(number, reply)
 
     def _end(self) -> None:
         with self._lock:

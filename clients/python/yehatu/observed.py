@@ -28,9 +28,12 @@ class Observed:
 
     def deliver(self, place: int, label: int) -> None:
         """The update with this label has reached this replica."""
-        effect = self._effects[label]
-        identifiers = self._elements[place].setdefault(effect.element, set())
-        if effect.is_addition:
-            identifiers.update(effect.identifiers)
+        element, identifiers, is_addition = self._effects[label]
+        elements = self._elements[place]
+        had = elements.get(element)
+        if had is None:
+            had = elements[element] = set()
+        if is_addition:
+            had.update(identifiers)
         else:
-            identifiers.difference_update(effect.identifiers)
+            had.difference_update(identifiers)

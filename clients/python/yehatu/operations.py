@@ -1,5 +1,5 @@
 """The operations of the five kinds, in the user's own names."""
-from typing import Any, Dict, Hashable, Iterable, NamedTuple, Optional, Tuple, Union
+from typing import Any, Collection, Dict, Hashable, Iterable, NamedTuple, Optional, Tuple, Union
 
 Stamp = Union[int, Tuple[int, Hashable]]
 
@@ -20,7 +20,7 @@ class Operation(NamedTuple):
     value: Any = None
     anchor: Any = None
     stamp: Optional[Stamp] = None
-    identifiers: Optional[Iterable[Hashable]] = None
+    identifiers: Optional[Collection[Hashable]] = None
 
 
 def increment() -> Operation:
@@ -56,7 +56,7 @@ def remove(
     An OR-Set's removal has the identifiers that it takes out. Where its type does not tell them, they are those that
     the replica has by what was reported, and then nothing is said of whether the removal itself saw the right ones.
     """
-    return Operation("remove", element, None, stamp, identifiers)
+    return Operation("remove", element, None, stamp, None if identifiers is None else tuple(identifiers))
 
 
 def insert_after(anchor: Hashable, element: Hashable, stamp: Stamp) -> Operation:

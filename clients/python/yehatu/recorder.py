@@ -183,7 +183,8 @@ class Recorder:
 
     def _step(self, replica: Hashable, act: Act, report: Callable[[int, Any], None]) -> Any:
         with self._lock:
-            self._look()
+            if self._failure is not None or self._monitor.unexpected is not None:
+                self._look()
             place = self._speller.replicas.place(replica)
             done = None if act is None else act()
             try:
@@ -233,7 +234,8 @@ class Recorder:
             named = [numbers.fresh()]
         else:
             named = self._observed.at(place, operation.value)  # type: ignore[union-attr]
-        return operation._replace(identifiers=named), Effect(operation.value, named, is_addition)
+        identified = Operation(operation.word, operation.value, None, None, named)
+        return identified, Effect(operation.value, named, is_addition)
 
     def _deliver(self, place: int, sent: Sequence[int]) -> None:
         label, issuer, number = sent

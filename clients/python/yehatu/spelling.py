@@ -1,5 +1,5 @@
 """Spells what replicas do as lines of the text, and reads lines back in the user's words."""
-from typing import Any, Callable, Dict, Hashable, Iterable, List, Sequence
+from typing import Any, Callable, Collection, Dict, Hashable, Iterable, List, Sequence
 
 from .errors import CannotTell
 from .numbers import Clocks, Numbers, Replicas
@@ -24,7 +24,7 @@ class Speller:
         self._values = Numbers("value" if kind == "register" else "element")
         self._clocks = Clocks()
         self._nothing = nothing
-        self._bodies: Dict[str, Callable[[int, Operation], str]] = {
+        bodies: Dict[str, Callable[[int, Operation], str]] = {
             "increment": lambda place, operation: "inc",
             "decrement": lambda place, operation: "dec",
             "write": self._write,
@@ -32,6 +32,7 @@ class Speller:
             "remove": self._remove,
             "insert_after": self._insert,
         }
+        self._bodies = {word: bodies[word] for word in OPERATIONS[kind]}
 
     def head(self) -> str:
         """The two first lines."""
@@ -39,9 +40,11 @@ class Speller:
 
     def operation(self, place: int, operation: Operation) -> str:
         """The line of an operation at the replica with this number. An OR-Set's has identifiers by number."""
-        if operation.word not in OPERATIONS[self.kind]:
-            raise CannotTell(f"{operation.word} is no operation of the kind {self.kind}: {OPERATIONS[self.kind]} are")
-        return f"{self.replicas.names[place]} {self._bodies[operation.word](place, operation)}"
+        body = self._bodies.get(operation.word)
+        if body is None:
+            has = " and ".join(self._bodies)
+            raise CannotTell(f"{operation.word} is no operation of the kind {self.kind}, which has {has}")
+        return f"{self.replicas.names[place]} {body(place, operation)}"
 
     def got(self, place: int, label: int) -> str:
         """The line of a delivery."""
@@ -73,7 +76,7 @@ class Speller:
     def _mark(self, place: int, operation: Operation) -> str:
         if self.kind == "lwwset":
             return self._clock(place, operation.stamp)
-        return "#" + _joined(sorted(set(operation.identifiers or ())))  # type: ignore[type-var]
+        return "#" + _joined(_rising(operation.identifiers or ()))
 
     def _clock(self, place: int, stamp: "Stamp | None") -> str:
         if isinstance(stamp, (tuple, list)) and len(stamp) == 2:
@@ -93,7 +96,7 @@ class Speller:
         if self.kind == "register":
             return "none" if _is_same(value, self._nothing) else str(self._values.of(value))
         numbers = [self._values.of(it) for it in value]
-        return _joined(numbers if self.kind == "rga" else sorted(set(numbers)))
+        return _joined(numbers if self.kind == "rga" else _rising(numbers))
 
     # Lines in the user's words.
 
@@ -132,6 +135,10 @@ class Speller:
 
 def _joined(numbers: Iterable[int]) -> str:
     return ",".join(map(str, numbers)) or "-"
+
+
+def _rising(numbers: Collection[Any]) -> Collection[int]:
+    return sorted(set(numbers)) if len(numbers) > 1 else numbers
 
 
 def _numbers(text: str) -> List[int]:
