@@ -62,22 +62,22 @@ class Recorder:
         message: Any = None,
     ) -> Any:
         """The replica changes something, and answers what the act returns; others get it as the message of this key."""
-        def report(place: int, done: Any) -> None:
-            self._update(place, _told(operation, done), _told(message, done))
-
-        return self._step(replica, act, report)
+        return self._step(replica, act, self._update, operation, message)
 
     def deliver(self, replica: Hashable, message: Any, *, act: Act = None) -> Any:
         """The message of this key reaches the replica, which applies it. One that it has already is not reported."""
-        return self._step(replica, act, lambda place, done: self._deliver(place, self._sent(_told(message, done))))
+        return self._step(replica, act, self._deliver_message, message)
 
     def merge(self, replica: Hashable, messages: Union[Seen, Iterable[Hashable]], *, act: Act = None) -> Any:
         """The replica merges what has these messages in it, or what another replica had `seen`."""
-        return self._step(replica, act, lambda place, done: self._merge(place, _told(messages, done)))
+        return self._step(replica, act, self._merge, messages)
 
     def read(self, replica: Hashable, value: Any) -> Any:
         """The replica's value is read: this one, or the one that this function answers."""
-        return self._step(replica, value if callable(value) else lambda: value, self._read)
+        if callable(value):
+            return self._step(replica, value, self._read, _same)
+        self._step(replica, None, self._read, value)
+        return value
 
     def seen(self, replica: Hashable) -> Seen:
         """What the replica has seen by now, for a `merge` of the state that it has now."""
@@ -92,48 +92,51 @@ class Recorder:
 
     def increment(self, replica: Hashable, *, act: Act = None, message: Any = None) -> Any:
         """A counter: one more."""
-        return self.update(replica, operations.increment(), act=act, message=message)
+        return self._step(replica, act, self._update, operations.increment(), message)
 
     def decrement(self, replica: Hashable, *, act: Act = None, message: Any = None) -> Any:
         """A counter: one less."""
-        return self.update(replica, operations.decrement(), act=act, message=message)
+        return self._step(replica, act, self._update, operations.decrement(), message)
 
     def write(
         self, replica: Hashable, value: Hashable, stamp: Union[Stamp, Callable[[Any], Stamp]], *, act: Act = None,
         message: Any = None,
     ) -> Any:
         """A register: this value is written."""
-        return self.update(replica, lambda done: operations.write(value, _told(stamp, done)), act=act, message=message)
+        def report(place: int, stamp: Stamp, message: Hashable) -> None:
+            self._update(place, operations.write(value, stamp), message)
+
+        return self._step(replica, act, report, stamp, message)
 
     def add(
         self, replica: Hashable, element: Hashable, stamp: Any = None, *, identifier: Any = None, act: Act = None,
         message: Any = None,
     ) -> Any:
         """A set: this element is put in, at a stamp (LWW set) or under an identifier (OR-Set)."""
-        def told(done: Any) -> Operation:
-            return operations.add(element, _told(stamp, done), _told(identifier, done))
+        def report(place: int, stamp: Any, identifier: Any, message: Hashable) -> None:
+            self._update(place, operations.add(element, stamp, identifier), message)
 
-        return self.update(replica, told, act=act, message=message)
+        return self._step(replica, act, report, stamp, identifier, message)
 
     def remove(
         self, replica: Hashable, element: Hashable, stamp: Any = None, *, identifiers: Any = None, act: Act = None,
         message: Any = None,
     ) -> Any:
         """A set or a list: this element is taken out, at a stamp (LWW set) or with its identifiers (OR-Set)."""
-        def told(done: Any) -> Operation:
-            return operations.remove(element, _told(stamp, done), _told(identifiers, done))
+        def report(place: int, stamp: Any, identifiers: Any, message: Hashable) -> None:
+            self._update(place, operations.remove(element, stamp, identifiers), message)
 
-        return self.update(replica, told, act=act, message=message)
+        return self._step(replica, act, report, stamp, identifiers, message)
 
     def insert_after(
         self, replica: Hashable, anchor: Hashable, element: Hashable, stamp: Union[Stamp, Callable[[Any], Stamp]], *,
         act: Act = None, message: Any = None,
     ) -> Any:
         """A list: this element is put directly behind the anchor, or at the beginning where that is None."""
-        def told(done: Any) -> Operation:
-            return operations.insert_after(anchor, element, _told(stamp, done))
+        def report(place: int, stamp: Stamp, message: Hashable) -> None:
+            self._update(place, operations.insert_after(anchor, element, stamp), message)
 
-        return self.update(replica, told, act=act, message=message)
+        return self._step(replica, act, report, stamp, message)
 
     # The end.
 
@@ -181,14 +184,15 @@ class Recorder:
 
     # Under the lock.
 
-    def _step(self, replica: Hashable, act: Act, report: Callable[[int, Any], None]) -> Any:
+    def _step(self, replica: Hashable, act: Act, report: Callable[..., None], *given: Any) -> Any:
+        """Runs the act, and reports what is given, or what it answers of what the act returned."""
         with self._lock:
             if self._failure is not None or self._monitor.unexpected is not None:
                 self._look()
             place = self._speller.replicas.place(replica)
             done = None if act is None else act()
             try:
-                report(place, done)
+                report(place, *[it(done) if callable(it) else it for it in given])
             except CannotTell as fault:
                 # The act was made and is not reported, so what follows would be judged wrongly.
                 self._failure = fault
@@ -237,6 +241,9 @@ class Recorder:
         identified = Operation(operation.word, operation.value, None, None, named)
         return identified, Effect(operation.value, named, is_addition)
 
+    def _deliver_message(self, place: int, message: Hashable) -> None:
+        self._deliver(place, self._sent(message))
+
     def _deliver(self, place: int, sent: Sequence[int]) -> None:
         label, issuer, number = sent
         had = self._had[place]
@@ -273,6 +280,6 @@ class Recorder:
         return sent
 
 
-def _told(given: Any, done: Any) -> Any:
-    """What is given, or what it answers of what the act returned."""
-    return given(done) if callable(given) else given
+def _same(done: Any) -> Any:
+    """What was read is what is reported."""
+    return done
