@@ -13,7 +13,16 @@ export type Kind = "counter" | "register" | "lwwset" | "orset" | "rga";
 export type Cause = "order" | "update" | "query";
 export type Clock = number | bigint;
 /** A clock, or a clock and the replica that made it. */
-export type Stamp = Clock | readonly [Clock, unknown];
+export type Stamp = Clock | readonly [Clock, Key];
+/** What can be a key of a map. */
+export type Key =
+  | string
+  | number
+  | bigint
+  | boolean
+  | symbol
+  | readonly unknown[]
+  | { readonly [key: string]: unknown };
 /** A value, or what makes it of what the act returned. */
 export type Told<Value, Done = any> = Value | ((done: Done) => Value);
 
@@ -68,15 +77,15 @@ export interface Operation {
   readonly value?: unknown;
   readonly anchor?: unknown;
   readonly stamp?: Stamp;
-  readonly identifiers?: readonly unknown[];
+  readonly identifiers?: readonly Key[];
 }
 
 export function increment(): Operation;
 export function decrement(): Operation;
 export function write(value: unknown, stamp: Stamp): Operation;
-export function add(element: unknown, mark?: { stamp?: Stamp; identifier?: unknown }): Operation;
-export function remove(element: unknown, mark?: { stamp?: Stamp; identifiers?: Iterable<unknown> }): Operation;
-export function insertAfter(anchor: unknown, element: unknown, stamp: Stamp): Operation;
+export function add(element: Key, mark?: { stamp?: Stamp; identifier?: Key }): Operation;
+export function remove(element: Key, mark?: { stamp?: Stamp; identifiers?: Iterable<Key> }): Operation;
+export function insertAfter(anchor: Key | null, element: Key, stamp: Stamp): Operation;
 
 export interface RecorderOptions extends MonitorOptions {
   /** The file that the history is written into at the first report that is not answered as right. */
@@ -92,7 +101,7 @@ export interface Act<Done> {
 
 export interface Sent<Done> extends Act<Done> {
   /** The key by which the update's delivery names it. */
-  message?: Told<unknown, Done>;
+  message?: Told<Key, Done>;
 }
 
 /** What a replica had seen at one moment. */
@@ -101,29 +110,29 @@ export interface Seen {
 }
 
 export class Recorder {
-  constructor(kind: Kind, replicas: readonly unknown[], options?: RecorderOptions);
-  update<Done>(replica: unknown, operation: Told<Operation, Done>, options?: Sent<Done>): Promise<Done>;
-  deliver<Done>(replica: unknown, message: Told<unknown, Done>, options?: Act<Done>): Promise<Done>;
-  merge<Done>(replica: unknown, messages: Told<Seen | Iterable<unknown>, Done>, options?: Act<Done>): Promise<Done>;
-  read<Value>(replica: unknown, value: Value | (() => Value | Promise<Value>)): Promise<Value>;
-  seen(replica: unknown): Seen;
-  increment<Done>(replica: unknown, options?: Sent<Done>): Promise<Done>;
-  decrement<Done>(replica: unknown, options?: Sent<Done>): Promise<Done>;
-  write<Done>(replica: unknown, value: unknown, stamp: Told<Stamp, Done>, options?: Sent<Done>): Promise<Done>;
+  constructor(kind: Kind, replicas: readonly Key[], options?: RecorderOptions);
+  update<Done>(replica: Key, operation: Told<Operation, Done>, options?: Sent<Done>): Promise<Done>;
+  deliver<Done>(replica: Key, message: Told<Key, Done>, options?: Act<Done>): Promise<Done>;
+  merge<Done>(replica: Key, messages: Told<Seen | Iterable<Key>, Done>, options?: Act<Done>): Promise<Done>;
+  read<Value>(replica: Key, value: Value | (() => Value | Promise<Value>)): Promise<Value>;
+  seen(replica: Key): Seen;
+  increment<Done>(replica: Key, options?: Sent<Done>): Promise<Done>;
+  decrement<Done>(replica: Key, options?: Sent<Done>): Promise<Done>;
+  write<Done>(replica: Key, value: unknown, stamp: Told<Stamp, Done>, options?: Sent<Done>): Promise<Done>;
   add<Done>(
-    replica: unknown,
-    element: unknown,
-    options?: Sent<Done> & { stamp?: Told<Stamp, Done>; identifier?: Told<unknown, Done> },
+    replica: Key,
+    element: Key,
+    options?: Sent<Done> & { stamp?: Told<Stamp, Done>; identifier?: Told<Key, Done> },
   ): Promise<Done>;
   remove<Done>(
-    replica: unknown,
-    element: unknown,
-    options?: Sent<Done> & { stamp?: Told<Stamp, Done>; identifiers?: Told<Iterable<unknown>, Done> },
+    replica: Key,
+    element: Key,
+    options?: Sent<Done> & { stamp?: Told<Stamp, Done>; identifiers?: Told<Iterable<Key>, Done> },
   ): Promise<Done>;
   insertAfter<Done>(
-    replica: unknown,
-    anchor: unknown,
-    element: unknown,
+    replica: Key,
+    anchor: Key | null,
+    element: Key,
     stamp: Told<Stamp, Done>,
     options?: Sent<Done>,
   ): Promise<Done>;
@@ -137,7 +146,7 @@ export class Recorder {
 export function checkRandom(
   makeReplica: (name: any) => any,
   kind: Kind,
-  replicas?: number | readonly unknown[],
+  replicas?: number | readonly Key[],
   operations?: number,
   seeds?: number | Iterable<number>,
   options?: { program?: string },

@@ -54,7 +54,7 @@ export class Monitor {
   async tell(line) {
     const reply = new Promise((resolve) => this.#append(line, resolve));
     this.#write();
-    const told = await Promise.race([reply, this.#end]);
+    const told = await reply;
     if (told === undefined) this.#throwGone();
     return told;
   }
@@ -81,6 +81,7 @@ export class Monitor {
       this.#write();
       this.#isClosing = true;
       this.#process.stdin.end();
+      this.#hold();
     }
     await this.#end;
     if (this.#report === null) this.#throwGone();
@@ -90,11 +91,13 @@ export class Monitor {
   /** Ends the program, whatever it has answered. */
   async stop() {
     this.#process.kill("SIGKILL");
+    this.#hold();
     await this.#end;
   }
 
   #append(line, expected) {
     if (this.#hasEnded || this.#isClosing) this.#throwGone();
+    if (this.#sent === this.#answered) this.#hold();
     this.#expected.push(expected);
     this.#lines.push(`${line}\n`);
     this.#sent += 1;
@@ -125,6 +128,21 @@ export class Monitor {
     if (this.#answered < answered) this.#throwGone();
   }
 
+  // A program that owes no reply does not keep Node from ending.
+  #letGo() {
+    for (const it of this.#handles()) it.unref();
+  }
+
+  #hold() {
+    for (const it of this.#handles()) it.ref();
+  }
+
+  #handles() {
+    const { stdin, stdout, stderr } = this.#process;
+    // They are lacking where the program could not be started.
+    return [this.#process, stdin, stdout, stderr].filter((it) => typeof it?.ref === "function");
+  }
+
   #listen(resolve) {
     const { stdin, stdout, stderr } = this.#process;
     // The program is gone: that is found out, and told, at the end.
@@ -134,6 +152,7 @@ export class Monitor {
     const start = (fault) => this.#finish(null, `it could not be started: ${fault.message}`, resolve);
     this.#process.on("error", start);
     this.#process.on("close", (code, signal) => this.#finish(code ?? signal, "", resolve));
+    this.#letGo();
   }
 
   #read(chunk) {
@@ -146,6 +165,7 @@ export class Monitor {
     this.#rest.push(...replies.slice(known));
     this.#expected.splice(0, known);
     this.#answered += known;
+    if (this.#sent === this.#answered && !this.#isClosing) this.#letGo();
     this.#wake();
   }
 
@@ -173,6 +193,7 @@ export class Monitor {
     if (programs.WHOLE.includes(status) && this.#rest.length === 2) this.#report = JSON.parse(this.#rest[1]);
     this.status = status;
     this.#said += fault;
+    for (const it of this.#expected.filter((it) => typeof it === "function")) it(undefined);
     this.#wake();
     resolve();
   }

@@ -1,5 +1,6 @@
 // The program behind a pipe: replies, windows, and programs that are gone.
 import assert from "node:assert/strict";
+import { spawnSync } from "node:child_process";
 import { mkdtempSync, rmSync, writeFileSync } from "node:fs";
 import { tmpdir } from "node:os";
 import { join } from "node:path";
@@ -109,6 +110,18 @@ test("a stopped and a closed monitor take nothing more", async () => {
   const closed = new Monitor("counter", ["a"]);
   await closed.close();
   assert.throws(() => closed.post("a inc", "ok 0"), gone(/was closed/));
+});
+
+test("a monitor that is left open does not keep Node from ending, once its replies are there", () => {
+  const code = `
+    import { Monitor } from ${JSON.stringify(new URL("../index.js", import.meta.url).href)};
+    const monitor = new Monitor("counter", ["a"]);
+    console.log(await monitor.tell("a inc"));
+    monitor.post("a inc", "ok 1");
+    await monitor.settle();`;
+  const words = ["--input-type=module", "--eval", code];
+  const ran = spawnSync(process.execPath, words, { encoding: "utf8", timeout: 20_000 });
+  assert.deepEqual([ran.stdout, ran.status], ["ok 0\n", 0]);
 });
 
 test("the environment names the program", async () => {

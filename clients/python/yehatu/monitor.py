@@ -214,14 +214,18 @@ class Monitor:
             self._bell.release()
 
     def _flush_late_lines(self) -> None:
-        idle = 0
+        # Whether it sleeps is asked once, under the lock: the bell is rung once for each sleep.
+        is_asleep = True
         while not self._closing and not self._ended:
-            if idle >= IDLE_WAITS:
-                with self._lock:
-                    self._is_asleep = not self._lines
-                idle = 0
-            if self._is_asleep:
+            if is_asleep:
                 self._bell.acquire()
+            self._flush_until_idle()
+            with self._lock:
+                is_asleep = self._is_asleep = not self._lines
+
+    def _flush_until_idle(self) -> None:
+        idle = 0
+        while idle < IDLE_WAITS and not self._closing and not self._ended:
             time.sleep(LONGEST_WAIT)
             with self._lock:
                 idle = 0 if self._lines else idle + 1

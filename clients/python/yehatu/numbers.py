@@ -10,6 +10,7 @@ FIRST_GREAT_CLOCK = 1 << 28
 MOST_REPLICAS = 16
 LONGEST_NAME = 16
 NO_NAMES = ("verdict", "join")
+LETTERS, DIGITS = "abcdefghijklmnopqrstuvwxyz", "0123456789"
 
 
 class Numbers:
@@ -91,6 +92,6 @@ class Replicas:
 
 
 def _is_name(given: Hashable) -> bool:
-    is_short = isinstance(given, str) and 1 <= len(given) <= LONGEST_NAME and given not in NO_NAMES
-    letters = "abcdefghijklmnopqrstuvwxyz"
-    return is_short and given[0] in letters and all(it in letters + "0123456789" for it in given)  # type: ignore[index]
+    if not isinstance(given, str) or not 1 <= len(given) <= LONGEST_NAME or given in NO_NAMES:
+        return False
+    return given[0] in LETTERS and all(it in LETTERS + DIGITS for it in given)

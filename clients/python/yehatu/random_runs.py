@@ -1,7 +1,7 @@
 """Random runs of the user's own replicas, and the smallest history of the first one that goes wrong."""
 import sys
 import time
-from typing import Any, Callable, Hashable, Iterable, Sequence, Union
+from typing import Any, Callable, Hashable, Iterable, List, Sequence, Union
 
 from . import program as programs
 from .account import kept_history, meaning
@@ -53,7 +53,7 @@ def check_random(
     which a replica raises an exception `ReplicaRaised`, after it was made as small as can be. The message has the seed
     and the small history, which `history` names the file of.
     """
-    names = list(NAMES[:replicas]) if isinstance(replicas, int) else list(replicas)
+    names: List[Hashable] = list(NAMES[:replicas]) if isinstance(replicas, int) else list(replicas)
     setting = Setting(make_replica, kind, names, programs.find_for_many(program))
     merges = look_at(setting)
     chosen = range(seeds) if isinstance(seeds, int) else seeds

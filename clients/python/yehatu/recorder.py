@@ -1,6 +1,19 @@
 """Reports what replicas do, in the user's own names."""
 import threading
-from typing import Any, Callable, ContextManager, Dict, Hashable, Iterable, List, NamedTuple, Optional, Sequence, Union
+from typing import (
+    Any,
+    Callable,
+    ContextManager,
+    Dict,
+    Hashable,
+    Iterable,
+    List,
+    NamedTuple,
+    Optional,
+    Sequence,
+    Tuple,
+    Union,
+)
 
 from . import account, operations
 from .errors import CannotTell
@@ -51,7 +64,8 @@ class Recorder:
         self._labels = 0
         self._had = [[0] * len(names) for _ in names]
         self._updates: List[List[int]] = [[] for _ in names]
-        self._messages: Dict[Hashable, Sequence[int]] = {}
+        # Of each message its label, and the replica and place of its update.
+        self._messages: Dict[Hashable, Tuple[int, int, int]] = {}
         self._observed = Observed(len(names)) if kind == "orset" else None
         self._failure: Optional[Exception] = None
 
@@ -229,7 +243,7 @@ class Recorder:
             self._observed.issue(place, label, effect)
         self._post(line, f"ok {label}")
 
-    def _identified(self, place: int, operation: Operation) -> "tuple[Operation, Effect]":
+    def _identified(self, place: int, operation: Operation) -> Tuple[Operation, Effect]:
         """The operation of an OR-Set with identifiers by number, and what it does."""
         numbers, is_addition = self._speller.identifiers, operation.word == "add"
         if operation.identifiers is not None:
@@ -244,7 +258,7 @@ class Recorder:
     def _deliver_message(self, place: int, message: Hashable) -> None:
         self._deliver(place, self._sent(message))
 
-    def _deliver(self, place: int, sent: Sequence[int]) -> None:
+    def _deliver(self, place: int, sent: Tuple[int, int, int]) -> None:
         label, issuer, number = sent
         had = self._had[place]
         if number < had[issuer]:
@@ -273,7 +287,7 @@ class Recorder:
         self._labels += 1
         self._post(line, f"ok {label}")
 
-    def _sent(self, message: Hashable) -> Sequence[int]:
+    def _sent(self, message: Hashable) -> Tuple[int, int, int]:
         sent = self._messages.get(message)
         if sent is None:
             raise CannotTell(f"there was no message {message!r}: report the update that sends it first")

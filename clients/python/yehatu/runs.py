@@ -148,7 +148,8 @@ def _operation(kind: str, step: Step, message: Any) -> Operation:
     if kind == "register":
         return operations.write(step.arguments[0], stamp)
     if step.method == "insert_after":
-        return operations.insert_after(*step.arguments, stamp)
+        anchor, element = step.arguments
+        return operations.insert_after(anchor, element, stamp)
     if step.method == "add":
         return operations.add(step.arguments[0], stamp, _told(message, "identifier"))
     return operations.remove(step.arguments[0], stamp, _told(message, "identifiers"))
