@@ -1,8 +1,8 @@
 // Yjs, run by the random driver: NODE_PATH=/usr/share/nodejs node examples/libraries/yjs.mjs
 //
-// Yjs is no RGA and no last-writer-wins register: where replicas write at the same time it decides by client number, and
-// no clock says so. Where one writes at a time, and all that was written has come before the next one writes, each of
-// its answers is that of the kind.
+// Yjs is no RGA and no last-writer-wins register: where replicas write at the same time it decides by client number,
+// and no clock says so. Where one writes at a time, and all that was written has come before the next one writes, each
+// of its answers is that of the kind.
 import { createRequire } from "node:module";
 import { NotLinearizable, Recorder, checkRandom } from "../../clients/javascript/index.js";
 
