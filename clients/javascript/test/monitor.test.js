@@ -1,13 +1,16 @@
 // The program behind a pipe: replies, windows, and programs that are gone.
 import assert from "node:assert/strict";
 import { spawnSync } from "node:child_process";
-import { mkdtempSync, rmSync, writeFileSync } from "node:fs";
+import * as files from "node:fs";
 import { tmpdir } from "node:os";
 import { join } from "node:path";
 import { after, test } from "node:test";
+import { fileURLToPath, pathToFileURL } from "node:url";
 import { Monitor, MonitorGone } from "../index.js";
+import { find } from "../src/program.js";
 
-const folder = mkdtempSync(join(tmpdir(), "yehatu_"));
+const { cpSync, mkdirSync, mkdtempSync, realpathSync, renameSync, rmSync, symlinkSync, writeFileSync } = files;
+const folder = realpathSync(mkdtempSync(join(tmpdir(), "yehatu_")));
 after(() => rmSync(folder, { recursive: true }));
 let scripts = 0;
 
@@ -131,4 +134,29 @@ test("the environment names the program", async () => {
   if (before === undefined) delete process.env.RA_MONITOR;
   else process.env.RA_MONITOR = before;
   await assert.rejects(monitor.tell("a inc"), gone(/of the environment/));
+});
+
+test("the repository has a program of its own", () => {
+  const top = join(folder, "repository");
+  const client = join(top, "clients", "javascript");
+  cpSync(fileURLToPath(new URL("..", import.meta.url)), client, { recursive: true });
+  const built = join(top, "crates", "ra_monitor_cli", "out");
+  mkdirSync(built, { recursive: true });
+  symlinkSync(realpathSync(find()), join(built, "ra_monitor_cli"));
+  // It says so each time that it is started.
+  renameSync(script("echo started >&2", `exec "${built}/ra_monitor_cli" "$@"`), join(top, "ra_monitor"));
+  const code = `
+    import { Monitor, checkRandom } from ${JSON.stringify(pathToFileURL(join(client, "index.js")).href)};
+    class Counter {
+      number = 0;
+      increment() { this.number += 1; return 1; }
+      decrement() { this.number -= 1; return -1; }
+      receive(by) { this.number += by; }
+      read() { return this.number; }
+    }
+    const { verdict } = await new Monitor("counter", ["a"]).close();
+    console.log(verdict, await checkRandom(() => new Counter(), "counter", 3, 30, 5));`;
+  const { RA_MONITOR: _, ...env } = process.env;
+  const ran = spawnSync(process.execPath, ["--input-type=module", "--eval", code], { encoding: "utf8", env });
+  assert.deepEqual([ran.stdout, ran.stderr], ["yes 5\n", "started\n"]);
 });

@@ -1,11 +1,15 @@
 """The program behind a pipe: replies, windows, threads, and programs that are gone."""
 import os
+import shutil
 import stat
+import subprocess
+import sys
 import tempfile
 import threading
 import unittest
 from pathlib import Path
 
+import yehatu.program
 from yehatu import Monitor, MonitorGone, Report
 
 
@@ -143,6 +147,30 @@ class Gone(unittest.TestCase):
             os.environ.pop("RA_MONITOR")
             if before is not None:
                 os.environ["RA_MONITOR"] = before
+
+    def test_the_repository_has_a_program_of_its_own(self) -> None:
+        top = Path(self.folder.name) / "repository"
+        own = shutil.copytree(Path(yehatu.__file__).parent, top / "clients" / "python" / "yehatu").parent
+        built = top / "crates" / "ra_monitor_cli" / "out" / "ra_monitor_cli"
+        built.parent.mkdir(parents=True)
+        built.symlink_to(Path(yehatu.program.find()).resolve())
+        # It says so each time that it is started.
+        os.rename(script(self.folder.name, "echo started >&2", f'exec "{built}" "$@"'), top / "ra_monitor")
+        code = """
+from yehatu import Monitor, check_random
+class Counter:
+    number = 0
+    def increment(self): self.number += 1; return 1
+    def decrement(self): self.number -= 1; return -1
+    def receive(self, by): self.number += by
+    def read(self): return self.number
+print(Monitor("counter", ["a"]).close().verdict, check_random(lambda name: Counter(), "counter", seeds=5))
+"""
+        environment = {it: value for it, value in os.environ.items() if it != "RA_MONITOR"}
+        ran = subprocess.run(
+            [sys.executable, "-c", code], env={**environment, "PYTHONPATH": str(own)}, capture_output=True, text=True
+        )
+        self.assertEqual((ran.stdout, ran.stderr), ("yes 5\n", "started\n"))
 
 
 if __name__ == "__main__":

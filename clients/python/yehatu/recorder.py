@@ -42,7 +42,8 @@ class Recorder:
     Values, elements, identifiers and keys are anything that can be a key of a dictionary, and what is equal there is
     one thing here. The first report that is not answered as right raises `NotLinearizable` or `Refused`, as soon as
     the reply is seen, and so does each call after it; with a `window` of 1 it is seen in the call itself. `history` is
-    the file that is then written, and `nothing` what a register reads where nothing was written.
+    the file that is then written, and `nothing` what a register reads where nothing was written. A `monitor` takes the
+    lines in place of a program.
     """
 
     def __init__(
