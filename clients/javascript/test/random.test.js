@@ -133,7 +133,7 @@ test("long runs say how far they are", () => {
   const code = `
     import { checkRandom } from ${JSON.stringify(new URL("../index.js", import.meta.url).href)};
     let now = 0;
-    performance.now = () => (now += 3000);
+    Object.defineProperty(globalThis, "performance", { value: { now: () => (now += 3000) } });
     const replica = () => ({ increment() {}, decrement() {}, receive() {}, read: () => 0 });
     await checkRandom(replica, "counter", 1, 0, 2);`;
   const ran = spawnSync(process.execPath, ["--input-type=module", "--eval", code], { encoding: "utf8" });
