@@ -167,8 +167,10 @@ class Counter:
 print(Monitor("counter", ["a"]).close().verdict, check_random(lambda name: Counter(), "counter", seeds=5))
 """
         environment = {it: value for it, value in os.environ.items() if it != "RA_MONITOR"}
+        # In a folder where no other client is, since what is there is imported first.
         ran = subprocess.run(
-            [sys.executable, "-c", code], env={**environment, "PYTHONPATH": str(own)}, capture_output=True, text=True
+            [sys.executable, "-c", code], cwd=self.folder.name, env={**environment, "PYTHONPATH": str(own)},
+            capture_output=True, text=True,
         )
         self.assertEqual((ran.stdout, ran.stderr), ("yes 5\n", "started\n"))
 
