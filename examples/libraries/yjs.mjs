@@ -8,6 +8,8 @@ import { NotLinearizable, Recorder, checkRandom } from "../../clients/javascript
 
 const Y = createRequire(import.meta.url)("yjs");
 const NAMES = ["a", "b", "c"];
+// Behind it are many characters of one code unit each, which is what Yjs counts.
+const FIRST_LETTER = 0x4e00;
 const RUNS = 20;
 const ROUNDS = 60;
 
@@ -58,6 +60,24 @@ class YjsList extends Document {
   }
 }
 
+/** A text as a list of characters that are all distinct, since it shows no more of them. */
+class YjsText extends Document {
+  text = this.doc.getText("text");
+
+  insertAfter(anchor, element) {
+    const letter = String.fromCodePoint(FIRST_LETTER + element);
+    return this.changed(() => this.text.insert(this.read().indexOf(anchor) + 1, letter));
+  }
+
+  remove(element) {
+    return this.changed(() => this.text.delete(this.read().indexOf(element), 1));
+  }
+
+  read() {
+    return Array.from(this.text.toString(), (it) => it.codePointAt(0) - FIRST_LETTER);
+  }
+}
+
 /** One key of a map as a register. */
 class YjsRegister extends Document {
   map = this.doc.getMap("map");
@@ -102,10 +122,11 @@ async function oneAtATime(make, kind) {
   return recorder.close();
 }
 
-for (const [kind, make] of [["rga", (name) => new YjsList(name)], ["register", (name) => new YjsRegister(name)]]) {
+for (const [Replica, kind] of [[YjsList, "rga"], [YjsText, "rga"], [YjsRegister, "register"]]) {
+  const make = (name) => new Replica(name);
   for (let run = 0; run < RUNS; run += 1) await oneAtATime(make, kind);
-  console.log(`Yjs as ${kind}, one writer at a time: ${RUNS} runs are answered yes`);
+  console.log(`${Replica.name} as ${kind}, one writer at a time: ${RUNS} runs are answered yes`);
   const failed = await checkRandom(make, kind, NAMES).catch((fault) => fault);
   if (!(failed instanceof NotLinearizable)) throw failed;
-  console.log(`Yjs as ${kind}, all at a time: it decides otherwise\n${failed.message}\n`);
+  console.log(`${Replica.name} as ${kind}, all at a time: it decides otherwise\n${failed.message}\n`);
 }
