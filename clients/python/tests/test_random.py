@@ -3,7 +3,7 @@ import contextlib
 import io
 import os
 import unittest
-from typing import Dict, Tuple
+from typing import Any, Dict, Iterator, Tuple
 from unittest import mock
 
 import planted
@@ -65,6 +65,11 @@ class StandingClock(Rga):
         return 1, self.name
 
 
+def cases(bugs: Dict[str, Dict[str, Any]]) -> Iterator[Tuple[str, str, Any]]:
+    """Each bug in each kind."""
+    return ((bug, kind, make) for bug, kinds in bugs.items() for kind, make in kinds.items())
+
+
 class RightReplicas(unittest.TestCase):
     def test_all_runs_of_each_kind_are_right(self) -> None:
         for kind, make in RIGHT.items():
@@ -86,12 +91,11 @@ class RightReplicas(unittest.TestCase):
 
 class PlantedBugs(unittest.TestCase):
     def test_each_bug_that_shows_is_found_and_shrunk(self) -> None:
-        for bug, kinds in planted.SEEN.items():
-            for kind, make in kinds.items():
-                with self.subTest(bug=bug, kind=kind):
-                    with self.assertRaises(NotLinearizable) as caught:
-                        check_random(make, kind, seeds=FOUND_WITHIN)
-                    self.is_small_and_fails_again(caught.exception)
+        for bug, kind, make in cases(planted.SEEN):
+            with self.subTest(bug=bug, kind=kind):
+                with self.assertRaises(NotLinearizable) as caught:
+                    check_random(make, kind, seeds=FOUND_WITHIN)
+                self.is_small_and_fails_again(caught.exception)
 
     def test_a_merge_that_counts_twice(self) -> None:
         with self.assertRaises(NotLinearizable) as caught:
@@ -99,10 +103,9 @@ class PlantedBugs(unittest.TestCase):
         self.is_small_and_fails_again(caught.exception)
 
     def test_other_bugs_change_no_answer(self) -> None:
-        for bug, kinds in planted.NEVER_SEEN.items():
-            for kind, make in kinds.items():
-                with self.subTest(bug=bug, kind=kind):
-                    self.assertEqual(check_random(make, kind, seeds=RUNS // 2), RUNS // 2)
+        for bug, kind, make in cases(planted.NEVER_SEEN):
+            with self.subTest(bug=bug, kind=kind):
+                self.assertEqual(check_random(make, kind, seeds=RUNS // 2), RUNS // 2)
 
     def is_small_and_fails_again(self, failed: NotLinearizable) -> None:
         with open(failed.history or "") as file:

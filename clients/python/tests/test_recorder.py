@@ -87,12 +87,11 @@ class Clocks(unittest.TestCase):
             ([(1, "b")], "of another replica than 'a'"),
             ([None], "there is no stamp"),
         ]:
-            with self.subTest(said=said):
-                recorder = Recorder("register", ["a", "b"])
-                with self.assertRaisesRegex(CannotTell, said):
-                    for number, clock in enumerate(clocks):
-                        recorder.write("a", number, clock)
-                recorder.stop()
+            recorder = Recorder("register", ["a", "b"])
+            with self.subTest(said=said), self.assertRaisesRegex(CannotTell, said):
+                for number, clock in enumerate(clocks):
+                    recorder.write("a", number, clock)
+            recorder.stop()
 
 
 class Steps(unittest.TestCase):
