@@ -1,13 +1,10 @@
 """The identifiers under which an OR-Set's replicas have their elements, by what was reported."""
-from typing import Dict, List, NamedTuple, Set
+from typing import Dict, List, Set, Tuple
 
 
-class Effect(NamedTuple):
-    """What an update of an OR-Set does: its identifiers are put in or taken out."""
-
-    element: object
-    identifiers: List[int]
-    is_addition: bool
+# What an update does: its element, its identifiers, and whether they are put in or taken out. A plain tuple, since there
+# are many of them, and the collector of garbage leaves plain tuples of numbers alone.
+Effect = Tuple[object, Tuple[int, ...], bool]
 
 
 class Observed:
@@ -17,9 +14,9 @@ class Observed:
         self._elements: List[Dict[object, Set[int]]] = [{} for _ in range(replicas)]
         self._effects: Dict[int, Effect] = {}
 
-    def at(self, place: int, element: object) -> List[int]:
+    def at(self, place: int, element: object) -> Tuple[int, ...]:
         """The identifiers under which the replica has this element."""
-        return sorted(self._elements[place].get(element, ()))
+        return tuple(sorted(self._elements[place].get(element, ())))
 
     def issue(self, place: int, label: int, effect: Effect) -> None:
         """The update with this label was made at this replica."""

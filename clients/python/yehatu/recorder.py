@@ -248,13 +248,13 @@ class Recorder:
         """The operation of an OR-Set with identifiers by number, and what it does."""
         numbers, is_addition = self._speller.identifiers, operation.word == "add"
         if operation.identifiers is not None:
-            named = [numbers.of(it) for it in operation.identifiers]
+            named = tuple([numbers.of(it) for it in operation.identifiers])
         elif is_addition:
-            named = [numbers.fresh()]
+            named = (numbers.fresh(),)
         else:
             named = self._observed.at(place, operation.value)  # type: ignore[union-attr]
         identified = Operation(operation.word, operation.value, None, None, named)
-        return identified, Effect(operation.value, named, is_addition)
+        return identified, (operation.value, named, is_addition)
 
     def _deliver_message(self, place: int, message: Hashable) -> None:
         self._deliver(place, self._sent(message))
