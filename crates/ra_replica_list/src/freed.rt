@@ -93,8 +93,8 @@ impl Followers {
         ensures followed { OnOk result ((records : Records) (had settled : ℕ → Bool) (first : ℕ)
             → IsAmidst (after_all state.old self.old.updates.items) there.old.marks.items self.old.labels.items
             self.old.ready.items waiting.now all.now deeds.now records had settled first
-            → IsAmidst state.new there.new.marks.items self.new.labels.items [] waiting.now all.now deeds.now records had
-            settled first) }
+            → IsAmidst state.new there.new.marks.items self.new.labels.items [] waiting.now all.now deeds.now records
+            had settled first) }
         ensures err { OnErr result (state.new ≡ state.old) }
         ensures put { (number : ℕ) → was_marked there.new.marks.items self.new.put.items number
             ≡ was_marked there.old.marks.items self.old.put.items number }

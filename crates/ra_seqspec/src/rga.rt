@@ -169,7 +169,8 @@ fn make_all(
     requires room { vec_len nodes.old + length updates.now ≤ vec_capacity nodes.old }
     requires spare { length updates.now ≤ spare slots.old }
     requires kept { RgaListKept first.old nodes.old.items (get nat_eq slots.old) }
-    ensures list { entries_of first.new nodes.new.items ≡ list_after (entries_of first.old nodes.old.items) updates.now }
+    ensures list { entries_of first.new nodes.new.items
+        ≡ list_after (entries_of first.old nodes.old.items) updates.now }
     ensures kept { RgaListKept first.new nodes.new.items (get nat_eq slots.new) }
 {
     for update in updates {
