@@ -1,4 +1,4 @@
-"""Holds the built program against the model (tests/model.py), and tells a difference so that a person can look at it."""
+"""Holds the built program against the model (tests/model.py), and tells a difference for a person to look at."""
 import model
 
 # So many differences are told, and so often a text is run to leave lines out.

@@ -15,11 +15,14 @@ FIRST_CLOCKS = [0, 0, 0, 0, 0, 0, 65_530, 65_530, GREATEST_NUMBER - 6]
 LIES, ODDITIES, EARLY = [8, 30, 1_000], [6, 25, 1_000], [3, 1_000, 1_000]
 # One of so many histories has a line that is none of the grammar, and one of so many has odd first lines.
 BROKEN, ODD_HEADS = 8, 40
-BROKEN_LINES = ["", "a", "verdict @1", "verdict inc", "a inc inc", "a inc @", "a inc @01", "a  inc", "a inc ", " a inc"]
-BROKEN_LINES += ["a got", "a got 1 @2", "a got -", "a got @1", "A inc", "a read", "a read 1,", "a read ,1", "a read 1,,2"]
-BROKEN_LINES += ["a read -0", "a read --", "a write none", "a add 4 @2 #9", "a add 4 #", "a add 4 #1,2", "a remove 4 #"]
-BROKEN_LINES += ["a remove 4 9", "a after 1", "a after 1 2 3", "a after 1 2 #3", "a add 4294967296 @1", "a inc @4294967296"]
-BROKEN_LINES += ["join a", "1a inc", "a inc\r", "abcdefghijklmnopq inc", "a read 00", "a read +1", "a \x00", "a inc\xff"]
+BROKEN_LINES = ["", "a", "verdict @1", "verdict inc", "a inc inc", "a inc @", "a inc @01", "a  inc", "a inc "]
+BROKEN_LINES += [" a inc", "a got", "a got 1 @2", "a got -", "a got @1", "A inc", "a read", "a read 1,", "a read ,1"]
+BROKEN_LINES += ["a read 1,,2", "a read -0", "a read --", "a write none", "a add 4 @2 #9", "a add 4 #"]
+BROKEN_LINES += ["a add 4 #1,2", "a remove 4 #", "a remove 4 9", "a after 1", "a after 1 2 3", "a after 1 2 #3"]
+BROKEN_LINES += ["a add 4294967296 @1", "a inc @4294967296", "join a", "1a inc", "a inc\r", "abcdefghijklmnopq inc"]
+BROKEN_LINES += ["a read 00", "a read +1", "a \x00", "a incÿ"]
+# Operations that are of another kind in most histories.
+OTHERS = ["inc", "dec @0", "write 3 @4", "add 4 @9", "remove 4 @9", "add 3 #7", "remove 3 #2,1"]
 ODD_FIRST_LINES = ["RAH 1", "RAH 2 rga", "RAH 1 set", "RAH 1 rga ", "rah 1 rga", "RAH 1 rga orset", ""]
 ODD_SECOND_LINES = ["replicas", "replicas a a", "replicas a ", "replica a", "replicas a  b", "replicas a verdict", ""]
 ODD_SECOND_LINES += ["replicas " + " ".join(f"n{it}" for it in range(count)) for count in (16, 17)]
@@ -164,7 +167,7 @@ class Author:
     def odd_line(self, replica):
         """A line that is refused in most cases."""
         name, body = self.names[replica], self.update(replica)
-        other = self.chance.one_of(["inc", "dec @0", "write 3 @4", "add 4 @9", "remove 4 @9", "add 3 #7", "remove 3 #2,1"])
+        other = self.chance.one_of(OTHERS)
         odd = [f"{name} {other}", f"nobody {self.chance.one_of([other, body, 'got 0', 'got 9', 'read none'])}"]
         odd += [f"{name} {body.split(' @')[0]}{self.chance.one_of(['', ' @0', ' @7'])}" for _ in range(2)]
         odd += [f"{name} {self.read(replica)} @{self.chance.below(2)}", "nobody got 4294967295", f"{name} after 0 0 @3"]

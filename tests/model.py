@@ -354,7 +354,9 @@ def operation_of(kind, fields):
     if word == "after":
         return Operation("rga", Does(insert_after, (number, number_of(given[1]))), carries_stamp=True)
     behind = after_sign(given[1], "#")
-    return tagged_addition_of(number, number_of(behind)) if word == "add" else tagged_removal_of(number, list_of(behind))
+    if word == "add":
+        return tagged_addition_of(number, number_of(behind))
+    return tagged_removal_of(number, list_of(behind))
 
 
 def command_of(kind, line):
@@ -424,7 +426,7 @@ def report_of(monitor):
 
 
 def checks(text):
-    """What is written for a text, what is said on standard error, and the exit status: without the report and with it."""
+    """What is written, what is said on standard error, and the exit status: without the report and with it."""
     lines, report, said = [], [], ""
     try:
         monitor = run(text, lines)
