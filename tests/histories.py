@@ -20,7 +20,7 @@ BROKEN_LINES += [" a inc", "a got", "a got 1 @2", "a got -", "a got @1", "A inc"
 BROKEN_LINES += ["a read 1,,2", "a read -0", "a read --", "a write none", "a add 4 @2 #9", "a add 4 #"]
 BROKEN_LINES += ["a add 4 #1,2", "a remove 4 #", "a remove 4 9", "a after 1", "a after 1 2 3", "a after 1 2 #3"]
 BROKEN_LINES += ["a add 4294967296 @1", "a inc @4294967296", "join a", "1a inc", "a inc\r", "abcdefghijklmnopq inc"]
-BROKEN_LINES += ["a read 00", "a read +1", "a \x00", "a incÿ"]
+BROKEN_LINES += ["a read 00", "a read +1", "a \x00", "a inc\xff"]
 # Operations that are of another kind in most histories.
 OTHERS = ["inc", "dec @0", "write 3 @4", "add 4 @9", "remove 4 @9", "add 3 #7", "remove 3 #2,1"]
 ODD_FIRST_LINES = ["RAH 1", "RAH 2 rga", "RAH 1 set", "RAH 1 rga ", "rah 1 rga", "RAH 1 rga orset", ""]

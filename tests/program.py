@@ -24,6 +24,8 @@ class Program:
         self.files = [os.memfd_create(name) for name in ("given", "wrote", "said")]
         self.ways = [(os.POSIX_SPAWN_DUP2, file, number) for number, file in enumerate(self.files)]
         self.running = 0
+        # What the last run took of a processor.
+        self.seconds = 0.0
         signal.signal(signal.SIGALRM, lambda *_: os.kill(self.running, signal.SIGKILL))
 
     def __call__(self, words, given):
@@ -34,7 +36,8 @@ class Program:
         os.pwrite(self.files[0], given, 0)
         self.running = os.posix_spawn(PROGRAM, [PROGRAM, *words], {}, file_actions=self.ways)
         signal.alarm(SECONDS)
-        _, status = os.waitpid(self.running, 0)
+        _, status, used = os.wait4(self.running, 0)
         signal.alarm(0)
+        self.seconds = used.ru_utime + used.ru_stime
         wrote, said = (os.pread(it, os.fstat(it).st_size, 0) for it in self.files[1:])
         return wrote, said, os.waitstatus_to_exitcode(status)
