@@ -6,11 +6,19 @@ kind, and is neither the program's nor the model's.
 import json
 
 # A replica makes so many updates in a round of crossing ones.
-UPDATES = 8
+TURNS = 8
 # A read of a list looks at all that was put in, so that of many rounds one reads.
 ROUNDS_OF_A_READ = {"counter": 1, "register": 1, "lwwset": 1, "orset": 1, "rga": 128}
 # Where elements are put in, one replica reads when there are so many.
 READ_AT = (1, 255, 256, 257, 3_000, 4_096, 4_300, 65_535, 65_536, 65_537, 70_000)
+# The body of an update, with a number that rises.
+UPDATES = {
+    "counter": "inc",
+    "register": "write {0} @{0}",
+    "lwwset": "add {0} @{0}",
+    "orset": "add {0} #{0}",
+    "rga": "after 0 {0} @{0}",
+}
 
 
 class History:
@@ -101,7 +109,7 @@ class OrSet:
 
     def update(self, replica, turn, clock):
         if turn == 0:
-            element = (clock // UPDATES + replica) % len(self.pairs)
+            element = (clock // TURNS + replica) % len(self.pairs)
             ids = sorted(self.pairs[element])
             return f"remove {element} #{listed(ids)}", (element, False, ids)
         element, identifier = clock * (5 + 2 * replica) % len(self.pairs), 2 * clock + replica
@@ -124,7 +132,7 @@ class Rga:
     def update(self, replica, turn, clock):
         if turn == 0:
             self.before[1 - replica][:], self.put_in[replica][:] = self.put_in[replica], []
-        if turn < UPDATES // 2 and self.before[replica]:
+        if turn < TURNS // 2 and self.before[replica]:
             element = self.before[replica].pop()
             return f"remove {element}", (element, False)
         element = 2 * clock + replica
@@ -153,7 +161,7 @@ def crossing(kind, count):
     while history.labels < count:
         labels, effects = ([], []), []
         for replica, name in enumerate("ab"):
-            for turn in range(UPDATES - (number + replica) % 2):
+            for turn in range(TURNS - (number + replica) % 2):
                 body, effect = data.update(replica, turn, clock + turn + 1)
                 labels[replica].append(history.does(name, body))
                 effects.append((turn, replica, effect))
@@ -162,7 +170,7 @@ def crossing(kind, count):
         for _, _, effect in sorted(effects, key=lambda it: it[:2]):
             data.apply(effect)
         sent += labels[0] + labels[1]
-        clock, number = clock + UPDATES, number + 1
+        clock, number = clock + TURNS, number + 1
         if number % ROUNDS_OF_A_READ[kind] == 0:
             history.does("ab"[number % 2], f"read {data.read()}")
     history.gets("c", sent)
