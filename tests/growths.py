@@ -40,4 +40,6 @@ def asked(made, words, given):
             os.close(told)
             numbers = os.read(heard, 100).split()
             os.close(heard)
+    if len(numbers) != 2:
+        raise ValueError(f"it does not tell what it asked for, and ends with status {run.returncode}")
     return (run.stdout, run.stderr, run.returncode), Asked(*map(int, numbers))
