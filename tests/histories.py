@@ -8,6 +8,7 @@ import random
 from model import GREATEST_NUMBER, KINDS, START, Monitor, NotOfTheGrammar, command_of, named_labels, state_after
 
 NAMES = ["a", "b", "c", "d", "got", "read", "inc", "replicas", "r2", "none", "abcdefghijklmnop", "z9", "verdicts", "at"]
+NAMES += ["joins", "x0"]
 # The clock that all replicas begin behind. Of the last one only few are left above it.
 FIRST_CLOCKS = [0, 0, 0, 0, 0, 0, 65_530, 65_530, GREATEST_NUMBER - 6]
 # In a history one of so many operations is a lie, one of so many lines is odd, and one of so many updates of a list
@@ -50,7 +51,7 @@ class Author:
     def __init__(self, chance):
         self.chance = chance
         self.kind = chance.one_of(KINDS)
-        count = chance.one_of([1, 2, 2, 3, 3, 4, 5, 14])
+        count = chance.one_of([1, 2, 2, 3, 3, 4, 5, 16])
         self.names = NAMES[:count] if chance.once_in(2) else sorted(NAMES, key=lambda _: chance.draw())[:count]
         self.monitor = Monitor(self.kind, self.names)
         self.first_clock = chance.one_of(FIRST_CLOCKS)
@@ -91,11 +92,11 @@ class Author:
         """A number that was not given before, in most cases."""
         if self.used and self.tells_a_lie():
             return self.chance.one_of(sorted(self.used))
-        number = GREATEST_NUMBER if self.chance.once_in(20) else 1 + self.chance.below(99)
-        if number in self.used:
-            return self.fresh()
-        self.used.add(number)
-        return number
+        while True:
+            number = GREATEST_NUMBER if self.chance.once_in(20) else 1 + self.chance.below(99 + len(self.used))
+            if number not in self.used:
+                self.used.add(number)
+                return number
 
     # Operations. Each is the line's body.
 

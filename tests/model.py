@@ -397,22 +397,25 @@ def lines_of(text):
             yield number, line.decode("latin-1")
 
 
+def read(numbered, reader, *more):
+    """What a line says."""
+    number, line = numbered
+    try:
+        return reader(*more, line)
+    except NotOfTheGrammar:
+        raise Fault(f"line {number}: syntax") from None
+
+
 def run(text, replies):
     """The monitor as the text leaves it. The replies are put in as they are made, so that they stand before a fault."""
-    kind = monitor = None
-    for number, line in lines_of(text):
-        try:
-            if number == 1:
-                kind = kind_of(line)
-            elif number == 2:
-                monitor = Monitor(kind, names_of(line))
-            else:
-                command = command_of(kind, line)
-                if monitor.calls == MOST_COMMANDS:
-                    raise Fault(f"line {number}: full")
-                replies.append(monitor.answer(command))
-        except NotOfTheGrammar:
-            raise Fault(f"line {number}: syntax") from None
+    lines = lines_of(text)
+    kind = read(next(lines), kind_of)
+    monitor = Monitor(kind, read(next(lines), names_of))
+    for number, line in lines:
+        command = read((number, line), command_of, kind)
+        if monitor.calls == MOST_COMMANDS:
+            raise Fault(f"line {number}: full")
+        replies.append(monitor.answer(command))
     return monitor
 
 
