@@ -56,7 +56,7 @@ class Author:
         self.monitor = Monitor(self.kind, self.names)
         self.first_clock = chance.one_of(FIRST_CLOCKS)
         self.lies, self.oddities, self.early = map(chance.one_of, (LIES, ODDITIES, EARLY))
-        self.used = set()
+        self.used, self.again = set(), None
 
     # What the replicas have.
 
@@ -166,8 +166,9 @@ class Author:
         return f"got {self.chance.one_of(lacking if self.tells_a_lie() else ready).number}"
 
     def odd_line(self, replica):
-        """A line that is refused in most cases."""
+        """A line that is refused in most cases. What it is made of may come again as it should be."""
         name, body = self.names[replica], self.update(replica)
+        self.again = f"{name} {body}"
         other = self.chance.one_of(OTHERS)
         odd = [f"{name} {other}", f"nobody {self.chance.one_of([other, body, 'got 0', 'got 9', 'read none'])}"]
         odd += [f"{name} {body.split(' @')[0]}{self.chance.one_of(['', ' @0', ' @7'])}" for _ in range(2)]
@@ -182,6 +183,9 @@ class Author:
 
     def line(self):
         replica = self.chance.below(len(self.names))
+        if self.again and self.chance.once_in(2):
+            line, self.again = self.again, None
+            return line
         if self.chance.once_in(self.oddities):
             return "verdict" if self.chance.once_in(4) else self.odd_line(replica)
         turn = self.chance.below(10)
