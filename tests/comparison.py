@@ -19,10 +19,10 @@ def difference(program, text, ways=(CHECK, REPORT)):
 
 
 def shrunk(program, text):
-    """The text without lines that the difference does not need."""
+    """The text without commands that the difference does not need."""
     lines = text.splitlines(keepends=True)
     at, tried = len(lines) - 1, 0
-    while at >= 0 and tried < MOST_TRIED:
+    while at >= 2 and tried < MOST_TRIED:
         fewer = lines[:at] + lines[at + 1 :]
         if difference(program, b"".join(fewer)):
             lines = fewer
