@@ -9,8 +9,8 @@ use std::sync::atomic::{AtomicU32, Ordering};
 /// How many replicas there are.
 pub const REPLICAS: u8 = 16;
 
-/// The passes below this number report for replicas that nothing reaches but their own updates: so they know what a read
-/// returns. Those from here to the quiet replica report for replicas that others' updates are delivered to.
+/// The passes below this number report for replicas that nothing reaches but their own updates: so they know what a
+/// read returns. Those from here to the quiet replica report for replicas that others' updates are delivered to.
 pub const WRITERS: u8 = 8;
 
 // No update is made by this replica, and none is delivered to it. So whoever reads it finds nothing.

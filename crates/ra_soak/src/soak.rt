@@ -27,6 +27,8 @@ const KINDS: [Kind; 5] = [
 struct Sum {
     rounds: u64,
     calls: u64,
+    labels: u64,
+    refused: u64,
     busy: u64,
     full: u64,
     looks: u64,
@@ -38,6 +40,8 @@ impl Sum {
     const NOTHING: Sum = Sum {
         rounds: 0,
         calls: 0,
+        labels: 0,
+        refused: 0,
         busy: 0,
         full: 0,
         looks: 0,
@@ -47,10 +51,13 @@ impl Sum {
 
     // What one round came to.
     fn of(closed: &Closed) -> Sum {
+        let report = closed.monitor.report();
         let mut sum = Sum {
             rounds: 1,
+            labels: u64::from(report.labels),
+            refused: u64::from(report.refused),
             dropped: closed.dropped,
-            lies: u64::from(closed.monitor.report().fault.is_some()),
+            lies: u64::from(report.fault.is_some()),
             ..Sum::NOTHING
         };
         for record in &closed.records {
@@ -65,6 +72,8 @@ impl Sum {
     fn add(&mut self, other: Sum) {
         self.rounds = self.rounds.wrapping_add(other.rounds);
         self.calls = self.calls.wrapping_add(other.calls);
+        self.labels = self.labels.wrapping_add(other.labels);
+        self.refused = self.refused.wrapping_add(other.refused);
         self.busy = self.busy.wrapping_add(other.busy);
         self.full = self.full.wrapping_add(other.full);
         self.looks = self.looks.wrapping_add(other.looks);
@@ -90,9 +99,11 @@ pub fn soak<R: Threads + Wait + Clock + Print + Sync>(
         }
         let setting = setting_of(number, &mut chance);
         let (sum, finding) = play_and_check(rt, alloc, setting)?;
-        tell_round(rt, number, setting, sum, finding)?;
+        tell_round(rt, number, setting.kind, sum)?;
         all.add(sum);
-        if finding.is_some() {
+        if let Some(finding) = finding {
+            let kind = setting.kind;
+            println!(rt; "found with seed {seed}, in round {number}, of kind {kind:?}: {finding}")?;
             return Ok(false);
         }
     }
@@ -128,14 +139,7 @@ fn play_and_check<R: Threads + Wait + Sync>(
     Ok((Sum::of(&closed), finding))
 }
 
-fn tell_round(
-    rt: &impl Print,
-    number: u32,
-    setting: Setting,
-    sum: Sum,
-    finding: Option<Finding>,
-) -> Result<()> {
-    let Setting { kind, seed, .. } = setting;
+fn tell_round(rt: &impl Print, number: u32, kind: Kind, sum: Sum) -> Result<()> {
     let Sum {
         calls,
         busy,
@@ -150,12 +154,8 @@ fn tell_round(
         "no fault"
     };
     println!(rt;
-        "round {number}: {kind:?}, seed {seed}, {calls} calls, {busy} busy, {full} full, {looks} looks, \
-         {dropped} dropped, {fault}"
+        "round {number}: {kind:?}, {calls} calls, {busy} busy, {full} full, {looks} looks, {dropped} dropped, {fault}"
     )?;
-    if let Some(finding) = finding {
-        println!(rt; "found in a round of kind {kind:?} with seed {seed}: {finding}")?;
-    }
     Ok(())
 }
 
@@ -164,6 +164,8 @@ fn tell_all(rt: &impl Print, all: Sum, time: Duration) -> Result<()> {
     let Sum {
         rounds,
         calls,
+        labels,
+        refused,
         busy,
         full,
         looks,
@@ -171,8 +173,8 @@ fn tell_all(rt: &impl Print, all: Sum, time: Duration) -> Result<()> {
         lies,
     } = all;
     println!(rt;
-        "{rounds} rounds in {seconds} seconds: {calls} calls, {} a second, {busy} busy, {full} full, {looks} looks, \
-         {dropped} passes dropped, {lies} lies told; nothing found",
+        "{rounds} rounds in {seconds} seconds: {calls} calls, {} a second, with {labels} labels and {refused} refusals; \
+         {busy} busy, {full} full, {looks} looks, {dropped} passes dropped, {lies} lies told; nothing found",
         calls / seconds
     )?;
     Ok(())
