@@ -204,8 +204,8 @@ fn write_in_turn<R: Abort + Wait>(
     }
 }
 
-// Three passes, of which one never calls. `tests/refused_memory` refuses each growth in its turn; where none is refused,
-// each call is made once.
+// Three passes, of which one never calls. `tests/refused_memory` refuses each growth in its turn; where none is
+// refused, each call is made once.
 #[test]
 fn a_refused_call_leaves_the_desk(rt: HostRuntime) {
     let (desk, mut passes) = opened_again(&rt, rt.alloc(), 1_000, 3);

@@ -173,8 +173,8 @@ fn tell_all(rt: &impl Print, all: Sum, time: Duration) -> Result<()> {
         lies,
     } = all;
     println!(rt;
-        "{rounds} rounds in {seconds} seconds: {calls} calls, {} a second, with {labels} labels and {refused} refusals; \
-         {busy} busy, {full} full, {looks} looks, {dropped} passes dropped, {lies} lies told; nothing found",
+        "{rounds} rounds in {seconds} seconds: {calls} calls, {} a second, with {labels} labels and {refused} \
+         refusals; {busy} busy, {full} full, {looks} looks, {dropped} passes dropped, {lies} lies told; nothing found",
         calls / seconds
     )?;
     Ok(())
