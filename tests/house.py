@@ -6,6 +6,8 @@ import tempfile
 import time
 from pathlib import Path
 
+from required import require
+
 TOP = Path(__file__).resolve().parent.parent
 PROGRAM = "ra_monitor_cli"
 CRATES = f"""\
@@ -59,7 +61,7 @@ class House:
     def git(self, *words):
         who = ["-c", "user.name=nobody", "-c", "user.email=nobody@example.org"]
         run = subprocess.run(["git", "-C", self.top, *who, *words], capture_output=True, text=True)
-        assert run.returncode == 0, run.stderr
+        require(run.returncode == 0, run.stderr)
         return run.stdout
 
     def commit(self, text):
@@ -134,7 +136,7 @@ def wait_until(is_so):
     """Waits until this is so."""
     late = time.monotonic() + SECONDS
     while not is_so():
-        assert time.monotonic() < late, "it never comes"
+        require(time.monotonic() < late, "it never comes")
         time.sleep(0.01)
 
 
@@ -150,18 +152,18 @@ def check(it):
 def built(house, text="first text"):
     """Has the program built."""
     ran = house.run("check")
-    assert ran.answers(text), ran
+    require(ran.answers(text), ran)
     return house.proved()
 
 
 def is_built_again(house, crates, text="first text"):
     """Is just this proved again, and is the program made anew, of this text? And is all left alone from then on?"""
     ran = house.run("check")
-    assert ran.answers(text), ran
+    require(ran.answers(text), ran)
     proved = sorted(house.proved())
-    assert proved == sorted(crates), proved
-    assert house.run("check").answers(text)
-    assert house.proved() == []
+    require(proved == sorted(crates), proved)
+    require(house.run("check").answers(text))
+    require(house.proved() == [])
 
 
 def is_left_alone(house):

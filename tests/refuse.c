@@ -1,29 +1,44 @@
 // Loaded into a program, refuses it one growth: the call of malloc or realloc whose number, from 1 on, stands in the
-// environment. It tells so by a byte to the descriptor that stands there too. It needs no header and no library but the
-// one that every program here stands on, so the toolchain's own compiler makes it.
+// environment. It tells so by a byte to the descriptor that stands there too. Where another descriptor stands there, it
+// tells it at the end how many calls there were, and for how many bytes in all. It needs no header and no library but
+// the one that every program here stands on, so the toolchain's own compiler makes it.
 typedef unsigned long count_t;
 
 extern char *getenv(const char *name);
 extern int atoi(const char *text);
+extern int dprintf(int descriptor, const char *format, ...);
 extern long write(int descriptor, const void *bytes, count_t count);
 extern void *__libc_malloc(count_t size);
 extern void *__libc_realloc(void *old, count_t size);
+extern void _Exit(int status);
 
 // A program may start threads, and each of them may grow.
 static int calls;
+static count_t bytes;
 
 static int named(const char *name) {
     const char *number = getenv(name);
     return number ? atoi(number) : 0;
 }
 
-static int is_refused(void) {
+static int is_refused(count_t size) {
+    __atomic_add_fetch(&bytes, size, __ATOMIC_SEQ_CST);
     if (__atomic_add_fetch(&calls, 1, __ATOMIC_SEQ_CST) != named("REFUSED_GROWTH")) {
         return 0;
     }
     return write(named("TOLD_TO"), "!", 1) == 1;
 }
 
-void *malloc(count_t size) { return is_refused() ? 0 : __libc_malloc(size); }
+void *malloc(count_t size) { return is_refused(size) ? 0 : __libc_malloc(size); }
 
-void *realloc(void *old, count_t size) { return is_refused() ? 0 : __libc_realloc(old, size); }
+void *realloc(void *old, count_t size) { return is_refused(size) ? 0 : __libc_realloc(old, size); }
+
+// The programs end by this call, which runs nothing that was left for the end.
+void _exit(int status) {
+    int descriptor = named("COUNTED_TO");
+    if (descriptor) {
+        // What it takes itself is not counted: the numbers are taken before.
+        dprintf(descriptor, "%d %lu\n", calls, bytes);
+    }
+    _Exit(status);
+}

@@ -4,6 +4,7 @@ import shutil
 import subprocess
 
 from house import CRATES, KIT, PROGRAM, ALL, House, built, check, is_built_again, is_left_alone, wait_until
+from required import require
 
 
 @check
@@ -155,6 +156,6 @@ def what_changes_meanwhile_belongs_to_the_next(house):
     run = house.start("check")
     wait_until(lambda: house.told.exists() and f"begin {PROGRAM}" in house.told.read_text())
     house.write(f"crates/{PROGRAM}/src/main.rt", "second text")
-    assert run.communicate("given\n")[0].startswith("first text")
+    require(run.communicate("given\n")[0].startswith("first text"))
     house.proved()
     is_built_again(house, [PROGRAM], "second text")

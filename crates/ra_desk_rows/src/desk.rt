@@ -2,7 +2,7 @@
 
 ghost use Rattle.ra_ticket.specs.Passes.{IsPassOf};
 
-use crate::desks::{got_the_first, is_full, is_worn, last, opened, reply_in, write};
+use crate::desks::{got_the_first, is_full, is_worn, last, opened, opened_again, reply_in, write};
 use crate::lock::GREATEST;
 use crate::lock::threads::last_pass;
 use ra_desk::Desk;
@@ -143,4 +143,75 @@ fn fail<R: Abort + Wait>(rt: &R, desk: &Desk, pass: &mut Pass<Monitor>)
         cause: Cause::Query,
     };
     assert_eq!(rt; submitted(rt, desk, pass, last(1, 7)), Some(no));
+}
+
+// A write by a call that waits, or by an attempt: whether it was accepted.
+fn is_written<R: Wait>(
+    rt: &R,
+    desk: &Desk,
+    pass: &mut Pass<Monitor>,
+    clock: u32,
+    waits: bool,
+) -> bool
+    requires { IsPassOf desk.now pass.old }
+    ensures { IsPassOf desk.now pass.new }
+{
+    let reply = if waits {
+        submitted(rt, desk, pass, write(0, clock))
+    } else {
+        attempted(desk, pass, write(0, clock))
+    };
+    matches!(reply, Some(Reply::Ok(_)))
+}
+
+// A write, made once more where a growth was refused. The desk is then as it was, and the other pass goes on.
+fn write_again<R: Abort + Wait>(
+    rt: &R,
+    desk: &Desk,
+    pass: &mut Pass<Monitor>,
+    other: &mut Pass<Monitor>,
+    clock: u32,
+    waits: bool,
+)
+    requires { IsPassOf desk.now pass.old × IsPassOf desk.now other.old }
+    ensures { IsPassOf desk.now pass.new × IsPassOf desk.now other.new }
+{
+    let before = desk.glance(pass);
+    if is_written(rt, desk, pass, clock, waits) {
+        return;
+    }
+    assert_eq!(rt; (desk.glance(pass), desk.glance(other)), (before, before));
+    let went_on = submitted(rt, desk, other, Command::Verdict);
+    assert!(rt; matches!(went_on, Some(Reply::Yes(_))));
+    assert!(rt; is_written(rt, desk, pass, clock, waits));
+}
+
+// So many writes by two passes in turn, each a call and an attempt.
+fn write_in_turn<R: Abort + Wait>(
+    rt: &R,
+    desk: &Desk,
+    pass: &mut Pass<Monitor>,
+    other: &mut Pass<Monitor>,
+    turns: u32,
+)
+    requires { IsPassOf desk.now pass.old × IsPassOf desk.now other.old }
+    ensures { IsPassOf desk.now pass.new × IsPassOf desk.now other.new }
+{
+    for turn in 0..turns {
+        let clock = turn.wrapping_mul(2);
+        write_again(rt, desk, pass, other, clock.wrapping_add(1), true);
+        write_again(rt, desk, other, pass, clock.wrapping_add(2), false);
+    }
+}
+
+// Three passes, of which one never calls. `tests/refused_memory` refuses each growth in its turn; where none is
+// refused, each call is made once.
+#[test]
+fn a_refused_call_leaves_the_desk(rt: HostRuntime) {
+    let (desk, mut passes) = opened_again(&rt, rt.alloc(), 1_000, 3);
+    let mut other = last_pass(&rt, &desk, &mut passes);
+    let mut pass = last_pass(&rt, &desk, &mut passes);
+    write_in_turn(&rt, &desk, &mut pass, &mut other, 300);
+    let glance = desk.glance(&mut other);
+    assert!(rt; glance.calls >= 600 && glance.fault.is_none());
 }

@@ -1,6 +1,6 @@
 //! Desks of a register or a counter at three replicas, what is told to them, and what they answer.
 
-ghost use Rattle.std.specs.Prelude.{◌≡◌, [], All};
+ghost use Rattle.std.specs.Prelude.{◌≡◌, [], All, IfSome};
 ghost use Rattle.ra_ticket.specs.Passes.{IsPassOf};
 
 use ra_desk::Desk;
@@ -56,6 +56,32 @@ pub fn opened(
     match TicketLock::open(alloc, register_of(rt, alloc, limit), passes, first) {
         Ok(opened) => opened,
         Err(_) => panic!(rt; "no desk"),
+    }
+}
+
+/// As `opened`, and made once more where a growth was refused.
+pub fn opened_again(
+    rt: &impl Abort,
+    alloc: Global,
+    limit: u32,
+    passes: u8,
+) -> (Desk, Vec<Pass<Monitor>>)
+    ensures { All (IsPassOf result.0) result.1.items }
+{
+    for _ in 0..2 {
+        if let Some(opened) = opened_if_possible(alloc, limit, passes) {
+            return opened;
+        }
+    }
+    panic!(rt; "no desk")
+}
+
+fn opened_if_possible(alloc: Global, limit: u32, passes: u8) -> Option<(Desk, Vec<Pass<Monitor>>)>
+    ensures { IfSome result (λ opened. All (IsPassOf opened.0) opened.1.items) }
+{
+    match Monitor::new(alloc, Kind::Register, 3, limit) {
+        Ok(monitor) => TicketLock::open(alloc, monitor, passes, 0).ok(),
+        Err(_) => None,
     }
 }
 

@@ -198,7 +198,7 @@ misfit_none kind by op clock later e =
     (or_none (misfit_of kind (Operate by op clock)) later e) in
     not-false (is_kind kind (kind_of op)) own.0
 
-spelled : (kind : Kind) (names : List (List ℕ)) (records : Records) (command : Command)
+pub spelled : (kind : Kind) (names : List (List ℕ)) (records : Records) (command : Command)
     → refusal_of kind (length names) records command ≡ None → HasLine kind names command
 spelled kind names records Verdict fits = tt
 spelled kind names records (Deliver to label) fits =

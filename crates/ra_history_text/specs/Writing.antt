@@ -54,4 +54,5 @@ StopsWriting monitor names old new (LineTooLong at) =
     AreAsMany monitor names × IsFirstLong names (records_in_order monitor) at × Keeps old new
 StopsWriting monitor names old new NoMemory =
     AreAsMany monitor names × AreShort names (records_in_order monitor) × Keeps old new
-StopsWriting monitor names old new Write = AreAsMany monitor names × WritesPartOfHistory monitor names old new
+StopsWriting monitor names old new Write =
+    AreAsMany monitor names × AreShort names (records_in_order monitor) × WritesPartOfHistory monitor names old new

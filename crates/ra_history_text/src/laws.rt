@@ -1,12 +1,14 @@
 //! Laws above the definitions of a text, each the clause of a function that does nothing.
-ghost use Rattle.std.specs.Prelude.{◌≡◌, ◌++◌, ◌↔◌, true, false, ℕ, List, Some, reverse};
+ghost use Rattle.std.specs.Prelude.{◌≡◌, ◌++◌, ◌↔◌, true, false, ℕ, List, length, None, Some, reverse};
 ghost use Rattle.ra_labels.specs.declared.kind.Kind.{Kind};
 ghost use Rattle.ra_labels.specs.declared.command.Command.{Command};
+ghost use Rattle.ra_labels.specs.Records.{Records};
+ghost use Rattle.ra_labels.specs.Answer.{refusal_of};
 ghost use Rattle.ra_monitor.specs.declared.setup.Setup.{Setup};
 ghost use Rattle.ra_monitor.specs.Monitor.{MonitorEntry, IsLegalLog, records_of};
 ghost use Rattle.ra_history_text.specs.Accepted.{accepted_in};
 ghost use Rattle.ra_lines.specs.Grammar.{Says};
-ghost use Rattle.ra_lines.specs.Spelling.{BeginsWith};
+ghost use Rattle.ra_lines.specs.Spelling.{BeginsWith, HasLine};
 ghost use Rattle.ra_history_text.specs.Laws.{IsOfReader, GrowsByPart, GrowsByReplies, AnswersEach};
 ghost use Rattle.ra_history_text.specs.Output.{replies_of, output_of};
 ghost use Rattle.ra_history_text.specs.Run.{StopsCheck};
@@ -25,6 +27,12 @@ pub fn limits()
 pub fn accepted_commands_are_the_records()
     ensures { (setup : Setup) (log : List MonitorEntry) → IsLegalLog setup log →
         accepted_in false log ≡ reverse (records_of setup log) }
+{}
+
+/// A command that the one-thread monitor does not refuse has a line, where each replica has a name.
+pub fn what_is_not_refused_has_a_line()
+    ensures { (kind : Kind) (names : List (List ℕ)) (records : Records) (command : Command) →
+        refusal_of kind (length names) records command ≡ None → HasLine kind names command }
 {}
 
 /// A text has a regular end, with this kind, these names and these commands, exactly where it is a first line, a line

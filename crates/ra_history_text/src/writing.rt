@@ -36,6 +36,7 @@ pub fn write_history<W: Write>(
     ensures written { OnOk result
         (WritesHistory monitor.now names.now (W.contents writer.old) (W.contents writer.new)) }
     ensures as_many { OnOk result (AreAsMany monitor.now names.now) }
+    ensures short { OnOk result (AreShort names.now (records_in_order monitor.now)) }
     ensures stopped { IfErr result
         (StopsWriting monitor.now names.now (W.contents writer.old) (W.contents writer.new)) }
 {

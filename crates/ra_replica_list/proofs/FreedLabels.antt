@@ -1,9 +1,10 @@
 -- One label after another follows.
-use Rattle.std.proofs.Common.{◌≡◌, ℕ, ◌+◌, ◌<◌, Bool, true, false, List, [], ◌∷◌, ◌++◌, length, take, drop, get_or, Option, Some, refl, sym, ap, ◌∙◌, subst, inl, inr, arith}
-use Rattle.std.specs.Prelude.{Contains}
+use Rattle.std.proofs.Common.{◌≡◌, ℕ, ◌+◌, Bool, true, false, List, [], ◌∷◌, ◌++◌, length, Option, Some, refl, sym, ap, ◌∙◌, subst, inl, inr, arith}
+use Rattle.std.specs.Prelude.{Contains, IsPermutation}
 use Rattle.std.proofs.lemmas.Bool.{false≢true, cases_Bool, false_from_ne_true, eqb-true, eq-eqb, or_left, or_right, or_from}
 use Rattle.std.proofs.lemmas.Option.{same_Some}
-use Rattle.std.proofs.lemmas.List.{length-append, take-append-le, drop-append-le, take_more, drop_more}
+use Rattle.std.proofs.lemmas.List.{length-append}
+use Rattle.std.proofs.lemmas.List.Sorted.{Contains-permutation, IsPermutation-sym}
 use Rattle.std.proofs.lemmas.List.Elements.{Contains-append_left, Contains-append_right, Contains-append_cases, Contains-push_cases}
 use Rattle.ra_labels.specs.declared.kind.Kind.TheVariants.{Rga}
 use Rattle.ra_labels.specs.Records.{Records}
@@ -11,7 +12,7 @@ use Rattle.ra_labels.specs.Specification.{State, state_after}
 use Rattle.ra_labels.specs.Laws.{NoneTwice}
 use Rattle.ra_labels.specs.Insertion.{updates_passing, or_label}
 use Rattle.ra_labels.specs.Waiting.{NoneWaits, OthersWait}
-use Rattle.ra_labels.proofs.Members.{head_or_behind, at_head, behind_head, none_there}
+use Rattle.ra_labels.proofs.Members.{head_or_behind, at_head, none_there}
 use Rattle.ra_laws.proofs.TheLaws.{what_is_settled_does_not_wait, one_more_label_puts_its_update_in-count}
 use Rattle.ra_element_list.specs.ElementList.{Arrival, is_marked}
 use Rattle.ra_replica_list.specs.declared.deed.Deed.{Deed}
@@ -20,7 +21,7 @@ use Rattle.ra_replica_list.specs.Waiting.{labels_under}
 use Rattle.ra_replica_list.specs.Deeds.{deed_at, needed_number, update_of, AreDeedsOf}
 use Rattle.ra_replica_list.specs.ReplicaList.{AreThere, AreWaiting, IsListWith}
 use Rattle.ra_replica_list.specs.Freed.{puts, IsFreeing}
-use Rattle.ra_replica_list.proofs.NoneTwice.{none_twice-append, none_twice-one, not_both, it_passes, still_passes, others_pass, passes_or_is, not_before, not_it}
+use Rattle.ra_replica_list.proofs.NoneTwice.{none_twice-append, none_twice-last, none_twice-permutation, none_twice-one, not_both, it_passes, still_passes, others_pass, passes_or_is, not_before, not_it}
 use Rattle.ra_replica_list.proofs.Deeds.{needed_marked, marked_label, AreMarksWith, there_with}
 use Rattle.ra_replica_list.proofs.SingleSteps.{none_waits_with}
 
@@ -41,7 +42,7 @@ module _ {arrivals : List Arrival} {deeds : List (Option Deed)} {records : Recor
   -- the first label may follow
   pub first_freed : {state : State} {marks : List Bool} {waiting : List (ℕ × List ℕ)} {had settled : ℕ → Bool} (label : ℕ) (deed : Deed) → AreDeedsOf arrivals deeds records
       → IsListWith state marks waiting arrivals deeds records had settled → deed_at deeds label ≡ Some deed → had label ≡ false → is_marked marks (needed_number arrivals deed) ≡ true
-      → IsFreeing state marks (label ∷ []) 0 arrivals deeds records had settled label
+      → IsFreeing state marks [] (label ∷ []) arrivals deeds records had settled label
   first_freed {had = had} {settled = settled} label deed stand kept is new needs =
       let (had_them, none, others) = (what_is_settled_does_not_wait records had settled).0 kept.settles in
       let not_settled : settled label ≡ false = false_from_ne_true (settled label) (λ it. not_both (had label) new (had_them label it)) in
@@ -62,7 +63,6 @@ module _ {arrivals : List Arrival} {deeds : List (Option Deed)} {records : Recor
         itself = inr (at_head label [] label refl);
         once = none_twice-one label;
         count = omega arith;
-        among = omega arith;
       }
 
   -- what a label that follows puts in was not there
@@ -95,35 +95,32 @@ none_freed number = record {
   once = tt;
 }
 
+-- in another order
+pub freed_in_order : {arrivals : List Arrival} {deeds : List (Option Deed)} {had settled : ℕ → Bool} {deed : Deed} (more sorted : List ℕ) → IsPermutation more sorted → AreFreedBy arrivals deeds had settled deed more
+    → AreFreedBy arrivals deeds had settled deed sorted
+freed_in_order more sorted shuffled freed = record {
+  only = λ n found. freed.only n (Contains-permutation sorted more n (IsPermutation-sym more sorted shuffled) found);
+  all = λ n d d_is was_had waits puts_it. Contains-permutation more sorted n shuffled (freed.all n d d_is was_had waits puts_it);
+  once = none_twice-permutation more sorted shuffled freed.once;
+}
+
+pub last_there : (ready : List ℕ) (label : ℕ) → Contains (ready ++ label ∷ []) label
+last_there ready label = Contains-append_right ready (label ∷ []) label (at_head label [] label refl)
+
 -- the next label
-pub drop_now : (labels : List ℕ) (done label : ℕ) → done < length labels → get_or labels done 0 ≡ label → drop done labels ≡ label ∷ drop (done + 1) labels
-drop_now labels done label within is = drop_more labels done 0 within ∙ ap (λ (n : ℕ). n ∷ drop (done + 1) labels) is
-
-take_next : (labels more : List ℕ) (done label : ℕ) → done < length labels → get_or labels done 0 ≡ label → take (done + 1) (labels ++ more) ≡ take done labels ++ label ∷ []
-take_next labels more done label within is =
-    take-append-le (done + 1) labels more (omega (arith, within)) ∙ take_more labels done 0 within ∙ ap (λ (n : ℕ). take done labels ++ n ∷ []) is
-
-drop_next : (labels more : List ℕ) (done : ℕ) → done < length labels → drop (done + 1) (labels ++ more) ≡ drop (done + 1) labels ++ more
-drop_next labels more done within = drop-append-le (done + 1) labels more (omega (arith, within))
-
-module _ {arrivals : List Arrival} {deeds : List (Option Deed)} {records : Records} {state : State} {marks : List Bool} {labels : List ℕ} {done : ℕ} {had settled : ℕ → Bool} {first : ℕ} where
-  pub follows : (next : State) (next_marks : List Bool) (more : List ℕ) (label : ℕ) (deed : Deed) → AreDeedsOf arrivals deeds records
-      → (free : IsFreeing state marks labels done arrivals deeds records had settled first) → done < length labels → get_or labels done 0 ≡ label → deed_at deeds label ≡ Some deed
+module _ {arrivals : List Arrival} {deeds : List (Option Deed)} {records : Records} {state : State} {marks : List Bool} {labels : List ℕ} {had settled : ℕ → Bool} {first : ℕ} where
+  pub follows : (ready : List ℕ) (next : State) (next_marks : List Bool) (more : List ℕ) (label : ℕ) (deed : Deed) → AreDeedsOf arrivals deeds records
+      → (free : IsFreeing state marks labels (ready ++ label ∷ []) arrivals deeds records had settled first) → deed_at deeds label ≡ Some deed
       → state_after Rga (updates_passing Rga records (or_label free.passes label)) ≡ Some next → AreMarksWith marks next_marks deed → AreFreedBy arrivals deeds had settled deed more
-      → IsFreeing next next_marks (labels ++ more) (done + 1) arrivals deeds records had settled first
-  follows next next_marks more label deed stand free within here is after with_it freed =
+      → IsFreeing next next_marks (labels ++ label ∷ []) (ready ++ more) arrivals deeds records had settled first
+  follows ready next next_marks more label deed stand free is after with_it freed =
       let passes = free.passes in
-      let rest = drop (done + 1) labels in
-      let now = drop_now labels done label within here in
-      let took = take_next labels more done label within here in
-      let left = drop_next labels more done within in
-      let at : Contains (drop done labels) label = subst (λ ls. Contains ls label) (sym now) (at_head label rest label refl) in
-      let behind : (n : ℕ) → Contains rest n → Contains (drop done labels) n = λ n found. subst (λ ls. Contains ls n) (sym now) (behind_head label rest n found) in
-      let (its, its_is, its_had, its_new, its_needs) = free.next label at in
+      let before : (n : ℕ) → Contains ready n → Contains (ready ++ label ∷ []) n = λ n found. Contains-append_left ready (label ∷ []) n found in
+      let (its, its_is, its_had, its_new, its_needs) = free.next label (last_there ready label) in
       let same : its ≡ deed = same_Some its deed (sym its_is ∙ is) in
       let needs : is_marked marks (needed_number arrivals deed) ≡ true = ap (λ (d : Deed). is_marked marks (needed_number arrivals d)) (sym same) ∙ its_needs in
-      let alone = subst NoneTwice now free.once in
-      let not_behind : (n : ℕ) → Contains rest n → ¬ (n ≡ label) = λ n found it. alone.0 (subst (Contains rest) it found) in
+      let alone = none_twice-last ready label free.once in
+      let not_before_it : (n : ℕ) → Contains ready n → ¬ (n ≡ label) = λ n found it. alone.1 (subst (Contains ready) it found) in
       let fresh : (n : ℕ) (d : Deed) → deed_at deeds n ≡ Some d → puts (needed_number arrivals d) deed ≡ true → is_marked marks (needed_number arrivals d) ≡ false =
       λ n d d_is puts_it. unmarked_put stand free.there label deed is its_new (needed_number arrivals d) puts_it in
       let not_freed : (n : ℕ) (d : Deed) → deed_at deeds n ≡ Some d → puts (needed_number arrivals d) deed ≡ true → ¬ (n ≡ label) = λ n d d_is puts_it it.
@@ -145,18 +142,18 @@ module _ {arrivals : List Arrival} {deeds : List (Option Deed)} {records : Recor
         only = λ n it. elim (passes_or_is passes label n it) [
           | inl old ↦ elim (free.only n old) [
             | inl settled_it ↦ inl settled_it
-            | inr found ↦ inr (subst (λ ls. Contains ls n) (sym took) (Contains-append_left (take done labels) (label ∷ []) n found))
+            | inr found ↦ inr (Contains-append_left labels (label ∷ []) n found)
           ]
-          | inr is_it ↦ inr (subst (λ ls. Contains ls n) (sym took) (Contains-append_right (take done labels) (label ∷ []) n (at_head label [] n (sym is_it))))
+          | inr is_it ↦ inr (Contains-append_right labels (label ∷ []) n (at_head label [] n (sym is_it)))
         ];
-        gone = λ n found. elim (Contains-push_cases (take done labels) label n (subst (λ ls. Contains ls n) took found)) [
+        gone = λ n found. elim (Contains-push_cases labels label n found) [
           | inl old ↦ still_passes passes label n (free.gone n old)
           | inr it ↦ it_passes passes label n (sym it)
         ];
-        next = λ n found. elim (Contains-append_cases rest more n (subst (λ ls. Contains ls n) left found)) [
+        next = λ n found. elim (Contains-append_cases ready more n found) [
           | inl old ↦
-              let (d, d_is, d_had, d_new, d_needs) = free.next n (behind n old) in
-              (d, d_is, d_had, others_pass passes label n (not_behind n old) ∙ d_new, with_it (needed_number arrivals d) ∙ or_left (is_marked marks (needed_number arrivals d)) (puts (needed_number arrivals d) deed) d_needs)
+              let (d, d_is, d_had, d_new, d_needs) = free.next n (before n old) in
+              (d, d_is, d_had, others_pass passes label n (not_before_it n old) ∙ d_new, with_it (needed_number arrivals d) ∙ or_left (is_marked marks (needed_number arrivals d)) (puts (needed_number arrivals d) deed) d_needs)
           | inr it ↦
               let (d, d_is, n_had, n_waits, d_puts) = freed.only n it in
               let not_yet : passes n ≡ false = false_from_ne_true (passes n) (λ passes_it.
@@ -166,27 +163,26 @@ module _ {arrivals : List Arrival} {deeds : List (Option Deed)} {records : Recor
         others = λ n d d_is was_had fails. elim (cases_Bool (puts (needed_number arrivals d) deed)) [
           | inl puts_it ↦
               let waits : settled n ≡ false = false_from_ne_true (settled n) (λ it. not_both (passes n) (not_before passes label n fails) (free.older n it)) in
-              inr (subst (λ ls. Contains ls n) (sym left) (Contains-append_right rest more n (freed.all n d d_is was_had waits puts_it)))
+              inr (Contains-append_right ready more n (freed.all n d d_is was_had waits puts_it))
           | inr other ↦ elim (free.others n d d_is was_had (not_before passes label n fails)) [
             | inl missing ↦ inl (with_it (needed_number arrivals d) ∙ or_from (is_marked marks (needed_number arrivals d)) (puts (needed_number arrivals d) deed) missing other)
-            | inr found ↦ elim (head_or_behind label rest n (subst (λ ls. Contains ls n) now found)) [
-              | inl it ↦ absurd (not_it passes label n fails (sym it))
-              | inr further ↦ inr (subst (λ ls. Contains ls n) (sym left) (Contains-append_left rest more n further))
+            | inr found ↦ elim (Contains-push_cases ready label n found) [
+              | inl earlier ↦ inr (Contains-append_left ready more n earlier)
+              | inr it ↦ absurd (not_it passes label n fails (sym it))
             ]
           ]
         ];
         itself = elim free.itself [
           | inl passes_it ↦ inl (still_passes passes label first passes_it)
-          | inr found ↦ elim (head_or_behind label rest first (subst (λ ls. Contains ls first) now found)) [
-            | inl it ↦ inl (it_passes passes label first (sym it))
-            | inr further ↦ inr (subst (λ ls. Contains ls first) (sym left) (Contains-append_left rest more first further))
+          | inr found ↦ elim (Contains-push_cases ready label first found) [
+            | inl earlier ↦ inr (Contains-append_left ready more first earlier)
+            | inr it ↦ inl (it_passes passes label first (sym it))
           ]
         ];
-        once = subst NoneTwice (sym left) (none_twice-append rest more alone.1 freed.once (λ n old it.
-            let (d, d_is, d_had, d_new, d_needs) = free.next n (behind n old) in
+        once = none_twice-append ready more alone.0 freed.once (λ n old it.
+            let (d, d_is, d_had, d_new, d_needs) = free.next n (before n old) in
             let (e, e_is, e_had, e_waits, e_puts) = freed.only n it in
             let e_same : d ≡ e = same_Some d e (sym d_is ∙ e_is) in
-            not_both (is_marked marks (needed_number arrivals e)) (fresh n e e_is e_puts) (ap (λ (x : Deed). is_marked marks (needed_number arrivals x)) (sym e_same) ∙ d_needs)));
-        count = omega (arith, counted, free.count);
-        among = omega (arith, within, length-append labels more);
+            not_both (is_marked marks (needed_number arrivals e)) (fresh n e e_is e_puts) (ap (λ (x : Deed). is_marked marks (needed_number arrivals x)) (sym e_same) ∙ d_needs));
+        count = omega (arith, counted, free.count, length-append labels (label ∷ []));
       }

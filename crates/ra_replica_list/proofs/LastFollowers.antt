@@ -1,5 +1,5 @@
 -- When all labels have followed.
-use Rattle.std.proofs.Common.{◌≡◌, ℕ, ◌<◌, ◌≤◌, Bool, true, false, cond, List, [], ◌∷◌, ◌++◌, filter, map, length, take, drop, Option, Some, None, refl, sym, ap, ◌∙◌, subst, inl, inr, arith}
+use Rattle.std.proofs.Common.{◌≡◌, ℕ, ◌<◌, ◌≤◌, Bool, true, false, cond, List, [], ◌∷◌, ◌++◌, filter, map, length, Option, Some, None, refl, sym, ap, ◌∙◌, subst, inl, inr, arith}
 use Rattle.std.specs.Prelude.{Contains, flat_map}
 use Rattle.std.specs.Option.{option_map_or}
 use Rattle.std.specs.List.{list_any}
@@ -7,8 +7,6 @@ use Rattle.std.proofs.lemmas.Bool.{false≢true, cases_Bool, cases_eq, false_fro
 use Rattle.std.proofs.lemmas.List.{length-append}
 use Rattle.std.proofs.lemmas.List.Elements.{filter-append, filter_map-append}
 use Rattle.std.proofs.lemmas.List.Sorted.{length_permutation}
-use Rattle.std.proofs.Math.Seq.{take-length}
-use Rattle.std.proofs.Math.ListN.{drop_of_length-le}
 use Rattle.ra_labels.specs.declared.kind.Kind.TheVariants.{Rga}
 use Rattle.ra_labels.specs.declared.operation.Op.{Op}
 use Rattle.ra_labels.specs.declared.operation.Op.TheVariants as op
@@ -62,29 +60,26 @@ at_puts o number is = ap (λ (d : Option Deed). option_map_or (puts number) d fa
 
 module _ {all : ElementList} {deeds : List (Option Deed)} {records : Records} {old_state : State} {old_marks : List Bool} {waiting : List (ℕ × List ℕ)} {had settled : ℕ → Bool} {state : State} {marks : List Bool} {labels : List ℕ} {first : ℕ} where
   pub all_follow : (left : List (ℕ × List ℕ)) → AreElementsOf all deeds records → IsListWith old_state old_marks waiting all.arrivals deeds records had settled
-      → IsFreeing state marks labels (length labels) all.arrivals deeds records had settled first → ((number : ℕ) → labels_under left number ≡ freed_under deeds labels (labels_under waiting) number)
+      → IsFreeing state marks labels [] all.arrivals deeds records had settled first → ((number : ℕ) → labels_under left number ≡ freed_under deeds labels (labels_under waiting) number)
       → IsListWithAfter state marks left all.arrivals deeds records had settled first (length labels)
   all_follow left stands kept free says =
       let stand = deeds_stand stands in
       let passes = free.passes in
-      let none_left : drop (length labels) labels ≡ [] = drop_of_length-le labels (omega arith) in
-      let taken : take (length labels) labels ≡ labels = take-length labels in
-      let nothing : (n : ℕ) → ¬ Contains (drop (length labels) labels) n = λ n found. none_there n (subst (λ ls. Contains ls n) none_left found) in
       let first_passes : passes first ≡ true = elim free.itself [
         | inl it ↦ it
-        | inr found ↦ absurd (nothing first found)
+        | inr found ↦ absurd (none_there first found)
       ] in
       let not_first : (n : ℕ) → passes n ≡ false → ¬ (n ≡ first) = λ n fails it. not_both (passes n) fails (ap passes it ∙ first_passes) in
       let was_had : (n : ℕ) → or_label had first n ≡ true → passes n ≡ false → had n ≡ true = λ n had_it fails. sym (others_pass had first n (not_first n fails)) ∙ had_it in
       let missing : (n : ℕ) (d : Deed) → deed_at deeds n ≡ Some d → or_label had first n ≡ true → passes n ≡ false → is_marked marks (needed_number all.arrivals d) ≡ false =
       λ n d d_is had_it fails. elim (free.others n d d_is (was_had n had_it fails) fails) [
         | inl it ↦ it
-        | inr found ↦ absurd (nothing n found)
+        | inr found ↦ absurd (none_there n found)
       ] in
       let waited : (n : ℕ) → passes n ≡ false → settled n ≡ false = λ n fails. false_from_ne_true (settled n) (λ it. not_both (passes n) fails (free.older n it)) in
       let freed : (number : ℕ) → is_put_by deeds labels number ≡ true → is_marked marks number ≡ true = λ number is.
       let (m, found, puts_it) = one_passes (λ label. option_map_or (puts number) (deed_at deeds label) false) labels is in
-      marked_label stand free.there m number (puts_at (deed_at deeds m) number puts_it) ∙ free.gone m (subst (λ ls. Contains ls m) (sym taken) found) in
+      marked_label stand free.there m number (puts_at (deed_at deeds m) number puts_it) ∙ free.gone m found in
       record {
         settled = passes;
         kept = record {
@@ -120,7 +115,7 @@ module _ {all : ElementList} {deeds : List (Option Deed)} {records : Records} {o
                   elim (free.only m m_passes) [
                     | inl m_settled ↦ not_both (is_marked old_marks number) old_missing (marked_label stand kept.there m number m_is ∙ m_settled)
                     | inr m_found ↦ not_both (is_put_by deeds labels number) not
-                        (passes_one (λ label. option_map_or (puts number) (deed_at deeds label) false) labels m (subst (λ ls. Contains ls m) taken m_found) (at_puts (deed_at deeds m) number m_is))
+                        (passes_one (λ label. option_map_or (puts number) (deed_at deeds label) false) labels m m_found (at_puts (deed_at deeds m) number m_is))
                   ]) in
                   (d, d_is, d_needs, still_passes had first n n_had, not_yet)
             ];
@@ -171,8 +166,8 @@ few_updates passes (label ∷ labels) =
     omega (arith, few_acts passes label label.op, few_updates passes labels, ap length split, length-append own (updates_among passes labels))
 
 -- so no more labels follow than there are
-pub not_many : {all : ElementList} {deeds : List (Option Deed)} {records : Records} {state : State} {marks : List Bool} {labels : List ℕ} {done : ℕ} {had settled : ℕ → Bool} {first : ℕ} → AreElementsOf all deeds records
-    → IsFreeing state marks labels done all.arrivals deeds records had settled first → done ≤ length deeds
+pub not_many : {all : ElementList} {deeds : List (Option Deed)} {records : Records} {state : State} {marks : List Bool} {labels ready : List ℕ} {had settled : ℕ → Bool} {first : ℕ} → AreElementsOf all deeds records
+    → IsFreeing state marks labels ready all.arrivals deeds records had settled first → length labels ≤ length deeds
 not_many {records = records} stand free = omega (
   arith,
   free.count,

@@ -1,5 +1,5 @@
 -- A new label that fits stands behind all that its replica had.
-use Rattle.std.proofs.Common.{◌≡◌, ℕ, true, false, List, [], ◌∷◌, ◌++◌, Option, sym, ap, ◌∙◌, subst}
+use Rattle.std.proofs.Common.{◌≡◌, ℕ, true, false, List, ◌∷◌, ◌++◌, Option, sym, ap, ◌∙◌, subst}
 use Rattle.std.specs.Prelude.{◌||◌, not, Contains, flat_map}
 use Rattle.std.specs.Option.{option_map_or}
 use Rattle.std.proofs.lemmas.Bool.{or_left, false_from_ne_true, not-true}

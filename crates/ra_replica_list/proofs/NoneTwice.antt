@@ -1,10 +1,14 @@
 -- Lists with none twice, and tests.
-use Rattle.std.proofs.Common.{◌≡◌, ℕ, Bool, true, false, List, [], ◌∷◌, ◌++◌, length, refl, sym, ap, ◌∙◌, inl, inr, arith}
-use Rattle.std.specs.Prelude.{◌⊎◌, ◌==◌, ◌||◌, Contains}
-use Rattle.std.proofs.lemmas.Bool.{false≢true, or_left, or_right, eqb-true, eq-eqb, false_from_ne_true, cases_eq, ne_eqb}
+use Rattle.std.proofs.Common.{◌≡◌, ℕ, Bool, true, false, List, [], ◌∷◌, ◌++◌, length, refl, sym, ap, ◌∙◌, subst, inl, inr, arith}
+use Rattle.std.specs.Prelude.{◌⊎◌, ◌==◌, ◌||◌, Contains, IsPermutation}
+use Rattle.std.specs.List.{AllByRecursion, IsDistinct}
+use Rattle.std.proofs.lemmas.Bool.{false≢true, or_left, or_right, eqb-true, eqb-false, eq-eqb, false_from_ne_true, cases_eq, ne_eqb}
+use Rattle.std.proofs.lemmas.List.Elements.{Contains-append_left, Contains-append_right}
+use Rattle.std.proofs.lemmas.Map.Keys.{IsDistinct-IsPermutation}
 use Rattle.ra_labels.specs.Laws.{NoneTwice}
 use Rattle.ra_labels.specs.Insertion.{or_label}
 use Rattle.ra_labels.proofs.Members.{head_or_behind, at_head, behind_head, none_there}
+use Rattle.ra_labels.proofs.Comparisons.{eqb-comm}
 
 -- two lists with none twice, and none of one in the other, together
 pub none_twice-append : {A : Type 0} (xs ys : List A) → NoneTwice xs → NoneTwice ys → ((x : A) → Contains xs x → Contains ys x → ⊥) → NoneTwice (xs ++ ys)
@@ -23,6 +27,44 @@ none_twice-append (x ∷ xs) ys one two apart = (
 
 pub none_twice-one : {A : Type 0} (x : A) → NoneTwice (x ∷ [])
 none_twice-one x = (none_there x, tt)
+
+-- a list with none twice, without its last
+pub none_twice-last : {A : Type 0} (xs : List A) (x : A) → NoneTwice (xs ++ x ∷ []) → NoneTwice xs × (¬ Contains xs x)
+none_twice-last [] x once = (tt, none_there x)
+none_twice-last (y ∷ ys) x once =
+    let rest = none_twice-last ys x once.1 in (
+      ((λ there. once.0 (Contains-append_left ys (x ∷ []) y there)), rest.0),
+      (λ there. elim (head_or_behind y ys x there) [
+        | inl here ↦ once.0 (subst (Contains (ys ++ x ∷ [])) (sym here) (Contains-append_right ys (x ∷ []) x (at_head x [] x refl)))
+        | inr further ↦ rest.1 further
+      ]),
+    )
+
+-- and in another order
+apart_all : (x : ℕ) (xs : List ℕ) → ¬ Contains xs x → AllByRecursion (λ z. (x == z) ≡ false) xs
+apart_all x [] none = tt
+apart_all x (y ∷ ys) none = (ne_eqb x y (λ is. none (at_head y ys x (sym is))), apart_all x ys (λ there. none (behind_head y ys x there)))
+
+none_among : (x : ℕ) (xs : List ℕ) → AllByRecursion (λ z. (x == z) ≡ false) xs → ¬ Contains xs x
+none_among x [] all there = none_there x there
+none_among x (y ∷ ys) all there = elim (head_or_behind y ys x there) [
+  | inl here ↦ eqb-false x y all.0 (sym here)
+  | inr further ↦ none_among x ys all.1 further
+]
+
+distinct_from : (xs : List ℕ) → NoneTwice xs → IsDistinct (λ x y. x == y) xs
+unfolding IsDistinct
+distinct_from [] once = tt
+distinct_from (x ∷ xs) once = (apart_all x xs once.0, distinct_from xs once.1)
+
+from_distinct : (xs : List ℕ) → IsDistinct (λ x y. x == y) xs → NoneTwice xs
+unfolding IsDistinct
+from_distinct [] once = tt
+from_distinct (x ∷ xs) once = (none_among x xs once.0, from_distinct xs once.1)
+
+pub none_twice-permutation : (xs ys : List ℕ) → IsPermutation xs ys → NoneTwice xs → NoneTwice ys
+none_twice-permutation xs ys shuffled once =
+    from_distinct ys (IsDistinct-IsPermutation (λ x y. x == y) eqb-comm xs ys shuffled (distinct_from xs once))
 
 pub not_both : (b : Bool) → b ≡ false → ¬ (b ≡ true)
 not_both b fails passes = false≢true (sym fails ∙ passes)

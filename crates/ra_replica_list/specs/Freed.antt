@@ -1,13 +1,15 @@
 -- Labels that follow one another once what they waited for is there.
-use Rattle.std.specs.Prelude.{◌≡◌, ◌⊎◌, ℕ, ◌+◌, ◌<◌, ◌≤◌, ◌==◌, Bool, true, false, List, [], length, take, drop, get_or, Option, Some, Contains, if◌then◌else◌}
+use Rattle.std.specs.Prelude.{◌≡◌, ◌⊎◌, ℕ, ◌+◌, ◌==◌, Bool, true, false, List, [], length, Option, Some, Contains, if◌then◌else◌}
 use Rattle.std.specs.Option.{option_map_or}
 use Rattle.std.specs.List.{list_any}
 use Rattle.ra_labels.specs.declared.kind.Kind.TheVariants.{Rga}
+use Rattle.ra_labels.specs.declared.operation.Update.{Update}
 use Rattle.ra_labels.specs.Records.{Records}
 use Rattle.ra_labels.specs.Specification.{State, state_after}
 use Rattle.ra_labels.specs.Laws.{NoneTwice}
 use Rattle.ra_labels.specs.Insertion.{updates_passing, or_label}
 use Rattle.ra_labels.specs.Waiting.{NoneWaits, IsSettled}
+use Rattle.ra_seqspec.specs.Updates.{after_all}
 use Rattle.ra_element_list.specs.ElementList.{Arrival, ElementList, is_marked}
 use Rattle.ra_replica_list.specs.declared.deed.Deed.{Deed}
 use Rattle.ra_replica_list.specs.declared.deed.Deed.TheVariants.{PutsIn, Removes}
@@ -28,9 +30,9 @@ is_put_by deeds labels number = list_any (λ label. option_map_or (puts number) 
 abbrev pub freed_under : List (Option Deed) → List ℕ → (ℕ → List ℕ) → ℕ → List ℕ
 freed_under deeds labels waiting number = if is_put_by deeds labels number then [] else waiting number
 
--- some of the labels are settled before the first one is, and so many of those that follow: each of the others has what
--- it needs
-pub record IsFreeing (state : State) (marks : List Bool) (labels : List ℕ) (done : ℕ) (arrivals : List Arrival)
+-- these labels have followed the ones that were settled before the first one was, and those that are ready have what
+-- they need
+pub record IsFreeing (state : State) (marks : List Bool) (labels ready : List ℕ) (arrivals : List Arrival)
     (deeds : List (Option Deed)) (records : Records) (had settled : ℕ → Bool) (first : ℕ) : Type 0 where
   pub passes : ℕ → Bool
   pub had_them : (n : ℕ) → passes n ≡ true → or_label had first n ≡ true
@@ -38,16 +40,15 @@ pub record IsFreeing (state : State) (marks : List Bool) (labels : List ℕ) (do
   pub after : state_after Rga (updates_passing Rga records passes) ≡ Some state
   pub there : AreThere marks arrivals records passes
   pub older : (n : ℕ) → settled n ≡ true → passes n ≡ true
-  pub only : (n : ℕ) → passes n ≡ true → (settled n ≡ true) ⊎ Contains (take done labels) n
-  pub gone : (n : ℕ) → Contains (take done labels) n → passes n ≡ true
-  pub next : (n : ℕ) → Contains (drop done labels) n → (deed : Deed) × (deed_at deeds n ≡ Some deed)
+  pub only : (n : ℕ) → passes n ≡ true → (settled n ≡ true) ⊎ Contains labels n
+  pub gone : (n : ℕ) → Contains labels n → passes n ≡ true
+  pub next : (n : ℕ) → Contains ready n → (deed : Deed) × (deed_at deeds n ≡ Some deed)
       × (or_label had first n ≡ true) × (passes n ≡ false) × (is_marked marks (needed_number arrivals deed) ≡ true)
   pub others : (n : ℕ) (deed : Deed) → deed_at deeds n ≡ Some deed → had n ≡ true → passes n ≡ false
-      → (is_marked marks (needed_number arrivals deed) ≡ false) ⊎ Contains (drop done labels) n
-  pub itself : (passes first ≡ true) ⊎ Contains (drop done labels) first
-  pub once : NoneTwice (drop done labels)
-  pub count : length (updates_passing Rga records passes) ≡ length (updates_passing Rga records settled) + done
-  pub among : done ≤ length labels
+      → (is_marked marks (needed_number arrivals deed) ≡ false) ⊎ Contains ready n
+  pub itself : (passes first ≡ true) ⊎ Contains ready first
+  pub once : NoneTwice ready
+  pub count : length (updates_passing Rga records passes) ≡ length (updates_passing Rga records settled) + length labels
 
 -- with the label, which was not had, all is kept as well, after so many steps
 pub record IsListWithAfter (state : State) (marks : List Bool) (waiting : List (ℕ × List ℕ)) (arrivals : List Arrival)
@@ -70,27 +71,24 @@ pub record AreAlike (list next : ReplicaList) : Type 0 where
   pub greatest : next.greatest ≡ list.greatest
   pub waiting : (number : ℕ) → labels_under next.waiting number ≡ labels_under list.waiting number
 
--- so many labels have followed, from what was kept before the first one
-pub record IsAmidst (state : State) (marks : List Bool) (labels : List ℕ) (waiting : List (ℕ × List ℕ)) (done : ℕ)
+-- these labels have followed, from what was kept before the first one, and those are ready
+pub record IsAmidst (state : State) (marks : List Bool) (labels ready : List ℕ) (waiting : List (ℕ × List ℕ))
     (all : ElementList) (deeds : List (Option Deed)) (records : Records) (had settled : ℕ → Bool)
     (first : ℕ) : Type 0 where
   pub elements : AreElementsOf all deeds records
   pub settles : IsSettled records had settled
   pub waiting_labels : AreWaiting (labels_under waiting) all.arrivals deeds records had settled
   pub new : had first ≡ false
-  pub freeing : IsFreeing state marks labels done all.arrivals deeds records had settled first
+  pub freeing : IsFreeing state marks labels ready all.arrivals deeds records had settled first
 
--- in some records that is so, and this label is the next one
-pub record MayFollow (state : State) (marks : List Bool) (labels : List ℕ) (waiting : List (ℕ × List ℕ))
-    (all : ElementList) (deeds : List (Option Deed)) (label : ℕ) : Type 0 where
+-- in some records that is so once these updates are made
+pub record MayGoOn (state : State) (updates : List Update) (marks : List Bool) (labels ready : List ℕ)
+    (waiting : List (ℕ × List ℕ)) (all : ElementList) (deeds : List (Option Deed)) : Type 0 where
   pub records : Records
   pub had : ℕ → Bool
   pub settled : ℕ → Bool
   pub first : ℕ
-  pub done : ℕ
-  pub amidst : IsAmidst state marks labels waiting done all deeds records had settled first
-  pub here : done < length labels
-  pub next_is : get_or labels done 0 ≡ label
+  pub amidst : IsAmidst (after_all state updates) marks labels ready waiting all deeds records had settled first
 
 -- in some records what is kept stands, and the label, which was not had, puts in an element whose anchor is there
 pub record MayFree (state : State) (marks : List Bool) (waiting : List (ℕ × List ℕ)) (all : ElementList)
@@ -105,11 +103,11 @@ pub record MayFree (state : State) (marks : List Bool) (waiting : List (ℕ × L
   pub new : had label ≡ false
   pub needed : is_marked marks (needed_number all.arrivals deed) ≡ true
 
--- so many labels have followed the first one, wherever what was kept stands
-abbrev pub AreFreedTo : State → List Bool → List ℕ → ℕ → List (ℕ × List ℕ) → State → List Bool → ElementList
+-- these labels have followed the first one, wherever what was kept stands, and those are ready
+abbrev pub AreFreedTo : State → List Bool → List ℕ → List ℕ → List (ℕ × List ℕ) → State → List Bool → ElementList
     → List (Option Deed) → ℕ → Type 0
-AreFreedTo state marks labels done waiting old_state old_marks all deeds first =
+AreFreedTo state marks labels ready waiting old_state old_marks all deeds first =
     (records : Records) (had settled : ℕ → Bool) (deed : Deed) → AreElementsOf all deeds records
     → IsListWith old_state old_marks waiting all.arrivals deeds records had settled → deed_at deeds first ≡ Some deed
     → had first ≡ false → is_marked old_marks (needed_number all.arrivals deed) ≡ true
-    → IsAmidst state marks labels waiting done all deeds records had settled first
+    → IsAmidst state marks labels ready waiting all deeds records had settled first

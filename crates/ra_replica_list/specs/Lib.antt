@@ -1,4 +1,5 @@
 pub mod Waiting
 pub mod Deeds
 pub mod ReplicaList
+pub mod Marks
 pub mod Freed

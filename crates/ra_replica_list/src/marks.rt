@@ -1,6 +1,7 @@
 //! Which elements are in the list of a replica, by their numbers.
-ghost use Rattle.std.specs.Prelude.{◌≡◌, ◌<◌, ℕ, true, [], set, vec_len, IfOk, OnOk, OnErr};
+ghost use Rattle.std.specs.Prelude.{◌≡◌, ◌==◌, ◌||◌, ◌<◌, ℕ, true, [], set, vec_len, OnOk, OnErr};
 ghost use Rattle.ra_element_list.specs.ElementList.{is_marked};
+ghost use Rattle.ra_replica_list.specs.Marks.{was_marked};
 
 use ra_labels::NoMemory;
 use std::alloc::Global;
@@ -20,15 +21,6 @@ impl Marks {
         Marks {
             marks: Vec::new(alloc),
         }
-    }
-
-    /// An equal set of its own. Costs as much as its greatest number.
-    pub fn copy(&self) -> Result<Marks, NoMemory>
-        ensures { IfOk result (λ copy. copy.marks.items ≡ self.now.marks.items) }
-    {
-        Ok(Marks {
-            marks: self.marks.clone()?,
-        })
     }
 
     /// Is the number in?
@@ -52,6 +44,33 @@ impl Marks {
             self.marks.resize(number + 1, false)?;
         }
         Ok(())
+    }
+
+    /// Puts the number in, and behind those that were put in, unless it was in before.
+    pub fn put_new(&mut self, number: u32, put: &mut Vec<u32>) -> Result<(), NoMemory>
+        ensures marks { OnOk result ((k : ℕ) → is_marked self.new.marks.items k
+            ≡ (is_marked self.old.marks.items k || k == number)) }
+        ensures before { (k : ℕ) → was_marked self.new.marks.items put.new.items k
+            ≡ was_marked self.old.marks.items put.old.items k }
+    {
+        if self.has(number) {
+            return Ok(());
+        }
+        self.make_room(number)?;
+        put.push(number)?;
+        self.put(number);
+        Ok(())
+    }
+
+    /// Takes the numbers out.
+    pub fn take_out(&mut self, numbers: &[u32])
+        ensures { (k : ℕ) → is_marked self.new.marks.items k ≡ was_marked self.old.marks.items numbers.now k }
+    {
+        for number in numbers {
+            if let Some(mark) = self.marks.get_mut(*number as usize) {
+                *mark = false;
+            }
+        }
     }
 
     /// Puts the number in, for which there is room.

@@ -23,7 +23,7 @@ ghost use Rattle.ra_replica_list.specs.ReplicaList.{IsListBy, IsListOf, MayRecei
 ghost use Rattle.ra_replica_list.specs.Freed.{IsListWithAfter, LeadsTo, AreAlike};
 
 use crate::deed::Deed;
-use crate::freed::{Freed, free_all};
+use crate::freed::{free, free_all};
 use crate::marks::Marks;
 use crate::put::put_in;
 use crate::waiting::Waiting;
@@ -170,8 +170,8 @@ impl ReplicaList {
 
     /// The label is delivered to the replica, which does this. Answers how many steps that took: one, or none where it
     /// waits, and one for each label that waited for its element, and so on; so where none waits then, at least one.
-    /// Costs two look-ups and a walk back to the nearest element that is there, mostly of no step at all; where labels
-    /// had waited for its element, a copy of the list and as much for each of them.
+    /// Costs two look-ups and a walk back to the nearest element that is there, mostly of no step at all, and as much
+    /// for each label that had waited for its element, and so on.
     pub fn deliver(
         &mut self,
         all: &ElementList,
@@ -312,20 +312,17 @@ impl ReplicaList {
         ensures greatest { self.new.greatest ≡ self.old.greatest }
         ensures err { OnErr result (AreAlike self.old self.new) }
     {
-        let freed = Freed::by(
+        let freed = free(
             self.alloc,
-            &self.state,
-            &self.there,
+            &mut self.state,
+            &mut self.there,
             &self.waiting,
             all,
             deeds,
             label,
         )?;
-        let steps = freed.labels.len() as u64;
-        free_all(&mut self.waiting, deeds, freed.labels.as_slice());
-        self.state = freed.state;
-        self.there = freed.there;
-        Ok(steps)
+        free_all(&mut self.waiting, deeds, freed.as_slice());
+        Ok(freed.len() as u64)
     }
 
     // It had a label with this stamp.

@@ -5,38 +5,95 @@ ghost use Rattle.ra_visibility.specs.Tracked.{labels_in, replicas_in};
 
 use ra_labels::Refusal;
 use ra_visibility::{DeliverFault, MOST_LABELS, Tracker};
+use std::alloc::Global;
 use std::process::Abort;
 
-// The number of this replica's next label, an update or not.
+// Which of the first three labels each of the first three replicas had.
+fn had(tracker: &Tracker) -> [bool; 9]
+    requires { 2 < replicas_in tracker.now.now }
+{
+    [
+        tracker.sees(0, 0),
+        tracker.sees(0, 1),
+        tracker.sees(0, 2),
+        tracker.sees(1, 0),
+        tracker.sees(1, 1),
+        tracker.sees(1, 2),
+        tracker.sees(2, 0),
+        tracker.sees(2, 1),
+        tracker.sees(2, 2),
+    ]
+}
+
+// The number of this replica's next label, an update or not. Where a growth is refused, all is as before, and the label
+// is issued again.
 fn issued(rt: &impl Abort, tracker: &mut Tracker, replica: u8, update: bool) -> u32
     requires replica { replica < replicas_in tracker.old.now }
+    requires three { 2 < replicas_in tracker.old.now }
     requires room { labels_in tracker.old.now < MOST_LABELS }
     ensures labels { labels_in tracker.new.now ≡ labels_in tracker.old.now + 1 }
     ensures replicas { replicas_in tracker.new.now ≡ replicas_in tracker.old.now }
 {
+    let before = had(tracker);
+    if let Ok(label) = tracker.issue(replica, update) {
+        return label;
+    }
+    assert_eq!(rt; had(tracker), before);
     match tracker.issue(replica, update) {
         Ok(label) => label,
         Err(_) => panic!(rt; "no memory"),
     }
 }
 
-#[test]
-fn a_label_sees_first_updates_of_each_replica(rt: HostRuntime) {
-    let mut tracker = match Tracker::new(rt.alloc(), 3) {
+// What comes of the delivery, which is made again where a growth is refused.
+fn delivered(
+    rt: &impl Abort,
+    tracker: &mut Tracker,
+    replica: u8,
+    label: u32,
+) -> Result<(), DeliverFault>
+    requires replica { replica < replicas_in tracker.old.now }
+    requires three { 2 < replicas_in tracker.old.now }
+    ensures labels { labels_in tracker.new.now ≡ labels_in tracker.old.now }
+    ensures replicas { replicas_in tracker.new.now ≡ replicas_in tracker.old.now }
+{
+    let before = had(tracker);
+    match tracker.deliver(replica, label) {
+        Err(DeliverFault::NoMemory) => {
+            assert_eq!(rt; had(tracker), before);
+            tracker.deliver(replica, label)
+        }
+        other => other,
+    }
+}
+
+fn tracker_of_three(rt: &impl Abort, alloc: Global) -> Tracker
+    ensures labels { labels_in result.now ≡ 0 }
+    ensures replicas { replicas_in result.now ≡ 3 }
+{
+    if let Ok(tracker) = Tracker::new(alloc, 3) {
+        return tracker;
+    }
+    match Tracker::new(alloc, 3) {
         Ok(tracker) => tracker,
         Err(_) => panic!(rt; "no memory"),
-    };
+    }
+}
+
+#[test]
+fn a_label_sees_first_updates_of_each_replica(rt: HostRuntime) {
+    let mut tracker = tracker_of_three(&rt, rt.alloc());
     let first = issued(&rt, &mut tracker, 0, true);
     assert_eq!(rt; first, 0);
-    let got = tracker.deliver(1, 0);
+    let got = delivered(&rt, &mut tracker, 1, 0);
     assert_eq!(rt; got, Ok(()));
     let second = issued(&rt, &mut tracker, 1, true);
     assert_eq!(rt; second, 1);
-    let early = tracker.deliver(2, 1);
+    let early = delivered(&rt, &mut tracker, 2, 1);
     assert_eq!(rt; early, Err(DeliverFault::Refused(Refusal::NotCausal(0))));
-    let got = tracker.deliver(2, 0);
+    let got = delivered(&rt, &mut tracker, 2, 0);
     assert_eq!(rt; got, Ok(()));
-    let got = tracker.deliver(2, 1);
+    let got = delivered(&rt, &mut tracker, 2, 1);
     assert_eq!(rt; got, Ok(()));
     let read = issued(&rt, &mut tracker, 2, false);
     assert_eq!(rt; read, 2);

@@ -6,3 +6,4 @@ pub mod PairKeys
 pub mod Walks
 pub mod Keys
 pub mod RisingLists
+pub mod SeveralUpdates

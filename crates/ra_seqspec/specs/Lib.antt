@@ -4,3 +4,4 @@ pub mod Form
 pub mod Asked
 pub mod Rga
 pub mod Pairs
+pub mod Updates

@@ -1,6 +1,8 @@
 -- The list that the nodes of an `RgaList` stand for, and what is kept true of them.
-use Rattle.std.specs.Prelude.{◌≡◌, ℕ, zero, suc, ◌<◌, nat_lt, Bool, true, false, List, [], ◌∷◌, ◌++◌, length, map, slice_index_or, slice_set, Option, Some, option_map, ◌==◌, if◌then◌else◌, not, ◌&&◌}
-use Rattle.ra_labels.specs.Lists.{is_among, is_in_list}
+use Rattle.std.specs.Prelude.{◌≡◌, ℕ, zero, suc, ◌<◌, nat_lt, Bool, true, false, List, [], ◌∷◌, ◌++◌, length, map, fold, slice_index_or, slice_set, Option, None, Some, option_map, is_some, ◌==◌, if◌then◌else◌, not, ◌&&◌, ◌||◌}
+use Rattle.ra_labels.specs.declared.operation.Update.{Update}
+use Rattle.ra_labels.specs.declared.operation.Update.TheVariants.{After, RgaRemove}
+use Rattle.ra_labels.specs.Lists.{is_among, is_in_list, insert_after, hide}
 use Rattle.ra_seqspec.specs.declared.rga.Node.{Node}
 use Rattle.ra_seqspec.specs.declared.rga.Place.{Place}
 use Rattle.ra_seqspec.specs.declared.rga.Place.TheVariants.{First, Behind}
@@ -51,6 +53,16 @@ may_insert anchor x list = is_in_list anchor list && not (is_in_list x list)
 abbrev pub may_hide : ℕ → List (ℕ × Bool) → Bool
 may_hide x list = is_in_list x list && not (x == 0)
 
+-- the list after an update of an RGA, where it is admitted
+abbrev pub list_step : List (ℕ × Bool) → Update → List (ℕ × Bool)
+list_step list (After anchor x) = if may_insert anchor x list then insert_after anchor x list else list
+list_step list (RgaRemove x) = if may_hide x list then hide x list else list
+list_step list _ = list
+
+-- the list after several
+abbrev pub list_after : List (ℕ × Bool) → List Update → List (ℕ × Bool)
+list_after list updates = fold list_step list updates
+
 -- a node that is shown
 abbrev pub shown_node : ℕ → ℕ → Node
 shown_node x next = record { element = x; is_shown = true; next = next }
@@ -58,6 +70,10 @@ shown_node x next = record { element = x; is_shown = true; next = next }
 -- the place directly behind the element, which the index has in this slot
 abbrev pub place_behind : ℕ → Option ℕ → Option Place
 place_behind x slot = if x == 0 then Some First else option_map Behind slot
+
+-- the place directly behind the anchor, if the index has that one and not x
+abbrev pub place_for : ℕ → ℕ → (ℕ → Option ℕ) → Option Place
+place_for anchor x slot_of = if x == 0 || is_some (slot_of x) then None else place_behind anchor (slot_of anchor)
 
 -- the node with another link
 abbrev pub linked_to : ℕ → Node → Node

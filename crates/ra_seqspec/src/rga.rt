@@ -1,11 +1,11 @@
 //! The list of an RGA, as nodes with links.
-ghost use Rattle.std.specs.Prelude.{◌≡◌, ◌↔◌, ℕ, ◌<◌, ◌&&◌, ◌||◌, ◌==◌, nat_eq, is_some, ◌∷◌, [], length, true, false, not, IsTrue, IfOk, IsOk, IfSome, OnErr, if◌then◌else◌};
+ghost use Rattle.std.specs.Prelude.{◌≡◌, ◌↔◌, ℕ, ◌+◌, ◌≤◌, ◌<◌, ◌&&◌, ◌||◌, ◌==◌, nat_eq, is_some, ◌∷◌, [], length, true, false, not, IsTrue, IfOk, IsOk, IfSome, OnOk, OnErr, Some, if◌then◌else◌};
 ghost use Rattle.std.specs.Vec.{vec_len, vec_capacity};
-ghost use Rattle.std.specs.HashMap.{get};
+ghost use Rattle.std.specs.HashMap.{get, spare};
 ghost use Rattle.ra_labels.specs.Lists.{is_among, insert_after, hide, shown};
-ghost use Rattle.ra_seqspec.specs.Rga.{may_insert, may_hide, place_behind, IsThere, first_after, nodes_after, nodes_hiding, slots_of, entries_of};
+ghost use Rattle.ra_seqspec.specs.Rga.{may_insert, may_hide, list_step, list_after, place_behind, place_for, IsThere, first_after, nodes_after, nodes_hiding, slots_of, entries_of, RgaListKept};
 
-use ra_labels::NoMemory;
+use ra_labels::{NoMemory, Update};
 use std::alloc::Global;
 use std::collections::HashMap;
 use std::marker::Model;
@@ -86,16 +86,31 @@ impl RgaList {
         ensures err { OnErr result (self.new ≡ self.old) }
         ensures memory { may_insert anchor element self.old ≡ false → IsOk result }
     {
-        let Some(place) = place_behind(&self.slots, anchor) else {
+        let Some(place) = place_for(&self.slots, anchor, element) else {
             return Ok(false);
         };
-        if has(&self.slots, element) {
-            return Ok(false);
-        }
         self.nodes.reserve(1)?;
-        self.slots.insert(element, self.nodes.len())?;
-        link(&mut self.first, &mut self.nodes, place, element);
+        self.slots.reserve(1)?;
+        put(
+            &mut self.first,
+            &mut self.nodes,
+            &mut self.slots,
+            place,
+            element,
+        );
         Ok(true)
+    }
+
+    /// Makes the updates of an RGA among these, one after another; one that the list does not admit changes nothing.
+    /// What memory they take is asked for before the first of them. Costs two look-ups for each.
+    pub fn apply_all(&mut self, updates: &[Update]) -> Result<(), NoMemory>
+        ensures list { OnOk result (self.new ≡ list_after self.old updates.now) }
+        ensures err { OnErr result (self.new ≡ self.old) }
+    {
+        self.nodes.reserve(updates.len())?;
+        self.slots.reserve(updates.len())?;
+        make_all(&mut self.first, &mut self.nodes, &mut self.slots, updates);
+        Ok(())
     }
 
     /// Shows the element no more and answers true, or changes nothing and answers false where it is the root or not in
@@ -104,17 +119,7 @@ impl RgaList {
         ensures done { result ≡ may_hide element self.old }
         ensures list { self.new ≡ (if result then hide element self.old else self.old) }
     {
-        if element == ROOT {
-            return false;
-        }
-        match self.slots.get(&element) {
-            Some(slot) => {
-                let slot = *slot;
-                hide_node(&mut self.nodes, slot);
-                true
-            }
-            None => false,
-        }
+        hide(&mut self.nodes, &self.slots, element)
     }
 
     /// Are these the elements that are shown, in their order? Costs as much as the list is long.
@@ -143,12 +148,92 @@ fn place_behind(slots: &HashMap<u32, usize>, element: u32) -> Option<Place>
     }
 }
 
+// The place directly behind the anchor, if that is in the list and the element is not.
+fn place_for(slots: &HashMap<u32, usize>, anchor: u32, element: u32) -> Option<Place>
+    ensures { result ≡ place_for anchor element (get nat_eq slots.now) }
+{
+    let place = place_behind(slots, anchor)?;
+    if has(slots, element) {
+        return None;
+    }
+    Some(place)
+}
+
+// Makes these updates, for which there is room.
+fn make_all(
+    first: &mut usize,
+    nodes: &mut Vec<Node>,
+    slots: &mut HashMap<u32, usize>,
+    updates: &[Update],
+)
+    requires room { vec_len nodes.old + length updates.now ≤ vec_capacity nodes.old }
+    requires spare { length updates.now ≤ spare slots.old }
+    requires kept { RgaListKept first.old nodes.old.items (get nat_eq slots.old) }
+    ensures list { entries_of first.new nodes.new.items
+        ≡ list_after (entries_of first.old nodes.old.items) updates.now }
+    ensures kept { RgaListKept first.new nodes.new.items (get nat_eq slots.new) }
+{
+    for update in updates {
+        make(first, nodes, slots, update);
+    }
+}
+
+// Makes the update, for which there is room.
+fn make(first: &mut usize, nodes: &mut Vec<Node>, slots: &mut HashMap<u32, usize>, update: &Update)
+    requires room { vec_len nodes.old < vec_capacity nodes.old }
+    requires spare { 0 < spare slots.old }
+    requires kept { RgaListKept first.old nodes.old.items (get nat_eq slots.old) }
+    ensures list { entries_of first.new nodes.new.items ≡ list_step (entries_of first.old nodes.old.items) update.now }
+    ensures kept { RgaListKept first.new nodes.new.items (get nat_eq slots.new) }
+    ensures room { vec_len nodes.new ≤ vec_len nodes.old + 1 }
+    ensures capacity { vec_capacity nodes.new ≡ vec_capacity nodes.old }
+    ensures spare { spare slots.old ≤ spare slots.new + 1 }
+{
+    match update {
+        Update::After { anchor, element } => {
+            if let Some(place) = place_for(slots, *anchor, *element) {
+                put(first, nodes, slots, place, *element);
+            }
+        }
+        Update::RgaRemove(element) => {
+            hide(nodes, slots, *element);
+        }
+        _ => {}
+    }
+}
+
+// Puts the element, which is not in the list, in there, for which there is room.
+fn put(
+    first: &mut usize,
+    nodes: &mut Vec<Node>,
+    slots: &mut HashMap<u32, usize>,
+    place: Place,
+    element: u32,
+)
+    requires room { vec_len nodes.old < vec_capacity nodes.old }
+    requires spare { 0 < spare slots.old }
+    requires kept { RgaListKept first.old nodes.old.items (get nat_eq slots.old) }
+    requires place { (anchor : ℕ) × (place_for anchor element (get nat_eq slots.old) ≡ Some place) }
+    ensures list { (anchor : ℕ) → place_for anchor element (get nat_eq slots.old) ≡ Some place
+        → entries_of first.new nodes.new.items ≡ insert_after anchor element (entries_of first.old nodes.old.items) }
+    ensures kept { RgaListKept first.new nodes.new.items (get nat_eq slots.new) }
+    ensures room { vec_len nodes.new ≡ vec_len nodes.old + 1 }
+    ensures capacity { vec_capacity nodes.new ≡ vec_capacity nodes.old }
+    ensures spare { spare slots.old ≤ spare slots.new + 1 }
+{
+    // There is room, so it is in.
+    let _ = slots.insert(element, nodes.len());
+    link(first, nodes, place, element);
+}
+
 // Puts a new node there.
 fn link(first: &mut usize, nodes: &mut Vec<Node>, place: Place, element: u32)
     requires room { vec_len nodes.old < vec_capacity nodes.old }
     requires there { IsThere place (length nodes.old.items) }
     ensures first { first.new ≡ first_after place first.old nodes.old.items }
     ensures nodes { nodes.new.items ≡ nodes_after place first.old nodes.old.items element }
+    ensures len { vec_len nodes.new ≡ vec_len nodes.old + 1 }
+    ensures capacity { vec_capacity nodes.new ≡ vec_capacity nodes.old }
 {
     let slot = nodes.len();
     let next = match place {
@@ -165,10 +250,37 @@ fn link(first: &mut usize, nodes: &mut Vec<Node>, place: Place, element: u32)
     });
 }
 
+// Shows the element no more, if it is in the list and not the root.
+fn hide(nodes: &mut Vec<Node>, slots: &HashMap<u32, usize>, element: u32) -> bool
+    requires { (first : ℕ) × RgaListKept first nodes.old.items (get nat_eq slots.now) }
+    ensures done { (first : ℕ) → RgaListKept first nodes.old.items (get nat_eq slots.now)
+        → result ≡ may_hide element (entries_of first nodes.old.items) }
+    ensures list { (first : ℕ) → RgaListKept first nodes.old.items (get nat_eq slots.now)
+        → entries_of first nodes.new.items
+        ≡ (if result then hide element (entries_of first nodes.old.items) else entries_of first nodes.old.items) }
+    ensures kept { (first : ℕ) → RgaListKept first nodes.old.items (get nat_eq slots.now)
+        → RgaListKept first nodes.new.items (get nat_eq slots.now) }
+    ensures len { vec_len nodes.new ≡ vec_len nodes.old }
+    ensures capacity { vec_capacity nodes.new ≡ vec_capacity nodes.old }
+{
+    if element == ROOT {
+        return false;
+    }
+    match slots.get(&element) {
+        Some(slot) => {
+            hide_node(nodes, *slot);
+            true
+        }
+        None => false,
+    }
+}
+
 // Shows the node in the slot no more.
 fn hide_node(nodes: &mut Vec<Node>, slot: usize)
     requires { slot < length nodes.old.items }
-    ensures { nodes.new.items ≡ nodes_hiding slot nodes.old.items }
+    ensures nodes { nodes.new.items ≡ nodes_hiding slot nodes.old.items }
+    ensures len { vec_len nodes.new ≡ vec_len nodes.old }
+    ensures capacity { vec_capacity nodes.new ≡ vec_capacity nodes.old }
 {
     let node = &mut nodes[slot];
     node.is_shown = false;

@@ -1,11 +1,14 @@
 //! The sequential specification as a state: its step, and its answer.
-ghost use Rattle.std.specs.Prelude.{◌≡◌, ◌↔◌, ◌==◌, not, filter, IsTrue, IfOk, IsOk, IfSome, OnErr, true, false, is_some, unwrap_or};
+ghost use Rattle.std.specs.Prelude.{◌≡◌, ◌↔◌, ◌==◌, not, filter, IsTrue, IfOk, IsOk, IfSome, OnErr, true, false, is_some, unwrap_or, OnOk};
 ghost use Rattle.std.specs.Ordering.{nat_cmp};
 ghost use Rattle.std.specs.BTreeSet.{IsOrdered};
+ghost use Rattle.ra_labels.specs.declared.kind.Kind.TheVariants.{Rga};
 ghost use Rattle.ra_labels.specs.Specification.{start_of, step_of, answers};
+ghost use Rattle.ra_labels.specs.Laws.{kind_of_state};
 ghost use Rattle.ra_seqspec.specs.Asked.{asks_rising};
 ghost use Rattle.ra_seqspec.specs.Range.{IsInRange};
 ghost use Rattle.ra_seqspec.specs.Memory.{takes_memory, update_takes_memory};
+ghost use Rattle.ra_seqspec.specs.Updates.{after_all};
 
 use crate::pairs;
 use crate::rga::RgaList;
@@ -108,6 +111,19 @@ impl State {
             _ => return Ok(false),
         }
         Ok(true)
+    }
+
+    /// Makes these updates of an RGA one after another; one that the state does not admit then changes nothing. What
+    /// memory they take is asked for before the first of them. Costs two look-ups for each.
+    pub fn apply_all(&mut self, updates: &[Update]) -> Result<(), NoMemory>
+        requires list { kind_of_state self.old ≡ Rga }
+        ensures state { OnOk result (self.new ≡ after_all self.old updates.now) }
+        ensures err { OnErr result (self.new ≡ self.old) }
+    {
+        let Form::Rga(list) = &mut self.form else {
+            return Ok(());
+        };
+        list.apply_all(updates)
     }
 
     /// Is the query's answer that of this state? It takes no memory and always answers. A read costs a pass over an LWW

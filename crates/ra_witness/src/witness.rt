@@ -87,7 +87,7 @@ impl<O: NamedOrder> Witness<O> {
     /// The label is delivered to the replica. It is out of memory where a growth is refused, and then as before. Where
     /// none of the replica's updates waits then, it takes a step at least. Costs one `State::apply`, however late the
     /// label is. Of an RGA it costs beside that a walk back to the nearest element that is there, mostly of no step at
-    /// all, and where labels had waited for its element a copy of the replica's list and a step for each of them.
+    /// all, and as much for each label that had waited for its element, and so on.
     pub fn deliver(&mut self, replica: u8, label: u32) -> Result<(), NoMemory>
         requires { MayDeliver O.stands_for self.old replica label }
         ensures delivered { (past : Past) → IsWitnessOf O.stands_for self.old past
@@ -125,8 +125,9 @@ impl<O: NamedOrder> Witness<O> {
         Ok(())
     }
 
-    /// How often `State::apply` was called by calls that changed the witness: the clauses bound this number, and that
-    /// it counts those calls is seen by reading. It takes no memory, and stays at the greatest number once there.
+    /// How many updates were made on a replica's state, by calls that changed the witness: the clauses bound this
+    /// number, and that it counts those updates is seen by reading. It takes no memory, and stays at the greatest
+    /// number once there.
     pub fn steps(&self) -> u64
         ensures { result ≡ self.now.steps }
     {

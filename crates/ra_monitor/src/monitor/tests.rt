@@ -77,7 +77,7 @@ fn operation(replica: u8, op: Op, stamp: Option<u32>) -> Command {
     Command::Operate { replica, op, stamp }
 }
 
-// How often `State::apply` was called so far.
+// How many updates were made so far.
 fn steps_of(monitor: &Monitor) -> u64 {
     monitor.history.witness.steps()
 }
@@ -95,12 +95,16 @@ fn monitor_of(rt: &impl Abort, alloc: Global, kind: Kind) -> Monitor {
 // The reply to one command of pass 0, with the number of commands before it as its ticket.
 fn reply_to(rt: &impl Abort, monitor: &mut Monitor, command: Command) -> Reply {
     let ticket = monitor.log().len() as u64;
+    let steps = steps_of(monitor);
     let mut command = command;
     for _attempt in 0..ATTEMPTS {
         match step_by(rt, monitor, ticket, command) {
             Ok(reply) => return reply,
             Err(StepFault::Full(_)) => panic!(rt; "full"),
-            Err(StepFault::NoMemory(back)) => command = back,
+            Err(StepFault::NoMemory(back)) => {
+                assert_eq!(rt; steps_of(monitor), steps);
+                command = back;
+            }
         }
     }
     panic!(rt; "no memory")

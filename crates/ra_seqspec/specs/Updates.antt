@@ -1,0 +1,8 @@
+-- Several updates, one after another.
+use Rattle.std.specs.Prelude.{List, fold, unwrap_or}
+use Rattle.ra_labels.specs.declared.operation.Update.{Update}
+use Rattle.ra_labels.specs.Specification.{State, step_of}
+
+-- the state after the updates, of which each that is not admitted changes nothing
+abbrev pub after_all : State → List Update → State
+after_all state updates = fold (λ s update. unwrap_or (step_of s update) s) state updates

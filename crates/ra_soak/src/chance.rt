@@ -1,0 +1,40 @@
+//! Choices that look like chance, and are the same for the same seed.
+ghost use Rattle.std.specs.Prelude.{◌<◌};
+
+use rand_core::{Rng, SeedableRng};
+use rand_xoshiro::Xoshiro256PlusPlus;
+
+/// Where choices come from.
+#[derive(Drop)]
+pub struct Chance {
+    numbers: Xoshiro256PlusPlus,
+}
+
+impl Chance {
+    /// The choices of this seed.
+    pub fn new(seed: u64) -> Chance {
+        Chance {
+            numbers: Xoshiro256PlusPlus::seed_from_u64(seed),
+        }
+    }
+
+    /// A seed for other choices.
+    pub fn seed(&mut self) -> u64 {
+        self.numbers.next_u64()
+    }
+
+    /// A number below this one.
+    pub fn below(&mut self, count: u32) -> u32
+        requires { 0 < count }
+        ensures { result < count }
+    {
+        (self.numbers.next_u64() % u64::from(count)) as u32
+    }
+
+    /// Yes, once in so many times.
+    pub fn is_one_in(&mut self, count: u32) -> bool
+        requires { 0 < count }
+    {
+        self.below(count) == 0
+    }
+}

@@ -1,0 +1,141 @@
+//! What a replica holds that nothing but its own updates reaches: what it may do, and what its reads return.
+
+use crate::chance::Chance;
+use ra_labels::{Elements, Kind, Op};
+use std::alloc::{AllocError, Global};
+
+/// A replica holds at most as many elements.
+const MOST_HELD: u32 = 8;
+
+/// Elements of one replica lie so far from those of the next one: no log has as many entries.
+const ELEMENTS: u32 = 1_048_576;
+
+/// Values that are written are below this one.
+const VALUES: u32 = 1_000;
+
+/// What the replica holds.
+#[derive(Drop)]
+pub struct Held {
+    kind: Kind,
+    replica: u8,
+    count: i32,
+    last: Option<u32>,
+    // Elements in the order of the list, which rises in a set. Of an RGA none has a greater stamp than one before it
+    // that it was put behind, so a new one goes directly behind its anchor.
+    elements: Vec<u32>,
+    // How many elements were ever put in.
+    made: u32,
+}
+
+impl Held {
+    /// A replica before any update.
+    pub fn new(alloc: Global, kind: Kind, replica: u8) -> Held {
+        Held {
+            kind,
+            replica,
+            count: 0,
+            last: None,
+            elements: Vec::new(alloc),
+            made: 0,
+        }
+    }
+
+    /// An update that the replica may make. Where it takes an element out, that is one of its own.
+    pub fn update(&self, alloc: Global, chance: &mut Chance) -> Result<Op, AllocError> {
+        let there = self.some_element(chance);
+        Ok(match (self.kind, there) {
+            (Kind::Counter, _) if chance.is_one_in(3) => Op::Dec,
+            (Kind::Counter, _) => Op::Inc,
+            (Kind::Register, _) => Op::Write(chance.below(VALUES)),
+            (Kind::LwwSet, Some(element)) => Op::LwwRemove(element),
+            (Kind::LwwSet, None) => Op::LwwAdd(self.fresh()),
+            (Kind::OrSet, Some(element)) => Op::OrRemove {
+                element,
+                ids: only(alloc, element)?,
+            },
+            (Kind::OrSet, None) => Op::OrAdd {
+                element: self.fresh(),
+                id: self.fresh(),
+            },
+            (Kind::Rga, Some(element)) => Op::RgaRemove(element),
+            (Kind::Rga, None) => Op::After {
+                anchor: self.some_element(chance).unwrap_or(0),
+                element: self.fresh(),
+            },
+        })
+    }
+
+    // One of the elements, the rather the more there are.
+    fn some_element(&self, chance: &mut Chance) -> Option<u32> {
+        self.elements.get(chance.below(MOST_HELD) as usize).copied()
+    }
+
+    // An element that no update has put in.
+    fn fresh(&self) -> u32 {
+        u32::from(self.replica)
+            .wrapping_mul(ELEMENTS)
+            .wrapping_add(self.made)
+            .wrapping_add(1)
+    }
+
+    /// A read, with what it returns.
+    pub fn read(&self) -> Result<Op, AllocError> {
+        Ok(match self.kind {
+            Kind::Counter => Op::Count(self.count),
+            Kind::Register => Op::Last(self.last),
+            Kind::LwwSet => Op::LwwRead(Elements::new(self.elements.clone()?)),
+            Kind::OrSet => Op::OrRead(Elements::new(self.elements.clone()?)),
+            Kind::Rga => Op::RgaRead(Elements::new(self.elements.clone()?)),
+        })
+    }
+
+    /// A read, with what it does not return: a number more, or an element that is in none.
+    pub fn lie(&self) -> Result<Op, AllocError> {
+        let mut elements = self.elements.clone()?;
+        elements.push(u32::MAX)?;
+        Ok(match self.kind {
+            Kind::Counter => Op::Count(self.count.wrapping_add(1)),
+            Kind::Register => Op::Last(Some(VALUES)),
+            Kind::LwwSet => Op::LwwRead(Elements::new(elements)),
+            Kind::OrSet => Op::OrRead(Elements::new(elements)),
+            Kind::Rga => Op::RgaRead(Elements::new(elements)),
+        })
+    }
+
+    /// The replica has made this operation.
+    pub fn take(&mut self, op: &Op) -> Result<(), AllocError> {
+        match op {
+            Op::Inc => self.count = self.count.wrapping_add(1),
+            Op::Dec => self.count = self.count.wrapping_sub(1),
+            Op::Write(value) => self.last = Some(*value),
+            Op::LwwAdd(element) | Op::OrAdd { element, .. } => self.elements.push(*element)?,
+            Op::LwwRemove(element) | Op::OrRemove { element, .. } | Op::RgaRemove(element) => {
+                self.take_out(*element)
+            }
+            Op::After { anchor, element } => self.put_behind(*anchor, *element)?,
+            Op::Count(_) | Op::Last(_) | Op::LwwRead(_) | Op::OrRead(_) | Op::RgaRead(_) => {}
+        }
+        if matches!(op, Op::LwwAdd(_) | Op::OrAdd { .. } | Op::After { .. }) {
+            self.made = self.made.wrapping_add(1);
+        }
+        Ok(())
+    }
+
+    fn take_out(&mut self, element: u32) {
+        self.elements.retain(|it| *it != element);
+    }
+
+    // Directly behind the anchor, or at the beginning where that is not there.
+    fn put_behind(&mut self, anchor: u32, element: u32) -> Result<(), AllocError> {
+        let place = self.elements.iter().position(|it| *it == anchor);
+        self.elements.insert(place.map_or(0, |at| at + 1), element)?;
+        Ok(())
+    }
+}
+
+// A list of one identifier.
+fn only(alloc: Global, id: u32) -> Result<Elements, AllocError> {
+    let mut ids = Vec::new(alloc);
+    ids.push(id)?;
+    Ok(Elements::new(ids))
+}

@@ -1,0 +1,193 @@
+//! What a pass does: by its seed, by its number, and by what its replica holds.
+
+use crate::chance::Chance;
+use crate::held::Held;
+use ra_labels::{Command, Kind, NoMemory, Op, Refusal, Reply};
+use std::alloc::Global;
+use std::sync::atomic::{AtomicU32, Ordering};
+
+/// How many replicas there are.
+pub const REPLICAS: u8 = 16;
+
+/// The passes below this number report for replicas that nothing reaches but their own updates: so they know what a
+/// read returns. Those from here to the quiet replica report for replicas that others' updates are delivered to.
+pub const WRITERS: u8 = 8;
+
+// No update is made by this replica, and none is delivered to it. So whoever reads it finds nothing.
+const QUIET: u8 = 15;
+
+/// What a pass does next.
+#[derive(Drop)]
+pub enum Act {
+    /// It makes a call, which may wait, or tries one.
+    Call { command: Command, waits: bool },
+    /// It glances.
+    Glance,
+    /// It meets another pass of its thread.
+    Meet,
+    /// It is dropped.
+    Leave,
+}
+
+// Which commands a pass makes.
+#[derive(Clone, Copy)]
+enum Part {
+    // Updates and reads of its replica.
+    Writes,
+    // Updates of its replica, and deliveries to it.
+    Hears,
+    // What changes nothing.
+    LooksOn,
+}
+
+/// What a pass does.
+#[derive(Drop)]
+pub struct Plan {
+    chance: Chance,
+    part: Part,
+    replica: u8,
+    held: Held,
+    kind: Kind,
+    // All labels below this one have been delivered, as far as they can be.
+    delivered: u32,
+    // So many commands before it reports a read falsely.
+    lies_after: Option<u32>,
+    // It is never dropped.
+    stays: bool,
+}
+
+impl Plan {
+    /// What the pass of this number does on a desk of this kind. It lies after so many commands, where that is given.
+    pub fn new(alloc: Global, kind: Kind, pass: u8, seed: u64, lies_after: Option<u32>) -> Plan {
+        let (part, replica) = if pass < WRITERS {
+            (Part::Writes, pass)
+        } else if pass < QUIET {
+            (Part::Hears, pass)
+        } else {
+            (Part::LooksOn, QUIET)
+        };
+        Plan {
+            chance: Chance::new(seed),
+            part,
+            replica,
+            held: Held::new(alloc, kind, replica),
+            kind,
+            delivered: 0,
+            lies_after,
+            stays: false,
+        }
+    }
+
+    /// The same, of a pass that is not dropped, where it stays.
+    pub fn staying(self, stays: bool) -> Plan {
+        Plan { stays, ..self }
+    }
+
+    /// What it does next. A stamp's clock is drawn here, from the one that all passes share.
+    pub fn next(&mut self, alloc: Global, clock: &AtomicU32) -> Result<Act, NoMemory> {
+        if !self.stays && self.chance.is_one_in(1_000) {
+            return Ok(Act::Leave);
+        }
+        Ok(match self.chance.below(16) {
+            0 => Act::Glance,
+            1 => Act::Meet,
+            what => Act::Call {
+                command: self.command(alloc, clock)?,
+                waits: what < 11,
+            },
+        })
+    }
+
+    fn command(&mut self, alloc: Global, clock: &AtomicU32) -> Result<Command, NoMemory> {
+        if self.lies_now() {
+            return Ok(operation(self.replica, self.held.lie()?, None));
+        }
+        match (self.part, self.chance.below(8)) {
+            (_, 0) => Ok(Command::Verdict),
+            (_, 1) => self.refused(),
+            (Part::Writes, 2 | 3) | (Part::LooksOn, 2..=4) => {
+                Ok(operation(self.replica, self.held.read()?, None))
+            }
+            (Part::Writes, _) | (Part::Hears, 2 | 3) => self.update(alloc, clock),
+            (Part::Hears, _) => Ok(self.delivery()),
+            (Part::LooksOn, _) => self.refused(),
+        }
+    }
+
+    // Is this the command that is a lie?
+    fn lies_now(&mut self) -> bool {
+        let now = self.lies_after == Some(0);
+        self.lies_after = match self.lies_after {
+            Some(left) if left > 0 => Some(left - 1),
+            _ => None,
+        };
+        now
+    }
+
+    fn update(&mut self, alloc: Global, clock: &AtomicU32) -> Result<Command, NoMemory> {
+        let op = self.held.update(alloc, &mut self.chance)?;
+        let stamp = if carries_stamp(&op) {
+            Some(clock.fetch_add(1, Ordering::SeqCst))
+        } else {
+            None
+        };
+        Ok(operation(self.replica, op, stamp))
+    }
+
+    // Of the first label that has not been delivered, whose causes have been, or of a later one, whose may lack.
+    fn delivery(&mut self) -> Command {
+        let ahead = if self.chance.is_one_in(4) {
+            self.chance.below(16)
+        } else {
+            0
+        };
+        Command::Deliver {
+            replica: self.replica,
+            label: self.delivered.saturating_add(ahead),
+        }
+    }
+
+    // What is refused, whatever was reported.
+    fn refused(&mut self) -> Result<Command, NoMemory> {
+        Ok(match self.chance.below(4) {
+            0 => Command::Deliver {
+                replica: self.replica,
+                label: u32::MAX,
+            },
+            1 => Command::Deliver {
+                replica: REPLICAS,
+                label: 0,
+            },
+            2 => operation(self.replica, self.held.read()?, Some(1)),
+            _ if self.kind == Kind::Counter => operation(self.replica, Op::Write(1), Some(1)),
+            _ => operation(self.replica, Op::Inc, None),
+        })
+    }
+
+    /// The command was answered.
+    pub fn answered(&mut self, command: &Command, reply: Reply) -> Result<(), NoMemory> {
+        match (command, reply) {
+            (Command::Operate { op, .. }, Reply::Ok(_)) => self.held.take(op)?,
+            (Command::Deliver { label, .. }, Reply::Got(_))
+            | (
+                Command::Deliver { label, .. },
+                Reply::Refused(Refusal::NotAnUpdate | Refusal::AlreadySeen),
+            ) if *label == self.delivered => {
+                self.delivered = self.delivered.saturating_add(1);
+            }
+            _ => {}
+        }
+        Ok(())
+    }
+}
+
+fn operation(replica: u8, op: Op, stamp: Option<u32>) -> Command {
+    Command::Operate { replica, op, stamp }
+}
+
+fn carries_stamp(op: &Op) -> bool {
+    matches!(
+        op,
+        Op::Write(_) | Op::LwwAdd(_) | Op::LwwRemove(_) | Op::After { .. }
+    )
+}

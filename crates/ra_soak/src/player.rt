@@ -1,0 +1,161 @@
+//! A pass with what it does and what it was told: its turns, alone or beside another pass.
+ghost use Rattle.std.specs.Prelude.{◌≡◌, IfSome};
+ghost use Rattle.ra_ticket.specs.Passes.{IsPassOf};
+
+use crate::plan::{Act, Plan};
+use crate::record::{Answer, Event, Record};
+use ra_desk::Desk;
+use ra_labels::{Command, NoMemory};
+use ra_monitor::Monitor;
+use ra_ticket::Pass;
+use std::alloc::Global;
+use std::sync::Wait;
+use std::sync::atomic::AtomicU32;
+
+/// A pass with its plan and its record.
+#[derive(Drop)]
+pub struct Player {
+    /// The pass, until it is dropped.
+    pub pass: Option<Pass<Monitor>>,
+    /// What it does.
+    pub plan: Plan,
+    /// What it was told.
+    pub record: Record,
+}
+
+/// One turn. Where the pass would meet another one, it glances.
+pub fn take_turn<R: Wait>(
+    rt: &R,
+    alloc: Global,
+    desk: &Desk,
+    clock: &AtomicU32,
+    player: &mut Player,
+) -> Result<(), NoMemory>
+    requires { IfSome player.old.pass (IsPassOf desk.now) }
+    ensures { IfSome player.new.pass (IsPassOf desk.now) }
+{
+    let act = player.plan.next(alloc, clock)?;
+    do_alone(rt, desk, player, act)
+}
+
+/// One turn of the first of two passes.
+pub fn take_turn_beside<R: Wait>(
+    rt: &R,
+    alloc: Global,
+    desk: &Desk,
+    clock: &AtomicU32,
+    player: &mut Player,
+    other: &mut Player,
+) -> Result<(), NoMemory>
+    requires player { IfSome player.old.pass (IsPassOf desk.now) }
+    requires other { IfSome other.old.pass (IsPassOf desk.now) }
+    ensures player { IfSome player.new.pass (IsPassOf desk.now) }
+    ensures other { IfSome other.new.pass (IsPassOf desk.now) }
+{
+    match player.plan.next(alloc, clock)? {
+        Act::Meet => meet(desk, player, other),
+        act => do_alone(rt, desk, player, act),
+    }
+}
+
+fn do_alone<R: Wait>(rt: &R, desk: &Desk, player: &mut Player, act: Act) -> Result<(), NoMemory>
+    requires { IfSome player.old.pass (IsPassOf desk.now) }
+    ensures { IfSome player.new.pass (IsPassOf desk.now) }
+{
+    match act {
+        Act::Call { command, waits } => call(rt, desk, player, command, waits),
+        Act::Glance | Act::Meet => glance(desk, player),
+        Act::Leave => {
+            player.pass = None;
+            Ok(())
+        }
+    }
+}
+
+// A call, or an attempt, of a pass that is there.
+fn call<R: Wait>(
+    rt: &R,
+    desk: &Desk,
+    player: &mut Player,
+    command: Command,
+    waits: bool,
+) -> Result<(), NoMemory>
+    requires { IfSome player.old.pass (IsPassOf desk.now) }
+    ensures { IfSome player.new.pass (IsPassOf desk.now) }
+{
+    let kept = command.clone()?;
+    match player.pass.take() {
+        Some(pass) => {
+            let mut pass = pass;
+            let answer = answer_to(rt, desk, &mut pass, command, waits);
+            player.pass = Some(pass);
+            heed(player, kept, answer)
+        }
+        None => Ok(()),
+    }
+}
+
+fn answer_to<R: Wait>(
+    rt: &R,
+    desk: &Desk,
+    pass: &mut Pass<Monitor>,
+    command: Command,
+    waits: bool,
+) -> Answer
+    requires { IsPassOf desk.now pass.old }
+    ensures { IsPassOf desk.now pass.new }
+{
+    if waits {
+        desk.submit(rt, pass, command)
+    } else {
+        desk.try_submit(pass, command)
+    }
+}
+
+// The plan and the record learn what was answered.
+fn heed(player: &mut Player, command: Command, answer: Answer) -> Result<(), NoMemory>
+    ensures { player.new.pass ≡ player.old.pass }
+{
+    if let Ok(reply) = &answer {
+        player.plan.answered(&command, *reply)?;
+    }
+    player.record.answered(command, answer)
+}
+
+fn glance(desk: &Desk, player: &mut Player) -> Result<(), NoMemory>
+    requires { IfSome player.old.pass (IsPassOf desk.now) }
+    ensures { IfSome player.new.pass (IsPassOf desk.now) }
+{
+    match player.pass.take() {
+        Some(pass) => {
+            let mut pass = pass;
+            let seen = Event::Glanced(desk.glance(&mut pass));
+            player.pass = Some(pass);
+            player.record.looked(seen)
+        }
+        None => Ok(()),
+    }
+}
+
+// Two passes meet, if both are there.
+fn meet(desk: &Desk, player: &mut Player, other: &mut Player) -> Result<(), NoMemory>
+    requires player { IfSome player.old.pass (IsPassOf desk.now) }
+    requires other { IfSome other.old.pass (IsPassOf desk.now) }
+    ensures player { IfSome player.new.pass (IsPassOf desk.now) }
+    ensures other { IfSome other.new.pass (IsPassOf desk.now) }
+{
+    match (player.pass.take(), other.pass.take()) {
+        (Some(one), Some(two)) => {
+            let (one, two, calls) = desk.meet(one, two);
+            player.pass = Some(one);
+            other.pass = Some(two);
+            player.record.looked(Event::Met(calls))?;
+            other.record.looked(Event::Met(calls))
+        }
+        (one, two) => {
+            player.pass = one;
+            other.pass = two;
+            Ok(())
+        }
+    }
+}

@@ -1,0 +1,45 @@
+"""The small library tests/refuse.c, which is loaded into a program, and refuses its growths or counts them."""
+import os
+import subprocess
+import tempfile
+from pathlib import Path
+from typing import NamedTuple
+
+from program import SECONDS, TOP
+
+
+def library(folder):
+    """The library, which the compiler of the kit makes."""
+    kit = Path(subprocess.run(["rt", "doc"], check=True, capture_output=True, text=True).stdout.strip()).parent
+    made = Path(folder) / "refuse.so"
+    words = [kit / "toolchain" / "bin" / "clang", "-O1", "-shared", "-fPIC", "-nostdlib", "-fuse-ld=lld"]
+    subprocess.run([*words, "-o", made, TOP / "tests" / "refuse.c"], check=True)
+    return made
+
+
+class Asked(NamedTuple):
+    """How often memory was asked for, and for how many bytes in all."""
+
+    calls: int
+    bytes: int
+
+
+def asked(made, words, given):
+    """What a run writes, what it says and its status, and what it asked for."""
+    heard, told = os.pipe()
+    counting = {"LD_PRELOAD": str(made), "COUNTED_TO": str(told)}
+    # From a file each read is as long as it can be, so that the numbers are always the same.
+    with tempfile.TemporaryFile() as text:
+        text.write(given)
+        text.seek(0)
+        try:
+            run = subprocess.run(
+                words, stdin=text, capture_output=True, timeout=SECONDS, env=counting, pass_fds=(told,)
+            )
+        finally:
+            os.close(told)
+            numbers = os.read(heard, 100).split()
+            os.close(heard)
+    if len(numbers) != 2:
+        raise ValueError(f"it does not tell what it asked for, and ends with status {run.returncode}")
+    return (run.stdout, run.stderr, run.returncode), Asked(*map(int, numbers))
