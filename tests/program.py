@@ -17,6 +17,13 @@ def build():
     subprocess.run(words, check=True, stdin=subprocess.DEVNULL, stdout=sys.stderr)
 
 
+def chosen():
+    """The path of the program that RA_MONITOR names, or else of the built one."""
+    if "RA_MONITOR" not in os.environ:
+        build()
+    return os.environ.get("RA_MONITOR", str(PROGRAM))
+
+
 class Program:
     """Runs the program, one run after another, with its input and both outputs in files in memory."""
 
