@@ -1,4 +1,4 @@
-"""The small library tests/refuse.c, which is loaded into a program, and refuses its growths or counts them."""
+"""The small library tests/refuse.c, which is loaded into a program, and refuses its growths or counts them, and yields."""
 import os
 import subprocess
 import tempfile
@@ -18,10 +18,11 @@ def library(folder):
 
 
 class Asked(NamedTuple):
-    """How often memory was asked for, and for how many bytes in all."""
+    """How often memory was asked for, for how many bytes in all, and how often a thread left its processor to others."""
 
     calls: int
     bytes: int
+    yields: int
 
 
 def asked(made, words, given):
@@ -40,6 +41,6 @@ def asked(made, words, given):
             os.close(told)
             numbers = os.read(heard, 100).split()
             os.close(heard)
-    if len(numbers) != 2:
+    if len(numbers) != len(Asked._fields):
         raise ValueError(f"it does not tell what it asked for, and ends with status {run.returncode}")
     return (run.stdout, run.stderr, run.returncode), Asked(*map(int, numbers))

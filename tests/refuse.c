@@ -1,7 +1,8 @@
 // Loaded into a program, refuses it one growth: the call of malloc or realloc whose number, from 1 on, stands in the
 // environment. It tells so by a byte to the descriptor that stands there too. Where another descriptor stands there, it
-// tells it at the end how many calls there were, and for how many bytes in all. It needs no header and no library but
-// the one that every program here stands on, so the toolchain's own compiler makes it.
+// tells it at the end how many calls there were, for how many bytes in all, and how often a thread left its processor
+// to others. It needs no header and no library but the one that every program here stands on, so the toolchain's own
+// compiler makes it.
 typedef unsigned long count_t;
 
 extern char *getenv(const char *name);
@@ -10,11 +11,13 @@ extern int dprintf(int descriptor, const char *format, ...);
 extern long write(int descriptor, const void *bytes, count_t count);
 extern void *__libc_malloc(count_t size);
 extern void *__libc_realloc(void *old, count_t size);
+extern int __sched_yield(void);
 extern void _Exit(int status);
 
 // A program may start threads, and each of them may grow.
 static int calls;
 static count_t bytes;
+static count_t yields;
 
 static int named(const char *name) {
     const char *number = getenv(name);
@@ -33,12 +36,17 @@ void *malloc(count_t size) { return is_refused(size) ? 0 : __libc_malloc(size); 
 
 void *realloc(void *old, count_t size) { return is_refused(size) ? 0 : __libc_realloc(old, size); }
 
+int sched_yield(void) {
+    __atomic_add_fetch(&yields, 1, __ATOMIC_RELAXED);
+    return __sched_yield();
+}
+
 // The programs end by this call, which runs nothing that was left for the end.
 void _exit(int status) {
     int descriptor = named("COUNTED_TO");
     if (descriptor) {
         // What it takes itself is not counted: the numbers are taken before.
-        dprintf(descriptor, "%d %lu\n", calls, bytes);
+        dprintf(descriptor, "%d %lu %lu\n", calls, bytes, yields);
     }
     _Exit(status);
 }

@@ -93,8 +93,8 @@ fn threads_that_start_together_take_turns(rt: HostRuntime) {
     for count in [2, 4, 8] {
         let tally = tally_of(&rt, rt.alloc(), 1_048_576);
         let (lock, passes) = opened(&rt, rt.alloc(), tally, count, 7);
-        match replies_of_threads(&rt, rt.alloc(), &lock, passes, 10_000) {
-            Ok(answers) => are_in_turn(&rt, rt.alloc(), answers, u32::from(count) * 10_000),
+        match replies_of_threads(&rt, rt.alloc(), &lock, passes, 25_000) {
+            Ok(answers) => are_in_turn(&rt, rt.alloc(), answers, u32::from(count) * 25_000),
             Err(_) => panic!(rt; "no memory"),
         }
     }

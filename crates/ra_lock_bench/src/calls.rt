@@ -1,4 +1,5 @@
 //! Calls from several threads, timed.
+ghost use Rattle.std.specs.Prelude.{All, IfOk};
 ghost use Rattle.ra_ticket.specs.Passes.{IsPassOf};
 
 use crate::journal::{Call, Log};
@@ -10,6 +11,17 @@ use std::thread;
 use std::thread::Threads;
 use std::time::{Clock, Duration, Instant};
 
+/// A lock over an empty log, and so many passes.
+pub fn opened(alloc: Global, passes: u8) -> Result<(TicketLock<Log>, Vec<Pass<Log>>)>
+    ensures { IfOk result (λ opened. All (IsPassOf opened.0) opened.1.items) }
+{
+    match TicketLock::open(alloc, Log::new(alloc), passes, 0) {
+        Ok(opened) => Ok(opened),
+        Err(OpenFault::BadPasses(_)) => bail!("bad passes"),
+        Err(OpenFault::NoMemory) => bail!("no memory"),
+    }
+}
+
 /// The time that this many passes take for so many calls each, by the ticket lock.
 pub fn by_lock<R: Threads + Wait + Clock + Sync>(
     rt: &R,
@@ -17,11 +29,7 @@ pub fn by_lock<R: Threads + Wait + Clock + Sync>(
     threads: u8,
     calls: u32,
 ) -> Result<Duration> {
-    let (lock, passes) = match TicketLock::open(alloc, Log::new(alloc), threads, 0) {
-        Ok(opened) => opened,
-        Err(OpenFault::BadPasses(_)) => bail!("bad passes"),
-        Err(OpenFault::NoMemory) => bail!("no memory"),
-    };
+    let (lock, passes) = opened(alloc, threads)?;
     let shared = &lock;
     let start = Instant::now(rt)?;
     let answered = thread::map_vec(

@@ -1,27 +1,57 @@
 //! Times a million calls of the ticket lock, and of a Mutex round the same log, on 1, 2, 4, 8 and 64 threads.
 //!
-//! It prints nothing without a word on its command line, since the gate runs it so.
+//! With the word `calls` eight threads submit for two seconds, and with `attempts` two threads try 100,000 calls each:
+//! it prints how many calls of each came back, or were answered, a line for each thread (tests/waiting bounds them). It
+//! prints nothing without a word on its command line, since the gate runs it so.
 #![tactic(auto)]
 
 mod calls;
 mod journal;
+mod waits;
 
 use crate::calls::{by_lock, by_mutex};
+use crate::waits::{answered_of_each, calls_of_each};
 use anyhow::Result;
+use std::alloc::Global;
 use std::env;
+use std::io::Print;
+use std::sync::Wait;
+use std::thread::Threads;
+use std::time::{Clock, Duration};
 
 /// How many calls are timed, over all threads.
 const CALLS: u32 = 1_000_000;
 
 fn main(rt: HostRuntime) -> Result<()> {
-    if env::args(&rt)?.nth(1).is_none() {
+    let Some(word) = env::args(&rt)?.nth(1) else {
         return Ok(());
+    };
+    match word.as_str() {
+        "calls" => {
+            let calls = calls_of_each(&rt, rt.alloc(), 8, Duration::from_secs(2))?;
+            print_counts(&rt, &calls)
+        }
+        "attempts" => {
+            let answered = answered_of_each(&rt, rt.alloc(), 2, 100_000)?;
+            print_counts(&rt, &answered)
+        }
+        _ => print_times(&rt, rt.alloc()),
     }
+}
+
+fn print_counts(rt: &impl Print, counts: &[u32]) -> Result<()> {
+    for count in counts {
+        println!(rt; "{count}")?;
+    }
+    Ok(())
+}
+
+fn print_times<R: Threads + Wait + Clock + Print + Sync>(rt: &R, alloc: Global) -> Result<()> {
     println!(rt; "threads  lock (ms)  mutex (ms)")?;
     for threads in [1u8, 2, 4, 8, 64] {
         let calls = CALLS / u32::from(threads);
-        let lock = by_lock(&rt, rt.alloc(), threads, calls)?;
-        let mutex = by_mutex(&rt, rt.alloc(), threads, calls)?;
+        let lock = by_lock(rt, alloc, threads, calls)?;
+        let mutex = by_mutex(rt, alloc, threads, calls)?;
         println!(rt;
             "{threads:>7}  {:>9}  {:>10}",
             lock.as_millis(),

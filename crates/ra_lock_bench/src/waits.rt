@@ -1,0 +1,110 @@
+//! How long calls wait beside others, by what each thread gets done.
+ghost use Rattle.std.specs.Prelude.{All};
+ghost use Rattle.ra_ticket.specs.Passes.{IsPassOf};
+
+use crate::calls::opened;
+use crate::journal::Log;
+use anyhow::Result;
+use ra_ticket::{Pass, TicketLock};
+use std::alloc::Global;
+use std::sync::Wait;
+use std::sync::atomic::{AtomicUsize, Ordering};
+use std::thread;
+use std::thread::Threads;
+use std::time::{Clock, Duration, Instant};
+
+// How often a thread looks whether all have started.
+const MOST_LOOKS: u32 = 1_000_000;
+
+// Waits until so many threads stand here, or for so long that some cannot run beside this one.
+fn start_together(started: &AtomicUsize, count: usize) {
+    started.fetch_add(1, Ordering::SeqCst);
+    for _ in 0..MOST_LOOKS {
+        if started.load(Ordering::SeqCst) >= count {
+            return;
+        }
+        thread::yield_now();
+    }
+}
+
+/// So many threads submit for this time: how many calls of each came back, also once the log was full.
+pub fn calls_of_each<R: Threads + Wait + Clock + Sync>(
+    rt: &R,
+    alloc: Global,
+    threads: u8,
+    time: Duration,
+) -> Result<Vec<u32>> {
+    let (lock, passes) = opened(alloc, threads)?;
+    let started = AtomicUsize::new(0);
+    let (shared, count) = (&lock, passes.len());
+    let calls = thread::map_vec(
+        rt,
+        passes,
+        &|pass: Pass<Log>| -> u32
+            requires { IsPassOf shared.now pass }
+        {
+            start_together(&started, count);
+            submit_for(rt, shared, pass, time)
+        },
+    )?;
+    Ok(calls)
+}
+
+// How many calls come back in this time; none where there is no clock.
+fn submit_for<R: Wait + Clock>(
+    rt: &R,
+    lock: &TicketLock<Log>,
+    mut pass: Pass<Log>,
+    time: Duration,
+) -> u32
+    requires { IsPassOf lock.now pass }
+{
+    let Ok(start) = Instant::now(rt) else {
+        return 0;
+    };
+    let mut calls = 0u32;
+    for call in 0..u32::MAX {
+        if !start.elapsed(rt).is_ok_and(|passed| passed < time) {
+            break;
+        }
+        // A full log hands the command back, in its turn.
+        let _answer = lock.submit(rt, &mut pass, call);
+        calls = calls.saturating_add(1);
+    }
+    calls
+}
+
+/// So many threads try that many calls: how many of each were answered.
+pub fn answered_of_each<R: Threads + Sync>(
+    rt: &R,
+    alloc: Global,
+    threads: u8,
+    attempts: u32,
+) -> Result<Vec<u32>> {
+    let (lock, passes) = opened(alloc, threads)?;
+    let started = AtomicUsize::new(0);
+    let (shared, count) = (&lock, passes.len());
+    let answered = thread::map_vec(
+        rt,
+        passes,
+        &|pass: Pass<Log>| -> u32
+            requires { IsPassOf shared.now pass }
+        {
+            start_together(&started, count);
+            try_all(shared, pass, attempts)
+        },
+    )?;
+    Ok(answered)
+}
+
+fn try_all(lock: &TicketLock<Log>, mut pass: Pass<Log>, attempts: u32) -> u32
+    requires { IsPassOf lock.now pass }
+{
+    let mut answered = 0u32;
+    for attempt in 0..attempts {
+        if lock.try_submit(&mut pass, attempt).is_ok() {
+            answered = answered.saturating_add(1);
+        }
+    }
+    answered
+}
