@@ -15,9 +15,10 @@ pub fn write_again<W: Write>(alloc: Global, text: &[u8], writer: &mut W) -> Resu
         bail!("there are no two lines");
     };
     let mut reading = Reading::new(alloc);
-    let (Item::KindLine(kind), Item::NamesLine(count)) =
-        (reading.line(first)?, reading.line(second)?)
-    else {
+    let (Item::KindLine(kind), Item::NamesLine(count)) = (
+        reading.line(first)?,
+        reading.line(second)?,
+    ) else {
         bail!("they are not of a kind and names");
     };
     let names = Names::read(alloc, second)?;

@@ -48,7 +48,12 @@ fn main(rt: HostRuntime) -> Result<()> {
                 bail!("how many bytes at a time?");
             };
             let text = io::read_to_string(rt.alloc(), rt.reader())?;
-            feed(rt.alloc(), text.as_bytes(), length.parse()?, &mut io::writer(&rt))
+            feed(
+                rt.alloc(),
+                text.as_bytes(),
+                length.parse()?,
+                &mut io::writer(&rt),
+            )
         }
         _ => print_times(&rt, rt.alloc()),
     }
