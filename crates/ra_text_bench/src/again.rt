@@ -3,6 +3,7 @@
 use anyhow::{Result, bail};
 use ra_history_text::{Item, Names, Reading, Session, write_history, write_report};
 use ra_journal::MOST_ENTRIES;
+use ra_labels::Kind;
 use ra_monitor::Reporter;
 use std::alloc::Global;
 use std::io::Write;
@@ -15,28 +16,38 @@ pub fn write_again<W: Write>(alloc: Global, text: &[u8], writer: &mut W) -> Resu
         bail!("there are no two lines");
     };
     let mut reading = Reading::new(alloc);
-    let (Item::KindLine(kind), Item::NamesLine(count)) = (
-        reading.line(first)?,
-        reading.line(second)?,
-    ) else {
-        bail!("they are not of a kind and names");
+    let (kind, count) = heads(&mut reading, first, second)?;
+    let Ok(names) = Names::read(alloc, second) else {
+        bail!("no names");
     };
-    let names = Names::read(alloc, second)?;
     let Ok(mut reporter) = Reporter::new(alloc, kind, count, MOST_ENTRIES) else {
         bail!("no monitor");
     };
     for line in lines {
         // Nothing stands behind the last line feed.
         if !line.is_empty() {
-            tell(&mut reporter, reading.line(line)?)?;
+            tell(&mut reading, &mut reporter, line)?;
         }
     }
-    write_history(alloc, reporter.monitor(), &names, writer)?;
-    Ok(())
+    match write_history(alloc, reporter.monitor(), &names, writer) {
+        Ok(()) => Ok(()),
+        Err(fault) => bail!("not written: {fault:?}"),
+    }
 }
 
-fn tell(reporter: &mut Reporter, item: Item) -> Result<()> {
-    let Item::CommandLine(command) = item else {
+// The kind, and how many names there are.
+fn heads(reading: &mut Reading, first: &[u8], second: &[u8]) -> Result<(Kind, u8)> {
+    let Ok(Item::KindLine(kind)) = reading.line(first) else {
+        bail!("the first line names no kind");
+    };
+    let Ok(Item::NamesLine(count)) = reading.line(second) else {
+        bail!("the second line lists no names");
+    };
+    Ok((kind, count))
+}
+
+fn tell(reading: &mut Reading, reporter: &mut Reporter, line: &[u8]) -> Result<()> {
+    let Ok(Item::CommandLine(command)) = reading.line(line) else {
         bail!("not a command");
     };
     match reporter.tell(command) {
