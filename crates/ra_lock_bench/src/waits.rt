@@ -9,21 +9,22 @@ use ra_ticket::{Pass, TicketLock};
 use std::alloc::Global;
 use std::sync::Wait;
 use std::sync::atomic::{AtomicUsize, Ordering};
-use std::thread;
 use std::thread::Threads;
 use std::time::{Clock, Duration, Instant};
+use std::{hint, thread};
 
 // How often a thread looks whether all have started.
 const MOST_LOOKS: u32 = 1_000_000;
 
-// Waits until so many threads stand here, or for so long that some cannot run beside this one.
+// Waits until so many threads stand here, or for so long that some cannot run beside this one. It does not yield: who
+// counts how often threads do counts the lock's waiting alone.
 fn start_together(started: &AtomicUsize, count: usize) {
     started.fetch_add(1, Ordering::SeqCst);
     for _ in 0..MOST_LOOKS {
         if started.load(Ordering::SeqCst) >= count {
             return;
         }
-        thread::yield_now();
+        hint::spin_loop();
     }
 }
 
