@@ -1,6 +1,6 @@
 -- One delivery is one step.
 use Rattle.std.proofs.Common.{◌≡◌, ℕ, ◌<◌, true, false, List, [], ◌∷◌, ◌++◌, filter, Option, Some, None, refl, sym, ap, ◌∙◌, subst, inl, inr, arith}
-use Rattle.std.specs.Prelude.{◌↔◌, ◌⊎◌, ◌==◌, ◌&&◌, not, Contains, IsSorted, flat_map}
+use Rattle.std.specs.Prelude.{◌↔◌, ◌⊎◌, ◌==◌, ◌&&◌, not, Contains, IsPermutation, IsSorted, flat_map}
 use Rattle.std.specs.List.{cons_option, IsDistinct}
 use Rattle.std.specs.Ordering.{is_lt}
 use Rattle.std.proofs.lemmas.Bool.{false≢true, true≢false, false_from_ne_true, and_parts, and_from, eq-eqb, eqb-true, cases_order, not_from_false}
@@ -22,7 +22,7 @@ use Rattle.ra_labels.specs.Visibility.{had, sees, IsCausal}
 use Rattle.ra_labels.specs.Rewriting.{Part, Half, QueryHalf, UpdateHalf, Act, Does, Asks, acts_of, part_of, parts_of, update_of, updates_of}
 use Rattle.ra_labels.specs.Lists.{is_among}
 use Rattle.ra_labels.specs.Specification.{State, Pairs, answers, state_after, is_admitted}
-use Rattle.ra_labels.specs.Linearization.{visible_updates}
+use Rattle.ra_labels.specs.Linearization.{parts_in, visible_updates, queries_admitted}
 use Rattle.ra_labels.specs.NamedOrder.{label_cmp, named_labels, named_sequence}
 use Rattle.ra_labels.specs.Fault.{Holds}
 use Rattle.ra_labels.specs.Laws.{kind_of_state, acts_on, WasAddedAndStays, IdentifiersAreOneLabels}
@@ -51,7 +51,7 @@ taken (Some v) rest u there = elim (head_or_behind v rest u there) [
   | inr further ↦ inr further
 ]
 
-does_it : (act : Act) (u : Update) → update_of act ≡ Some u → act ≡ Does u
+pub does_it : (act : Act) (u : Update) → update_of act ≡ Some u → act ≡ Does u
 does_it (Does v) u is = ap Does (same_Some v u is)
 does_it (Asks query) u is = absurd (none-some u is)
 
@@ -111,7 +111,7 @@ made_by (op.OrRemove x ids) u (half, there) = elim
     ]
 made_by _ u (half, there) = ap op_of (its_update _ _ half u there)
 
-some_pairs : (state : State) → kind_of_state state ≡ OrSet → (ps : List (ℕ × ℕ)) × (state ≡ Pairs ps)
+pub some_pairs : (state : State) → kind_of_state state ≡ OrSet → (ps : List (ℕ × ℕ)) × (state ≡ Pairs ps)
 some_pairs (Pairs ps) is = (ps, refl)
 some_pairs _ is = absurd (cc (is))
 
@@ -129,67 +129,65 @@ sees_as : (records : Records) (n : ℕ) (a b : Label) → a ≡ b → sees recor
     → sees records n b.number ≡ true
 sees_as records n a b same seen = subst (λ (l : Label). sees records n l.number ≡ true) same seen
 
--- what a removal asked was answered where the updates lead that it sees
-abbrev IsAnswered : Records → Label → ℕ → List ℕ → List (ℕ × ℕ) → Type 0
-IsAnswered records l x ids ps =
-    (state_after OrSet (visible_updates records (named_sequence OrSet records) l.number) ≡ Some (Pairs ps))
+-- what a removal asked was answered where the updates lead that it sees, in the sequence's order
+abbrev IsAnswered : Records → List Part → Label → ℕ → List ℕ → List (ℕ × ℕ) → Type 0
+IsAnswered records sequence l x ids ps =
+    (state_after OrSet (visible_updates records sequence l.number) ≡ Some (Pairs ps))
     × (answers (Pairs ps) (ReadIds x ids) ≡ true)
 
-answered_pairs : (records : Records) (l : Label) (x : ℕ) (ids : List ℕ) (state : State)
-    → state_after OrSet (visible_updates records (named_sequence OrSet records) l.number) ≡ Some state
+answered_pairs : (records : Records) (sequence : List Part) (l : Label) (x : ℕ) (ids : List ℕ) (state : State)
+    → state_after OrSet (visible_updates records sequence l.number) ≡ Some state
     → answers state (ReadIds x ids) ≡ true
-    → (ps : List (ℕ × ℕ)) × (state ≡ Pairs ps) → (ps : List (ℕ × ℕ)) × IsAnswered records l x ids ps
-answered_pairs records l x ids state led answered (ps, is) = (
+    → (ps : List (ℕ × ℕ)) × (state ≡ Pairs ps) → (ps : List (ℕ × ℕ)) × IsAnswered records sequence l x ids ps
+answered_pairs records sequence l x ids state led answered (ps, is) = (
   ps,
   (
-    led_there (state_after OrSet (visible_updates records (named_sequence OrSet records) l.number)) state
-        (Pairs ps) led is,
+    led_there (state_after OrSet (visible_updates records sequence l.number)) state (Pairs ps) led is,
     subst (λ s. answers s (ReadIds x ids) ≡ true) is answered,
   ),
 )
 
-asked_at : (records : Records) (l : Label) (x : ℕ) (ids : List ℕ) → Holds OrSet records → Contains (labels_of records) l
-    → l.op ≡ op.OrRemove x ids → (ps : List (ℕ × ℕ)) × IsAnswered records l x ids ps
-asked_at records l x ids holds l_there removes =
-    let named = named_labels OrSet records in
+asked_at : (records : Records) (sequence : List Part) (l : Label) (x : ℕ) (ids : List ℕ)
+    → IsPermutation (parts_in records) sequence → queries_admitted OrSet records sequence ≡ true
+    → Contains (labels_of records) l → l.op ≡ op.OrRemove x ids
+    → (ps : List (ℕ × ℕ)) × IsAnswered records sequence l x ids ps
+asked_at records sequence l x ids each queries l_there removes =
     let part : Part = part_of l (QueryHalf, Asks (ReadIds x ids)) in
     let of_l : Contains (parts_of l) part =
     reached (part_of l) (acts_of l.op) (QueryHalf, Asks (ReadIds x ids)) (asks_first l.op x ids removes) in
-    let there : Contains (named_sequence OrSet records) part = in_piece parts_of named l part
-    (Contains-permutation (labels_of records) named l (IsPermutation-named_labels OrSet records) l_there) of_l in
-    let known = (queries-exactly OrSet records (named_sequence OrSet records)).0 holds.queries part
-    (ReadIds x ids) there refl in
-    answered_pairs records l x ids known.0 known.1 known.2
-    (some_pairs known.0
-    (state-of_kind OrSet (visible_updates records (named_sequence OrSet records) l.number) known.0 known.1))
+    let there : Contains sequence part = Contains-permutation (parts_in records) sequence part each
+    (in_piece parts_of (labels_of records) l part l_there of_l) in
+    let known = (queries-exactly OrSet records sequence).0 queries part (ReadIds x ids) there refl in
+    answered_pairs records sequence l x ids known.0 known.1 known.2
+    (some_pairs known.0 (state-of_kind OrSet (visible_updates records sequence l.number) known.0 known.1))
 
 -- an addition among the updates that a label sees is that of a label that it sees
 abbrev SeesAddition : Records → ℕ → ℕ → ℕ → Type 0
 SeesAddition records n x id = (k : Label) × Contains (labels_of records) k × (k.op ≡ op.OrAdd x id)
     × (sees records n k.number ≡ true)
 
-sees_part : (records : Records) (n x id : ℕ) (p : Part) (k : Label) → Contains (named_labels OrSet records) k
+sees_part : (records : Records) (n x id : ℕ) (p : Part) (k : Label) → Contains (labels_of records) k
     → Contains (parts_of k) p → p.act ≡ Does (OrAdd x id) → sees records n p.label.number ≡ true
     → SeesAddition records n x id
-sees_part records n x id p k k_named of_k does seen = (
+sees_part records n x id p k k_there of_k does seen = (
   k,
-  Contains-permutation (named_labels OrSet records) (labels_of records) k
-      (IsPermutation-sym (labels_of records) (named_labels OrSet records) (IsPermutation-named_labels OrSet records))
-      k_named,
+  k_there,
   made_by k.op (OrAdd x id) (part_makes k p (OrAdd x id) of_k does),
   sees_as records n p.label k (part_is_of k p of_k) seen,
 )
 
-sees_addition : (records : Records) (n x id : ℕ)
-    → Contains (visible_updates records (named_sequence OrSet records) n) (OrAdd x id) → SeesAddition records n x id
-sees_addition records n x id there =
+sees_addition : (records : Records) (sequence : List Part) (n x id : ℕ) → IsPermutation (parts_in records) sequence
+    → Contains (visible_updates records sequence n) (OrAdd x id) → SeesAddition records n x id
+sees_addition records sequence n x id each there =
     let (p, p_there, does) = update_from
-    (filter (λ (q : Part). sees records n q.label.number) (named_sequence OrSet records)) (OrAdd x id) there in
-    let kept = there-kept (λ (q : Part). sees records n q.label.number) (named_sequence OrSet records) p p_there in
-    let at = piece_of parts_of (named_labels OrSet records) p kept.0 in
+    (filter (λ (q : Part). sees records n q.label.number) sequence) (OrAdd x id) there in
+    let kept = there-kept (λ (q : Part). sees records n q.label.number) sequence p p_there in
+    let in_records = Contains-permutation sequence (parts_in records) p
+    (IsPermutation-sym (parts_in records) sequence each) kept.0 in
+    let at = piece_of parts_of (labels_of records) p in_records in
     sees_part records n x id p at.0 at.1 at.2 does kept.1
 
-added_among : (us : List Update) (x id : ℕ) (ps : List (ℕ × ℕ)) → state_after OrSet us ≡ Some (Pairs ps)
+pub added_among : (us : List Update) (x id : ℕ) (ps : List (ℕ × ℕ)) → state_after OrSet us ≡ Some (Pairs ps)
     → Contains ps (x, id) → Contains us (OrAdd x id)
 added_among us x id ps led paired = by ((pairs-exactly us ps x id led).0 paired)
   where
@@ -197,23 +195,31 @@ added_among us x id ps led paired = by ((pairs-exactly us ps x id led).0 paired)
     by (first, later, split, none) = subst (λ vs. Contains vs (OrAdd x id)) (sym split)
         (Contains-append_right first (OrAdd x id ∷ later) (OrAdd x id) (at_head (OrAdd x id) later (OrAdd x id) refl))
 
--- a removal sees each addition that it takes out
-pub removal-sees : (records : Records) (l m : Label) (x id : ℕ) (ids : List ℕ) → Holds OrSet records
-    → IdentifiersAreOneLabels records → Contains (labels_of records) l → Contains (labels_of records) m
-    → l.op ≡ op.OrRemove x ids → m.op ≡ op.OrAdd x id → Contains ids id → sees records l.number m.number ≡ true
-removal-sees records l m x id ids holds once l_there m_there removes adds listed =
-    by (asked_at records l x ids holds l_there removes)
+-- a removal sees each addition that it takes out, where some sequence of the parts admits its query
+pub removal-sees_in : (records : Records) (sequence : List Part) → IsPermutation (parts_in records) sequence
+    → queries_admitted OrSet records sequence ≡ true → IdentifiersAreOneLabels records → (l m : Label) (x id : ℕ)
+    (ids : List ℕ) → Contains (labels_of records) l → Contains (labels_of records) m → l.op ≡ op.OrRemove x ids
+    → m.op ≡ op.OrAdd x id → Contains ids id → sees records l.number m.number ≡ true
+removal-sees_in records sequence each queries once l m x id ids l_there m_there removes adds listed =
+    by (asked_at records sequence l x ids each queries l_there removes)
   where
     from_addition : SeesAddition records l.number x id → sees records l.number m.number ≡ true
     from_addition (k, k_there, k_adds, seen) =
         sees_as records l.number k m (once k m id k_there m_there (x, k_adds) (x, adds)) seen
 
-    by : (ps : List (ℕ × ℕ)) × IsAnswered records l x ids ps → sees records l.number m.number ≡ true
+    by : (ps : List (ℕ × ℕ)) × IsAnswered records sequence l x ids ps → sees records l.number m.number ≡ true
     by (ps, (led, asked)) =
         from_addition
-        (sees_addition records l.number x id
-        (added_among (visible_updates records (named_sequence OrSet records) l.number) x id ps led
+        (sees_addition records sequence l.number x id each
+        (added_among (visible_updates records sequence l.number) x id ps led
         (((answers-ids ps x ids).0 asked id).0 listed)))
+
+-- as the named one does where the records hold
+pub removal-sees : (records : Records) (l m : Label) (x id : ℕ) (ids : List ℕ) → Holds OrSet records
+    → IdentifiersAreOneLabels records → Contains (labels_of records) l → Contains (labels_of records) m
+    → l.op ≡ op.OrRemove x ids → m.op ≡ op.OrAdd x id → Contains ids id → sees records l.number m.number ≡ true
+removal-sees records l m x id ids holds once =
+    removal-sees_in records (named_sequence OrSet records) holds.each_part_once holds.queries once l m x id ids
 
 -- of two updates that clash, the one adds a pair that the other takes out
 abbrev Clashing : Update → Update → Type 0

@@ -121,7 +121,7 @@ linearization-stands kind records =
     linearization_by-stands (must_precede records) (must_precede-irreflexive records) kind records
 
 -- a sequence that extends an order extends each weaker one
-extends-weaker : {A : Type 0} (precedes weaker : A → A → Bool) → ((p q : A) → weaker p q ≡ true → precedes p q ≡ true)
+pub extends-weaker : {A : Type 0} (precedes weaker : A → A → Bool) → ((p q : A) → weaker p q ≡ true → precedes p q ≡ true)
     → (xs : List A) → extends precedes xs ≡ true → extends weaker xs ≡ true
 extends-weaker precedes weaker implies [] extended = refl
 extends-weaker precedes weaker implies (x ∷ xs) extended =

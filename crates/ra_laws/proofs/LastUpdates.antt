@@ -122,7 +122,7 @@ last_some : {A : Type 0} (xs : List A) (x : A) → Contains xs x → (y : A) × 
 last_some [] x there = absurd (omega (arith, there.1))
 last_some (z ∷ xs) x there = some_or (last_of xs) z
 
-in_option : {A : Type 0} (o : Option A) (xs : List A) (x : A) → Contains xs x → Contains (cons_option o xs) x
+pub in_option : {A : Type 0} (o : Option A) (xs : List A) (x : A) → Contains xs x → Contains (cons_option o xs) x
 in_option None xs x there = there
 in_option (Some z) xs x there = behind_head z xs x there
 

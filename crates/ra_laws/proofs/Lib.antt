@@ -34,6 +34,8 @@ pub mod RgaSteps
 pub mod SettledUpdates
 pub mod WaitingLabels
 pub mod LastUpdates
+pub mod CountedParts
+pub mod AnyOrder
 pub mod Arrivals
 pub mod NewLabels
 pub mod ElementsBetween

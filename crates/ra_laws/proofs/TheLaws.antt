@@ -56,6 +56,12 @@ pub use Rattle.ra_laws.proofs.CommutingUpdates.{counter-steps as steps_of_a_coun
 pub use Rattle.ra_laws.proofs.CommutingUpdates.{or_set-steps as steps_of_an_or_set_commute}
 pub use Rattle.ra_laws.proofs.CommutingUpdates.{counter-late as a_late_update_counts_as_the_last-counter}
 pub use Rattle.ra_laws.proofs.CommutingUpdates.{or_set-late as a_late_update_counts_as_the_last-or_set}
+-- laws::any_order
+pub use Rattle.ra_laws.proofs.AnyOrder.{any_order-admitted as the_order_does_not_matter-admitted}
+pub use Rattle.ra_laws.proofs.AnyOrder.{any_order-counter as the_order_does_not_matter-counter}
+pub use Rattle.ra_laws.proofs.AnyOrder.{any_order-or_set as the_order_does_not_matter-or_set}
+pub use Rattle.ra_laws.proofs.AnyOrder.{named-where_any as the_named_sequence_linearizes_where_any_does}
+pub use Rattle.ra_laws.proofs.AnyOrder.{no-final as a_no_is_final}
 -- laws::one_step
 pub use Rattle.ra_laws.proofs.Deliveries.{clash-exactly as two_updates_clash_where_one_takes_out_what_the_other_adds}
 pub use Rattle.ra_laws.proofs.Deliveries.{removal-sees as a_removal_sees_what_it_takes_out}

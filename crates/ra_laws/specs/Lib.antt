@@ -1,3 +1,4 @@
+pub mod AnyOrder
 pub mod Counters
 pub mod Worked
 pub mod WorkedTimestamps

@@ -5,6 +5,7 @@ use Rattle.ra_labels.specs.declared.operation.Op.TheVariants.{Inc, Write, Last, 
 use Rattle.ra_labels.specs.declared.command.Command.{Command}
 use Rattle.ra_labels.specs.declared.command.Command.TheVariants.{Operate, Deliver, Verdict}
 use Rattle.ra_labels.specs.declared.reply.Reply.{Reply}
+use Rattle.ra_labels.specs.Records.{Records}
 use Rattle.ra_labels.specs.NamedOrder.{named_labels}
 use Rattle.ra_labels.specs.Answer.{answers_to, records_after_all}
 
@@ -29,6 +30,10 @@ written_after_one_seen clock =
 abbrev pub clocks_that_fall : List Command
 clocks_that_fall =
     Operate 0 (Write 7) (Some 5) ∷ Operate 0 (Write 8) (Some 4) ∷ Operate 0 (Write 9) (Some 5) ∷ []
+
+-- the first two of them, the newest first
+abbrev pub records_that_fall : Records
+records_that_fall = Operate 0 (Write 8) (Some 4) ∷ Operate 0 (Write 7) (Some 5) ∷ []
 
 -- `a write 7 @5`; `a write 8 @5`; `b write 8 @5`; `verdict`
 abbrev pub a_stamp_taken : List Command

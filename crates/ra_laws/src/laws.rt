@@ -2,6 +2,7 @@
 //! under these names, from `proofs/TheLaws`.
 pub mod acts;
 pub mod answer;
+pub mod any_order;
 pub mod arriving;
 pub mod commuting;
 pub mod counts;

@@ -1,0 +1,45 @@
+-- Kinds whose updates may stand in any order that respects visibility, and what makes a no of theirs final.
+use Rattle.std.specs.Prelude.{◌≡◌, ℕ, Bool, true, false, ◌&&◌, ◌||◌, List, Contains, filter, is_some, IsTrue, IsPermutation}
+use Rattle.ra_labels.specs.declared.kind.Kind.{Kind}
+use Rattle.ra_labels.specs.declared.kind.Kind.TheVariants.{Counter, Register, LwwSet, OrSet, Rga}
+use Rattle.ra_labels.specs.Records.{Records, records_to}
+use Rattle.ra_labels.specs.declared.operation.Update.{Update}
+use Rattle.ra_labels.specs.declared.operation.Update.TheVariants.{OrAdd}
+use Rattle.ra_labels.specs.Rewriting.{Part, update_of}
+use Rattle.ra_labels.specs.Laws.{NoneTakesOut}
+use Rattle.ra_labels.specs.Linearization.{parts_in, is_visible_to, is_query_half_of, extends, IsRaLinearizationBy}
+
+-- may the updates stand in any order that respects visibility?
+abbrev pub is_of_any_order : Kind → Bool
+is_of_any_order Counter = true
+is_of_any_order Register = false
+is_of_any_order LwwSet = false
+is_of_any_order OrSet = true
+is_of_any_order Rga = false
+
+-- the updates of the labels that pass
+abbrev pub updates_that_pass : Records → (ℕ → Bool) → List Part
+updates_that_pass records passes = filter (λ p. is_some (update_of p.act) && passes p.label.number) (parts_in records)
+
+-- the parts are the updates of the labels that pass, each once, and none stands behind one whose label sees it
+pub record IsOrderOf (records : Records) (passes : ℕ → Bool) (parts : List Part) : Type 0 where
+  pub each_once : IsPermutation (updates_that_pass records passes) parts
+  pub visibility : IsTrue (extends (is_visible_to records) parts)
+
+-- the pair is added, and no removal names it, be it before or behind
+abbrev pub IsAddedAndNeverTakenOut : ℕ → ℕ → List Update → Type 0
+IsAddedAndNeverTakenOut x id updates = Contains updates (OrAdd x id) × NoneTakesOut x id updates
+
+-- p must stand before q where visibility and the two halves of a label are all that is asked for: not the order at
+-- one replica
+abbrev pub precedes_by_visibility : Records → Part → Part → Bool
+precedes_by_visibility records p q = is_visible_to records p q || is_query_half_of p q
+
+-- no sequence at all is an RA-linearization, not even where the order at one replica is not asked for
+abbrev pub NoneLinearizes : Kind → Records → Type 0
+NoneLinearizes kind records =
+    (sequence : List Part) → ¬ IsRaLinearizationBy (precedes_by_visibility records) kind records sequence
+
+-- where the updates may stand in any order: no sequence linearizes the records up to the label
+abbrev pub IsFinal : Kind → Records → ℕ → Type 0
+IsFinal kind records n = is_of_any_order kind ≡ true → NoneLinearizes kind (records_to records n)
