@@ -424,7 +424,7 @@ def report_of(monitor):
     says["verdict"] = "no" if monitor.fault else "yes"
     if monitor.fault:
         _, label, cause = monitor.fault.split()
-        says.update(cause=cause, label=int(label))
+        says.update(cause=cause, final=monitor.kind in ("counter", "orset"), label=int(label))
     return json.dumps(says, sort_keys=True, separators=(",", ":"))
 
 

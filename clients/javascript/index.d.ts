@@ -7,6 +7,8 @@ export interface Report {
   refused: number;
   label?: number;
   cause?: Cause;
+  /** Does no order at all explain the history up to the label, and not only the named one? */
+  final?: boolean;
 }
 
 export type Kind = "counter" | "register" | "lwwset" | "orset" | "rga";

@@ -38,7 +38,8 @@ test("each line has its reply", async () => {
 test("a no is told in the report", async () => {
   const monitor = new Monitor("counter", ["a"]);
   assert.equal(await monitor.tell("a read 1"), "no 0 query");
-  const report = { kind: "counter", verdict: "no", labels: 1, calls: 1, refused: 0, label: 0, cause: "query" };
+  const told = { kind: "counter", verdict: "no", labels: 1, calls: 1, refused: 0 };
+  const report = { ...told, label: 0, cause: "query", final: true };
   assert.deepEqual(await monitor.close(), report);
 });
 

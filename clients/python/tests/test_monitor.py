@@ -33,7 +33,7 @@ class Replies(unittest.TestCase):
     def test_a_no_is_told_in_the_report(self) -> None:
         monitor = Monitor("counter", ["a"])
         self.assertEqual(monitor.tell("a read 1"), "no 0 query")
-        self.assertEqual(monitor.close(), Report("counter", "no", 1, 1, 0, 0, "query"))
+        self.assertEqual(monitor.close(), Report("counter", "no", 1, 1, 0, 0, "query", True))
 
     def test_lines_in_flight_keep_their_order(self) -> None:
         monitor = Monitor("counter", ["a"], window=7)

@@ -30,6 +30,8 @@ class Report(NamedTuple):
     refused: int
     label: Optional[int] = None
     cause: Optional[str] = None
+    # Does no order at all explain the history up to the label, and not only the named one?
+    final: Optional[bool] = None
 
 
 class Unexpected(NamedTuple):

@@ -1,11 +1,16 @@
 -- The report's object: its keys in the order of their bytes, and no space.
-use Rattle.std.specs.Prelude.{ℕ, List, [], ◌∷◌, ◌++◌, Option, Some, None, codes, decimal}
+use Rattle.std.specs.Prelude.{ℕ, List, [], ◌∷◌, ◌++◌, Option, Some, None, cond, codes, decimal}
 use Rattle.ra_labels.specs.declared.kind.Kind.{Kind}
 use Rattle.ra_labels.specs.declared.reply.Fault.{Fault}
+use Rattle.ra_laws.specs.AnyOrder.{is_of_any_order}
 use Rattle.ra_monitor.specs.declared.report.Report.{Report}
-use Rattle.serde_json.specs.Data.{Data, string, number, unsigned, object, member, no_members}
+use Rattle.serde_json.specs.Data.{Data, boolean, string, number, unsigned, object, member, no_members}
 use Rattle.ra_lines.specs.Grammar.{kind_word}
 use Rattle.ra_lines.specs.Replies.{cause_word}
+
+-- whether a no of this kind is final
+abbrev pub final_word : Kind → List ℕ
+final_word kind = cond (is_of_any_order kind) (codes "true") (codes "false")
 
 -- from the key `kind` to the key `labels`, or to the key `label` on a no
 abbrev pub kind_members : Kind → List ℕ
@@ -21,8 +26,9 @@ last_members report verdict =
 abbrev pub members_by_fault : Report → Option Fault → List ℕ
 members_by_fault report None = kind_members report.kind ++ last_members report (codes "yes")
 members_by_fault report (Some fault) =
-    codes ",\"cause\":\"" ++ (cause_word fault.cause ++ (codes "\"" ++ (kind_members report.kind
-    ++ (codes "\"label\":" ++ (decimal fault.label ++ (codes "," ++ last_members report (codes "no")))))))
+    codes ",\"cause\":\"" ++ (cause_word fault.cause ++ (codes "\",\"final\":" ++ (final_word report.kind
+    ++ (kind_members report.kind ++ (codes "\"label\":" ++ (decimal fault.label
+    ++ (codes "," ++ last_members report (codes "no"))))))))
 
 -- the object of a report
 abbrev pub report_object : Report → List ℕ
@@ -47,11 +53,12 @@ members_data report None = object (
 members_data report (Some fault) = object (
     member (codes "calls") (count_data report.calls)
     (member (codes "cause") (string (cause_word fault.cause))
+    (member (codes "final") (boolean (is_of_any_order report.kind))
     (member (codes "kind") (string (kind_word report.kind))
     (member (codes "label") (count_data fault.label)
     (member (codes "labels") (count_data report.labels)
     (member (codes "refused") (count_data report.refused)
-    (member (codes "verdict") (string (codes "no")) no_members)))))))
+    (member (codes "verdict") (string (codes "no")) no_members))))))))
 
 abbrev pub report_data : Report → Data
 report_data report = members_data report report.fault

@@ -37,9 +37,11 @@ fn value_of(alloc: Global, report: &Report) -> Result<Value, AllocError>
         }),
         Some(Fault { label, cause }) => {
             let cause = cause_word(cause);
+            let is_final = report.is_final();
             json!(in alloc; {
                 "calls": report.calls,
                 "cause": cause,
+                "final": is_final,
                 "kind": kind,
                 "label": label,
                 "labels": report.labels,

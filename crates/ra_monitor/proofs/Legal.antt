@@ -1,11 +1,12 @@
 -- A legal log with one entry more.
-use Rattle.std.proofs.Common.{◌≡◌, ℕ, ◌+◌, true, cond, None, List, [], ◌∷◌, ◌++◌, sym, ap, ◌∙◌, subst, append_assoc}
+use Rattle.std.proofs.Common.{◌≡◌, ℕ, ◌+◌, true, cond, None, Option, List, [], ◌∷◌, ◌++◌, sym, ap, ◌∙◌, subst, append_assoc}
 use Rattle.std.proofs.lemmas.List.{map-append, append-nil}
 use Rattle.std.proofs.lemmas.List.Sums.{sum_by_push}
 use Rattle.ra_labels.specs.declared.kind.Kind.{Kind}
 use Rattle.ra_labels.specs.declared.command.Command.{Command}
 use Rattle.ra_labels.specs.declared.reply.Reply.{Reply}
 use Rattle.ra_labels.specs.declared.reply.Reply.TheVariants.{Ok, Got, Yes, No, Refused}
+use Rattle.ra_labels.specs.declared.reply.Fault.{Fault}
 use Rattle.ra_labels.specs.Records.{Records}
 use Rattle.ra_labels.specs.NamedOrder.{named_sequence}
 use Rattle.ra_labels.specs.Fault.{fault_of, fault_at}
@@ -13,10 +14,11 @@ use Rattle.ra_labels.specs.Answer.{answer_of, records_after, records_after_all}
 use Rattle.ra_labels.specs.Laws.{ReplySays}
 use Rattle.ra_laws.proofs.TheLaws.{no_fault_holds}
 use Rattle.ra_laws.proofs.TheLaws.{what_a_reply_says, no_exactly_at_a_fault, answers_in_turn-records}
+use Rattle.ra_laws.proofs.TheLaws.{a_no_is_final, identifiers_are_given_once-all}
 use Rattle.ra_monitor.specs.declared.setup.Setup.{Setup}
 use Rattle.ra_journal.specs.Log.{MayFollow, IsLegalAfter}
 use Rattle.ra_monitor.specs.Replies.{is_yes, is_refused}
-use Rattle.ra_monitor.specs.Monitor.{MonitorEntry, commands_of, records_of, refused_count, IsRaLinearizable, IsNoAtFault}
+use Rattle.ra_monitor.specs.Monitor.{MonitorEntry, commands_of, records_of, refused_count, fault_in, IsRaLinearizable, IsNoAtFault, IsFinalFault, IsFinalNo}
 
 pub legal-push : (answer : List MonitorEntry → Command → Reply) (before log : List MonitorEntry) (entry : MonitorEntry)
     → IsLegalAfter answer before log → MayFollow answer (before ++ log) entry → IsLegalAfter answer before (log ++ entry ∷ [])
@@ -67,3 +69,16 @@ no_after setup log entry answered label why =
     let both = no_exactly_at_a_fault setup.kind setup.replicas records entry.command (fault_at label why) in
     let pushed = ap (fault_of setup.kind) (records_of-push setup log entry) in
     (λ is. pushed ∙ both.1 (sym answered ∙ is), λ at. answered ∙ both.0 (sym pushed ∙ at))
+
+-- a fault is final where the order does not matter: no identifier is given twice in the records of a log
+pub final_fault : (setup : Setup) (log : List MonitorEntry) → IsFinalFault setup log (fault_in setup log)
+final_fault setup log label why is =
+    a_no_is_final setup.kind (records_of setup log) (fault_at label why)
+    (identifiers_are_given_once-all setup.kind setup.replicas (commands_of log)) is
+
+-- and so is a no, which comes where the fault is
+pub final_no : (setup : Setup) (log : List MonitorEntry) (reply : Reply) → IsNoAtFault setup log reply → IsFinalNo setup log reply
+final_no setup log reply at_fault label why is = final_fault setup log label why ((at_fault label why).0 is)
+
+pub final_kept : (setup : Setup) (log : List MonitorEntry) (fault : Option Fault) → fault ≡ fault_in setup log → IsFinalFault setup log fault
+final_kept setup log fault same label why is = final_fault setup log label why (sym same ∙ is)

@@ -8,8 +8,8 @@ use Rattle.ra_journal.specs.Log.{last_ticket_of, MayFollow, IsLegalAfter}
 use Rattle.ra_labels.specs.declared.command.Command.{Command}
 use Rattle.ra_labels.specs.declared.reply.Reply.{Reply}
 use Rattle.ra_monitor.specs.Replies.{is_yes}
-use Rattle.ra_monitor.specs.Monitor.{MonitorEntry, answer_after, IsLegalLog, IsRaLinearizable, IsNoAtFault}
-use Rattle.ra_monitor.proofs.Legal.{linearizable_after, no_after}
+use Rattle.ra_monitor.specs.Monitor.{MonitorEntry, answer_after, IsLegalLog, IsRaLinearizable, IsNoAtFault, IsFinalNo}
+use Rattle.ra_monitor.proofs.Legal.{linearizable_after, no_after, final_no}
 
 -- what is left of a legal log is legal after what was taken off its beginning
 legal-drop : (answer : List MonitorEntry → Command → Reply) (start first rest : List MonitorEntry)
@@ -59,3 +59,8 @@ yes_is_evidence setup before after entry legal said = linearizable_after setup b
 pub no_is_at_fault : (setup : Setup) (before after : List MonitorEntry) (entry : MonitorEntry)
     → IsLegalLog setup (before ++ entry ∷ after) → IsNoAtFault setup (before ++ entry ∷ []) entry.reply
 no_is_at_fault setup before after entry legal = no_after setup before entry (may_follow setup before after entry legal).0
+
+pub no_is_final : (setup : Setup) (before after : List MonitorEntry) (entry : MonitorEntry)
+    → IsLegalLog setup (before ++ entry ∷ after) → IsFinalNo setup (before ++ entry ∷ []) entry.reply
+no_is_final setup before after entry legal =
+    final_no setup (before ++ entry ∷ []) entry.reply (no_is_at_fault setup before after entry legal)

@@ -12,6 +12,7 @@ use Rattle.ra_labels.specs.Rewriting.{Part}
 use Rattle.ra_labels.specs.Linearization.{IsRaLinearization}
 use Rattle.ra_labels.specs.Fault.{fault_of, fault_at, records_before_fault}
 use Rattle.ra_labels.specs.Answer.{answer_of, records_after_all}
+use Rattle.ra_laws.specs.AnyOrder.{IsFinal}
 use Rattle.ra_monitor.specs.declared.setup.Setup.{Setup}
 use Rattle.ra_monitor.specs.Replies.{is_refused}
 
@@ -65,3 +66,14 @@ IsRaLinearizable setup log = (sequence : List Part) × IsRaLinearization setup.k
 abbrev pub IsNoAtFault : Setup → List MonitorEntry → Reply → Type 0
 IsNoAtFault setup log reply =
     (label : ℕ) (cause : Cause) → (reply ≡ No label cause) ↔ (fault_in setup log ≡ Some (fault_at label cause))
+
+-- the fault of the log is final, if there is one: where the order of the kind's updates does not matter, no sequence at
+-- all linearizes the records up to its label
+abbrev pub IsFinalFault : Setup → List MonitorEntry → Option Fault → Type 0
+IsFinalFault setup log fault = (label : ℕ) (cause : Cause) → fault ≡ Some (fault_at label cause)
+    → IsFinal setup.kind (records_of setup log) label
+
+-- and so is a no
+abbrev pub IsFinalNo : Setup → List MonitorEntry → Reply → Type 0
+IsFinalNo setup log reply = (label : ℕ) (cause : Cause) → reply ≡ No label cause
+    → IsFinal setup.kind (records_of setup log) label

@@ -4,7 +4,7 @@ ghost use Rattle.ra_labels.specs.Answer.{answer_of};
 ghost use Rattle.ra_journal.specs.Log.{MayFollow, IsLegal};
 ghost use Rattle.ra_monitor.specs.contracts.monitor.MonitorJournal.TheImpl as journal;
 ghost use Rattle.ra_monitor.specs.Replies.{is_yes};
-ghost use Rattle.ra_monitor.specs.Monitor.{MonitorEntry, answer_after, records_of, IsLegalLog, IsRaLinearizable, IsNoAtFault};
+ghost use Rattle.ra_monitor.specs.Monitor.{MonitorEntry, answer_after, records_of, IsLegalLog, IsRaLinearizable, IsNoAtFault, IsFinalNo};
 ghost use Rattle.ra_journal.specs.declared.journal.TheConstants.{MOST_ENTRIES};
 ghost use Rattle.ra_monitor.specs.declared.limits.TheConstants.{MOST_REPLICAS};
 ghost use Rattle.ra_monitor.specs.declared.setup.Setup.{Setup};
@@ -40,9 +40,16 @@ pub fn each_no_is_at_the_fault()
         → IsLegalLog setup (before ++ entry ∷ after) → IsNoAtFault setup (before ++ entry ∷ []) entry.reply }
 {}
 
+/// Each no in a legal log of a counter or an OR-Set is final: no sequence at all linearizes the records up to its
+/// label.
+pub fn each_no_of_two_kinds_is_final()
+    ensures { (setup : Setup) (before after : List MonitorEntry) (entry : MonitorEntry)
+        → IsLegalLog setup (before ++ entry ∷ after) → IsFinalNo setup (before ++ entry ∷ []) entry.reply }
+{}
+
 /// The headline. What a pass of a desk has seen is a log that is legal for the journal that a monitor is. Each reply in
 /// such a log is the one-thread monitor's answer after the entries before it; each yes has an RA-linearization of the
-/// records up to there; and each no comes exactly at the fault.
+/// records up to there; each no comes exactly at the fault, and that of a counter or an OR-Set is final.
 pub fn each_reply_under_the_lock()
     ensures reply { (setup : Setup) (before after : List MonitorEntry) (entry : MonitorEntry)
         → IsLegal (journal.ghosts.reply_of setup) (before ++ entry ∷ after)
@@ -53,4 +60,7 @@ pub fn each_reply_under_the_lock()
     ensures no { (setup : Setup) (before after : List MonitorEntry) (entry : MonitorEntry)
         → IsLegal (journal.ghosts.reply_of setup) (before ++ entry ∷ after)
         → IsNoAtFault setup (before ++ entry ∷ []) entry.reply }
+    ensures final_no { (setup : Setup) (before after : List MonitorEntry) (entry : MonitorEntry)
+        → IsLegal (journal.ghosts.reply_of setup) (before ++ entry ∷ after)
+        → IsFinalNo setup (before ++ entry ∷ []) entry.reply }
 {}

@@ -45,7 +45,7 @@ impl Model for Monitor {
 }
 
 impl Monitor {
-    ghost use Rattle.ra_monitor.specs.Monitor.{records_of, records_before_fault_in, fault_in, refused_count, IsLegalLog};
+    ghost use Rattle.ra_monitor.specs.Monitor.{records_of, records_before_fault_in, fault_in, refused_count, IsLegalLog, IsFinalFault};
 
     /// A monitor of a history of this kind, at this many replicas, whose log may have `limit` entries.
     pub fn new(alloc: Global, kind: Kind, replicas: u8, limit: u32) -> Result<Monitor, NewFault>
@@ -139,6 +139,7 @@ impl Monitor {
         ensures labels { result.labels ≡ label_count (records_of self.now.setup self.now.log) }
         ensures refused { result.refused ≡ refused_count self.now.log }
         ensures fault { result.fault ≡ fault_in self.now.setup self.now.log }
+        ensures final_fault { IsFinalFault self.now.setup self.now.log result.fault }
     {
         Report {
             kind: self.setup.kind,
@@ -157,7 +158,7 @@ impl Journal for Monitor {
 
     type Setup = Setup;
 
-    ghost use Rattle.ra_monitor.specs.Monitor.{answer_after, records_of, fault_label_in, IsNextTicket, IsLegalLog, IsRaLinearizable, IsNoAtFault};
+    ghost use Rattle.ra_monitor.specs.Monitor.{answer_after, records_of, fault_label_in, IsNextTicket, IsLegalLog, IsRaLinearizable, IsNoAtFault, IsFinalNo};
 
     ghost setup = { λ m. m.setup };
 
@@ -219,6 +220,9 @@ impl Journal for Monitor {
         // A yes is evidence, and a no comes exactly where the fault is.
         ensures yes { IfOk result (λ reply. IsTrue (is_yes reply) → IsRaLinearizable self.new.setup self.new.log) }
         ensures no { IfOk result (λ reply. IsNoAtFault self.new.setup self.new.log reply) }
+
+        // A counter's no, or an OR-Set's, is final: no sequence at all linearizes the records up to its label.
+        ensures final_no { IfOk result (λ reply. IsFinalNo self.new.setup self.new.log reply) }
 
         // After a fault nothing changed.
         ensures full { (result ≡ Err (StepFault.Full command)) ↔ (length self.old.log ≡ self.old.setup.limit) }

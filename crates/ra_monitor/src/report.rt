@@ -1,3 +1,7 @@
+//! What a monitor tells of its log as a whole.
+ghost use Rattle.std.specs.Prelude.{◌≡◌, ◌&&◌, is_some};
+ghost use Rattle.ra_laws.specs.AnyOrder.{is_of_any_order};
+
 use ra_labels::{Fault, Kind};
 
 /// What a monitor's log amounts to.
@@ -13,4 +17,15 @@ pub struct Report {
     pub refused: u32,
     /// The first label at which the named order failed, and why.
     pub fault: Option<Fault>,
+}
+
+impl Report {
+    /// Is there a fault, and is it final: of a counter or an OR-Set, where no order at all explains the records up to
+    /// its label (`Monitor::report`, clause `final_fault`)? Of the other kinds another order than that of the
+    /// timestamps might. It takes no memory.
+    pub fn is_final(&self) -> bool
+        ensures { result ≡ (is_some self.now.fault && is_of_any_order self.now.kind) }
+    {
+        self.fault.is_some() && matches!(self.kind, Kind::Counter | Kind::OrSet)
+    }
 }

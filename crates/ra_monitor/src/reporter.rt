@@ -32,7 +32,7 @@ impl Model for Reporter {
 }
 
 impl Reporter {
-    ghost use Rattle.ra_monitor.specs.Monitor.{records_of, IsLegalLog, IsRaLinearizable, IsNoAtFault};
+    ghost use Rattle.ra_monitor.specs.Monitor.{records_of, IsLegalLog, IsRaLinearizable, IsNoAtFault, IsFinalNo};
 
     /// A reporter with a monitor of a history of this kind, at this many replicas, whose log may have `limit` entries.
     pub fn new(alloc: Global, kind: Kind, replicas: u8, limit: u32) -> Result<Reporter, NewFault>
@@ -65,6 +65,9 @@ impl Reporter {
         // A yes is evidence, and a no comes exactly where the fault is.
         ensures yes { IfOk result (λ reply. IsTrue (is_yes reply) → IsRaLinearizable self.new.setup self.new.log) }
         ensures no { IfOk result (λ reply. IsNoAtFault self.new.setup self.new.log reply) }
+
+        // A counter's no, or an OR-Set's, is final: no sequence at all linearizes the records up to its label.
+        ensures final_no { IfOk result (λ reply. IsFinalNo self.new.setup self.new.log reply) }
 
         // After a fault nothing changed.
         ensures full { (result ≡ Err (StepFault.Full command)) ↔ (length self.old.log ≡ self.old.setup.limit) }

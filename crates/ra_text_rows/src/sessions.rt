@@ -44,8 +44,8 @@ fn reports(rt: HostRuntime) {
         ),
         (
             no,
-            "{\"calls\":2,\"cause\":\"order\",\"kind\":\"register\",\"label\":1,\"labels\":2,\"refused\":0,\
-\"verdict\":\"no\"}",
+            "{\"calls\":2,\"cause\":\"order\",\"final\":false,\"kind\":\"register\",\"label\":1,\"labels\":2,\
+\"refused\":0,\"verdict\":\"no\"}",
         ),
     ] {
         let mut out = Vec::new(rt.alloc());

@@ -1,4 +1,4 @@
-use Rattle.ra_monitor.proofs.LogLaws.{may_follow, yes_is_evidence, no_is_at_fault}
+use Rattle.ra_monitor.proofs.LogLaws.{may_follow, yes_is_evidence, no_is_at_fault, no_is_final}
 use Rattle.ra_monitor.proofs.laws.each_reply_under_the_lock.Goals as goal
 
 pub returns-clause-reply : goal.returns-clause-reply
@@ -9,3 +9,6 @@ returns-clause-yes c = λ setup before after entry legal said. yes_is_evidence s
 
 pub returns-clause-no : goal.returns-clause-no
 returns-clause-no c = λ setup before after entry legal. no_is_at_fault setup before after entry legal
+
+pub returns-clause-final_no : goal.returns-clause-final_no
+returns-clause-final_no c = λ setup before after entry legal. no_is_final setup before after entry legal

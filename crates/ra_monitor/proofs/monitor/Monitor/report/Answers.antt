@@ -1,6 +1,7 @@
-use Rattle.std.proofs.Common.{◌∙◌, ap}
+use Rattle.std.proofs.Common.{◌∙◌, ap, subst}
 use Rattle.ra_labels.specs.Records.{label_count}
-use Rattle.ra_monitor.specs.Monitor.{Monitor, records_of}
+use Rattle.ra_monitor.specs.Monitor.{Monitor, records_of, IsFinalFault}
+use Rattle.ra_monitor.proofs.Legal.{final_kept}
 use Rattle.ra_monitor.proofs.monitor.Monitor.report.Goals as goal
 
 pub returns-clause-labels : goal.returns-clause-labels
@@ -8,3 +9,9 @@ returns-clause-labels c =
     let m = c.self.inside in
     c.self.invariant.history.labels
     ∙ ap (λ (l : Monitor). label_count (records_of l.setup l.log)) c.self.view_is
+
+pub returns-clause-final_fault : goal.returns-clause-final_fault
+returns-clause-final_fault c =
+    let m = c.self.inside in
+    subst (λ (l : Monitor). IsFinalFault l.setup l.log m.history.fault) c.self.view_is
+    (final_kept m.setup m.log.items m.history.fault c.self.invariant.history.fault)

@@ -2,9 +2,9 @@ use Rattle.std.proofs.Common.{◌≡◌, ℕ, suc, ◌+◌, ◌<◌, ◌∷◌, 
 use Rattle.ra_labels.specs.declared.command.Command.{Command}
 use Rattle.ra_labels.specs.Records.{Records}
 use Rattle.ra_labels.specs.Answer.{answer_of, records_after}
-use Rattle.ra_monitor.specs.Monitor.{MonitorEntry, Monitor, records_of, IsRaLinearizable, IsNoAtFault, IsNextTicket}
+use Rattle.ra_monitor.specs.Monitor.{MonitorEntry, Monitor, records_of, IsRaLinearizable, IsNoAtFault, IsFinalNo, IsNextTicket}
 use Rattle.ra_monitor.specs.Kept.{monitor_of}
-use Rattle.ra_monitor.proofs.Legal.{linearizable_after, no_after}
+use Rattle.ra_monitor.proofs.Legal.{linearizable_after, no_after, final_no}
 use Rattle.ra_monitor.proofs.NewEntries.{legal_after, kept_after}
 use Rattle.ra_monitor.proofs.monitor.MonitorJournal.step.Goals as goal
 
@@ -46,6 +46,12 @@ returns-in-Ok-clause-yes c = λ said.
 pub returns-in-Ok-clause-no : goal.returns-in-Ok-clause-no
 returns-in-Ok-clause-no c =
     subst (λ (l : List MonitorEntry). IsNoAtFault c.self.inside.setup l c.in-Ok.reply) (sym (log_is c)) (no_after c.self.inside.setup c.self.inside.log.items (entry_of c) (answered c))
+
+pub returns-in-Ok-clause-final_no : goal.returns-in-Ok-clause-final_no
+returns-in-Ok-clause-final_no c =
+    let setup = c.self.inside.setup in
+    let log = c.self.inside.log.items in
+    subst (λ (l : List MonitorEntry). IsFinalNo setup l c.in-Ok.reply) (sym (log_is c)) (final_no setup (log ++ entry_of c ∷ []) c.in-Ok.reply (no_after setup log (entry_of c) (answered c)))
 
 -- It gave up, so the command would have joined the records.
 pub returns-in-Err-clause-settled : goal.returns-in-Err-clause-settled
