@@ -1,8 +1,6 @@
 //! A run of bench replicas, from the first round to the verdict.
 ghost use Rattle.std.specs.Prelude.{◌≡◌, ◌↔◌, ◌<◌, ℕ, All, Some, IfOk, IfErr, IsErrOf};
-ghost use Rattle.ra_ticket.specs.Callers.{pass_of};
-ghost use Rattle.ra_ticket.specs.Passes.{pass_setup};
-ghost use Rattle.ra_monitor.specs.declared.setup.Setup.{Setup};
+ghost use Rattle.ra_desk.specs.Reports.{setup_of};
 ghost use Rattle.ra_bench.specs.Faults.{TellsUnwanted, IsOfRun};
 ghost use Rattle.ra_bench.specs.Limits.{AreBenchReplicas, AreRounds};
 ghost use Rattle.ra_bench.specs.Report.{IsReportOfRun};
@@ -21,7 +19,7 @@ use ra_desk::DeskReporter;
 use ra_labels::Kind;
 use ra_monitor::Monitor;
 use ra_replicas::Replica;
-use ra_ticket::{Caller, MOST_ENTRIES};
+use ra_ticket::MOST_ENTRIES;
 use std::alloc::Global;
 use std::sync::Wait;
 use std::thread::Threads;
@@ -109,13 +107,13 @@ fn run<R: Threads + Wait + Sync, G: Gate + Sync>(
 // A desk with a reporter for each replica and one more.
 fn open(alloc: Global, kind: Kind, replicas: u8) -> Result<Vec<DeskReporter>, RunFault>
     requires { AreBenchReplicas replicas }
-    ensures { IfOk result (λ v. All (λ reporter. (setup : Setup) × ((pass_setup (pass_of reporter) ≡ Some setup)
-        × (setup.kind ≡ kind) × (setup.replicas ≡ replicas))) v.items) }
+    ensures { IfOk result
+        (λ all. All (λ r. ((setup_of r).kind ≡ kind) × ((setup_of r).replicas ≡ replicas)) all.items) }
 {
     let Ok(monitor) = Monitor::new(alloc, kind, replicas, MOST_ENTRIES) else {
         return Err(RunFault::NoMemory);
     };
-    match Caller::open(alloc, monitor, replicas + 1) {
+    match DeskReporter::open(alloc, monitor, replicas + 1) {
         Ok(reporters) => Ok(reporters),
         Err(_) => Err(RunFault::NoMemory),
     }

@@ -1,9 +1,7 @@
 //! The end of a run: the verdict, and the report of the closed desk.
-ghost use Rattle.std.specs.Prelude.{◌≡◌, ℕ, IfOk, Some};
-ghost use Rattle.ra_ticket.specs.Callers.{pass_of};
-ghost use Rattle.ra_ticket.specs.Passes.{pass_setup};
+ghost use Rattle.std.specs.Prelude.{IfOk};
+ghost use Rattle.ra_desk.specs.Reports.{setup_of};
 ghost use Rattle.ra_bench.specs.Report.{IsReportOfRun};
-ghost use Rattle.ra_monitor.specs.declared.setup.Setup.{Setup};
 
 use crate::fault::RunFault;
 use crate::report::{BenchReport, report_of};
@@ -14,8 +12,7 @@ use std::sync::Wait;
 
 /// Asks for the verdict and closes the desk, of which no other reporter is left.
 pub fn conclude<R: Wait>(rt: &R, last: DeskReporter) -> Result<BenchReport, RunFault>
-    ensures { (setup : Setup) → pass_setup (pass_of last) ≡ Some setup
-        → IfOk result (IsReportOfRun setup.kind setup.replicas) }
+    ensures { IfOk result (IsReportOfRun (setup_of last).kind (setup_of last).replicas) }
 {
     let mut last = last;
     // The answer stands in the log, and is read there.

@@ -1,7 +1,6 @@
 //! One call of a desk.
 ghost use Rattle.std.specs.Prelude.{◌≡◌, IfOk, IfErr};
-ghost use Rattle.ra_ticket.specs.Callers.{pass_of};
-ghost use Rattle.ra_ticket.specs.Passes.{pass_setup, number_of, IsLogged};
+ghost use Rattle.ra_desk.specs.Reports.{number_of, setup_of, IsLogged};
 ghost use Rattle.ra_bench.specs.Calls.{IsOfDesk};
 
 use crate::fault::RunFault;
@@ -16,11 +15,11 @@ pub fn tell<R: Wait>(
     reporter: &mut DeskReporter,
     command: Command,
 ) -> Result<Reply, RunFault>
-    ensures logged { IfOk result (λ reply. IsLogged (pass_of reporter.old) (pass_of reporter.new) command reply) }
-    ensures fault { IfErr result (IsOfDesk (number_of (pass_of reporter.old))) }
-    ensures setup { pass_setup (pass_of reporter.new) ≡ pass_setup (pass_of reporter.old) }
+    ensures logged { IfOk result (λ reply. IsLogged reporter.old reporter.new command reply) }
+    ensures fault { IfErr result (IsOfDesk (number_of reporter.old)) }
+    ensures setup { setup_of reporter.new ≡ setup_of reporter.old }
 {
-    match reporter.submit(rt, command) {
+    match reporter.tell(rt, command) {
         Ok(reply) => Ok(reply),
         Err(CallFault::NoMemory(_)) => Err(RunFault::NoMemory),
         Err(_) => Err(RunFault::Lock {

@@ -1,5 +1,4 @@
 //! One replica with its reporter, on a thread of its own: what a data type of one's own would do.
-ghost use Rattle.ra_ticket.specs.Callers.{pass_of};
 ghost use Rattle.ra_bench.specs.Calls.{IsReported};
 
 use crate::fault::RunFault;
@@ -139,7 +138,7 @@ impl Worker {
 
     // Tells the desk, and gives the label that it answers with.
     fn report<R: Wait>(&mut self, rt: &R, command: Command) -> Result<u32, RunFault>
-        ensures { IsReported (pass_of self.old.reporter) (pass_of self.new.reporter) command result }
+        ensures { IsReported self.old.reporter self.new.reporter command result }
     {
         let replica = self.reporter.number();
         let reply = tell(rt, &mut self.reporter, command)?;

@@ -1,9 +1,9 @@
 //! Reporters, which own a pass of a desk.
 
 use crate::desks::{got_the_first, is_full, register_of, reply_in, write};
-use ra_desk::DeskReporter;
+use ra_desk::{DeskCloseFault, DeskReporter};
 use ra_labels::{Command, Reply};
-use ra_ticket::{Caller, CloseFault, Glance};
+use ra_ticket::Glance;
 use std::alloc::Global;
 use std::process::Abort;
 use std::sync::Wait;
@@ -11,7 +11,7 @@ use std::thread;
 
 // So many reporters of one desk, whose log may have this many entries.
 fn reporters_of(rt: &impl Abort, alloc: Global, limit: u32, count: u8) -> Vec<DeskReporter> {
-    match Caller::open(alloc, register_of(rt, alloc, limit), count) {
+    match DeskReporter::open(alloc, register_of(rt, alloc, limit), count) {
         Ok(reporters) => reporters,
         Err(_) => panic!(rt; "no desk"),
     }
@@ -38,7 +38,7 @@ fn two_reporters(rt: &impl Abort, alloc: Global, limit: u32) -> (DeskReporter, D
 fn accepted<R: Wait>(rt: &R, reporter: &mut DeskReporter, replica: u8, count: u32) -> u32 {
     let mut accepted = 0u32;
     for clock in 1..=count {
-        let reply = reply_in(reporter.submit(rt, write(replica, clock)));
+        let reply = reply_in(reporter.tell(rt, write(replica, clock)));
         if matches!(reply, Some(Reply::Ok(_))) {
             accepted = accepted.saturating_add(1);
         }
@@ -65,12 +65,12 @@ fn two_threads_report_to_one_desk(rt: HostRuntime) {
 #[test]
 fn a_closed_desk_has_its_log(rt: HostRuntime) {
     let (mut first, mut second) = two_reporters(&rt, rt.alloc(), 2);
-    let wrote = reply_in(first.submit(&rt, write(0, 7)));
-    let came = reply_in(second.try_submit(got_the_first(1)));
+    let wrote = reply_in(first.tell(&rt, write(0, 7)));
+    let came = reply_in(second.try_tell(got_the_first(1)));
     assert_eq!(rt; (wrote, came), (Some(Reply::Ok(0)), Some(Reply::Got(0))));
-    assert!(rt; is_full(first.submit(&rt, Command::Verdict)));
+    assert!(rt; is_full(first.tell(&rt, Command::Verdict)));
     let second = match second.close() {
-        Err(CloseFault::Shared(second)) => second,
+        Err(DeskCloseFault::Shared(second)) => second,
         _ => panic!(rt; "closed with another reporter left"),
     };
     assert_eq!(rt; (first.number(), second.number()), (0, 1));
@@ -107,7 +107,7 @@ fn report_as<R: Abort + Wait>(
     number: u8,
 ) -> DeskReporter {
     let mut reporter = last_reporter(rt, reporters, number);
-    let reply = reply_in(reporter.submit(rt, write(0, 255 - u32::from(number))));
+    let reply = reply_in(reporter.tell(rt, write(0, 255 - u32::from(number))));
     assert!(rt; matches!(reply, Some(Reply::Ok(_))));
     reporter
 }

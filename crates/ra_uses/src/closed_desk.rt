@@ -1,9 +1,9 @@
 //! A desk is closed when all has been reported, and its monitor tells what was.
 
 use anyhow::{Result, bail};
+use ra_desk::DeskReporter;
 use ra_labels::{Command, Kind, Op};
 use ra_monitor::Monitor;
-use ra_ticket::Caller;
 
 // What a replica did, with the answer that it got.
 fn did(replica: u8, op: Op) -> Command {
@@ -19,13 +19,13 @@ pub fn close(rt: &HostRuntime) -> Result<()> {
     let Ok(monitor) = Monitor::new(rt.alloc(), Kind::Counter, 2, 100) else {
         bail!("no monitor");
     };
-    let Ok(mut reporters) = Caller::open(rt.alloc(), monitor, 2) else {
+    let Ok(mut reporters) = DeskReporter::open(rt.alloc(), monitor, 2) else {
         bail!("no desk");
     };
     let (Some(mut one), Some(mut two)) = (reporters.pop(), reporters.pop()) else {
         bail!("no reporters");
     };
-    if two.try_submit(did(0, Op::Inc)).is_err() || one.try_submit(did(1, Op::Count(1))).is_err() {
+    if two.try_tell(did(0, Op::Inc)).is_err() || one.try_tell(did(1, Op::Count(1))).is_err() {
         bail!("a report was not taken");
     }
     drop(two);

@@ -4,7 +4,7 @@ use anyhow::{Result, bail};
 use ra_desk::DeskReporter;
 use ra_labels::{Command, Kind, Op};
 use ra_monitor::Monitor;
-use ra_ticket::{Caller, Glance};
+use ra_ticket::Glance;
 use std::alloc::Global;
 use std::sync::Wait;
 use std::thread;
@@ -18,7 +18,7 @@ fn add<R: Wait>(rt: &R, reporter: &mut DeskReporter, replica: u8) -> bool {
             op: Op::Inc,
             stamp: None,
         };
-        if reporter.submit(rt, added).is_err() {
+        if reporter.tell(rt, added).is_err() {
             return false;
         }
     }
@@ -30,7 +30,7 @@ pub fn report<R: Threads + Wait + Sync>(rt: &R, alloc: Global) -> Result<Glance>
     let Ok(monitor) = Monitor::new(alloc, Kind::Counter, 2, 1000) else {
         bail!("no monitor");
     };
-    let Ok(mut reporters) = Caller::open(alloc, monitor, 2) else {
+    let Ok(mut reporters) = DeskReporter::open(alloc, monitor, 2) else {
         bail!("no desk");
     };
     let (Some(mut one), Some(mut two)) = (reporters.pop(), reporters.pop()) else {

@@ -1,0 +1,63 @@
+-- What the lock says of a call, in the words of a report.
+use Rattle.std.proofs.Common.{◌≡◌, ℕ, ◌-◌, List, [], ◌∷◌, ◌++◌, length, take, Option, Some, IfSome, refl, sym, ap, ◌∙◌, subst, length-append, arith}
+use Rattle.std.specs.Prelude.{IfOk, All, map}
+use Rattle.std.proofs.lemmas.List.Elements.{All-nil, All-cons, All-head, All-tail}
+use Rattle.std.specs.declared.result.Result.{Result}
+use Rattle.std.specs.declared.result.Result.TheVariants.{Ok, Err}
+use Rattle.std.proofs.Math.Seq.{take-append_seam}
+use Rattle.ra_journal.specs.Log.{BeginsWith, entry}
+use Rattle.ra_labels.specs.declared.command.Command.{Command}
+use Rattle.ra_labels.specs.declared.reply.Reply.{Reply}
+use Rattle.ra_monitor.specs.declared.setup.Setup.{Setup}
+use Rattle.ra_monitor.specs.Monitor.{MonitorEntry, IsLegalLog}
+use Rattle.ra_desk.specs.Reports.{before_last, EndsWith}
+
+pub before_last-push : (log : List MonitorEntry) (e : MonitorEntry) → before_last (log ++ e ∷ []) ≡ log
+before_last-push log e =
+    let long : length (log ++ e ∷ []) - 1 ≡ length log = omega (arith, length-append log (e ∷ [])) in
+    ap (λ n. take n (log ++ e ∷ [])) long ∙ take-append_seam log (e ∷ [])
+
+-- of a log that ends with an entry
+pub before_last-of : (log before : List MonitorEntry) (e : MonitorEntry) → log ≡ before ++ e ∷ []
+    → before_last log ≡ before
+before_last-of log before e is = ap before_last is ∙ before_last-push before e
+
+pub ends_with : (log before : List MonitorEntry) (number ticket : ℕ) (command : Command) (reply : Reply)
+    → log ≡ before ++ entry number ticket command reply ∷ [] → EndsWith log number command reply
+ends_with log before number ticket command reply is = (
+  ticket,
+  is ∙ ap (λ l. l ++ entry number ticket command reply ∷ [])
+      (sym (before_last-of log before (entry number ticket command reply) is)),
+)
+
+-- what is said of each reply in a legal log is said of its last one
+pub told : (setup : Setup) (P : List MonitorEntry → Reply → Type 0)
+    → ((before after : List MonitorEntry) (e : MonitorEntry) → IsLegalLog setup (before ++ e ∷ after)
+    → P (before ++ e ∷ []) e.reply)
+    → (log before : List MonitorEntry) (e : MonitorEntry) → log ≡ before ++ e ∷ [] → IsLegalLog setup log
+    → P log e.reply
+told setup P law log before e is legal =
+    subst (λ (l : List MonitorEntry). P l e.reply) (sym is) (law before [] e (subst (IsLegalLog setup) is legal))
+
+-- a log that is legal under a setup that is known
+pub legal_under : (found : Option Setup) (setup : Setup) (log : List MonitorEntry) → found ≡ Some setup
+    → IfSome found (λ s. IsLegalLog s log) → IsLegalLog setup log
+legal_under found setup log is legal = subst (λ (o : Option Setup). IfSome o (λ s. IsLegalLog s log)) is legal
+
+module _ {A E : Type 0} where
+  -- of an answer that is there
+  pub ok_with : (result : Result A E) (P Q R : A → Type 0) → ((a : A) → P a → Q a → R a) → IfOk result P
+      → IfOk result Q → IfOk result R
+  ok_with (Ok a) P Q R both p q = both a p q
+  ok_with (Err e) P Q R both p q = tt
+
+-- what holds of each image holds of each element
+pub All-of_map : {A B : Type 0} (P : B → Type 0) (f : A → B) (xs : List A) → All P (map f xs) → All (λ x. P (f x)) xs
+All-of_map P f [] all = All-nil (λ x. P (f x))
+All-of_map P f (x ∷ xs) all =
+    All-cons (λ y. P (f y)) x xs (All-head P (f x) (map f xs) all)
+    (All-of_map P f xs (All-tail P (f x) (map f xs) all))
+
+pub map-of_map : {A B C : Type 0} (g : B → C) (f : A → B) (xs : List A) → map g (map f xs) ≡ map (λ x. g (f x)) xs
+map-of_map g f [] = refl
+map-of_map g f (x ∷ xs) = ap (λ ys. g (f x) ∷ ys) (map-of_map g f xs)

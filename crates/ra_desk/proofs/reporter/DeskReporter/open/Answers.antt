@@ -1,0 +1,57 @@
+use Rattle.std.proofs.Common.{◌≡◌, [], All, map, Some, sym, ap, ◌∙◌, subst}
+use Rattle.ra_monitor.specs.declared.setup.Setup.{Setup}
+use Rattle.ra_ticket.specs.Callers.{pass_of, passes_of}
+use Rattle.ra_ticket.specs.Passes as pass
+use Rattle.ra_ticket.specs.Passes.{pass_setup, seen, IsPassOf}
+use Rattle.ra_desk.proofs.Told.{All-of_map, map-of_map}
+use Rattle.ra_desk.proofs.reporter.DeskReporter.open.Goals as goal
+
+-- the setup that is read off the monitor is the monitor's
+read_off : (c : goal.In_ok-callers)
+    → record { kind = c.report.result.kind; replicas = c.replicas.result; limit = c.limit.result } ≡ c.args.monitor.setup
+read_off c = λ i. record {
+  kind = c.report.ensures.kind i;
+  replicas = c.replicas.ensures.replicas i;
+  limit = c.limit.ensures.limit i;
+}
+
+pub set_up-requires-clause-same : goal.set_up-requires-clause-same
+set_up-requires-clause-same c =
+    let items = c.in_ok-callers.callers.items in
+    let setup : Setup = record {
+      kind = c.report.result.kind;
+      replicas = c.replicas.result;
+      limit = c.limit.result;
+    } in
+    All-of_map (λ p. pass_setup p ≡ Some setup) pass_of items
+    (subst (λ (s : Setup). All (λ p. pass_setup p ≡ Some s) (passes_of items)) (sym (read_off c))
+    c.in_ok-callers.ensures.setup)
+
+pub set_up-requires-clause-seen : goal.set_up-requires-clause-seen
+set_up-requires-clause-seen c =
+    All-of_map (λ p. seen p ≡ []) pass_of c.in_ok-callers.callers.items c.in_ok-callers.ensures.seen
+
+pub returns-clause-numbers : goal.returns-clause-numbers
+returns-clause-numbers c =
+    let all = c.in_ok-set_up.field-0.items in
+    let items = c.in_ok-callers.callers.items in
+    sym (map-of_map (λ d. pass.number_of (pass_of d)) (λ r. r.caller) all)
+    ∙ ap (map (λ d. pass.number_of (pass_of d))) c.in_ok-set_up.ensures.callers
+    ∙ sym (map-of_map pass.number_of pass_of items) ∙ c.in_ok-callers.ensures.numbers
+
+pub returns-clause-one_desk : goal.returns-clause-one_desk
+returns-clause-one_desk c =
+    let all = c.in_ok-set_up.field-0.items in
+    let (lock, own) = c.in_ok-callers.ensures.one_lock in (
+      lock,
+      subst (All (IsPassOf lock))
+          (sym (sym (map-of_map pass_of (λ r. r.caller) all) ∙ ap (map pass_of) c.in_ok-set_up.ensures.callers)) own,
+    )
+
+pub returns-clause-log : goal.returns-clause-log
+returns-clause-log c =
+    let all = c.in_ok-set_up.field-0.items in
+    let items = c.in_ok-callers.callers.items in
+    All-of_map (λ d. seen (pass_of d) ≡ []) (λ r. r.caller) all
+    (subst (All (λ d. seen (pass_of d) ≡ [])) (sym c.in_ok-set_up.ensures.callers)
+    (All-of_map (λ p. seen p ≡ []) pass_of items c.in_ok-callers.ensures.seen))

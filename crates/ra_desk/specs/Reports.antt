@@ -1,0 +1,65 @@
+-- What contracts see of a reporter of a desk: its number, the setup of the monitor, and the log as far as it has seen
+-- it.
+use Rattle.std.specs.Prelude.{◌≡◌, ℕ, ◌-◌, List, [], ◌∷◌, ◌++◌, length, map, take}
+use Rattle.ra_journal.specs.Log.{BeginsWith, entry, entries_of}
+use Rattle.ra_labels.specs.declared.command.Command.{Command}
+use Rattle.ra_labels.specs.declared.reply.Reply.{Reply}
+use Rattle.ra_monitor.specs.declared.monitor.Monitor.{Monitor}
+use Rattle.ra_monitor.specs.declared.setup.Setup.{Setup}
+use Rattle.ra_monitor.specs.contracts.monitor.MonitorJournal.TheImpl.{ghosts}
+use Rattle.ra_monitor.specs.Monitor.{MonitorEntry, answer_after}
+use Rattle.ra_ticket.specs.declared.pass.Pass.{Pass}
+use Rattle.ra_ticket.specs.Passes as pass
+use Rattle.ra_ticket.specs.Callers.{pass_of}
+use Rattle.ra_desk.specs.declared.reporter.DeskReporter.{DeskReporter}
+use Rattle.ra_desk.specs.declared.reporter.DeskCloseFault.{DeskCloseFault}
+use Rattle.ra_desk.specs.declared.reporter.DeskCloseFault.TheVariants.{Shared, Unsettled}
+
+abbrev pub number_of : DeskReporter → ℕ
+number_of r = pass.number_of (pass_of r.caller)
+
+abbrev pub setup_of : DeskReporter → Setup
+setup_of r = r.setup
+
+-- the log as far as the reporter has seen it
+abbrev pub log_of : DeskReporter → List MonitorEntry
+log_of r = pass.seen (pass_of r.caller)
+
+-- its own reports
+abbrev pub reports_of : DeskReporter → List MonitorEntry
+reports_of r = entries_of (number_of r) (log_of r)
+
+-- the passes of reporters
+abbrev pub passes_of : List DeskReporter → List (Pass Monitor Command Reply Setup ghosts)
+passes_of reporters = map (λ r. pass_of r.caller) reporters
+
+-- the same reporter of the same desk, which has seen no less
+pub record IsSameReporter (r s : DeskReporter) : Type 0 where
+  pub number : number_of s ≡ number_of r
+  pub desk : (pass_of s.caller).seat.table_id ≡ (pass_of r.caller).seat.table_id
+  pub setup : setup_of s ≡ setup_of r
+  pub seen_more : BeginsWith (log_of s) (log_of r)
+
+-- the entries of a log but the last
+abbrev pub before_last : List MonitorEntry → List MonitorEntry
+before_last log = take (length log - 1) log
+
+-- the last entry is this report, with this reply
+abbrev pub EndsWith : List MonitorEntry → ℕ → Command → Reply → Type 0
+EndsWith log number command reply =
+    (ticket : ℕ) × (log ≡ before_last log ++ entry number ticket command reply ∷ [])
+
+-- what the reporter has seen ends with this report, which comes after all that it had seen before
+pub record IsLogged (r s : DeskReporter) (command : Command) (reply : Reply) : Type 0 where
+  pub last : EndsWith (log_of s) (number_of r) command reply
+  pub not_before : BeginsWith (before_last (log_of s)) (log_of r)
+
+-- the reporter's own reports are those of before, and this one
+abbrev pub IsReportedOnce : DeskReporter → DeskReporter → Command → Reply → Type 0
+IsReportedOnce old new command reply =
+    (ticket : ℕ) × (reports_of new ≡ reports_of old ++ entry (number_of old) ticket command reply ∷ [])
+
+-- the one that is handed back is this one
+abbrev pub HandsBack : DeskCloseFault → DeskReporter → Type 0
+HandsBack (Shared back) r = (number_of back ≡ number_of r) × (setup_of back ≡ setup_of r) × (log_of back ≡ log_of r)
+HandsBack (Unsettled words) r = Unit {0}
