@@ -1,8 +1,8 @@
 //! Times a million calls of the ticket lock, and of a Mutex round the same log, on 1, 2, 4, 8 and 64 threads.
 //!
-//! With the word `calls` eight threads submit for two seconds, and with `attempts` two threads try 100,000 calls each:
-//! it prints how many calls of each came back, or were answered, a line for each thread (tests/waiting bounds them). It
-//! prints nothing without a word on its command line, since the gate runs it so.
+//! With the word `calls` eight threads submit for two seconds, and with `attempts` two threads try for as long: it
+//! prints how many calls of each came back, or did not find the lock busy, a line for each thread (tests/waiting bounds
+//! them). It prints nothing without a word on its command line, since the gate runs it so.
 #![tactic(auto)]
 
 mod calls;
@@ -22,17 +22,20 @@ use std::time::{Clock, Duration};
 /// How many calls are timed, over all threads.
 const CALLS: u32 = 1_000_000;
 
+/// How long threads call, or try to.
+const SECONDS: u64 = 2;
+
 fn main(rt: HostRuntime) -> Result<()> {
     let Some(word) = env::args(&rt)?.nth(1) else {
         return Ok(());
     };
     match word.as_str() {
         "calls" => {
-            let calls = calls_of_each(&rt, rt.alloc(), 8, Duration::from_secs(2))?;
+            let calls = calls_of_each(&rt, rt.alloc(), 8, Duration::from_secs(SECONDS))?;
             print_counts(&rt, &calls)
         }
         "attempts" => {
-            let answered = answered_of_each(&rt, rt.alloc(), 2, 100_000)?;
+            let answered = answered_of_each(&rt, rt.alloc(), 2, Duration::from_secs(SECONDS))?;
             print_counts(&rt, &answered)
         }
         _ => print_times(&rt, rt.alloc()),

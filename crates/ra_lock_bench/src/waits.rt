@@ -5,7 +5,7 @@ ghost use Rattle.ra_ticket.specs.Passes.{IsPassOf};
 use crate::calls::opened;
 use crate::journal::Log;
 use anyhow::Result;
-use ra_ticket::{Pass, TicketLock};
+use ra_ticket::{CallFault, Pass, TicketLock};
 use std::alloc::Global;
 use std::sync::Wait;
 use std::sync::atomic::{AtomicUsize, Ordering};
@@ -75,12 +75,12 @@ fn submit_for<R: Wait + Clock>(
     calls
 }
 
-/// So many threads try that many calls: how many of each were answered.
-pub fn answered_of_each<R: Threads + Sync>(
+/// So many threads try calls for this time: how many of each were answered, also by a full log.
+pub fn answered_of_each<R: Threads + Wait + Clock + Sync>(
     rt: &R,
     alloc: Global,
     threads: u8,
-    attempts: u32,
+    time: Duration,
 ) -> Result<Vec<u32>> {
     let (lock, passes) = opened(alloc, threads)?;
     let started = AtomicUsize::new(0);
@@ -92,18 +92,28 @@ pub fn answered_of_each<R: Threads + Sync>(
             requires { IsPassOf shared.now pass }
         {
             start_together(&started, count);
-            try_all(shared, pass, attempts)
+            try_for(rt, shared, pass, time)
         },
     )?;
     Ok(answered)
 }
 
-fn try_all(lock: &TicketLock<Log>, mut pass: Pass<Log>, attempts: u32) -> u32
+// How many calls do not find the lock busy in this time; none where there is no clock.
+fn try_for<R: Clock>(rt: &R, lock: &TicketLock<Log>, mut pass: Pass<Log>, time: Duration) -> u32
     requires { IsPassOf lock.now pass }
 {
+    let Ok(start) = Instant::now(rt) else {
+        return 0;
+    };
     let mut answered = 0u32;
-    for attempt in 0..attempts {
-        if lock.try_submit(&mut pass, attempt).is_ok() {
+    for call in 0..u32::MAX {
+        if !start.elapsed(rt).is_ok_and(|passed| passed < time) {
+            break;
+        }
+        if !matches!(
+            lock.try_submit(&mut pass, call),
+            Err(CallFault::Busy { .. })
+        ) {
             answered = answered.saturating_add(1);
         }
     }
