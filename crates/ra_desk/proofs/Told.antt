@@ -31,7 +31,7 @@ ends_with log before number ticket command reply is = (
 )
 
 -- what is said of each reply in a legal log is said of its last one
-pub told : (setup : Setup) (P : List MonitorEntry → Reply → Type 0)
+told : (setup : Setup) (P : List MonitorEntry → Reply → Type 0)
     → ((before after : List MonitorEntry) (e : MonitorEntry) → IsLegalLog setup (before ++ e ∷ after)
     → P (before ++ e ∷ []) e.reply)
     → (log before : List MonitorEntry) (e : MonitorEntry) → log ≡ before ++ e ∷ [] → IsLegalLog setup log
@@ -44,12 +44,18 @@ pub legal_under : (found : Option Setup) (setup : Setup) (log : List MonitorEntr
     → IfSome found (λ s. IsLegalLog s log) → IsLegalLog setup log
 legal_under found setup log is legal = subst (λ (o : Option Setup). IfSome o (λ s. IsLegalLog s log)) is legal
 
-module _ {A E : Type 0} where
-  -- of an answer that is there
-  pub ok_with : (result : Result A E) (P Q R : A → Type 0) → ((a : A) → P a → Q a → R a) → IfOk result P
-      → IfOk result Q → IfOk result R
-  ok_with (Ok a) P Q R both p q = both a p q
-  ok_with (Err e) P Q R both p q = tt
+module _ {E : Type 0} where
+  -- what is said of each reply in a legal log is said of an answer that stands last in it
+  pub said : (result : Result Reply E) (found : Option Setup) (setup : Setup) (log : List MonitorEntry) (number : ℕ)
+      (command : Command) (P : List MonitorEntry → Reply → Type 0)
+      → ((before after : List MonitorEntry) (e : MonitorEntry) → IsLegalLog setup (before ++ e ∷ after)
+      → P (before ++ e ∷ []) e.reply)
+      → found ≡ Some setup → IfOk result (λ reply. EndsWith log number command reply)
+      → IfOk result (λ _. IfSome found (λ s. IsLegalLog s log)) → IfOk result (λ reply. P log reply)
+  said (Ok reply) found setup log number command P law is ends legal =
+      told setup P law log (before_last log) (entry number ends.0 command reply) ends.1
+      (legal_under found setup log is legal)
+  said (Err e) found setup log number command P law is ends legal = tt
 
 -- what holds of each image holds of each element
 pub All-of_map : {A B : Type 0} (P : B → Type 0) (f : A → B) (xs : List A) → All P (map f xs) → All (λ x. P (f x)) xs
@@ -57,7 +63,3 @@ All-of_map P f [] all = All-nil (λ x. P (f x))
 All-of_map P f (x ∷ xs) all =
     All-cons (λ y. P (f y)) x xs (All-head P (f x) (map f xs) all)
     (All-of_map P f xs (All-tail P (f x) (map f xs) all))
-
-pub map-of_map : {A B C : Type 0} (g : B → C) (f : A → B) (xs : List A) → map g (map f xs) ≡ map (λ x. g (f x)) xs
-map-of_map g f [] = refl
-map-of_map g f (x ∷ xs) = ap (λ ys. g (f x) ∷ ys) (map-of_map g f xs)

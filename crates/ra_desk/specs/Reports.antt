@@ -1,6 +1,6 @@
 -- What contracts see of a reporter of a desk: its number, the setup of the monitor, and the log as far as it has seen
 -- it.
-use Rattle.std.specs.Prelude.{◌≡◌, ℕ, ◌-◌, List, [], ◌∷◌, ◌++◌, length, map, take}
+use Rattle.std.specs.Prelude.{◌≡◌, ℕ, ◌-◌, ◌<◌, ◌≤◌, List, [], ◌∷◌, ◌++◌, length, map, take}
 use Rattle.ra_journal.specs.Log.{BeginsWith, entry, entries_of}
 use Rattle.ra_labels.specs.declared.command.Command.{Command}
 use Rattle.ra_labels.specs.declared.reply.Reply.{Reply}
@@ -10,7 +10,8 @@ use Rattle.ra_monitor.specs.contracts.monitor.MonitorJournal.TheImpl.{ghosts}
 use Rattle.ra_monitor.specs.Monitor.{MonitorEntry, answer_after}
 use Rattle.ra_ticket.specs.declared.pass.Pass.{Pass}
 use Rattle.ra_ticket.specs.Passes as pass
-use Rattle.ra_ticket.specs.Callers.{pass_of}
+use Rattle.ra_ticket.specs.declared.fault.CallFault.{CallFault}
+use Rattle.ra_ticket.specs.Callers.{pass_of, lock_of, AreOfOneLock}
 use Rattle.ra_desk.specs.declared.reporter.DeskReporter.{DeskReporter}
 use Rattle.ra_desk.specs.declared.reporter.DeskCloseFault.{DeskCloseFault}
 use Rattle.ra_desk.specs.declared.reporter.DeskCloseFault.TheVariants.{Shared, Unsettled}
@@ -24,6 +25,13 @@ setup_of r = r.setup
 -- the log as far as the reporter has seen it
 abbrev pub log_of : DeskReporter → List MonitorEntry
 log_of r = pass.seen (pass_of r.caller)
+
+-- how many tickets of the desk are drawn, and how many of them are served, as far as it knows
+abbrev pub drawn_of : DeskReporter → ℕ
+drawn_of r = pass.next_reached (pass_of r.caller)
+
+abbrev pub served_of : DeskReporter → ℕ
+served_of r = pass.serving_reached (pass_of r.caller)
 
 -- its own reports
 abbrev pub reports_of : DeskReporter → List MonitorEntry
@@ -39,6 +47,8 @@ pub record IsSameReporter (r s : DeskReporter) : Type 0 where
   pub desk : (pass_of s.caller).seat.table_id ≡ (pass_of r.caller).seat.table_id
   pub setup : setup_of s ≡ setup_of r
   pub seen_more : BeginsWith (log_of s) (log_of r)
+  pub drawn : drawn_of r ≤ drawn_of s
+  pub served : served_of r ≤ served_of s
 
 -- the entries of a log but the last
 abbrev pub before_last : List MonitorEntry → List MonitorEntry
@@ -59,7 +69,22 @@ abbrev pub IsReportedOnce : DeskReporter → DeskReporter → Command → Reply 
 IsReportedOnce old new command reply =
     (ticket : ℕ) × (reports_of new ≡ reports_of old ++ entry (number_of old) ticket command reply ∷ [])
 
--- the one that is handed back is this one
+-- `Busy` tells how many tickets were served when it looked, and that more were drawn
+abbrev pub IsFoundBusy : DeskReporter → CallFault Command → Type 0
+IsFoundBusy r fault = pass.IsFoundBusy (pass_of r.caller) fault
+
+-- both report at one desk
+abbrev pub AreOfOneDesk : DeskReporter → DeskReporter → Type 0
+AreOfOneDesk r s = AreOfOneLock (passes_of (r ∷ s ∷ []))
+
+-- the one that is handed back is this one, at its desk
 abbrev pub HandsBack : DeskCloseFault → DeskReporter → Type 0
-HandsBack (Shared back) r = (number_of back ≡ number_of r) × (setup_of back ≡ setup_of r) × (log_of back ≡ log_of r)
+HandsBack (Shared back) r =
+    (pass_of back.caller ≡ pass_of r.caller) × (lock_of back.caller ≡ lock_of r.caller) × (setup_of back ≡ setup_of r)
 HandsBack (Unsettled words) r = Unit {0}
+
+-- `Unsettled` tells how many tickets were served and that more were drawn, each no less than the reporter knew
+abbrev pub TellsUnsettled : DeskCloseFault → DeskReporter → Type 0
+TellsUnsettled (Shared back) r = Unit {0}
+TellsUnsettled (Unsettled words) r =
+    (words.serving < words.next) × (served_of r ≤ words.serving) × (drawn_of r ≤ words.next)

@@ -1,12 +1,14 @@
 //! A reporter of a desk: what it is answered, in the monitor's words.
-ghost use Rattle.std.specs.Prelude.{◌≡◌, ◌≢◌, ◌<◌, ◌≤◌, ◌⊎◌, [], length, map, All, IsTrue, IfOk, IfErr, IsOkUnless, Some};
+ghost use Rattle.std.specs.Prelude.{◌≡◌, ◌≢◌, ◌+◌, ◌<◌, ◌≤◌, ◌⊎◌, [], length, map, All, IsTrue, IfOk, IfErr, IsOkUnless, Some};
 ghost use Rattle.std.specs.List.{range_with_len};
 ghost use Rattle.ra_journal.specs.Log.{BeginsWith, entries_of};
+ghost use Rattle.ra_laws.specs.AnyOrder.{is_of_any_order};
 ghost use Rattle.ra_monitor.specs.Monitor.{answer_after, fault_label_in, IsLegalLog, IsRaLinearizable, IsNoAtFault, IsFinalNo};
 ghost use Rattle.ra_monitor.specs.Replies.{is_yes};
 ghost use Rattle.ra_ticket.specs.Callers.{pass_of, AreOfOneLock};
-ghost use Rattle.ra_ticket.specs.Faults.{unserved, IsFull, IsNoMemory, IsBusy};
+ghost use Rattle.ra_ticket.specs.Faults.{unserved, IsWorn, IsFull, IsNoMemory, IsBusy};
 ghost use Rattle.ra_ticket.specs.Passes.{pass_setup, seen};
+ghost use Rattle.ra_ticket.specs.declared.draw.TheConstants.{GREATEST_TICKET};
 ghost use Rattle.ra_ticket.specs.declared.open.TheConstants.{MOST_PASSES};
 
 use ra_labels::{Command, Reply};
@@ -36,7 +38,8 @@ pub enum DeskCloseFault {
 }
 
 impl DeskReporter {
-    ghost use Rattle.ra_desk.specs.Reports.{number_of, setup_of, log_of, reports_of, passes_of, before_last, IsSameReporter, EndsWith, IsReportedOnce, HandsBack};
+    ghost use Rattle.ra_desk.specs.Reports.{number_of, setup_of, log_of, drawn_of, served_of, reports_of, passes_of, before_last};
+    ghost use Rattle.ra_desk.specs.Reports.{IsSameReporter, EndsWith, IsReportedOnce, IsFoundBusy, AreOfOneDesk, HandsBack, TellsUnsettled};
 
     /// Opens a desk over a monitor that has answered nothing yet, with 1 to 64 reporters, numbered from 0 in the list's
     /// order. `BadPasses` gives the monitor back where it would be another number; `NoMemory` comes where a growth was
@@ -51,6 +54,8 @@ impl DeskReporter {
         ensures one_desk { IfOk result (λ all. AreOfOneLock (passes_of all.items)) }
         ensures setup { IfOk result (λ all. All (λ r. setup_of r ≡ monitor.setup) all.items) }
         ensures log { IfOk result (λ all. All (λ r. log_of r ≡ []) all.items) }
+        ensures drawn { IfOk result (λ all. All (λ r. drawn_of r ≡ 0) all.items) }
+        ensures served { IfOk result (λ all. All (λ r. served_of r ≡ 0) all.items) }
         ensures bad_passes { (reporters ≡ 0) ⊎ (MOST_PASSES < reporters)
             → result ≡ Err (OpenFault.BadPasses monitor) }
         ensures else_no_memory { 0 < reporters → reporters ≤ MOST_PASSES → IsOkUnless result OpenFault.NoMemory }
@@ -111,7 +116,8 @@ impl DeskReporter {
         ensures yes { IfOk result (λ reply. IsTrue (is_yes reply)
             → IsRaLinearizable (setup_of self.new) (log_of self.new)) }
         ensures no { IfOk result (λ reply. IsNoAtFault (setup_of self.new) (log_of self.new) reply) }
-        ensures final_no { IfOk result (λ reply. IsFinalNo (setup_of self.new) (log_of self.new) reply) }
+        ensures final_no { IfOk result (λ reply. IsTrue (is_of_any_order (setup_of self.new).kind)
+            → IsFinalNo (setup_of self.new) (log_of self.new) reply) }
 
         // A fault logs nothing.
         ensures handed_back { IfErr result (λ fault. unserved fault ≡ command) }
@@ -121,6 +127,11 @@ impl DeskReporter {
         ensures no_memory_below_the_limit { IfErr result (λ fault. IsNoMemory fault
             → length (log_of self.new) ≢ (setup_of self.new).limit) }
         ensures never_busy { IfErr result (λ fault. ¬ (IsBusy fault)) }
+        ensures worn_at_the_end { IfErr result (λ fault. IsWorn fault → drawn_of self.new ≡ GREATEST_TICKET + 1) }
+        ensures worn_unchanged { IfErr result (λ fault. IsWorn fault → log_of self.new ≡ log_of self.old) }
+        // After these two the ticket that was drawn is served.
+        ensures served { IfErr result (λ fault. IsFull fault ⊎ IsNoMemory fault
+            → served_of self.old < served_of self.new) }
     {
         each_reply_under_the_lock();
         self.caller.submit(rt, command)
@@ -141,7 +152,8 @@ impl DeskReporter {
         ensures yes { IfOk result (λ reply. IsTrue (is_yes reply)
             → IsRaLinearizable (setup_of self.new) (log_of self.new)) }
         ensures no { IfOk result (λ reply. IsNoAtFault (setup_of self.new) (log_of self.new) reply) }
-        ensures final_no { IfOk result (λ reply. IsFinalNo (setup_of self.new) (log_of self.new) reply) }
+        ensures final_no { IfOk result (λ reply. IsTrue (is_of_any_order (setup_of self.new).kind)
+            → IsFinalNo (setup_of self.new) (log_of self.new) reply) }
 
         ensures handed_back { IfErr result (λ fault. unserved fault ≡ command) }
         ensures mine_still { IfErr result (λ fault. reports_of self.new ≡ reports_of self.old) }
@@ -149,7 +161,13 @@ impl DeskReporter {
             → length (log_of self.new) ≡ (setup_of self.new).limit) }
         ensures no_memory_below_the_limit { IfErr result (λ fault. IsNoMemory fault
             → length (log_of self.new) ≢ (setup_of self.new).limit) }
-        ensures busy_unchanged { IfErr result (λ fault. IsBusy fault → log_of self.new ≡ log_of self.old) }
+        ensures worn_at_the_end { IfErr result (λ fault. IsWorn fault → drawn_of self.new ≡ GREATEST_TICKET + 1) }
+        ensures served { IfErr result (λ fault. IsFull fault ⊎ IsNoMemory fault
+            → served_of self.old < served_of self.new) }
+        ensures busy_found { IfErr result (λ fault. IsBusy fault → IsFoundBusy self.new fault) }
+        ensures busy_below_the_end { IfErr result (λ fault. IsBusy fault → drawn_of self.new ≤ GREATEST_TICKET) }
+        ensures not_drawn_unchanged { IfErr result (λ fault. IsWorn fault ⊎ IsBusy fault
+            → log_of self.new ≡ log_of self.old) }
     {
         each_reply_under_the_lock();
         self.caller.try_submit(command)
@@ -161,10 +179,39 @@ impl DeskReporter {
         ensures same { IsSameReporter self.old self.new }
         ensures legal { IsLegalLog (setup_of self.new) (log_of self.new) }
         ensures mine { reports_of self.new ≡ reports_of self.old }
+        ensures draws_none { (drawn_of self.new ≡ drawn_of self.old) × (served_of self.new ≡ served_of self.old) }
         ensures calls { result.calls ≡ length (log_of self.new) }
         ensures fault { result.fault ≡ fault_label_in (setup_of self.new) (log_of self.new) }
     {
         self.caller.glance()
+    }
+
+    /// Two reporters of one desk tell each other what they know: both come back, in the order in which they were given,
+    /// and have then seen one log, which has all reports of both. The number answered is how many entries it has. It
+    /// waits for nobody, takes no memory and always answers.
+    pub fn meet(self, other: DeskReporter) -> (DeskReporter, DeskReporter, u32)
+        requires one_desk { AreOfOneDesk self other }
+        ensures first { IsSameReporter self result.0 }
+        ensures second { IsSameReporter other result.1 }
+        ensures mine_first { reports_of result.0 ≡ reports_of self }
+        ensures mine_second { reports_of result.1 ≡ reports_of other }
+        ensures one_log { log_of result.1 ≡ log_of result.0 }
+        ensures legal { IsLegalLog (setup_of result.0) (log_of result.0)
+            × IsLegalLog (setup_of result.1) (log_of result.1) }
+        ensures calls { result.2 ≡ length (log_of result.0) }
+    {
+        let DeskReporter { caller, setup } = self;
+        let DeskReporter {
+            caller: other_caller,
+            setup: other_setup,
+        } = other;
+        let (caller, other_caller, calls) = caller.meet(other_caller);
+        let first = DeskReporter { caller, setup };
+        let second = DeskReporter {
+            caller: other_caller,
+            setup: other_setup,
+        };
+        (first, second, calls)
     }
 
     /// Takes the monitor off the desk, where no other reporter is left; else `Shared` hands this one back. It waits for
@@ -175,6 +222,7 @@ impl DeskReporter {
         ensures begins { IfOk result (λ monitor. BeginsWith monitor.log (log_of self)) }
         ensures mine { IfOk result (λ monitor. entries_of (number_of self) monitor.log ≡ reports_of self) }
         ensures handed_back { IfErr result (λ fault. HandsBack fault self) }
+        ensures unsettled { IfErr result (λ fault. TellsUnsettled fault self) }
     {
         let DeskReporter { caller, setup } = self;
         match caller.close() {

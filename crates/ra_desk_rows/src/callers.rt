@@ -1,5 +1,9 @@
 //! Reporters, which own a pass of a desk.
 
+ghost use Rattle.std.specs.Prelude.{◌≡◌, ◌++◌, ◌∷◌, []};
+ghost use Rattle.ra_ticket.specs.Callers.{AreOfOneLock};
+ghost use Rattle.ra_desk.specs.Reports.{passes_of, AreOfOneDesk};
+
 use crate::desks::{got_the_first, is_full, register_of, reply_in, write};
 use ra_desk::{DeskCloseFault, DeskReporter};
 use ra_labels::{Command, Reply};
@@ -10,7 +14,9 @@ use std::sync::Wait;
 use std::thread;
 
 // So many reporters of one desk, whose log may have this many entries.
-fn reporters_of(rt: &impl Abort, alloc: Global, limit: u32, count: u8) -> Vec<DeskReporter> {
+fn reporters_of(rt: &impl Abort, alloc: Global, limit: u32, count: u8) -> Vec<DeskReporter>
+    ensures { AreOfOneLock (passes_of result.items) }
+{
     match DeskReporter::open(alloc, register_of(rt, alloc, limit), count) {
         Ok(reporters) => reporters,
         Err(_) => panic!(rt; "no desk"),
@@ -18,7 +24,9 @@ fn reporters_of(rt: &impl Abort, alloc: Global, limit: u32, count: u8) -> Vec<De
 }
 
 // The last reporter, which has this number and leaves the others.
-fn last_reporter(rt: &impl Abort, reporters: &mut Vec<DeskReporter>, number: u8) -> DeskReporter {
+fn last_reporter(rt: &impl Abort, reporters: &mut Vec<DeskReporter>, number: u8) -> DeskReporter
+    ensures { reporters.old.items ≡ reporters.new.items ++ result ∷ [] }
+{
     let reporter = match reporters.pop() {
         Some(reporter) => reporter,
         None => panic!(rt; "too few reporters"),
@@ -28,7 +36,9 @@ fn last_reporter(rt: &impl Abort, reporters: &mut Vec<DeskReporter>, number: u8)
 }
 
 // Two reporters of one desk, the one with pass 0 first.
-fn two_reporters(rt: &impl Abort, alloc: Global, limit: u32) -> (DeskReporter, DeskReporter) {
+fn two_reporters(rt: &impl Abort, alloc: Global, limit: u32) -> (DeskReporter, DeskReporter)
+    ensures { AreOfOneDesk result.0 result.1 }
+{
     let mut reporters = reporters_of(rt, alloc, limit, 2);
     let second = last_reporter(rt, &mut reporters, 1);
     (last_reporter(rt, &mut reporters, 0), second)
@@ -60,6 +70,48 @@ fn two_threads_report_to_one_desk(rt: HostRuntime) {
         fault: None,
     };
     assert_eq!(rt; (first.glance(), second.glance()), (all, all));
+}
+
+// A glance finds what is there by now, and what it found before is no longer all.
+#[test]
+fn a_glance_finds_each_report(rt: HostRuntime) {
+    let (mut first, mut second) = two_reporters(&rt, rt.alloc(), 10);
+    for calls in 0..3 {
+        let found = Glance { calls, fault: None };
+        assert_eq!(rt; (first.glance(), second.glance()), (found, found));
+        assert_eq!(rt; accepted_at(&rt, &mut first, calls), Some(Reply::Ok(calls)));
+    }
+}
+
+// What a write with this clock and one is answered.
+fn accepted_at<R: Wait>(rt: &R, reporter: &mut DeskReporter, clock: u32) -> Option<Reply> {
+    reply_in(reporter.tell(rt, write(0, clock.saturating_add(1))))
+}
+
+#[test]
+fn reporters_that_meet_come_back_in_order(rt: HostRuntime) {
+    let (mut first, second) = two_reporters(&rt, rt.alloc(), 10);
+    assert_eq!(rt; accepted(&rt, &mut first, 0, 3), 3);
+    let (first, second, calls) = first.meet(second);
+    assert_eq!(rt; (first.number(), second.number(), calls), (0, 1, 3));
+}
+
+// Room that was reserved before the desk is opened is there for its reports, and what they leave comes back.
+#[test]
+fn a_desk_has_the_room_that_was_reserved(rt: HostRuntime) {
+    let mut monitor = register_of(&rt, rt.alloc(), 100);
+    assert!(rt; monitor.reserve(10).is_ok());
+    let room = monitor.room();
+    assert!(rt; room >= 10, "room for {room}");
+    let mut reporter = match DeskReporter::open(rt.alloc(), monitor, 1) {
+        Ok(mut reporters) => last_reporter(&rt, &mut reporters, 0),
+        Err(_) => panic!(rt; "no desk"),
+    };
+    assert_eq!(rt; accepted(&rt, &mut reporter, 0, 3), 3);
+    match reporter.close() {
+        Ok(monitor) => assert_eq!(rt; monitor.room(), room - 3),
+        Err(_) => panic!(rt; "not closed"),
+    }
 }
 
 #[test]

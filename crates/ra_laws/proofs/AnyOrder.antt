@@ -22,7 +22,7 @@ use Rattle.ra_labels.specs.Visibility.{sees}
 use Rattle.ra_labels.specs.Rewriting.{Part, Does, parts_of, update_of, updates_of}
 use Rattle.ra_labels.specs.Lists.{is_among}
 use Rattle.ra_labels.specs.Specification.{State, Number, Pairs, answers, state_after, is_admitted}
-use Rattle.ra_labels.specs.Linearization.{parts_in, is_visible_to, is_earlier_there, is_query_half_of, must_precede, extends, visible_updates, IsRaLinearizationBy}
+use Rattle.ra_labels.specs.Linearization.{parts_in, is_visible_to, is_earlier_there, is_query_half_of, must_precede, extends, visible_updates, IsRaLinearizationBy, IsRaLinearization}
 use Rattle.ra_labels.specs.NamedOrder.{named_sequence}
 use Rattle.ra_labels.specs.Fault.{Holds, fault_of}
 use Rattle.ra_labels.specs.Answer.{is_kind}
@@ -33,14 +33,14 @@ use Rattle.ra_labels.proofs.Parts.{part_is_of}
 use Rattle.ra_laws.specs.Counters.{increments_in, decrements_in}
 use Rattle.ra_laws.specs.AnyOrder.{is_of_any_order, updates_that_pass, IsOrderOf, IsAddedAndNeverTakenOut, precedes_by_visibility, IsFinal}
 use Rattle.ra_laws.proofs.States.{admitted-only, admitted-of_kind, state-of_kind, counter_is}
-use Rattle.ra_laws.proofs.OrSets.{pairs-exactly, answers-ids, answers-pairs}
+use Rattle.ra_laws.proofs.OrSets.{pairs-exactly, answers-ids, answers-pairs, both_ways}
 use Rattle.ra_laws.proofs.Meanings.{some-exactly, queries-exactly}
 use Rattle.ra_laws.proofs.Faults.{IsPermutation-named_sequence, no_cause_from_holds, fault_is_least}
 use Rattle.ra_laws.proofs.Extensions.{extends-weaker}
 use Rattle.ra_laws.proofs.Ranks.{counter-extends, or_set-extends}
 use Rattle.ra_laws.proofs.LastUpdates.{in_option}
 use Rattle.ra_laws.proofs.CountedParts.{ups_of, downs_of, ups_sum, downs_sum, sum_same}
-use Rattle.ra_laws.proofs.Deliveries.{op_of, does_it, update_from, part_makes, made_by, some_pairs, removal-sees_in}
+use Rattle.ra_laws.proofs.Deliveries.{op_of, does_it, update_from, part_makes, made_by, some_pairs, added_in, removal-sees_in}
 
 -- ---- which kinds these are
 
@@ -126,10 +126,6 @@ takes_nothing records see p ps x id are none u does added = false_from_ne_true (
     let hidden : is_visible_to records q p ≡ false = not-true (is_visible_to records q p)
     (list_all-contains (λ r. not (is_visible_to records r p)) ps q none found) in
     false≢true (sym hidden ∙ visible))
-
-added_in : (us : List Update) (x id : ℕ) → WasAddedAndStays x id us → Contains us (OrAdd x id)
-added_in us x id (first, later, split, none) = subst (λ vs. Contains vs (OrAdd x id)) (sym split)
-    (Contains-append_right first (OrAdd x id ∷ later) (OrAdd x id) (at_head (OrAdd x id) later (OrAdd x id) refl))
 
 -- what was added and stays was added first, or further behind
 first_or_further : (v : Update) (us first later : List Update) (x id : ℕ) → v ∷ us ≡ first ++ OrAdd x id ∷ later
@@ -355,9 +351,6 @@ visible_extends records precedes ps n weaker extended =
     extends-filter (is_visible_to records) (seen_by records n) ps
     (extends-weaker precedes (is_visible_to records) weaker ps extended)
 
-both_ways : {A B C : Type 0} → (A ↔ B) → (B ↔ C) → A ↔ C
-both_ways first second = ((λ a. second.0 (first.0 a)), (λ c. first.1 (second.1 c)))
-
 -- queries are answered alike where the pairs are the same
 answers_alike : (ps qs : List (ℕ × ℕ)) → ((x id : ℕ) → Contains ps (x, id) ↔ Contains qs (x, id)) → (query : Query)
     → answers (Pairs ps) query ≡ true → answers (Pairs qs) query ≡ true
@@ -425,6 +418,23 @@ named-where_any OrSet records sequence any once linearizes =
     (or_set_so records sequence once linearizes)
 named-where_any _ records sequence any once linearizes = absurd (false≢true any)
 
+-- what must precede by visibility must precede
+pub by_visibility : (kind : Kind) (records : Records) (sequence : List Part) → IsRaLinearization kind records sequence
+    → Linearizes kind records sequence
+by_visibility kind records sequence linearizes = record {
+  each_part_once = linearizes.each_part_once;
+  visibility = extends-weaker (must_precede records) (precedes_by_visibility records) (λ p q precedes.
+      must_so (is_visible_to records p q) (is_earlier_there p q) (is_query_half_of p q) precedes) sequence
+      linearizes.visibility;
+  updates = linearizes.updates;
+  queries = linearizes.queries;
+}
+  where
+    must_so : (visible earlier half : Bool) → visible || half ≡ true → visible || earlier || half ≡ true
+    must_so true _ _ _ = refl
+    must_so false true _ _ = refl
+    must_so false false half is = is
+
 -- ---- a no is final
 
 -- the labels up to one are some of all
@@ -442,9 +452,9 @@ labels_to (Operate by op clock ∷ before) n label there =
     behind_head (next_label before by op clock) (labels_of before) label (labels_to before n label further)) there
 labels_to (_ ∷ before) n label there = labels_to before n label there
 
-pub no-final : (kind : Kind) (records : Records) (fault : Fault) → IdentifiersAreOneLabels records
-    → fault_of kind records ≡ Some fault → IsFinal kind records fault.label
-no-final kind records fault once is any sequence linearizes =
+pub no-final : (kind : Kind) (records : Records) (fault : Fault) → is_of_any_order kind ≡ true
+    → IdentifiersAreOneLabels records → fault_of kind records ≡ Some fault → IsFinal kind records fault.label
+no-final kind records fault any once is sequence linearizes =
     let least = fault_is_least kind records fault is in
     let upto = records_to records fault.label in
     let holds = named-where_any kind upto sequence any (λ l m id l_there m_there.

@@ -187,13 +187,14 @@ sees_addition records sequence n x id each there =
     let at = piece_of parts_of (labels_of records) p in_records in
     sees_part records n x id p at.0 at.1 at.2 does kept.1
 
-pub added_among : (us : List Update) (x id : ℕ) (ps : List (ℕ × ℕ)) → state_after OrSet us ≡ Some (Pairs ps)
+-- what was added and stays was added
+pub added_in : (us : List Update) (x id : ℕ) → WasAddedAndStays x id us → Contains us (OrAdd x id)
+added_in us x id (first, later, split, none) = subst (λ vs. Contains vs (OrAdd x id)) (sym split)
+    (Contains-append_right first (OrAdd x id ∷ later) (OrAdd x id) (at_head (OrAdd x id) later (OrAdd x id) refl))
+
+added_among : (us : List Update) (x id : ℕ) (ps : List (ℕ × ℕ)) → state_after OrSet us ≡ Some (Pairs ps)
     → Contains ps (x, id) → Contains us (OrAdd x id)
-added_among us x id ps led paired = by ((pairs-exactly us ps x id led).0 paired)
-  where
-    by : WasAddedAndStays x id us → Contains us (OrAdd x id)
-    by (first, later, split, none) = subst (λ vs. Contains vs (OrAdd x id)) (sym split)
-        (Contains-append_right first (OrAdd x id ∷ later) (OrAdd x id) (at_head (OrAdd x id) later (OrAdd x id) refl))
+added_among us x id ps led paired = added_in us x id ((pairs-exactly us ps x id led).0 paired)
 
 -- a removal sees each addition that it takes out, where some sequence of the parts admits its query
 pub removal-sees_in : (records : Records) (sequence : List Part) → IsPermutation (parts_in records) sequence

@@ -154,7 +154,7 @@ identifiers pairs x k = (
       (kept-there (λ (pair : ℕ × ℕ). x == pair.0) pairs (x, k) there (eq-eqb x x refl))),
 )
 
-both_ways : {A B C : Type 0} → (A ↔ B) → (B ↔ C) → A ↔ C
+pub both_ways : {A B C : Type 0} → (A ↔ B) → (B ↔ C) → A ↔ C
 both_ways first second = ((λ a. second.0 (first.0 a)), (λ c. first.1 (second.1 c)))
 
 pub answers-ids : (pairs : List (ℕ × ℕ)) (x : ℕ) (asked : List ℕ)

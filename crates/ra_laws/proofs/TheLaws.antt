@@ -61,6 +61,7 @@ pub use Rattle.ra_laws.proofs.AnyOrder.{any_order-admitted as the_order_does_not
 pub use Rattle.ra_laws.proofs.AnyOrder.{any_order-counter as the_order_does_not_matter-counter}
 pub use Rattle.ra_laws.proofs.AnyOrder.{any_order-or_set as the_order_does_not_matter-or_set}
 pub use Rattle.ra_laws.proofs.AnyOrder.{named-where_any as the_named_sequence_linearizes_where_any_does}
+pub use Rattle.ra_laws.proofs.AnyOrder.{by_visibility as an_ra_linearization_is_one_by_visibility}
 pub use Rattle.ra_laws.proofs.AnyOrder.{no-final as a_no_is_final}
 -- laws::one_step
 pub use Rattle.ra_laws.proofs.Deliveries.{clash-exactly as two_updates_clash_where_one_takes_out_what_the_other_adds}

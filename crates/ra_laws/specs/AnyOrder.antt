@@ -40,6 +40,6 @@ abbrev pub NoneLinearizes : Kind → Records → Type 0
 NoneLinearizes kind records =
     (sequence : List Part) → ¬ IsRaLinearizationBy (precedes_by_visibility records) kind records sequence
 
--- where the updates may stand in any order: no sequence linearizes the records up to the label
+-- no sequence at all linearizes the records up to the label
 abbrev pub IsFinal : Kind → Records → ℕ → Type 0
-IsFinal kind records n = is_of_any_order kind ≡ true → NoneLinearizes kind (records_to records n)
+IsFinal kind records n = NoneLinearizes kind (records_to records n)

@@ -90,6 +90,10 @@ only_verdicts = Verdict ∷ Verdict ∷ []
 abbrev pub nothing_to_count : List Command
 nothing_to_count = Operate 0 (Count (pos 1)) None ∷ []
 
+-- `a read 0`; `a inc`: what they leave, the newest first
+abbrev pub read_and_incremented : Records
+read_and_incremented = Operate 0 Inc None ∷ Operate 0 (Count (pos 0)) None ∷ []
+
 -- `a inc`; `b dec`; `b read -1`; `a got 1`; `a read 0`: each read counts what its replica had
 abbrev pub each_counts_what_it_had : List Command
 each_counts_what_it_had =

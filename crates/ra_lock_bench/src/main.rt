@@ -10,7 +10,7 @@ mod journal;
 mod waits;
 
 use crate::calls::{by_lock, by_mutex};
-use crate::waits::{answered_of_each, calls_of_each};
+use crate::waits::{Way, answered_of_each};
 use anyhow::Result;
 use std::alloc::Global;
 use std::env;
@@ -29,13 +29,14 @@ fn main(rt: HostRuntime) -> Result<()> {
     let Some(word) = env::args(&rt)?.nth(1) else {
         return Ok(());
     };
+    let time = Duration::from_secs(SECONDS);
     match word.as_str() {
         "calls" => {
-            let calls = calls_of_each(&rt, rt.alloc(), 8, Duration::from_secs(SECONDS))?;
-            print_counts(&rt, &calls)
+            let answered = answered_of_each(&rt, rt.alloc(), 8, Way::Submit, time)?;
+            print_counts(&rt, &answered)
         }
         "attempts" => {
-            let answered = answered_of_each(&rt, rt.alloc(), 2, Duration::from_secs(SECONDS))?;
+            let answered = answered_of_each(&rt, rt.alloc(), 2, Way::Try, time)?;
             print_counts(&rt, &answered)
         }
         _ => print_times(&rt, rt.alloc()),

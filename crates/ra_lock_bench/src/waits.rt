@@ -28,58 +28,21 @@ fn start_together(started: &AtomicUsize, count: usize) {
     }
 }
 
-/// So many threads submit for this time: how many calls of each came back, also once the log was full.
-pub fn calls_of_each<R: Threads + Wait + Clock + Sync>(
-    rt: &R,
-    alloc: Global,
-    threads: u8,
-    time: Duration,
-) -> Result<Vec<u32>> {
-    let (lock, passes) = opened(alloc, threads)?;
-    let started = AtomicUsize::new(0);
-    let (shared, count) = (&lock, passes.len());
-    let calls = thread::map_vec(
-        rt,
-        passes,
-        &|pass: Pass<Log>| -> u32
-            requires { IsPassOf shared.now pass }
-        {
-            start_together(&started, count);
-            submit_for(rt, shared, pass, time)
-        },
-    )?;
-    Ok(calls)
+/// How a thread asks the lock.
+#[derive(Clone, Copy, Debug, PartialEq, Eq)]
+pub enum Way {
+    /// By `submit`, which waits for its turn.
+    Submit,
+    /// By `try_submit`, which finds the lock busy where another call is under way.
+    Try,
 }
 
-// How many calls come back in this time; none where there is no clock.
-fn submit_for<R: Wait + Clock>(
-    rt: &R,
-    lock: &TicketLock<Log>,
-    mut pass: Pass<Log>,
-    time: Duration,
-) -> u32
-    requires { IsPassOf lock.now pass }
-{
-    let Ok(start) = Instant::now(rt) else {
-        return 0;
-    };
-    let mut calls = 0u32;
-    for call in 0..u32::MAX {
-        if !start.elapsed(rt).is_ok_and(|passed| passed < time) {
-            break;
-        }
-        // A full log hands the command back, in its turn.
-        let _answer = lock.submit(rt, &mut pass, call);
-        calls = calls.saturating_add(1);
-    }
-    calls
-}
-
-/// So many threads try calls for this time: how many of each were answered, also by a full log.
+/// So many threads ask for this time: how many calls of each were answered, also by a full log.
 pub fn answered_of_each<R: Threads + Wait + Clock + Sync>(
     rt: &R,
     alloc: Global,
     threads: u8,
+    way: Way,
     time: Duration,
 ) -> Result<Vec<u32>> {
     let (lock, passes) = opened(alloc, threads)?;
@@ -92,14 +55,20 @@ pub fn answered_of_each<R: Threads + Wait + Clock + Sync>(
             requires { IsPassOf shared.now pass }
         {
             start_together(&started, count);
-            try_for(rt, shared, pass, time)
+            answered_in(rt, shared, pass, way, time)
         },
     )?;
     Ok(answered)
 }
 
 // How many calls do not find the lock busy in this time; none where there is no clock.
-fn try_for<R: Clock>(rt: &R, lock: &TicketLock<Log>, mut pass: Pass<Log>, time: Duration) -> u32
+fn answered_in<R: Wait + Clock>(
+    rt: &R,
+    lock: &TicketLock<Log>,
+    mut pass: Pass<Log>,
+    way: Way,
+    time: Duration,
+) -> u32
     requires { IsPassOf lock.now pass }
 {
     let Ok(start) = Instant::now(rt) else {
@@ -110,10 +79,12 @@ fn try_for<R: Clock>(rt: &R, lock: &TicketLock<Log>, mut pass: Pass<Log>, time: 
         if !start.elapsed(rt).is_ok_and(|passed| passed < time) {
             break;
         }
-        if !matches!(
-            lock.try_submit(&mut pass, call),
-            Err(CallFault::Busy { .. })
-        ) {
+        let reply = match way {
+            Way::Submit => lock.submit(rt, &mut pass, call),
+            Way::Try => lock.try_submit(&mut pass, call),
+        };
+        // A full log hands the command back, in its turn.
+        if !matches!(reply, Err(CallFault::Busy { .. })) {
             answered = answered.saturating_add(1);
         }
     }

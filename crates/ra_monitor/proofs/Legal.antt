@@ -12,6 +12,7 @@ use Rattle.ra_labels.specs.NamedOrder.{named_sequence}
 use Rattle.ra_labels.specs.Fault.{fault_of, fault_at}
 use Rattle.ra_labels.specs.Answer.{answer_of, records_after, records_after_all}
 use Rattle.ra_labels.specs.Laws.{ReplySays}
+use Rattle.ra_laws.specs.AnyOrder.{is_of_any_order}
 use Rattle.ra_laws.proofs.TheLaws.{no_fault_holds}
 use Rattle.ra_laws.proofs.TheLaws.{what_a_reply_says, no_exactly_at_a_fault, answers_in_turn-records}
 use Rattle.ra_laws.proofs.TheLaws.{a_no_is_final, identifiers_are_given_once-all}
@@ -71,14 +72,17 @@ no_after setup log entry answered label why =
     (λ is. pushed ∙ both.1 (sym answered ∙ is), λ at. answered ∙ both.0 (sym pushed ∙ at))
 
 -- a fault is final where the order does not matter: no identifier is given twice in the records of a log
-pub final_fault : (setup : Setup) (log : List MonitorEntry) → IsFinalFault setup log (fault_in setup log)
-final_fault setup log label why is =
-    a_no_is_final setup.kind (records_of setup log) (fault_at label why)
+pub final_fault : (setup : Setup) (log : List MonitorEntry) → is_of_any_order setup.kind ≡ true
+    → IsFinalFault setup log (fault_in setup log)
+final_fault setup log any label why is =
+    a_no_is_final setup.kind (records_of setup log) (fault_at label why) any
     (identifiers_are_given_once-all setup.kind setup.replicas (commands_of log)) is
 
 -- and so is a no, which comes where the fault is
-pub final_no : (setup : Setup) (log : List MonitorEntry) (reply : Reply) → IsNoAtFault setup log reply → IsFinalNo setup log reply
-final_no setup log reply at_fault label why is = final_fault setup log label why ((at_fault label why).0 is)
+pub final_no : (setup : Setup) (log : List MonitorEntry) (reply : Reply) → IsNoAtFault setup log reply
+    → is_of_any_order setup.kind ≡ true → IsFinalNo setup log reply
+final_no setup log reply at_fault any label why is = final_fault setup log any label why ((at_fault label why).0 is)
 
-pub final_kept : (setup : Setup) (log : List MonitorEntry) (fault : Option Fault) → fault ≡ fault_in setup log → IsFinalFault setup log fault
-final_kept setup log fault same label why is = final_fault setup log label why (sym same ∙ is)
+pub final_kept : (setup : Setup) (log : List MonitorEntry) (fault : Option Fault) → fault ≡ fault_in setup log
+    → is_of_any_order setup.kind ≡ true → IsFinalFault setup log fault
+final_kept setup log fault same any label why is = final_fault setup log any label why (sym same ∙ is)

@@ -7,6 +7,7 @@ use Rattle.ra_monitor.specs.declared.setup.Setup.{Setup}
 use Rattle.ra_journal.specs.Log.{last_ticket_of, MayFollow, IsLegalAfter}
 use Rattle.ra_labels.specs.declared.command.Command.{Command}
 use Rattle.ra_labels.specs.declared.reply.Reply.{Reply}
+use Rattle.ra_laws.specs.AnyOrder.{is_of_any_order}
 use Rattle.ra_monitor.specs.Replies.{is_yes}
 use Rattle.ra_monitor.specs.Monitor.{MonitorEntry, answer_after, IsLegalLog, IsRaLinearizable, IsNoAtFault, IsFinalNo}
 use Rattle.ra_monitor.proofs.Legal.{linearizable_after, no_after, final_no}
@@ -61,6 +62,7 @@ pub no_is_at_fault : (setup : Setup) (before after : List MonitorEntry) (entry :
 no_is_at_fault setup before after entry legal = no_after setup before entry (may_follow setup before after entry legal).0
 
 pub no_is_final : (setup : Setup) (before after : List MonitorEntry) (entry : MonitorEntry)
-    → IsLegalLog setup (before ++ entry ∷ after) → IsFinalNo setup (before ++ entry ∷ []) entry.reply
-no_is_final setup before after entry legal =
-    final_no setup (before ++ entry ∷ []) entry.reply (no_is_at_fault setup before after entry legal)
+    → is_of_any_order setup.kind ≡ true → IsLegalLog setup (before ++ entry ∷ after)
+    → IsFinalNo setup (before ++ entry ∷ []) entry.reply
+no_is_final setup before after entry any legal =
+    final_no setup (before ++ entry ∷ []) entry.reply (no_is_at_fault setup before after entry legal) any

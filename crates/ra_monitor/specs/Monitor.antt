@@ -67,8 +67,7 @@ abbrev pub IsNoAtFault : Setup → List MonitorEntry → Reply → Type 0
 IsNoAtFault setup log reply =
     (label : ℕ) (cause : Cause) → (reply ≡ No label cause) ↔ (fault_in setup log ≡ Some (fault_at label cause))
 
--- the fault of the log is final, if there is one: where the order of the kind's updates does not matter, no sequence at
--- all linearizes the records up to its label
+-- the fault of the log is final, if there is one: no sequence at all linearizes the records up to its label
 abbrev pub IsFinalFault : Setup → List MonitorEntry → Option Fault → Type 0
 IsFinalFault setup log fault = (label : ℕ) (cause : Cause) → fault ≡ Some (fault_at label cause)
     → IsFinal setup.kind (records_of setup log) label

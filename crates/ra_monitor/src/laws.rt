@@ -1,6 +1,7 @@
 //! Laws of a log, each the clause of a function that does nothing.
 ghost use Rattle.std.specs.Prelude.{◌≡◌, ◌<◌, List, [], ◌∷◌, ◌++◌, IsTrue};
 ghost use Rattle.ra_labels.specs.Answer.{answer_of};
+ghost use Rattle.ra_laws.specs.AnyOrder.{is_of_any_order};
 ghost use Rattle.ra_journal.specs.Log.{MayFollow, IsLegal};
 ghost use Rattle.ra_monitor.specs.contracts.monitor.MonitorJournal.TheImpl as journal;
 ghost use Rattle.ra_monitor.specs.Replies.{is_yes};
@@ -44,7 +45,8 @@ pub fn each_no_is_at_the_fault()
 /// label.
 pub fn each_no_of_two_kinds_is_final()
     ensures { (setup : Setup) (before after : List MonitorEntry) (entry : MonitorEntry)
-        → IsLegalLog setup (before ++ entry ∷ after) → IsFinalNo setup (before ++ entry ∷ []) entry.reply }
+        → IsTrue (is_of_any_order setup.kind) → IsLegalLog setup (before ++ entry ∷ after)
+        → IsFinalNo setup (before ++ entry ∷ []) entry.reply }
 {}
 
 /// The headline. What a pass of a desk has seen is a log that is legal for the journal that a monitor is. Each reply in
@@ -61,6 +63,6 @@ pub fn each_reply_under_the_lock()
         → IsLegal (journal.ghosts.reply_of setup) (before ++ entry ∷ after)
         → IsNoAtFault setup (before ++ entry ∷ []) entry.reply }
     ensures final_no { (setup : Setup) (before after : List MonitorEntry) (entry : MonitorEntry)
-        → IsLegal (journal.ghosts.reply_of setup) (before ++ entry ∷ after)
+        → IsTrue (is_of_any_order setup.kind) → IsLegal (journal.ghosts.reply_of setup) (before ++ entry ∷ after)
         → IsFinalNo setup (before ++ entry ∷ []) entry.reply }
 {}

@@ -4,6 +4,7 @@ ghost use Rattle.ra_labels.specs.Records.{label_count};
 ghost use Rattle.ra_labels.specs.Linearization.{IsRaLinearization};
 ghost use Rattle.ra_labels.specs.NamedOrder.{named_sequence};
 ghost use Rattle.ra_labels.specs.Answer.{answer_of, records_after};
+ghost use Rattle.ra_laws.specs.AnyOrder.{is_of_any_order};
 ghost use Rattle.ra_monitor.specs.Limits.{AreReplicas, IsLimit};
 ghost use Rattle.ra_journal.specs.Log.{last_ticket_of, unstepped};
 ghost use Rattle.ra_witness.specs.Sequence.{ref_of};
@@ -139,7 +140,8 @@ impl Monitor {
         ensures labels { result.labels ≡ label_count (records_of self.now.setup self.now.log) }
         ensures refused { result.refused ≡ refused_count self.now.log }
         ensures fault { result.fault ≡ fault_in self.now.setup self.now.log }
-        ensures final_fault { IsFinalFault self.now.setup self.now.log result.fault }
+        ensures final_fault { IsTrue (is_of_any_order self.now.setup.kind)
+            → IsFinalFault self.now.setup self.now.log result.fault }
     {
         Report {
             kind: self.setup.kind,
@@ -222,7 +224,8 @@ impl Journal for Monitor {
         ensures no { IfOk result (λ reply. IsNoAtFault self.new.setup self.new.log reply) }
 
         // A counter's no, or an OR-Set's, is final: no sequence at all linearizes the records up to its label.
-        ensures final_no { IfOk result (λ reply. IsFinalNo self.new.setup self.new.log reply) }
+        ensures final_no { IfOk result (λ reply. IsTrue (is_of_any_order self.new.setup.kind)
+            → IsFinalNo self.new.setup self.new.log reply) }
 
         // After a fault nothing changed.
         ensures full { (result ≡ Err (StepFault.Full command)) ↔ (length self.old.log ≡ self.old.setup.limit) }

@@ -1,6 +1,7 @@
 //! A monitor with its tickets, for programs that prove nothing of tickets themselves.
 ghost use Rattle.std.specs.Prelude.{◌≡◌, ◌+◌, ◌-◌, ◌<◌, ◌≤◌, ◌++◌, ◌∷◌, ◌↔◌, [], length, min, IsTrue, IfOk, IfErr, IsOk, OnOk, OnErr, IsErrOf};
 ghost use Rattle.ra_labels.specs.Answer.{answer_of, records_after};
+ghost use Rattle.ra_laws.specs.AnyOrder.{is_of_any_order};
 ghost use Rattle.ra_monitor.specs.Limits.{AreReplicas, IsLimit};
 ghost use Rattle.ra_monitor.specs.Replies.{is_yes};
 ghost use Rattle.ra_journal.specs.Log.{unstepped};
@@ -67,7 +68,8 @@ impl Reporter {
         ensures no { IfOk result (λ reply. IsNoAtFault self.new.setup self.new.log reply) }
 
         // A counter's no, or an OR-Set's, is final: no sequence at all linearizes the records up to its label.
-        ensures final_no { IfOk result (λ reply. IsFinalNo self.new.setup self.new.log reply) }
+        ensures final_no { IfOk result (λ reply. IsTrue (is_of_any_order self.new.setup.kind)
+            → IsFinalNo self.new.setup self.new.log reply) }
 
         // After a fault nothing changed.
         ensures full { (result ≡ Err (StepFault.Full command)) ↔ (length self.old.log ≡ self.old.setup.limit) }

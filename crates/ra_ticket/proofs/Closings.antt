@@ -1,5 +1,5 @@
 -- What is left of a lock when it is taken apart.
-use Rattle.std.proofs.Common.{◌≡◌, ℕ, List, ◌∷◌, Option, Some, sym, ap, ◌∙◌, subst}
+use Rattle.std.proofs.Common.{◌≡◌, ℕ, List, ◌∷◌, Option, Some, refl, sym, ap, ◌∙◌, subst}
 use mathlib.Core.Option.{some, some-injective}
 use lib.ListN.{get_elem?}
 use Rattle.atomic_table.specs.Table.{Final, Seen}
@@ -7,7 +7,7 @@ use Rattle.ra_journal.specs.declared.entry.Entry.{Entry}
 use Rattle.ra_ticket.specs.declared.board.View.{View}
 use Rattle.ra_ticket.specs.declared.board.View.TheVariants.{Spent, Knows, Met}
 use Rattle.ra_ticket.specs.declared.board.Stage.TheVariants.{Idle}
-use Rattle.ra_journal.specs.Log.{Readings, BeginsWith, IsLegal}
+use Rattle.ra_journal.specs.Log.{Readings, AllBelow, BeginsWith, IsLegal}
 use Rattle.ra_ticket.specs.Views.{stage_of, setup_of, seen_of, HasBegun, HasOwn, IsSetUp}
 use Rattle.ra_ticket.specs.Rule.{TurnsKept}
 use Rattle.ra_ticket.specs.Steps.{IsLeft}
@@ -20,6 +20,12 @@ module _ {C R S : Type 0} where
   begun Spent idle log has = absurd (cc)
   begun (Knows k) idle log has = has
   begun (Met k l) idle log has = absurd (cc)
+
+  -- a view that may make any step has a setup
+  pub idle_set_up : (v : View C R S) → stage_of v ≡ Some Idle → (setup : S) × (setup_of v ≡ Some setup)
+  idle_set_up Spent idle = absurd (cc)
+  idle_set_up (Knows k) idle = (k.setup, refl)
+  idle_set_up (Met k l) idle = absurd (cc)
 
   set_up_as : (v : View C R S) → stage_of v ≡ Some Idle → (opened : S) → IsSetUp opened v → setup_of v ≡ Some opened
   set_up_as Spent idle opened is = absurd (cc)
@@ -52,5 +58,7 @@ module _ {M C R S : Type 0} (j : Readings M C R S) (opened : S) where
               set_up_as v idle opened (r.set_up id v here) ∙ ap (λ (x : S). Some x) (sym set_up),
               subst (λ (x : S). IsLegal (j.reply_of x) (j.log journal)) (sym set_up)
                   (subst (IsLegal (j.reply_of opened)) log r.legal),
+              subst (λ (n : ℕ). AllBelow n (j.log journal)) is_serving
+                  (subst (AllBelow r.serving) log (r.rests journal found.1).1),
             );
       }

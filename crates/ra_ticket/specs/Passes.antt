@@ -1,5 +1,5 @@
 -- What callers see of a lock and its passes.
-use Rattle.std.specs.Prelude.{◌≡◌, ℕ, ◌+◌, ◌<◌, ◌≤◌, List, [], ◌∷◌, ◌++◌, Option, IfSome}
+use Rattle.std.specs.Prelude.{◌≡◌, ℕ, ◌+◌, ◌<◌, ◌≤◌, List, [], ◌∷◌, ◌++◌, max, Option, Some, IfSome}
 use Rattle.ra_journal.specs.declared.entry.Entry.{Entry}
 use Rattle.ra_ticket.specs.declared.fault.CallFault.{CallFault}
 use Rattle.ra_ticket.specs.declared.fault.CallFault.TheVariants.{Busy}
@@ -23,6 +23,10 @@ module _ {M C R S : Type 0} {g : Ghosts M C R S} where
   -- the setup of the journal, as `open` gave it
   abbrev pub pass_setup : Pass M C R S g → Option S
   pass_setup p = setup_of p.seat.me.0
+
+  -- it has a setup
+  abbrev pub HasSetup : Pass M C R S g → Type 0
+  HasSetup p = (setup : S) × (pass_setup p ≡ Some setup)
 
   -- the log as far as the pass has seen it
   abbrev pub seen : Pass M C R S g → List (Entry C R)
@@ -62,6 +66,11 @@ module _ {M C R S : Type 0} {g : Ghosts M C R S} where
   -- its own calls are those that it had made and then this one
   abbrev pub IsMineAndThen : Pass M C R S g → Pass M C R S g → C → R → Type 0
   IsMineAndThen p q command reply = (ticket : ℕ) × (mine q ≡ mine p ++ entry (number_of p) ticket command reply ∷ [])
+
+  -- of two passes that met, this one knows of the words what either knew, and no more
+  abbrev pub KnowsWhatEitherKnew : Pass M C R S g → Pass M C R S g → Pass M C R S g → Type 0
+  KnowsWhatEitherKnew p q met = (next_reached met ≡ max (next_reached p) (next_reached q))
+      × (serving_reached met ≡ max (serving_reached p) (serving_reached q))
 
   -- what a call found busy: what its pass has learned of `serving` and, above it, of `next`
   abbrev pub IsFoundBusy : Pass M C R S g → CallFault C → Type 0

@@ -179,8 +179,9 @@ module _ {M C R S : Type 0} (j : Readings M C R S) where
     pub begins : BeginsWith (seen_of t.me.0) (seen_of s.me.0)
     pub own : KeepsOwn s.me.0 t.me.0
 
-  -- the lock was taken apart by an idle seat with this view: these are the words and what its slot has. Where each
-  -- ticket that was drawn is served, that is a journal with the setup and all that the seat had seen
+  -- the lock was taken apart by an idle seat with this view: these are the words and what its slot has. Where both
+  -- words are one number, each ticket that was drawn is served, and the slot has a journal with the setup and all that
+  -- the seat had seen, whose tickets are below that number
   pub record IsLeft (v : View C R S) (next serving : ℕ) (slot : Option M) : Type 0 where
     pub order : serving ≤ next
     pub next_reached : next_of v ≤ next
@@ -189,3 +190,4 @@ module _ {M C R S : Type 0} (j : Readings M C R S) where
         × ((number : ℕ) → numbers_of v ≡ number ∷ []
         → entries_of number (j.log journal) ≡ entries_of number (seen_of v))
         × (setup_of v ≡ Some (j.setup journal)) × IsLegal (j.reply_of (j.setup journal)) (j.log journal)
+        × AllBelow serving (j.log journal)

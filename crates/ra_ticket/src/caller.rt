@@ -30,13 +30,14 @@ pub enum CloseFault<M: Journal> {
 }
 
 impl<M: Journal> Caller<M> {
-    ghost use Rattle.std.specs.Prelude.{◌≡◌, ◌≢◌, ◌+◌, ◌<◌, ◌≤◌, ◌⊎◌, [], length, map, All};
+    ghost use Rattle.std.specs.Prelude.{◌≡◌, ◌≢◌, ◌+◌, ◌<◌, ◌≤◌, ◌⊎◌, [], ◌∷◌, length, map, All};
     ghost use Rattle.std.specs.Prelude.{IfOk, IfErr, IfSome, IsOkUnless, Some};
     ghost use Rattle.std.specs.List.{range_with_len};
     ghost use Rattle.ra_journal.specs.Log.{BeginsWith, IsLegal, entries_of};
     ghost use Rattle.ra_ticket.specs.Faults.{unserved, IsWorn, IsFull, IsNoMemory, IsBusy};
-    ghost use Rattle.ra_ticket.specs.Passes.{IsPassOf, IsSamePass, IsLogged, KnowsLegal, IsMineAndThen};
-    ghost use Rattle.ra_ticket.specs.Passes.{number_of, next_reached, serving_reached, pass_setup, seen, mine, IsFoundBusy};
+    ghost use Rattle.ra_ticket.specs.Passes.{IsPassOf, IsSamePass, IsLogged, KnowsLegal, IsMineAndThen, IsFoundBusy};
+    ghost use Rattle.ra_ticket.specs.Passes.{number_of, next_reached, serving_reached, pass_setup, seen, mine};
+    ghost use Rattle.ra_ticket.specs.Passes.{HasSetup, KnowsWhatEitherKnew};
     ghost use Rattle.ra_ticket.specs.declared.draw.TheConstants.{GREATEST_TICKET};
     ghost use Rattle.ra_ticket.specs.declared.open.TheConstants.{MOST_PASSES};
     ghost use Rattle.ra_ticket.specs.Callers.{pass_of, passes_of, AreOfOneLock, HandsBack, TellsUnsettled};
@@ -78,9 +79,11 @@ impl<M: Journal> Caller<M> {
         Ok(callers)
     }
 
-    /// The place of its pass in the list that `open` gave, from 0.
+    /// The place of its pass in the list that `open` gave, from 0. Every caller has the setup of the journal that
+    /// `open` put in.
     pub fn number(&self) -> u8
-        ensures { result ≡ number_of (pass_of self.now) }
+        ensures number { result ≡ number_of (pass_of self.now) }
+        ensures setup { HasSetup (pass_of self.now) }
     {
         self.pass.number()
     }
@@ -153,6 +156,34 @@ impl<M: Journal> Caller<M> {
             (λ s. result.fault ≡ M.fault_of s (seen (pass_of self.new))) }
     {
         self.lock.glance(&mut self.pass)
+    }
+
+    /// Two callers of one lock tell each other what they know, as `TicketLock::meet` by their passes, at the same cost:
+    /// it waits for nobody and always answers.
+    pub fn meet(self, other: Caller<M>) -> (Caller<M>, Caller<M>, u32)
+        requires one_lock { AreOfOneLock (pass_of self ∷ pass_of other ∷ []) }
+        ensures first { IsSamePass (pass_of self) (pass_of result.0) }
+        ensures second { IsSamePass (pass_of other) (pass_of result.1) }
+        ensures mine_first { mine (pass_of result.0) ≡ mine (pass_of self) }
+        ensures mine_second { mine (pass_of result.1) ≡ mine (pass_of other) }
+        ensures one_log { seen (pass_of result.1) ≡ seen (pass_of result.0) }
+        ensures legal { KnowsLegal M.reply_of (pass_of result.0) × KnowsLegal M.reply_of (pass_of result.1) }
+        // It draws no ticket.
+        ensures draws_none { KnowsWhatEitherKnew (pass_of self) (pass_of other) (pass_of result.0) }
+        ensures calls { result.2 ≡ length (seen (pass_of result.0)) }
+    {
+        let Caller { lock, pass } = self;
+        let Caller {
+            lock: other_lock,
+            pass: other_pass,
+        } = other;
+        let (pass, other_pass, calls) = lock.meet(pass, other_pass);
+        let first = Caller { lock, pass };
+        let second = Caller {
+            lock: other_lock,
+            pass: other_pass,
+        };
+        (first, second, calls)
     }
 
     /// Takes the journal out of the lock, as `TicketLock::close` by its pass, where no other caller of the lock is

@@ -10,8 +10,8 @@
 //! has then seen it. `meet` has two passes see one such log, which begins with what each had seen. `close` gives the
 //! journal back, with such a log.
 //!
-//! A `Caller` is a pass that has its lock with it. Its calls are those of the lock but `meet`; `open` asks for a
-//! journal with an empty log, and the others for nothing.
+//! A `Caller` is a pass that has its lock with it. Its calls are those of the lock; `open` asks for a journal with an
+//! empty log, `meet` for two callers of one lock, and the others for nothing.
 //!
 //! Behind it stands the rule of the lock (`specs/Rule`), which each step on the table keeps: no two calls hold one
 //! ticket, the journal is out of its slot with one call at most, the one whose ticket is served, and there is one legal

@@ -69,9 +69,8 @@ fn look_and_part<M: Journal>(
 }
 
 impl<M: Journal> TicketLock<M> {
-    ghost use Rattle.std.specs.Prelude.{◌≡◌, max, length};
-    ghost use Rattle.ra_ticket.specs.Passes.{IsPassOf, IsSamePass, KnowsLegal, seen, mine};
-    ghost use Rattle.ra_ticket.specs.Passes.{next_reached, serving_reached};
+    ghost use Rattle.std.specs.Prelude.{◌≡◌, length};
+    ghost use Rattle.ra_ticket.specs.Passes.{IsPassOf, IsSamePass, KnowsWhatEitherKnew, KnowsLegal, seen, mine};
 
     /// Two passes tell each other what they know: both come back, in the order in which they were given, and have then
     /// seen one log, at a point during this call. It begins with all that either had seen before, and it has all calls
@@ -86,8 +85,7 @@ impl<M: Journal> TicketLock<M> {
         ensures one_log { seen result.1 ≡ seen result.0 }
         ensures legal { KnowsLegal M.reply_of result.0 × KnowsLegal M.reply_of result.1 }
         // It draws no ticket.
-        ensures draws_none { (next_reached result.0 ≡ max (next_reached first) (next_reached second))
-            × (serving_reached result.0 ≡ max (serving_reached first) (serving_reached second)) }
+        ensures draws_none { KnowsWhatEitherKnew first second result.0 }
         ensures calls { result.2 ≡ length (seen result.0) }
     {
         let board = &self.table.shared;

@@ -5,7 +5,7 @@ ghost use Rattle.ra_labels.specs.declared.kind.Kind.TheVariants.{Counter, OrSet}
 ghost use Rattle.ra_labels.specs.declared.reply.Fault.{Fault};
 ghost use Rattle.ra_labels.specs.Records.{Records};
 ghost use Rattle.ra_labels.specs.Rewriting.{Part, updates_of};
-ghost use Rattle.ra_labels.specs.Linearization.{IsRaLinearizationBy};
+ghost use Rattle.ra_labels.specs.Linearization.{IsRaLinearizationBy, IsRaLinearization};
 ghost use Rattle.ra_labels.specs.Specification.{Number, Pairs, state_after, is_admitted};
 ghost use Rattle.ra_labels.specs.Fault.{Holds, fault_of};
 ghost use Rattle.ra_labels.specs.Laws.{IdentifiersAreOneLabels};
@@ -36,8 +36,14 @@ pub fn the_named_sequence_linearizes_where_any_does()
         → IsRaLinearizationBy (precedes_by_visibility records) kind records sequence → Holds kind records }
 {}
 
+/// What is asked for by visibility alone is no more than of an RA-linearization.
+pub fn an_ra_linearization_is_one_by_visibility()
+    ensures { (kind : Kind) (records : Records) (sequence : List Part) → IsRaLinearization kind records sequence
+        → IsRaLinearizationBy (precedes_by_visibility records) kind records sequence }
+{}
+
 /// A fault of a counter or an OR-Set is final: no sequence at all linearizes the records up to its label.
 pub fn a_no_is_final()
-    ensures { (kind : Kind) (records : Records) (fault : Fault) → IdentifiersAreOneLabels records
-        → fault_of kind records ≡ Some fault → IsFinal kind records fault.label }
+    ensures { (kind : Kind) (records : Records) (fault : Fault) → is_of_any_order kind ≡ true
+        → IdentifiersAreOneLabels records → fault_of kind records ≡ Some fault → IsFinal kind records fault.label }
 {}

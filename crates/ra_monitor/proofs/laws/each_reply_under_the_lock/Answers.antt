@@ -11,4 +11,4 @@ pub returns-clause-no : goal.returns-clause-no
 returns-clause-no c = λ setup before after entry legal. no_is_at_fault setup before after entry legal
 
 pub returns-clause-final_no : goal.returns-clause-final_no
-returns-clause-final_no c = λ setup before after entry legal. no_is_final setup before after entry legal
+returns-clause-final_no c = λ setup before after entry any legal. no_is_final setup before after entry any legal

@@ -1,9 +1,15 @@
 use Rattle.std.proofs.Common.{◌≡◌, [], All, map, Some, sym, ap, ◌∙◌, subst}
+use mathlib.Core.List.{map-map}
+use Rattle.ra_labels.specs.declared.command.Command.{Command}
+use Rattle.ra_labels.specs.declared.reply.Reply.{Reply}
+use Rattle.ra_monitor.specs.declared.monitor.Monitor.{Monitor}
+use Rattle.ra_monitor.specs.contracts.monitor.MonitorJournal.TheImpl.{ghosts}
 use Rattle.ra_monitor.specs.declared.setup.Setup.{Setup}
+use Rattle.ra_ticket.specs.declared.pass.Pass.{Pass}
 use Rattle.ra_ticket.specs.Callers.{pass_of, passes_of}
 use Rattle.ra_ticket.specs.Passes as pass
-use Rattle.ra_ticket.specs.Passes.{pass_setup, seen, IsPassOf}
-use Rattle.ra_desk.proofs.Told.{All-of_map, map-of_map}
+use Rattle.ra_ticket.specs.Passes.{next_reached, serving_reached, pass_setup, seen, IsPassOf}
+use Rattle.ra_desk.proofs.Told.{All-of_map}
 use Rattle.ra_desk.proofs.reporter.DeskReporter.open.Goals as goal
 
 -- the setup that is read off the monitor is the monitor's
@@ -35,9 +41,9 @@ pub returns-clause-numbers : goal.returns-clause-numbers
 returns-clause-numbers c =
     let all = c.in_ok-set_up.field-0.items in
     let items = c.in_ok-callers.callers.items in
-    sym (map-of_map (λ d. pass.number_of (pass_of d)) (λ r. r.caller) all)
+    sym (map-map (λ d. pass.number_of (pass_of d)) (λ r. r.caller) all)
     ∙ ap (map (λ d. pass.number_of (pass_of d))) c.in_ok-set_up.ensures.callers
-    ∙ sym (map-of_map pass.number_of pass_of items) ∙ c.in_ok-callers.ensures.numbers
+    ∙ sym (map-map pass.number_of pass_of items) ∙ c.in_ok-callers.ensures.numbers
 
 pub returns-clause-one_desk : goal.returns-clause-one_desk
 returns-clause-one_desk c =
@@ -45,13 +51,23 @@ returns-clause-one_desk c =
     let (lock, own) = c.in_ok-callers.ensures.one_lock in (
       lock,
       subst (All (IsPassOf lock))
-          (sym (sym (map-of_map pass_of (λ r. r.caller) all) ∙ ap (map pass_of) c.in_ok-set_up.ensures.callers)) own,
+          (sym (sym (map-map pass_of (λ r. r.caller) all) ∙ ap (map pass_of) c.in_ok-set_up.ensures.callers)) own,
     )
 
-pub returns-clause-log : goal.returns-clause-log
-returns-clause-log c =
+-- what holds of each caller's pass holds of each reporter's
+each_pass : (c : goal.In_ok-set_up) (P : Pass Monitor Command Reply Setup ghosts → Type 0)
+    → All P (passes_of c.in_ok-callers.callers.items) → All (λ r. P (pass_of r.caller)) c.in_ok-set_up.field-0.items
+each_pass c P each =
     let all = c.in_ok-set_up.field-0.items in
-    let items = c.in_ok-callers.callers.items in
-    All-of_map (λ d. seen (pass_of d) ≡ []) (λ r. r.caller) all
-    (subst (All (λ d. seen (pass_of d) ≡ [])) (sym c.in_ok-set_up.ensures.callers)
-    (All-of_map (λ p. seen p ≡ []) pass_of items c.in_ok-callers.ensures.seen))
+    All-of_map (λ d. P (pass_of d)) (λ r. r.caller) all
+    (subst (All (λ d. P (pass_of d))) (sym c.in_ok-set_up.ensures.callers)
+    (All-of_map P pass_of c.in_ok-callers.callers.items each))
+
+pub returns-clause-log : goal.returns-clause-log
+returns-clause-log c = each_pass c (λ p. seen p ≡ []) c.in_ok-callers.ensures.seen
+
+pub returns-clause-drawn : goal.returns-clause-drawn
+returns-clause-drawn c = each_pass c (λ p. next_reached p ≡ 0) c.in_ok-callers.ensures.next
+
+pub returns-clause-served : goal.returns-clause-served
+returns-clause-served c = each_pass c (λ p. serving_reached p ≡ 0) c.in_ok-callers.ensures.serving

@@ -1,42 +1,34 @@
-use Rattle.std.proofs.Common.{◌≡◌, ◌∙◌, Some}
-use Rattle.ra_journal.specs.Log.{entry}
-use Rattle.ra_monitor.specs.Monitor.{IsLegalLog, IsNoAtFault, IsFinalNo}
+use Rattle.std.proofs.Common.{◌≡◌, true, ◌∙◌}
+use Rattle.std.proofs.lemmas.Result.{IfOk-weaker}
+use Rattle.ra_laws.specs.AnyOrder.{is_of_any_order}
+use Rattle.ra_monitor.specs.Monitor.{IsNoAtFault, IsFinalNo}
 use Rattle.ra_ticket.specs.Callers.{pass_of}
-use Rattle.ra_ticket.specs.Passes.{pass_setup, seen, IsLogged}
-use Rattle.ra_desk.specs.Reports.{number_of, EndsWith}
-use Rattle.ra_desk.proofs.Told.{ends_with, told, legal_under, ok_with}
+use Rattle.ra_ticket.specs.Passes.{pass_setup, seen}
+use Rattle.ra_desk.specs.Reports.{number_of}
+use Rattle.ra_desk.proofs.Told.{ends_with, said}
 use Rattle.ra_desk.proofs.reporter.DeskReporter.try_tell.Goals as goal
 
 pub returns-clause-logged : goal.returns-clause-logged
 returns-clause-logged c =
     let log = seen (pass_of c.try_submit.new.self) in
     let number = number_of c.args.self.now in
-    ok_with c.try_submit.result _ _ _
-    (λ reply known legal. ends_with log known.before number known.ticket c.args.command reply known.last)
-    c.try_submit.ensures.logged c.try_submit.ensures.legal
+    IfOk-weaker c.try_submit.result _ _
+    (λ reply known. ends_with log known.before number known.ticket c.args.command reply known.last)
+    c.try_submit.ensures.logged
 
 pub returns-clause-no : goal.returns-clause-no
 returns-clause-no c =
     let setup = c.args.self.now.setup in
-    let log = seen (pass_of c.try_submit.new.self) in
-    let number = number_of c.args.self.now in
-    let is : pass_setup (pass_of c.try_submit.new.self) ≡ Some setup = c.try_submit.ensures.pass.setup ∙ c.args.self.now.same in
-    ok_with c.try_submit.result _ _ _
-    (λ reply known legal. told setup (IsNoAtFault setup)
-    (λ before after e. c.each_reply_under_the_lock.ensures.no setup before after e) log known.before
-    (entry number known.ticket c.args.command reply) known.last
-    (legal_under (pass_setup (pass_of c.try_submit.new.self)) setup log is legal))
-    c.try_submit.ensures.logged c.try_submit.ensures.legal
+    let after = pass_of c.try_submit.new.self in
+    said c.try_submit.result (pass_setup after) setup (seen after) (number_of c.args.self.now) c.args.command
+    (IsNoAtFault setup) (c.each_reply_under_the_lock.ensures.no setup)
+    (c.try_submit.ensures.pass.setup ∙ c.args.self.now.same) (returns-clause-logged c) c.try_submit.ensures.legal
 
 pub returns-clause-final_no : goal.returns-clause-final_no
 returns-clause-final_no c =
     let setup = c.args.self.now.setup in
-    let log = seen (pass_of c.try_submit.new.self) in
-    let number = number_of c.args.self.now in
-    let is : pass_setup (pass_of c.try_submit.new.self) ≡ Some setup = c.try_submit.ensures.pass.setup ∙ c.args.self.now.same in
-    ok_with c.try_submit.result _ _ _
-    (λ reply known legal. told setup (IsFinalNo setup)
-    (λ before after e. c.each_reply_under_the_lock.ensures.final_no setup before after e) log known.before
-    (entry number known.ticket c.args.command reply) known.last
-    (legal_under (pass_setup (pass_of c.try_submit.new.self)) setup log is legal))
-    c.try_submit.ensures.logged c.try_submit.ensures.legal
+    let after = pass_of c.try_submit.new.self in
+    said c.try_submit.result (pass_setup after) setup (seen after) (number_of c.args.self.now) c.args.command
+    (λ log reply. is_of_any_order setup.kind ≡ true → IsFinalNo setup log reply)
+    (λ before later e legal any. c.each_reply_under_the_lock.ensures.final_no setup before later e any legal)
+    (c.try_submit.ensures.pass.setup ∙ c.args.self.now.same) (returns-clause-logged c) c.try_submit.ensures.legal

@@ -8,4 +8,4 @@ use Rattle.ra_laws.proofs.worked.finals.no_order_explains_what_was_read_too_soon
 
 pub returns-clause-none : goal.returns-clause-none
 returns-clause-none c = a_no_is_final Counter (records_of_three nothing_was_delivered) (fault_at 1 Query)
-    (identifiers_are_given_once-all Counter 3 nothing_was_delivered) refl refl
+    refl (identifiers_are_given_once-all Counter 3 nothing_was_delivered) refl

@@ -9,4 +9,4 @@ use Rattle.ra_laws.proofs.worked.finals.no_order_explains_what_was_removed_too_s
 
 pub returns-clause-none : goal.returns-clause-none
 returns-clause-none c = a_no_is_final OrSet (records_after_all OrSet 3 [] removed_unseen) (fault_at 1 Query)
-    (identifiers_are_given_once-all OrSet 3 removed_unseen) refl refl
+    refl (identifiers_are_given_once-all OrSet 3 removed_unseen) refl

@@ -48,10 +48,11 @@ returns-in-Ok-clause-no c =
     subst (λ (l : List MonitorEntry). IsNoAtFault c.self.inside.setup l c.in-Ok.reply) (sym (log_is c)) (no_after c.self.inside.setup c.self.inside.log.items (entry_of c) (answered c))
 
 pub returns-in-Ok-clause-final_no : goal.returns-in-Ok-clause-final_no
-returns-in-Ok-clause-final_no c =
+returns-in-Ok-clause-final_no c = λ any.
     let setup = c.self.inside.setup in
     let log = c.self.inside.log.items in
-    subst (λ (l : List MonitorEntry). IsFinalNo setup l c.in-Ok.reply) (sym (log_is c)) (final_no setup (log ++ entry_of c ∷ []) c.in-Ok.reply (no_after setup log (entry_of c) (answered c)))
+    subst (λ (l : List MonitorEntry). IsFinalNo setup l c.in-Ok.reply) (sym (log_is c))
+    (final_no setup (log ++ entry_of c ∷ []) c.in-Ok.reply (no_after setup log (entry_of c) (answered c)) any)
 
 -- It gave up, so the command would have joined the records.
 pub returns-in-Err-clause-settled : goal.returns-in-Err-clause-settled
