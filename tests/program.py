@@ -7,15 +7,13 @@ from pathlib import Path
 
 TOP = Path(__file__).resolve().parent.parent
 PROGRAM = TOP / "crates" / "ra_monitor_cli" / "out" / "ra_monitor_cli"
-# It gives a text to calls of the library that the program does not make.
-AGAIN = TOP / "crates" / "ra_text_bench" / "out" / "ra_text_bench"
 # A run that has not ended by then is stuck, and is ended.
 SECONDS = 20
 
 
-def build(path=PROGRAM):
-    """Has this program built, where it is missing or old."""
-    words = [TOP / "tools" / "build", path.name]
+def build():
+    """Has the program built, where it is missing or old."""
+    words = [TOP / "tools" / "build", PROGRAM.name]
     subprocess.run(words, check=True, stdin=subprocess.DEVNULL, stdout=sys.stderr)
 
 
@@ -27,10 +25,9 @@ def chosen():
 
 
 class Program:
-    """Runs a program, one run after another, with its input and both outputs in files in memory."""
+    """Runs the program, one run after another, with its input and both outputs in files in memory."""
 
-    def __init__(self, path=PROGRAM):
-        self.path = path
+    def __init__(self):
         self.files = [os.memfd_create(name) for name in ("given", "wrote", "said")]
         self.ways = [(os.POSIX_SPAWN_DUP2, file, number) for number, file in enumerate(self.files)]
         self.running = 0
@@ -44,7 +41,7 @@ class Program:
             os.ftruncate(file, 0)
             os.lseek(file, 0, os.SEEK_SET)
         os.pwrite(self.files[0], given, 0)
-        self.running = os.posix_spawn(self.path, [self.path, *words], {}, file_actions=self.ways)
+        self.running = os.posix_spawn(PROGRAM, [PROGRAM, *words], {}, file_actions=self.ways)
         signal.alarm(SECONDS)
         _, status, used = os.wait4(self.running, 0)
         signal.alarm(0)

@@ -2,22 +2,18 @@
 //! one log entry a line.
 //!
 //! With the word `loop` it runs that loop once, on standard input, and prints how many entries that pushed, so that a
-//! run of it can be timed beside a run of the check. With `write` it writes the history that standard input tells, and
-//! with `feed` and a number it writes a session's answer to standard input, so many bytes at a time: tests/sizes runs
-//! both. It prints nothing without a word on its command line, since the gate runs it so.
+//! run of it can be timed beside a run of the check. It prints nothing without a word on its command line, since the
+//! gate runs it so.
 #![tactic(auto)]
 
-mod again;
 mod plain;
 mod texts;
 
-use crate::again::{feed, write_again};
 use crate::plain::cut_and_log;
 use crate::texts::text_of;
 use anyhow::{Result, bail};
 use ra_history_text::check;
 use std::alloc::Global;
-use std::io::Print;
 use std::time::{Clock, Duration, Instant};
 use std::{env, io};
 
@@ -28,44 +24,20 @@ const LINES: u32 = 1_000_000;
 const TURNS: u32 = 5;
 
 fn main(rt: HostRuntime) -> Result<()> {
-    let mut words = env::args(&rt)?;
-    let _program = words.next();
-    let Some(word) = words.next() else {
+    let Some(word) = env::args(&rt)?.nth(1) else {
         return Ok(());
     };
-    match word.as_str() {
-        "loop" => {
-            let entries = cut_and_log(rt.alloc(), &mut rt.reader())?;
-            println!(rt; "{entries}")?;
-            Ok(())
-        }
-        "write" => {
-            let text = io::read_to_string(rt.alloc(), rt.reader())?;
-            write_again(rt.alloc(), text.as_bytes(), &mut io::writer(&rt))
-        }
-        "feed" => {
-            let Some(length) = words.next() else {
-                bail!("how many bytes at a time?");
-            };
-            let text = io::read_to_string(rt.alloc(), rt.reader())?;
-            feed(
-                rt.alloc(),
-                text.as_bytes(),
-                length.parse()?,
-                &mut io::writer(&rt),
-            )
-        }
-        _ => print_times(&rt, rt.alloc()),
+    if word.as_str() == "loop" {
+        let entries = cut_and_log(rt.alloc(), &mut rt.reader())?;
+        println!(rt; "{entries}")?;
+        return Ok(());
     }
-}
-
-fn print_times<R: Clock + Print>(rt: &R, alloc: Global) -> Result<()> {
     println!(rt; "line          check (ms)  lines/s     loop (ms)   lines/s")?;
     for line in ["verdict", "a write 7 @3"] {
-        let text = text_of(alloc, line, LINES)?;
+        let text = text_of(rt.alloc(), line, LINES)?;
         for _ in 0..TURNS {
-            let checked = time_of_check(rt, alloc, text.as_bytes())?;
-            let cut = time_of_loop(rt, alloc, text.as_bytes())?;
+            let checked = time_of_check(&rt, rt.alloc(), text.as_bytes())?;
+            let cut = time_of_loop(&rt, rt.alloc(), text.as_bytes())?;
             println!(rt;
                 "{line:<12}  {:>10}  {:>10}  {:>9}  {:>10}",
                 checked.as_millis(),

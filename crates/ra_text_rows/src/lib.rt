@@ -1,6 +1,6 @@
 //! Tests of the text of a history, bytes in and bytes out: what neither a clause nor a text of tests/texts/ shows.
-//! These are readers and writers that fail or give and take little, histories that are written, and that memory that is
-//! there is used. There is nothing else here.
+//! These are readers and writers that fail or give and take little, histories that are written, long texts, and that
+//! memory that is there is used. There is nothing else here.
 #![tactic(auto)]
 
 #[cfg(test)]
@@ -9,6 +9,8 @@ mod faults;
 mod histories;
 #[cfg(test)]
 mod lines;
+#[cfg(test)]
+mod long;
 #[cfg(test)]
 mod readers;
 #[cfg(test)]
