@@ -44,6 +44,14 @@ pub legal_under : (found : Option Setup) (setup : Setup) (log : List MonitorEntr
     → IfSome found (λ s. IsLegalLog s log) → IsLegalLog setup log
 legal_under found setup log is legal = subst (λ (o : Option Setup). IfSome o (λ s. IsLegalLog s log)) is legal
 
+-- what was legal stays so, where a call says that of the setup that its pass has
+pub legal_still : (before after : Option Setup) (setup : Setup) (old new : List MonitorEntry) → before ≡ Some setup
+    → after ≡ Some setup → (IfSome before (λ s. IsLegalLog s old) → IfSome after (λ s. IsLegalLog s new))
+    → IsLegalLog setup old → IsLegalLog setup new
+legal_still before after setup old new was is still legal =
+    legal_under after setup new is
+    (still (subst (λ (o : Option Setup). IfSome o (λ s. IsLegalLog s old)) (sym was) legal))
+
 module _ {E : Type 0} where
   -- what is said of each reply in a legal log is said of an answer that stands last in it
   pub said : (result : Result Reply E) (found : Option Setup) (setup : Setup) (log : List MonitorEntry) (number : ℕ)

@@ -26,7 +26,7 @@ setup_of r = r.setup
 abbrev pub log_of : DeskReporter → List MonitorEntry
 log_of r = pass.seen (pass_of r.caller)
 
--- how many tickets of the desk are drawn, and how many of them are served, as far as it knows
+-- so many tickets of the desk are drawn, and so many of them served, at least: what it knows of them
 abbrev pub drawn_of : DeskReporter → ℕ
 drawn_of r = pass.next_reached (pass_of r.caller)
 
@@ -69,9 +69,13 @@ abbrev pub IsReportedOnce : DeskReporter → DeskReporter → Command → Reply 
 IsReportedOnce old new command reply =
     (ticket : ℕ) × (reports_of new ≡ reports_of old ++ entry (number_of old) ticket command reply ∷ [])
 
--- `Busy` tells how many tickets were served when it looked, and that more were drawn
+-- `Busy` tells two numbers, the second above the first: what the reporter has learned of the tickets
 abbrev pub IsFoundBusy : DeskReporter → CallFault Command → Type 0
 IsFoundBusy r fault = pass.IsFoundBusy (pass_of r.caller) fault
+
+-- of two that met, this one knows of the tickets what either knew, and no more
+abbrev pub KnowsWhatEitherKnew : DeskReporter → DeskReporter → DeskReporter → Type 0
+KnowsWhatEitherKnew r s met = pass.KnowsWhatEitherKnew (pass_of r.caller) (pass_of s.caller) (pass_of met.caller)
 
 -- both report at one desk
 abbrev pub AreOfOneDesk : DeskReporter → DeskReporter → Type 0
@@ -83,7 +87,7 @@ HandsBack (Shared back) r =
     (pass_of back.caller ≡ pass_of r.caller) × (lock_of back.caller ≡ lock_of r.caller) × (setup_of back ≡ setup_of r)
 HandsBack (Unsettled words) r = Unit {0}
 
--- `Unsettled` tells how many tickets were served and that more were drawn, each no less than the reporter knew
+-- `Unsettled` tells two numbers, the first below the second, which are no less than what the reporter knew
 abbrev pub TellsUnsettled : DeskCloseFault → DeskReporter → Type 0
 TellsUnsettled (Shared back) r = Unit {0}
 TellsUnsettled (Unsettled words) r =

@@ -39,7 +39,7 @@ pub enum DeskCloseFault {
 
 impl DeskReporter {
     ghost use Rattle.ra_desk.specs.Reports.{number_of, setup_of, log_of, drawn_of, served_of, reports_of, passes_of, before_last};
-    ghost use Rattle.ra_desk.specs.Reports.{IsSameReporter, EndsWith, IsReportedOnce, IsFoundBusy, AreOfOneDesk, HandsBack, TellsUnsettled};
+    ghost use Rattle.ra_desk.specs.Reports.{IsSameReporter, EndsWith, IsReportedOnce, IsFoundBusy, AreOfOneDesk, KnowsWhatEitherKnew, HandsBack, TellsUnsettled};
 
     /// Opens a desk over a monitor that has answered nothing yet, with 1 to 64 reporters, numbered from 0 in the list's
     /// order. `BadPasses` gives the monitor back where it would be another number; `NoMemory` comes where a growth was
@@ -100,8 +100,10 @@ impl DeskReporter {
     /// `Full` where the log has as many entries as its limit, `NoMemory` where a growth was refused, `Worn` after
     /// 2^64 - 1 tickets. Each hands the command back and logs nothing.
     pub fn tell<R: Wait>(&mut self, rt: &R, command: Command) -> Result<Reply, CallFault<Command>>
-        // Whatever comes, it is the same reporter, and has seen no less.
+        // Whatever comes, it is the same reporter, and has seen no less; what was legal stays so.
         ensures same { IsSameReporter self.old self.new }
+        ensures legal_still { IsLegalLog (setup_of self.old) (log_of self.old)
+            → IsLegalLog (setup_of self.new) (log_of self.new) }
 
         // This report stands last in what it has seen then, which is legal and begins with all that it had seen.
         ensures logged { IfOk result (λ reply. EndsWith (log_of self.new) (number_of self.old) command reply) }
@@ -141,6 +143,8 @@ impl DeskReporter {
     /// nobody. Cost and faults beside that are those of `tell`.
     pub fn try_tell(&mut self, command: Command) -> Result<Reply, CallFault<Command>>
         ensures same { IsSameReporter self.old self.new }
+        ensures legal_still { IsLegalLog (setup_of self.old) (log_of self.old)
+            → IsLegalLog (setup_of self.new) (log_of self.new) }
 
         ensures logged { IfOk result (λ reply. EndsWith (log_of self.new) (number_of self.old) command reply) }
         ensures not_before { IfOk result (λ reply. BeginsWith (before_last (log_of self.new)) (log_of self.old)) }
@@ -179,6 +183,7 @@ impl DeskReporter {
         ensures same { IsSameReporter self.old self.new }
         ensures legal { IsLegalLog (setup_of self.new) (log_of self.new) }
         ensures mine { reports_of self.new ≡ reports_of self.old }
+        // What it knows of the tickets stays.
         ensures draws_none { (drawn_of self.new ≡ drawn_of self.old) × (served_of self.new ≡ served_of self.old) }
         ensures calls { result.calls ≡ length (log_of self.new) }
         ensures fault { result.fault ≡ fault_label_in (setup_of self.new) (log_of self.new) }
@@ -198,6 +203,7 @@ impl DeskReporter {
         ensures one_log { log_of result.1 ≡ log_of result.0 }
         ensures legal { IsLegalLog (setup_of result.0) (log_of result.0)
             × IsLegalLog (setup_of result.1) (log_of result.1) }
+        ensures draws_none { KnowsWhatEitherKnew self other result.0 }
         ensures calls { result.2 ≡ length (log_of result.0) }
     {
         let DeskReporter { caller, setup } = self;

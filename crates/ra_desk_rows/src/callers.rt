@@ -6,7 +6,7 @@ ghost use Rattle.ra_desk.specs.Reports.{passes_of, AreOfOneDesk};
 
 use crate::desks::{got_the_first, is_full, register_of, reply_in, write};
 use ra_desk::{DeskCloseFault, DeskReporter};
-use ra_labels::{Command, Reply};
+use ra_labels::{Command, Refusal, Reply};
 use ra_ticket::Glance;
 use std::alloc::Global;
 use std::process::Abort;
@@ -111,6 +111,24 @@ fn a_desk_has_the_room_that_was_reserved(rt: HostRuntime) {
     assert_eq!(rt; accepted(&rt, &mut reporter, 0, 3), 3);
     match reporter.close() {
         Ok(monitor) => assert_eq!(rt; monitor.room(), room - 3),
+        Err(_) => panic!(rt; "not closed"),
+    }
+}
+
+// Whoever is refused goes on, and the monitor of a closed desk has what was reported, with room left.
+#[test]
+fn a_refused_report_is_logged_and_no_more(rt: HostRuntime) {
+    let (mut first, second) = two_reporters(&rt, rt.alloc(), 10);
+    let early = reply_in(first.tell(&rt, got_the_first(1)));
+    let wrote = reply_in(first.try_tell(write(0, 7)));
+    assert_eq!(rt; early, Some(Reply::Refused(Refusal::UnknownLabel)));
+    assert_eq!(rt; wrote, Some(Reply::Ok(0)));
+    drop(second);
+    match first.close() {
+        Ok(monitor) => {
+            let report = monitor.report();
+            assert_eq!(rt; (report.calls, report.labels, report.refused), (2, 1, 1));
+        }
         Err(_) => panic!(rt; "not closed"),
     }
 }

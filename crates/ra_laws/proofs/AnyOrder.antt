@@ -1,4 +1,4 @@
--- Counters and OR-Sets: the order of the updates does not matter, so a no is final.
+-- Counters and OR-Sets: in each order that explains the removals the updates lead to the same, so a no is final.
 use Rattle.std.proofs.Common.{◌≡◌, ℕ, ◌+◌, Bool, true, false, cond, List, [], ◌∷◌, ◌++◌, filter, Option, Some, None, refl, sym, ap, ◌∙◌, subst, inl, inr, arith}
 use Rattle.std.specs.Prelude.{◌↔◌, ◌⊎◌, ◌==◌, ◌&&◌, ◌||◌, not, is_some, Contains, IsPermutation, pos, ◌-ℤ◌}
 use Rattle.std.specs.List.{list_all, cons_option}
@@ -31,7 +31,7 @@ use Rattle.ra_labels.proofs.InLists.{list_all-contains, list_all-from_contains, 
 use Rattle.ra_labels.proofs.Members.{head_or_behind, at_head, behind_head, split_at, there-kept, kept-there, piece_of}
 use Rattle.ra_labels.proofs.Parts.{part_is_of}
 use Rattle.ra_laws.specs.Counters.{increments_in, decrements_in}
-use Rattle.ra_laws.specs.AnyOrder.{is_of_any_order, updates_that_pass, IsOrderOf, IsAddedAndNeverTakenOut, precedes_by_visibility, IsFinal}
+use Rattle.ra_laws.specs.AnyOrder.{is_of_any_order, updates_that_pass, IsOrderOf, IsAddedAndNeverTakenOut, IsFinal}
 use Rattle.ra_laws.proofs.States.{admitted-only, admitted-of_kind, state-of_kind, counter_is}
 use Rattle.ra_laws.proofs.OrSets.{pairs-exactly, answers-ids, answers-pairs, both_ways}
 use Rattle.ra_laws.proofs.Meanings.{some-exactly, queries-exactly}
@@ -277,7 +277,7 @@ AnswersSo kind records sequence = (n : ℕ) (query : Query) (state : State)
     → answers other query ≡ true
 
 abbrev Linearizes : Kind → Records → List Part → Type 0
-Linearizes kind records sequence = IsRaLinearizationBy (precedes_by_visibility records) kind records sequence
+Linearizes kind records sequence = IsRaLinearizationBy (is_visible_to records) kind records sequence
 
 named_in : (kind : Kind) (records : Records) (sequence : List Part) → Linearizes kind records sequence
     → AreAmong (named_sequence kind records) sequence
@@ -343,13 +343,12 @@ counter_so records sequence linearizes n query state led answered other led_othe
     ∙ sym (counter_is vs other led_other) in
     subst (λ s. answers s query ≡ true) same answered
 
--- an OR-Set's pairs are the same
-visible_extends : (records : Records) (precedes : Part → Part → Bool) (ps : List Part) (n : ℕ)
-    → ((p q : Part) → is_visible_to records p q ≡ true → precedes p q ≡ true) → extends precedes ps ≡ true
-    → extends (is_visible_to records) (filter (seen_by records n) ps) ≡ true
-visible_extends records precedes ps n weaker extended =
-    extends-filter (is_visible_to records) (seen_by records n) ps
-    (extends-weaker precedes (is_visible_to records) weaker ps extended)
+-- what is seen must precede
+seen_must_precede : (records : Records) (p q : Part) → is_visible_to records p q ≡ true
+    → must_precede records p q ≡ true
+seen_must_precede records p q seen =
+    or_left (is_visible_to records p q || is_earlier_there p q) (is_query_half_of p q)
+    (or_left (is_visible_to records p q) (is_earlier_there p q) seen)
 
 -- queries are answered alike where the pairs are the same
 answers_alike : (ps qs : List (ℕ × ℕ)) → ((x id : ℕ) → Contains ps (x, id) ↔ Contains qs (x, id)) → (query : Query)
@@ -396,11 +395,10 @@ or_set_so records sequence once linearizes n query state led answered other led_
     let (ps, is) = some_pairs state (state-of_kind OrSet (visible_updates records sequence n) state led) in
     let (qs, other_is) = some_pairs other (state-of_kind OrSet (visible_updates records named n) other led_other) in
     let see = removal-sees_in records sequence linearizes.each_part_once linearizes.queries once in
-    let order = visible_extends records (precedes_by_visibility records) sequence n
-    (λ p q seen. or_left (is_visible_to records p q) (is_query_half_of p q) seen) linearizes.visibility in
-    let named_order = visible_extends records (must_precede records) named n
-    (λ p q seen. or_left (is_visible_to records p q || is_earlier_there p q) (is_query_half_of p q)
-    (or_left (is_visible_to records p q) (is_earlier_there p q) seen)) (or_set-extends records) in
+    let order = extends-filter (is_visible_to records) (seen_by records n) sequence linearizes.visibility in
+    let named_order = extends-filter (is_visible_to records) (seen_by records n) named
+    (extends-weaker (must_precede records) (is_visible_to records) (seen_must_precede records) named
+    (or_set-extends records)) in
     let same = same_pairs records see sequence named n linearizes.each_part_once
     (IsPermutation-named_sequence OrSet records) (in_named OrSet records sequence linearizes)
     (named_in OrSet records sequence linearizes) order named_order ps qs (led ∙ ap Some is)
@@ -418,22 +416,16 @@ named-where_any OrSet records sequence any once linearizes =
     (or_set_so records sequence once linearizes)
 named-where_any _ records sequence any once linearizes = absurd (false≢true any)
 
--- what must precede by visibility must precede
+-- what is seen must precede
 pub by_visibility : (kind : Kind) (records : Records) (sequence : List Part) → IsRaLinearization kind records sequence
     → Linearizes kind records sequence
 by_visibility kind records sequence linearizes = record {
   each_part_once = linearizes.each_part_once;
-  visibility = extends-weaker (must_precede records) (precedes_by_visibility records) (λ p q precedes.
-      must_so (is_visible_to records p q) (is_earlier_there p q) (is_query_half_of p q) precedes) sequence
+  visibility = extends-weaker (must_precede records) (is_visible_to records) (seen_must_precede records) sequence
       linearizes.visibility;
   updates = linearizes.updates;
   queries = linearizes.queries;
 }
-  where
-    must_so : (visible earlier half : Bool) → visible || half ≡ true → visible || earlier || half ≡ true
-    must_so true _ _ _ = refl
-    must_so false true _ _ = refl
-    must_so false false half is = is
 
 -- ---- a no is final
 
@@ -460,3 +452,8 @@ no-final kind records fault any once is sequence linearizes =
     let holds = named-where_any kind upto sequence any (λ l m id l_there m_there.
     once l m id (labels_to records fault.label l l_there) (labels_to records fault.label m m_there)) linearizes in
     none-some fault.cause (sym (no_cause_from_holds kind upto holds) ∙ least.fails)
+
+pub none_where_final : (kind : Kind) (records : Records) (n : ℕ) (sequence : List Part) → IsFinal kind records n
+    → ¬ (IsRaLinearization kind (records_to records n) sequence)
+none_where_final kind records n sequence final linearizes =
+    final sequence (by_visibility kind (records_to records n) sequence linearizes)

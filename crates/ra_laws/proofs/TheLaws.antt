@@ -63,6 +63,7 @@ pub use Rattle.ra_laws.proofs.AnyOrder.{any_order-or_set as the_order_does_not_m
 pub use Rattle.ra_laws.proofs.AnyOrder.{named-where_any as the_named_sequence_linearizes_where_any_does}
 pub use Rattle.ra_laws.proofs.AnyOrder.{by_visibility as an_ra_linearization_is_one_by_visibility}
 pub use Rattle.ra_laws.proofs.AnyOrder.{no-final as a_no_is_final}
+pub use Rattle.ra_laws.proofs.AnyOrder.{none_where_final as what_is_final_has_no_ra_linearization}
 -- laws::one_step
 pub use Rattle.ra_laws.proofs.Deliveries.{clash-exactly as two_updates_clash_where_one_takes_out_what_the_other_adds}
 pub use Rattle.ra_laws.proofs.Deliveries.{removal-sees as a_removal_sees_what_it_takes_out}

@@ -1,5 +1,5 @@
 -- Kinds whose updates may stand in any order that respects visibility, and what makes a no of theirs final.
-use Rattle.std.specs.Prelude.{◌≡◌, ℕ, Bool, true, false, ◌&&◌, ◌||◌, List, Contains, filter, is_some, IsTrue, IsPermutation}
+use Rattle.std.specs.Prelude.{◌≡◌, ℕ, Bool, true, false, ◌&&◌, List, Contains, filter, is_some, IsTrue, IsPermutation}
 use Rattle.ra_labels.specs.declared.kind.Kind.{Kind}
 use Rattle.ra_labels.specs.declared.kind.Kind.TheVariants.{Counter, Register, LwwSet, OrSet, Rga}
 use Rattle.ra_labels.specs.Records.{Records, records_to}
@@ -7,7 +7,7 @@ use Rattle.ra_labels.specs.declared.operation.Update.{Update}
 use Rattle.ra_labels.specs.declared.operation.Update.TheVariants.{OrAdd}
 use Rattle.ra_labels.specs.Rewriting.{Part, update_of}
 use Rattle.ra_labels.specs.Laws.{NoneTakesOut}
-use Rattle.ra_labels.specs.Linearization.{parts_in, is_visible_to, is_query_half_of, extends, IsRaLinearizationBy}
+use Rattle.ra_labels.specs.Linearization.{parts_in, is_visible_to, extends, IsRaLinearizationBy}
 
 -- may the updates stand in any order that respects visibility?
 abbrev pub is_of_any_order : Kind → Bool
@@ -30,15 +30,11 @@ pub record IsOrderOf (records : Records) (passes : ℕ → Bool) (parts : List P
 abbrev pub IsAddedAndNeverTakenOut : ℕ → ℕ → List Update → Type 0
 IsAddedAndNeverTakenOut x id updates = Contains updates (OrAdd x id) × NoneTakesOut x id updates
 
--- p must stand before q where visibility and the two halves of a label are all that is asked for: not the order at
--- one replica
-abbrev pub precedes_by_visibility : Records → Part → Part → Bool
-precedes_by_visibility records p q = is_visible_to records p q || is_query_half_of p q
-
--- no sequence at all is an RA-linearization, not even where the order at one replica is not asked for
+-- no sequence at all is an RA-linearization, not even where visibility is all that it has to extend: neither the order
+-- at one replica nor that of a label's two halves
 abbrev pub NoneLinearizes : Kind → Records → Type 0
 NoneLinearizes kind records =
-    (sequence : List Part) → ¬ IsRaLinearizationBy (precedes_by_visibility records) kind records sequence
+    (sequence : List Part) → ¬ IsRaLinearizationBy (is_visible_to records) kind records sequence
 
 -- no sequence at all linearizes the records up to the label
 abbrev pub IsFinal : Kind → Records → ℕ → Type 0

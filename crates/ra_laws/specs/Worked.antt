@@ -90,6 +90,10 @@ only_verdicts = Verdict ∷ Verdict ∷ []
 abbrev pub nothing_to_count : List Command
 nothing_to_count = Operate 0 (Count (pos 1)) None ∷ []
 
+-- `a inc`; `b inc`: what they leave, the newest first
+abbrev pub two_increments : Records
+two_increments = Operate 1 Inc None ∷ Operate 0 Inc None ∷ []
+
 -- `a read 0`; `a inc`: what they leave, the newest first
 abbrev pub read_and_incremented : Records
 read_and_incremented = Operate 0 Inc None ∷ Operate 0 (Count (pos 0)) None ∷ []

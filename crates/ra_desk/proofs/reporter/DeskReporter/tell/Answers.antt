@@ -5,7 +5,7 @@ use Rattle.ra_monitor.specs.Monitor.{IsNoAtFault, IsFinalNo}
 use Rattle.ra_ticket.specs.Callers.{pass_of}
 use Rattle.ra_ticket.specs.Passes.{pass_setup, seen}
 use Rattle.ra_desk.specs.Reports.{number_of}
-use Rattle.ra_desk.proofs.Told.{ends_with, said}
+use Rattle.ra_desk.proofs.Told.{ends_with, legal_still, said}
 use Rattle.ra_desk.proofs.reporter.DeskReporter.tell.Goals as goal
 
 pub returns-clause-logged : goal.returns-clause-logged
@@ -32,3 +32,11 @@ returns-clause-final_no g c =
     (λ log reply. is_of_any_order setup.kind ≡ true → IsFinalNo setup log reply)
     (λ before later e legal any. c.each_reply_under_the_lock.ensures.final_no setup before later e any legal)
     (c.submit.ensures.pass.setup ∙ c.args.self.now.same) (returns-clause-logged g c) c.submit.ensures.legal
+
+pub returns-clause-legal_still : goal.returns-clause-legal_still
+returns-clause-legal_still g c =
+    let setup = c.args.self.now.setup in
+    let before = pass_of c.args.self.now.caller in
+    let after = pass_of c.submit.new.self in
+    legal_still (pass_setup before) (pass_setup after) setup (seen before) (seen after) c.args.self.now.same
+    (c.submit.ensures.pass.setup ∙ c.args.self.now.same) c.submit.ensures.legal_still
