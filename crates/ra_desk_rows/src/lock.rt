@@ -7,13 +7,16 @@ mod random;
 mod tally;
 pub mod threads;
 
-use gate::{Gate, lowered, shared};
-use ra_ticket::{CallFault, Glance, Journal, MOST_ENTRIES, OpenFault, Pass, StepFault, TicketLock};
+use gate::{Gate, is_raised_in_time, lowered, raise, shared};
+use ra_ticket::{
+    CallFault, Caller, Glance, Journal, MOST_ENTRIES, OpenFault, Pass, StepFault, TicketLock,
+};
 use random::{Played, played_by_threads};
 use std::alloc::Global;
 use std::process::Abort;
 use std::sync::Wait;
 use std::sync::atomic::{AtomicU64, Ordering};
+use std::thread;
 use tally::Tally;
 use threads::{Found, call_and_look_on, counted, last_pass, replies, replies_of_threads};
 
@@ -278,6 +281,50 @@ fn a_call_under_way_keeps_others_out_and_lets_them_glance(rt: HostRuntime) {
         calls: 2,
     };
     assert_eq!(rt; (reply, found, then), (Ok(5), Some(meanwhile), afterwards));
+}
+
+// The same of callers, which have their lock with them.
+#[test]
+fn a_caller_finds_a_call_under_way(rt: HostRuntime) {
+    let inside = lowered(&rt, rt.alloc());
+    let go_on = lowered(&rt, rt.alloc());
+    let gate = Gate {
+        inside: shared(&rt, &inside),
+        go_on: shared(&rt, &go_on),
+    };
+    let tally = tally_of(&rt, rt.alloc(), 9).behind(gate);
+    let Ok(mut callers) = Caller::open(rt.alloc(), tally, 2) else {
+        panic!(rt; "no lock");
+    };
+    let (Some(mut other), Some(mut caller)) = (callers.pop(), callers.pop()) else {
+        panic!(rt; "too few callers");
+    };
+    let (reply, found) = thread::join(
+        &rt,
+        || caller.submit(&rt, 5),
+        || try_inside(&mut other, &inside, &go_on),
+    );
+    let busy = CallFault::Busy {
+        at: 0,
+        found: 1,
+        command: 7,
+    };
+    assert_eq!(rt; (reply, found), (Ok(5), Some(Err(busy))));
+    assert_eq!(rt; other.try_submit(7), Ok(12));
+}
+
+// Once `inside` is raised, the caller tries a call, and `go_on` is raised.
+fn try_inside(
+    caller: &mut Caller<Tally>,
+    inside: &AtomicU64,
+    go_on: &AtomicU64,
+) -> Option<Result<u32, CallFault<u32>>> {
+    if !is_raised_in_time(inside) {
+        return None;
+    }
+    let found = caller.try_submit(7);
+    raise(go_on);
+    Some(found)
 }
 
 // Sixty-three passes on eight threads make calls, try, glance and meet, and a further pass closes the lock.

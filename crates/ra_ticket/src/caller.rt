@@ -79,8 +79,7 @@ impl<M: Journal> Caller<M> {
         Ok(callers)
     }
 
-    /// The place of its pass in the list that `open` gave, from 0. Every caller has the setup of the journal that
-    /// `open` put in.
+    /// The place of its pass in the list that `open` gave, from 0. Every pass has a setup.
     pub fn number(&self) -> u8
         ensures number { result ≡ number_of (pass_of self.now) }
         ensures setup { HasSetup (pass_of self.now) }

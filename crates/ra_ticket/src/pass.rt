@@ -20,7 +20,7 @@ pub struct Pass<M: Journal> {
 impl<M: Journal> Pass<M> {
     ghost use Rattle.ra_ticket.specs.Passes.{number_of, HasSetup};
 
-    /// Its place in the list that `open` gave, from 0. Every pass has the setup of the journal that `open` put in.
+    /// Its place in the list that `open` gave, from 0. Every pass has a setup.
     pub fn number(&self) -> u8
         ensures number { result ≡ number_of self.now }
         ensures setup { HasSetup self.now }
