@@ -1,8 +1,10 @@
 //! Tests of the text of a history, bytes in and bytes out: what neither a clause nor a text of tests/texts/ shows.
-//! These are readers and writers that fail or give and take little, histories that are written, long texts, and that
-//! memory that is there is used. There is nothing else here.
+//! These are readers and writers that fail or give and take little, histories that are written, long texts that are
+//! written and fed, and that memory that is there is used. There is nothing else here.
 #![tactic(auto)]
 
+#[cfg(test)]
+mod crossing;
 #[cfg(test)]
 mod faults;
 #[cfg(test)]

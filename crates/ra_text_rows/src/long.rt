@@ -1,152 +1,106 @@
-//! Texts of hundreds of thousands of lines, through calls that the program does not make: they are written again, and
-//! taken piece by piece. Each reply is known from how a text is made.
+//! Histories of 200,000 updates that are written and fed, and a text that is fed in pieces of each length.
 
+use super::crossing::Crossing;
 use ra_history_text::{Item, Names, Reading, Session, write_history};
 use ra_journal::MOST_ENTRIES;
-use ra_labels::{Kind, Reply};
-use ra_monitor::{Report, Reporter};
-use std::alloc::{AllocError, Global};
+use ra_labels::Kind;
+use ra_monitor::Reporter;
+use std::alloc::Global;
 use std::process::Abort;
+use std::test::Fail;
 
-// The second line, without its line feed.
-const NAMES: &str = "replicas a b";
-
-// Two updates a round.
-const ROUNDS: u32 = 100_000;
-
-// The rounds of a text that is taken at each of these lengths.
-const SHORT_ROUNDS: u32 = 5_000;
-
-const LONGEST_PIECE: usize = 100;
-
-// A text in which no line is refused, and what is written for it.
-#[derive(Drop)]
-struct Known {
-    kind: Kind,
-    labels: u32,
-    text: String,
-    written: String,
-}
-
-const KINDS: [(Kind, &str); 5] = [
-    (Kind::Counter, "counter"),
-    (Kind::Register, "register"),
-    (Kind::LwwSet, "lwwset"),
-    (Kind::OrSet, "orset"),
-    (Kind::Rga, "rga"),
+const KINDS: [Kind; 5] = [
+    Kind::Counter,
+    Kind::Register,
+    Kind::LwwSet,
+    Kind::OrSet,
+    Kind::Rga,
 ];
 
-// In each round a and b make an update, and then each gets the other's.
-fn crossing(alloc: Global, kind: Kind, word: &str, rounds: u32) -> Result<Known, AllocError> {
-    let mut text = format!(in alloc; "RAH 1 {word}\n{NAMES}\n")?;
-    let mut written = String::new(alloc);
-    for round in 0..rounds {
-        let first = round.wrapping_mul(2);
-        let second = first.wrapping_add(1);
-        for (name, label) in [("a", first), ("b", second)] {
-            let update = update(alloc, kind, label.wrapping_add(1))?;
-            text.push_str(format!(in alloc; "{name} {update}\n")?.as_str())?;
-            written.push_str(format!(in alloc; "ok {label}\n")?.as_str())?;
-        }
-        for (name, label) in [("b", first), ("a", second)] {
-            text.push_str(format!(in alloc; "{name} got {label}\n")?.as_str())?;
-            written.push_str(format!(in alloc; "got {label}\n")?.as_str())?;
-        }
-    }
-    let labels = rounds.wrapping_mul(2);
-    written.push_str(format!(in alloc; "end yes {labels}\n")?.as_str())?;
-    Ok(Known {
-        kind,
-        labels,
-        text,
-        written,
-    })
-}
+// With two updates a round, 200,000.
+const ROUNDS: u32 = 100_000;
 
-// An update with this number, of which each is given once and which is a clock above those before.
-fn update(alloc: Global, kind: Kind, number: u32) -> Result<String, AllocError> {
-    match kind {
-        Kind::Counter => String::from_str(alloc, "inc"),
-        Kind::Register => format!(in alloc; "write {number} @{number}"),
-        Kind::LwwSet => format!(in alloc; "add {number} @{number}"),
-        Kind::OrSet => format!(in alloc; "add {number} #{number}"),
-        Kind::Rga => format!(in alloc; "after 0 {number} @{number}"),
-    }
-}
+// With two updates a round, 10,000.
+const ROUNDS_IN_PIECES: u32 = 5_000;
 
-fn made(rt: &impl Abort, alloc: Global, kind: Kind, word: &str, rounds: u32) -> Known {
-    match crossing(alloc, kind, word, rounds) {
-        Ok(known) => known,
-        Err(_) => panic!(rt; "no memory"),
-    }
-}
-
-// A monitor that was told all lines of the text.
-fn told(rt: &impl Abort, alloc: Global, known: &Known) -> Reporter {
-    let Ok(mut reporter) = Reporter::new(alloc, known.kind, 2, MOST_ENTRIES) else {
-        panic!(rt; "no monitor");
-    };
-    let mut reading = Reading::new(alloc);
-    for line in known.text.as_bytes().split(|byte| *byte == b'\n') {
-        // Nothing stands behind the last line feed.
-        if let Ok(Item::CommandLine(command)) = reading.line(line) {
-            let reply = reporter.tell(command);
-            assert!(rt; matches!(reply, Ok(Reply::Ok(_) | Reply::Got(_))));
-        }
-    }
-    reporter
-}
-
+// What is written of a monitor is the text that it was told, where all of that is accepted, and spelled as it is
+// written.
 #[test]
-fn long_histories_are_written_as_they_were_told(rt: HostRuntime) {
-    let Ok(names) = Names::read(rt.alloc(), NAMES.as_bytes()) else {
+fn long_histories_are_written_as_they_were_told(rt: HostRuntime) -> Result<(), Fail> {
+    let Ok(names) = Names::new(rt.alloc(), &["a", "b"]) else {
         panic!(rt; "no names");
     };
-    for (kind, word) in KINDS {
-        let known = made(&rt, rt.alloc(), kind, word, ROUNDS);
-        let reporter = told(&rt, rt.alloc(), &known);
-        let mut text = Vec::new(rt.alloc());
-        let wrote = write_history(rt.alloc(), reporter.monitor(), &names, &mut text);
-        assert_eq!(rt; wrote, Ok(()), "{word}");
-        assert!(rt; text.as_slice() == known.text.as_bytes(), "{word}");
+    for kind in KINDS {
+        let made = Crossing::new(rt.alloc(), kind, ROUNDS)?;
+        let reporter = reporter_of(&rt, rt.alloc(), &made);
+        let mut written = Vec::new(rt.alloc());
+        let wrote = write_history(rt.alloc(), reporter.monitor(), &names, &mut written);
+        assert_eq!(rt; wrote, Ok(()), "{kind:?}");
+        assert!(rt; written.as_slice() == made.text(), "{kind:?}");
+    }
+    Ok(())
+}
+
+// The reporter of two replicas that is told the text line by line.
+fn reporter_of(rt: &impl Abort, alloc: Global, made: &Crossing) -> Reporter {
+    let kind = made.kind();
+    let mut reading = Reading::new(alloc);
+    let mut reporter = None;
+    for line in made.text().split(|byte| *byte == b'\n') {
+        match reading.line(line) {
+            Ok(Item::KindLine(read)) => reporter = Reporter::new(alloc, read, 2, MOST_ENTRIES).ok(),
+            Ok(Item::NamesLine(count)) => assert_eq!(rt; count, 2),
+            Ok(Item::CommandLine(command)) => {
+                let Some(told) = &mut reporter else {
+                    panic!(rt; "{kind:?}: a command before the kind");
+                };
+                assert!(rt; told.tell(command).is_ok(), "{kind:?}: no reply");
+            }
+            // What stands behind the last line feed is no line.
+            Err(_) => assert!(rt; line.is_empty(), "{kind:?}: not read"),
+        }
+    }
+    match reporter {
+        Some(reporter) => reporter,
+        None => panic!(rt; "{kind:?}: no reporter"),
     }
 }
 
-// Gives a session the text, so many bytes at a time.
-fn is_answered(rt: &impl Abort, alloc: Global, known: &Known, length: usize) {
-    let mut out = Vec::new(alloc);
+#[test]
+fn long_texts_are_fed_in_one_piece(rt: HostRuntime) -> Result<(), Fail> {
+    for kind in KINDS {
+        let made = Crossing::new(rt.alloc(), kind, ROUNDS)?;
+        is_answered(&rt, rt.alloc(), &made, made.text().len());
+    }
+    Ok(())
+}
+
+#[test]
+fn texts_are_fed_in_pieces_of_each_length(rt: HostRuntime) -> Result<(), Fail> {
+    let made = Crossing::new(rt.alloc(), Kind::OrSet, ROUNDS_IN_PIECES)?;
+    for length in 1..=100 {
+        is_answered(&rt, rt.alloc(), &made, length);
+    }
+    Ok(())
+}
+
+// A session that is fed the text, so many bytes at a time, answers and reports what is known of it.
+fn is_answered(rt: &impl Abort, alloc: Global, made: &Crossing, length: usize) {
+    let kind = made.kind();
     let mut session = Session::new(alloc);
-    for piece in known.text.as_bytes().chunks(length.max(1)) {
-        assert_eq!(rt; session.feed(piece, &mut out), Ok(()));
+    let mut answer = Vec::new(alloc);
+    for piece in made.text().chunks(length.max(1)) {
+        let fed = session.feed(piece, &mut answer);
+        assert_eq!(rt; fed, Ok(()), "{kind:?}, {length} bytes at a time");
     }
-    let report = Report {
-        kind: known.kind,
-        calls: known.labels.wrapping_mul(2),
-        labels: known.labels,
-        refused: 0,
-        fault: None,
-    };
+    let report = session.finish(&mut answer);
     assert_eq!(rt;
-        session.finish(&mut out),
-        Ok(report),
-        "{length} bytes at a time"
+        report,
+        Ok(made.report()),
+        "{kind:?}, {length} bytes at a time"
     );
-    let is_known = out.as_slice() == known.written.as_bytes();
-    assert!(rt; is_known, "{length} bytes at a time");
-}
-
-#[test]
-fn long_texts_are_taken_in_one_piece(rt: HostRuntime) {
-    for (kind, word) in KINDS {
-        let known = made(&rt, rt.alloc(), kind, word, ROUNDS);
-        is_answered(&rt, rt.alloc(), &known, known.text.len());
-    }
-}
-
-#[test]
-fn texts_are_taken_in_pieces_of_each_length(rt: HostRuntime) {
-    let known = made(&rt, rt.alloc(), Kind::OrSet, "orset", SHORT_ROUNDS);
-    for length in 1..=LONGEST_PIECE {
-        is_answered(&rt, rt.alloc(), &known, length);
-    }
+    assert!(rt;
+        answer.as_slice() == made.replies(),
+        "{kind:?}, {length} bytes at a time"
+    );
 }
