@@ -20,9 +20,9 @@ pub struct Report {
 }
 
 impl Report {
-    /// Is there a fault, and is it final: of a counter or an OR-Set, where no order that respects what was seen explains
-    /// the records up to its label (`Monitor::report`, clause `final_fault`)? Of the other kinds another order than that
-    /// of the timestamps might. It takes no memory.
+    /// Is there a fault, and is it final: of a counter or an OR-Set, where no order that respects what was seen
+    /// explains the records up to its label (`Monitor::report`, clause `final_fault`)? Of the other kinds another order
+    /// than that of the timestamps might. It takes no memory.
     pub fn is_final(&self) -> bool
         ensures { result ≡ (is_some self.now.fault && is_of_any_order self.now.kind) }
     {

@@ -31,7 +31,7 @@ pub fn another_order_explains_clocks_that_fall()
     ensures not_final { ¬ (IsFinal Register records_that_fall 1) }
 {}
 
-/// An increment may stand before its replica's earlier read, which does not see it, where visibility is all that counts.
+/// An increment may stand before its replica's earlier read, which does not see it, by visibility alone.
 pub fn visibility_leaves_a_read_and_a_later_increment_free()
     ensures one_by_visibility { IsRaLinearizationBy (is_visible_to read_and_incremented) Counter
         read_and_incremented (parts_in read_and_incremented) }
