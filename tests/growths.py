@@ -1,4 +1,4 @@
-"""The small library tests/refuse.c, which is loaded into a program, and refuses its growths or counts them, and yields."""
+"""The small library tests/refuse.c, which is loaded into a program, and refuses its growths, or counts what it asks for."""
 import os
 import subprocess
 import tempfile
@@ -18,11 +18,14 @@ def library(folder):
 
 
 class Asked(NamedTuple):
-    """How often memory was asked for, for how many bytes in all, and how often a thread left its processor to others."""
+    """How often memory was asked for, for how many bytes in all, how often a thread left its processor to others, and
+    how many reads and writes there were."""
 
     calls: int
     bytes: int
     yields: int
+    reads: int
+    writes: int
 
 
 def asked(made, words, given):

@@ -1,8 +1,9 @@
 //! Times a million calls of the ticket lock, and of a Mutex round the same log, on 1, 2, 4, 8 and 64 threads.
 //!
-//! With the word `calls` eight threads submit for two seconds, and with `attempts` two threads try for as long: it
-//! prints how many calls of each came back, or did not find the lock busy, a line for each thread (tests/waiting bounds
-//! them). It prints nothing without a word on its command line, since the gate runs it so.
+//! With the word `calls` eight threads submit for two seconds, with `attempts` two threads try for as long, and with
+//! `glances` one submits and one glances: it prints how often each was answered and did not find the lock busy, a line
+//! for each thread (tests/waiting bounds them). It prints nothing without a word on its command line, since the gate
+//! runs it so.
 #![tactic(auto)]
 
 mod calls;
@@ -32,11 +33,16 @@ fn main(rt: HostRuntime) -> Result<()> {
     let time = Duration::from_secs(SECONDS);
     match word.as_str() {
         "calls" => {
-            let answered = answered_of_each(&rt, rt.alloc(), 8, Way::Submit, time)?;
+            let answered = answered_of_each(&rt, rt.alloc(), &[Way::Submit; 8], time)?;
             print_counts(&rt, &answered)
         }
         "attempts" => {
-            let answered = answered_of_each(&rt, rt.alloc(), 2, Way::Try, time)?;
+            let answered = answered_of_each(&rt, rt.alloc(), &[Way::Try; 2], time)?;
+            print_counts(&rt, &answered)
+        }
+        "glances" => {
+            let ways = [Way::Submit, Way::Glance];
+            let answered = answered_of_each(&rt, rt.alloc(), &ways, time)?;
             print_counts(&rt, &answered)
         }
         _ => print_times(&rt, rt.alloc()),

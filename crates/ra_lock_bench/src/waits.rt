@@ -28,24 +28,25 @@ fn start_together(started: &AtomicUsize, count: usize) {
     }
 }
 
-/// How a thread asks the lock.
+/// What a thread asks the lock for.
 #[derive(Clone, Copy, Debug, PartialEq, Eq)]
 pub enum Way {
-    /// By `submit`, which waits for its turn.
+    /// A call, for whose turn it waits.
     Submit,
-    /// By `try_submit`, which finds the lock busy where another call is under way.
+    /// A call at once, which finds the lock busy where another one is under way.
     Try,
+    /// A look at how many entries there are.
+    Glance,
 }
 
-/// So many threads ask for this time: how many calls of each were answered, also by a full log.
+/// A thread for each of these ways asks for this time: how often each was answered, also by a full log.
 pub fn answered_of_each<R: Threads + Wait + Clock + Sync>(
     rt: &R,
     alloc: Global,
-    threads: u8,
-    way: Way,
+    ways: &[Way],
     time: Duration,
 ) -> Result<Vec<u32>> {
-    let (lock, passes) = opened(alloc, threads)?;
+    let (lock, passes) = opened(alloc, u8::try_from(ways.len())?)?;
     let started = AtomicUsize::new(0);
     let (shared, count) = (&lock, passes.len());
     let answered = thread::map_vec(
@@ -55,13 +56,16 @@ pub fn answered_of_each<R: Threads + Wait + Clock + Sync>(
             requires { IsPassOf shared.now pass }
         {
             start_together(&started, count);
-            answered_in(rt, shared, pass, way, time)
+            match ways.get(usize::from(pass.number())) {
+                Some(way) => answered_in(rt, shared, pass, *way, time),
+                None => 0,
+            }
         },
     )?;
     Ok(answered)
 }
 
-// How many calls do not find the lock busy in this time; none where there is no clock.
+// How often the lock is not found busy in this time; never where there is no clock.
 fn answered_in<R: Wait + Clock>(
     rt: &R,
     lock: &TicketLock<Log>,
@@ -79,14 +83,31 @@ fn answered_in<R: Wait + Clock>(
         if !start.elapsed(rt).is_ok_and(|passed| passed < time) {
             break;
         }
-        let reply = match way {
-            Way::Submit => lock.submit(rt, &mut pass, call),
-            Way::Try => lock.try_submit(&mut pass, call),
-        };
-        // A full log hands the command back, in its turn.
-        if !matches!(reply, Err(CallFault::Busy { .. })) {
+        if !is_busy(rt, lock, &mut pass, way, call) {
             answered = answered.saturating_add(1);
         }
     }
     answered
+}
+
+// Does the lock answer that it is busy? A full log hands a call back, in its turn.
+fn is_busy<R: Wait>(
+    rt: &R,
+    lock: &TicketLock<Log>,
+    pass: &mut Pass<Log>,
+    way: Way,
+    call: u32,
+) -> bool
+    requires { IsPassOf lock.now pass.old }
+    ensures { IsPassOf lock.now pass.new }
+{
+    let reply = match way {
+        Way::Submit => lock.submit(rt, pass, call),
+        Way::Try => lock.try_submit(pass, call),
+        Way::Glance => {
+            let _found = lock.glance(pass);
+            return false;
+        }
+    };
+    matches!(reply, Err(CallFault::Busy { .. }))
 }
