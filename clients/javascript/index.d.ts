@@ -108,6 +108,7 @@ export interface Sent<Done> extends Act<Done> {
 
 /** What a replica had seen at one moment. */
 export interface Seen {
+  readonly replica: Key;
   readonly counts: readonly number[];
 }
 

@@ -17,15 +17,25 @@ const MEANINGS = {
   "id-taken": "an addition had this identifier before",
 };
 
-/** A history's lines, with the label of each operation. `keys` are the messages' keys by label. */
+// A removal of an OR-Set asks which identifiers its replica has seen of the element.
+const OTHER_IDENTIFIERS =
+  "it names other identifiers than its replica had seen of the element; where an addition takes the place of older " +
+  "ones, leave the identifiers out";
+
+/**
+ * A history's lines, with the label of each operation. `keys` are the messages' keys by label, and `notes` what is told
+ * before the command of a number.
+ */
 export class Account {
   #speller;
   #keys;
+  #notes;
   #lineOf;
 
-  constructor(speller, text, keys) {
+  constructor(speller, text, keys, notes) {
     this.#speller = speller;
     this.#keys = keys;
+    this.#notes = notes;
     this.commands = text.split("\n").slice(HEAD_LINES, -1);
     this.#lineOf = this.commands.filter((it) => it.split(" ", 2)[1] !== "got");
   }
@@ -42,7 +52,11 @@ export class Account {
 
   /** The commands from this one on, each with its reply, where there are some, and what it says. */
   shown(replies = [], first = 0) {
-    const rows = this.commands.map((line, number) => [line, replies[number] ?? "", this.words(number)]).slice(first);
+    const rowsOf = (line, number) => [
+      ...(this.#notes.get(number) ?? []).map((note) => ["", "", note]),
+      [line, replies[number] ?? "", this.words(number)],
+    ];
+    const rows = this.commands.flatMap((line, number) => (number < first ? [] : rowsOf(line, number)));
     const widths = [0, 1].map((column) => Math.max(0, ...rows.map((row) => row[column].length)));
     const padded = rows.map(([line, reply, words]) => [line.padEnd(widths[0]), reply.padEnd(widths[1]), words]);
     return padded.map((row) => `    ${row.filter((it) => it !== "").join("  ")}`).join("\n");
@@ -50,8 +64,7 @@ export class Account {
 }
 
 /** The error for a history whose last command had this reply. */
-export function failure(speller, text, reply, keys, path) {
-  const account = new Account(speller, text, keys);
+export function failure(account, text, reply, path) {
   const last = account.commands.length - 1;
   if (!/^(no|refused) /.test(reply)) {
     const command = JSON.stringify(account.commands[last]);
@@ -61,14 +74,15 @@ export function failure(speller, text, reply, keys, path) {
   const operation = account.words(last);
   const shown = account.shown([], Math.max(0, last + 1 - SHOWN_LINES));
   const place = `line ${last + HEAD_LINES + 1} of ${kept}, answered "${reply}"`;
-  const message = `${operation}: ${meaning(reply)}\n${place}; the last lines:\n${shown}`;
+  const message = `${operation}: ${meaning(reply, account.commands[last])}\n${place}; the last lines:\n${shown}`;
   return new (reply.startsWith("no ") ? NotLinearizable : Refused)(message, operation, reply, kept);
 }
 
-/** What a reply says. */
-export function meaning(reply) {
+/** What a reply to this line says. */
+export function meaning(reply, line) {
   const word = reply.split(" ").find((it) => it in MEANINGS);
   const verdict = reply.startsWith("no ") ? "not RA-linearizable" : "refused";
+  if (word === "query" && line.includes(" remove ")) return `${verdict}, ${OTHER_IDENTIFIERS}`;
   return word === undefined ? reply : `${verdict}, ${MEANINGS[word]}`;
 }
 

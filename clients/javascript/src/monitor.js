@@ -95,7 +95,8 @@ export class Monitor {
     await this.#end;
   }
 
-  #append(line, expected) {
+  #append(given, expected) {
+    const line = given.includes("\n") ? oneLine(given) : given;
     if (this.#hasEnded || this.#isClosing) this.#throwGone();
     if (this.#sent === this.#answered) this.#hold();
     this.#expected.push(expected);
@@ -208,4 +209,11 @@ function firstLines(text, count) {
   let end = 0;
   for (let line = 0; line < count && end < text.length; line += 1) end = text.indexOf("\n", end) + 1;
   return text.slice(0, end);
+}
+
+/** The line without its end. */
+function oneLine(text) {
+  const line = text.endsWith("\n") ? text.slice(0, -1) : text;
+  if (line.includes("\n")) throw new TypeError(`${JSON.stringify(text)} is more than one line`);
+  return line;
 }

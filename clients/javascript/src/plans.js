@@ -3,6 +3,8 @@
 // Elements of a set are few, so that updates of one element meet.
 const SET_ELEMENTS = 3;
 const LONGEST_CUT = 25;
+// So often, at each step, a state is merged in which nothing is new.
+const OLD_STATES = 0.1;
 
 /** Random numbers by a seed, which may be any text: small, and good enough to choose steps by (mulberry32). */
 class Random {
@@ -132,6 +134,7 @@ class Planner {
       const chance = this.#random.chance();
       if (chance < reads) this.#steps.push({ what: "read", replica: this.#random.choice(this.#places) });
       else if (chance >= reads + deliveries || !this.#arrive()) this.#update();
+      if (this.#merges && this.#random.chance() < OLD_STATES) this.#mergeAnOldState();
       if (this.#random.chance() < 0.03) {
         this.#cutUntil[this.#random.choice(this.#places)] = this.#steps.length + this.#random.number(5, LONGEST_CUT);
       }
@@ -164,6 +167,12 @@ class Planner {
     return linked.flatMap((replica) =>
       linked.filter((it) => this.#reach.lacks(replica, it)).map((update) => ({ what: "merge", replica, update })),
     );
+  }
+
+  #mergeAnOldState() {
+    const pairs = this.#places.flatMap((replica) => this.#places.map((update) => ({ what: "merge", replica, update })));
+    const old = pairs.filter((it) => it.replica !== it.update && !this.#reach.lacks(it.replica, it.update));
+    if (old.length > 0) this.#steps.push(this.#random.choice(old));
   }
 
   #update() {

@@ -54,7 +54,7 @@ export async function checkRandom(makeReplica, kind, replicas = 3, operations = 
   for (const seed of chosen) {
     const failure = await failureOf(setting, plan(kind, names.length, operations, seed, merges));
     runs += 1;
-    if (failure !== null) throw raised(await small(setting, failure, progress), seed, runs, failure);
+    if (failure !== null) throw raised(setting, await small(setting, failure, progress), seed, runs, failure);
     progress.tell(`${runs} runs, all right so far`);
   }
   return runs;
@@ -70,20 +70,21 @@ async function small(setting, failure, progress) {
   });
 }
 
-function raised(found, seed, runs, failure) {
+function raised(setting, found, seed, runs, failure) {
   const account = found.recorder.account(found.text);
   const kept = keptHistory(found.text);
   const made = `${failure.steps.length} steps made ${found.steps.length}`;
   const shown = `${found.text}\n${account.shown(found.replies)}`;
   const ran = `run ${runs}, seed ${seed}, ${made}; the history is ${kept}:\n${shown}`;
   if (found.raised !== undefined) {
-    const said = `${called(found.steps.at(-1))} threw ${found.raised.fault}`;
+    const last = found.steps.at(-1);
+    const said = `${inspect(setting.replicas[last.replica])}: ${called(last)} threw ${found.raised.fault}`;
     return new ReplicaRaised(`${said}\n${ran}`, said, "", kept, { cause: found.raised.fault });
   }
   const reply = found.replies.at(-1);
   const operation = account.words(account.commands.length - 1);
   const failed = found.cause === "no" ? NotLinearizable : Refused;
-  return new failed(`${operation}: ${meaning(reply)}\n${ran}`, operation, reply, kept);
+  return new failed(`${operation}: ${meaning(reply, account.commands.at(-1))}\n${ran}`, operation, reply, kept);
 }
 
 /** The call of a replica that a step makes. */

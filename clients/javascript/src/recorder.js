@@ -10,7 +10,8 @@ import { Speller } from "./spelling.js";
 
 /** What a replica had seen at one moment: how many updates of each replica. */
 class Seen {
-  constructor(counts) {
+  constructor(replica, counts) {
+    this.replica = replica;
     this.counts = counts;
   }
 }
@@ -29,6 +30,9 @@ export class Recorder {
   #monitor;
   #path;
   #labels = 0;
+  #commands = 0;
+  // What is told before the command of a number: whose state is merged.
+  #notes = new Map();
   #had;
   #updates;
   #messages = new Keys();
@@ -70,7 +74,7 @@ export class Recorder {
 
   /** What the replica has seen by now, for a `merge` of the state that it has now. */
   seen(replica) {
-    return new Seen([...this.#had[this.#speller.replicas.place(replica)]]);
+    return new Seen(replica, [...this.#had[this.#speller.replicas.place(replica)]]);
   }
 
   /** A counter: one more. */
@@ -113,13 +117,16 @@ export class Recorder {
     this.#look();
   }
 
-  /** Ends the history, and answers what all came to. Rejects with what the replies say, if they say no. */
+  /**
+   * Ends the history, and answers what all came to. Rejects with what the replies say, if they say no, and once more
+   * with a `CannotTell`: of what follows that nothing was judged.
+   */
   async close() {
     await this.#last;
     try {
       return await this.#monitor.close();
     } finally {
-      if (this.#monitor.unexpected !== null) this.#look();
+      this.#look();
     }
   }
 
@@ -138,9 +145,9 @@ export class Recorder {
     return this.#speller.head();
   }
 
-  /** This text, which is one of this recorder's, in the user's words. */
+  /** This text, which is one of this recorder's, in the user's words, without the messages' keys. */
   account(text) {
-    return new Account(this.#speller, text, this.#keys);
+    return new Account(this.#speller, text, new Map(), this.#notes);
   }
 
   #step(replica, act, report) {
@@ -183,7 +190,8 @@ export class Recorder {
     if (this.#failure === null && this.#monitor.unexpected !== null) {
       const { command, reply } = this.#monitor.unexpected;
       const text = this.#monitor.history(command + 1);
-      this.#failure = failure(this.#speller, text, reply, this.#keys, this.#path);
+      const account = new Account(this.#speller, text, this.#keys, this.#notes);
+      this.#failure = failure(account, text, reply, this.#path);
     }
     if (this.#failure !== null) throw this.#failure;
   }
@@ -206,7 +214,12 @@ export class Recorder {
       const { value: element, identifiers, word } = operation;
       this.#observed.issue(place, label, { element, identifiers, isAddition: word === "add" });
     }
-    return this.#monitor.post(line, `ok ${label}`);
+    return this.#post(line, `ok ${label}`);
+  }
+
+  #post(line, expected) {
+    this.#commands += 1;
+    return this.#monitor.post(line, expected);
   }
 
   /** The operation of an OR-Set with identifiers by number. */
@@ -224,15 +237,21 @@ export class Recorder {
     if (number < had[issuer]) return undefined;
     had[issuer] = number + 1;
     this.#observed?.deliver(place, label);
-    return this.#monitor.post(this.#speller.got(place, label), `got ${label}`);
+    return this.#post(this.#speller.got(place, label), `got ${label}`);
   }
 
   #merge(place, messages) {
     const isSeen = messages instanceof Seen;
+    if (isSeen) this.#noteMerge(place, messages.replica);
     const merged = isSeen ? this.#lacking(place, messages) : Array.from(messages, (it) => this.#sent(it));
     merged.sort((one, other) => one.label - other.label);
     const full = merged.map((it) => this.#deliver(place, it)).filter((it) => it !== undefined);
     return full.length === 0 ? undefined : Promise.all(full);
+  }
+
+  #noteMerge(place, sender) {
+    const note = `${inspect(this.#speller.replicas.given[place])} merges the state of ${inspect(sender)}`;
+    this.#notes.set(this.#commands, [...(this.#notes.get(this.#commands) ?? []), note]);
   }
 
   #lacking(place, seen) {
@@ -245,7 +264,7 @@ export class Recorder {
   #read(place, value) {
     const line = this.#speller.read(place, value);
     this.#labels += 1;
-    return this.#monitor.post(line, `ok ${this.#labels - 1}`);
+    return this.#post(line, `ok ${this.#labels - 1}`);
   }
 
   #sent(message) {

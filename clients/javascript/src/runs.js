@@ -88,7 +88,7 @@ class Run {
   }
 
   async #merge(step) {
-    if (!this.#reach.lacks(step.replica, step.update)) return false;
+    if (step.replica === step.update) return false;
     await this.#replicas.get(step.replica).merge(await this.#replicas.get(step.update).state());
     await this.recorder.merge(this.#names.get(step.replica), this.recorder.seen(this.#names.get(step.update)));
     this.#reach.merge(step.replica, step.update);
@@ -120,6 +120,8 @@ export async function failureOf(setting, steps) {
 
 /** Does the user's class merge states, rather than receive messages? Throws what it lacks. */
 export function lookAt(setting) {
+  const kinds = Object.keys(operations.OPERATIONS);
+  if (!kinds.includes(setting.kind)) throw new CannotTell(`there is no kind ${setting.kind}, but ${kinds.join(", ")}`);
   const replica = setting.makeReplica(setting.replicas[0]);
   const has = (it) => typeof replica[it] === "function";
   const merges = !has("receive") && has("merge");

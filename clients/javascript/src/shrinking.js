@@ -9,7 +9,7 @@ export async function shrunk(failure, run) {
   let before;
   do {
     before = smallest.steps.length;
-    for (const candidates of [withoutAReplica, withoutAPart, withoutAnUpdate, withoutTwoSteps]) {
+    for (const candidates of [withoutAReplica, folded, withoutAPart, withoutAnUpdate, withoutTwoSteps]) {
       smallest = await smallestOf(smallest, run, candidates);
     }
   } while (smallest.steps.length < before);
@@ -36,6 +36,19 @@ function* withoutAReplica(steps) {
         !(it.what === "deliver" && own.includes(it.update)) &&
         !(it.what === "merge" && it.update === replica),
     );
+  }
+}
+
+/** One replica does what another one did. */
+function* folded(steps) {
+  const places = [...new Set(steps.map((it) => it.replica))];
+  for (const [gone, kept] of places.flatMap((one) => places.map((other) => [one, other]))) {
+    if (gone === kept) continue;
+    const moved = (place) => (place === gone ? kept : place);
+    yield steps.map((it) => {
+      const update = it.what === "merge" ? moved(it.update) : it.update;
+      return { ...it, replica: moved(it.replica), update };
+    });
   }
 }
 

@@ -35,6 +35,16 @@ test("each line has its reply", async () => {
   assert.deepEqual(await monitor.close(), report);
 });
 
+test("a line may have its end, and is one", async () => {
+  const monitor = new Monitor("counter", ["a"]);
+  assert.equal(await monitor.tell("a inc\n"), "ok 0");
+  for (const two of ["a inc\na inc", "a inc\n\n"]) {
+    assert.throws(() => monitor.post(two, "ok 1"), /more than one line/);
+  }
+  assert.equal(await monitor.tell("a inc"), "ok 1");
+  assert.equal((await monitor.close()).labels, 2);
+});
+
 test("a no is told in the report", async () => {
   const monitor = new Monitor("counter", ["a"]);
   assert.equal(await monitor.tell("a read 1"), "no 0 query");

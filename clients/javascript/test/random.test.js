@@ -52,6 +52,15 @@ class SummingCounter extends MergedCounter {
   }
 }
 
+/** A state in which nothing is new overwrites what there is. */
+class ForgetfulCounter extends MergedCounter {
+  merge(state) {
+    const isOld = Object.entries(state).every(([key, number]) => number <= (this.steps[key] ?? 0));
+    if (isOld) this.steps = { ...state };
+    super.merge(state);
+  }
+}
+
 /** A third element behind one is too much. */
 class RaisingRga extends Rga {
   insert(message) {
@@ -104,6 +113,12 @@ for (const [bug, kinds] of Object.entries(SEEN)) {
   }
 }
 
+test("an old state that overwrites is found", async () => {
+  const failed = await checkRandom(made(ForgetfulCounter), "counter", 3, 30, FOUND_WITHIN).catch((fault) => fault);
+  isSmallAndFailsAgain(failed);
+  assert.match(failed.message, /merges the state of/);
+});
+
 for (const [bug, kinds] of Object.entries(NEVER_SEEN)) {
   for (const [kind, Replica] of Object.entries(kinds)) {
     test(`of a ${kind}, where it changes no answer: ${bug}`, async () => {
@@ -117,6 +132,7 @@ test("an error of a replica is shrunk too", async () => {
   assert.ok(failed instanceof ReplicaRaised && failed.cause instanceof RangeError);
   assert.match(failed.message, /too many children/);
   assert.match(failed.message, /steps made [345];/);
+  assert.match(failed.operation, /^'[abc]': insertAfter/);
 });
 
 test("a refused report is shrunk too", async () => {
@@ -127,6 +143,10 @@ test("a refused report is shrunk too", async () => {
 
 test("a class that lacks methods is told", async () => {
   await assert.rejects(checkRandom(made(Counter), "register"), /lacks write/);
+});
+
+test("a kind that is none is told", async () => {
+  await assert.rejects(checkRandom(made(Counter), "list"), /there is no kind list, but counter, /);
 });
 
 test("long runs say how far they are", () => {

@@ -199,6 +199,30 @@ test("an arrival before its cause is refused", async () => {
   await recorder.stop();
 });
 
+test("a merge is told by the state that came", async () => {
+  const recorder = new Recorder("counter", ["Ann", "Bob"], { window: 1 });
+  await recorder.increment("Ann", { message: "up" });
+  await recorder.merge("Bob", recorder.seen("Ann"));
+  await recorder.merge("Bob", recorder.seen("Ann"));
+  const told = /'Bob' merges the state of 'Ann'\n.* got 0 .*label 0.*\n +'Bob' merges the state of 'Ann'\n.* read 2/;
+  await assert.rejects(recorder.read("Bob", 2), told);
+  await recorder.stop();
+});
+
+test("a removal that names too few is told", async () => {
+  const recorder = new Recorder("orset", ["a"], { window: 1 });
+  await recorder.add("a", "x", { identifier: 1 });
+  await recorder.add("a", "x", { identifier: 2 });
+  await assert.rejects(recorder.remove("a", "x", { identifiers: [2] }), /leave the identifiers out/);
+  await recorder.stop();
+});
+
+test("what is not reported ends the history, and its end says so", async () => {
+  const recorder = new Recorder("register", ["a"]);
+  await assert.rejects(recorder.write("a", 1, "noon"), CannotTell);
+  await assert.rejects(recorder.close(), CannotTell);
+});
+
 test("a program that is no monitor", async () => {
   const recorder = new Recorder("counter", ["a"], { program: "cat" });
   await recorder.increment("a");

@@ -30,6 +30,15 @@ class Replies(unittest.TestCase):
             self.assertEqual(monitor.verdict(), "yes 1")
         self.assertEqual(monitor.close(), Report("counter", "yes", 1, 4, 1))
 
+    def test_a_line_may_have_its_end_and_is_one(self) -> None:
+        monitor = Monitor("counter", ["a"])
+        self.assertEqual(monitor.tell("a inc\n"), "ok 0")
+        for two in ("a inc\na inc", "a inc\n\n"):
+            with self.assertRaisesRegex(ValueError, "more than one line"):
+                monitor.post(two, "ok 1")
+        self.assertEqual(monitor.tell("a inc"), "ok 1")
+        self.assertEqual(monitor.close().labels, 2)
+
     def test_a_no_is_told_in_the_report(self) -> None:
         monitor = Monitor("counter", ["a"])
         self.assertEqual(monitor.tell("a read 1"), "no 0 query")

@@ -8,7 +8,7 @@ from unittest import mock
 
 import planted
 from replicas import RIGHT, Counter, Message, Rga
-from yehatu import NotLinearizable, Refused, ReplicaRaised, check_random, program, random_runs
+from yehatu import CannotTell, NotLinearizable, Refused, ReplicaRaised, check_random, program, random_runs
 from yehatu.plans import Planner
 
 # How many runs of right replicas: a thousand were tried, and the gate tries fewer.
@@ -47,6 +47,15 @@ class SummingCounter(MergedCounter):
     def merge(self, state: Dict[Tuple[str, int], int]) -> None:
         for key, number in state.items():
             self.steps[key] = self.steps.get(key, 0) + number
+
+
+class ForgetfulCounter(MergedCounter):
+    """A state in which nothing is new overwrites what there is."""
+
+    def merge(self, state: Dict[Tuple[str, int], int]) -> None:
+        if all(number <= self.steps.get(key, 0) for key, number in state.items()):
+            self.steps = dict(state)
+        super().merge(state)
 
 
 class RaisingRga(Rga):
@@ -102,6 +111,12 @@ class PlantedBugs(unittest.TestCase):
             check_random(SummingCounter, "counter", seeds=FOUND_WITHIN)
         self.is_small_and_fails_again(caught.exception)
 
+    def test_an_old_state_that_overwrites(self) -> None:
+        with self.assertRaises(NotLinearizable) as caught:
+            check_random(ForgetfulCounter, "counter", seeds=FOUND_WITHIN)
+        self.is_small_and_fails_again(caught.exception)
+        self.assertIn("merges the state of", str(caught.exception))
+
     def test_other_bugs_change_no_answer(self) -> None:
         for bug, kind, make in cases(planted.NEVER_SEEN):
             with self.subTest(bug=bug, kind=kind):
@@ -123,6 +138,7 @@ class OtherFailures(unittest.TestCase):
         self.assertIsInstance(caught.exception.__cause__, IndexError)
         self.assertIn("too many children", str(caught.exception))
         self.assertRegex(str(caught.exception), "steps made [345];")
+        self.assertRegex(caught.exception.operation, "^'[abc]': insert_after")
 
     def test_a_refused_report_is_shrunk_too(self) -> None:
         with self.assertRaises(Refused) as caught:
@@ -133,6 +149,10 @@ class OtherFailures(unittest.TestCase):
     def test_a_class_that_lacks_methods_is_told(self) -> None:
         with self.assertRaisesRegex(TypeError, r"lacks \['write'\]"):
             check_random(Counter, "register")
+
+    def test_a_kind_that_is_none_is_told(self) -> None:
+        with self.assertRaisesRegex(CannotTell, "there is no kind 'list', but counter, "):
+            check_random(Counter, "list")
 
     def test_long_runs_say_how_far_they_are(self) -> None:
         said = io.StringIO()

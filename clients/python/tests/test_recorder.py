@@ -1,4 +1,5 @@
 """Reports in the user's own names."""
+import re
 import subprocess
 import threading
 import unittest
@@ -50,7 +51,7 @@ class Names(unittest.TestCase):
         self.assertIn("a read 1,3\n", recorder.history())
 
     def test_what_is_no_key_cannot_be_told(self) -> None:
-        with Recorder("register", ["a"]) as recorder:
+        with self.assertRaises(CannotTell), Recorder("register", ["a"]) as recorder:
             with self.assertRaisesRegex(CannotTell, "no key of a dictionary"):
                 recorder.write("a", ["a", "list"], 1)
             with self.assertRaisesRegex(CannotTell, "no key of a dictionary"):
@@ -121,14 +122,13 @@ class Steps(unittest.TestCase):
         self.assertEqual(lines(recorder), "a inc\nb got 0\n")
 
     def test_a_message_of_no_update_cannot_be_told(self) -> None:
-        with Recorder("counter", ["a"]) as recorder:
-            with self.assertRaisesRegex(CannotTell, "no message 5"):
-                recorder.deliver("a", 5)
+        with self.assertRaisesRegex(CannotTell, "no message 5"), Recorder("counter", ["a"]) as recorder:
+            recorder.deliver("a", 5)
 
     def test_an_operation_of_another_kind_cannot_be_told(self) -> None:
-        with Recorder("counter", ["a"]) as recorder:
-            with self.assertRaisesRegex(CannotTell, "write is no operation of the kind counter"):
-                recorder.write("a", 5, 1)
+        said = "write is no operation of the kind counter"
+        with self.assertRaisesRegex(CannotTell, said), Recorder("counter", ["a"]) as recorder:
+            recorder.write("a", 5, 1)
 
     def test_a_merge_is_all_that_the_other_had_seen_at_that_moment(self) -> None:
         with Recorder("counter", ["a", "b", "c"]) as recorder:
@@ -230,6 +230,27 @@ class Failures(unittest.TestCase):
             recorder.write("a", 1, "noon", act=lambda: None)
         with self.assertRaises(CannotTell):
             recorder.read("a", 1)
+        with self.assertRaises(CannotTell):
+            recorder.close()
+
+    def test_a_merge_is_told_by_the_state_that_came(self) -> None:
+        recorder = Recorder("counter", ["Ann", "Bob"], window=1)
+        recorder.increment("Ann", message="up")
+        recorder.merge("Bob", recorder.seen("Ann"))
+        recorder.merge("Bob", recorder.seen("Ann"))
+        with self.assertRaises(NotLinearizable) as caught:
+            recorder.read("Bob", 2)
+        merges = "'Bob' merges the state of 'Ann'"
+        got = "r1 got 0   'Bob' gets message 'up', label 0 ('Ann' increments)"
+        self.assertRegex(str(caught.exception), f"(?s){merges}.*{re.escape(got)}.*{merges}.*'Bob' reads 2")
+        recorder.stop()
+
+    def test_a_removal_that_names_too_few_is_told(self) -> None:
+        recorder = Recorder("orset", ["a"], window=1)
+        recorder.add("a", "x", identifier=1)
+        recorder.add("a", "x", identifier=2)
+        with self.assertRaisesRegex(NotLinearizable, "leave the identifiers out"):
+            recorder.remove("a", "x", identifiers=[2])
         recorder.stop()
 
     def test_a_program_that_is_no_monitor(self) -> None:

@@ -18,13 +18,25 @@ MEANINGS = {
     "id-taken": "an addition had this identifier before",
 }
 
+# A removal of an OR-Set asks which identifiers its replica has seen of the element.
+OTHER_IDENTIFIERS = (
+    "it names other identifiers than its replica had seen of the element; where an addition takes the place of older "
+    "ones, leave the identifiers out"
+)
+
 
 class Account:
-    """A history's lines, with the label of each operation."""
+    """A history's lines, with the label of each operation.
 
-    def __init__(self, speller: Speller, text: str, keys: Dict[int, Hashable]) -> None:
+    `keys` are the messages' keys by label, and `notes` what is told before the command of a number.
+    """
+
+    def __init__(
+        self, speller: Speller, text: str, keys: Dict[int, Hashable], notes: Dict[int, List[str]]
+    ) -> None:
         self._speller = speller
         self._keys = keys
+        self._notes = notes
         self.commands = text.splitlines()[HEAD_LINES:]
         operations = (it for it in self.commands if it.split(" ", 2)[1] != "got")
         self._line_of = dict(enumerate(operations))
@@ -39,21 +51,17 @@ class Account:
 
     def shown(self, replies: Sequence[str] = (), first: int = 0) -> str:
         """The commands from this one on, each with its reply, where there are some, and what it says."""
-        rows = [
-            (line, replies[number] if replies else "", self.words(number))
-            for number, line in enumerate(self.commands)
-            if number >= first
-        ]
+        rows = []
+        for number, line in enumerate(self.commands[first:], first):
+            rows += [("", "", note) for note in self._notes.get(number, ())]
+            rows.append((line, replies[number] if replies else "", self.words(number)))
         widths = [max((len(row[column]) for row in rows), default=0) for column in (0, 1)]
         padded = ((line.ljust(widths[0]), reply.ljust(widths[1]), words) for line, reply, words in rows)
         return "\n".join("    " + "  ".join(it for it in row if it) for row in padded)
 
 
-def failure(
-    speller: Speller, text: str, reply: str, keys: Dict[int, Hashable], path: Optional[str]
-) -> Exception:
+def failure(account: Account, text: str, reply: str, path: Optional[str]) -> Exception:
     """The exception for a history whose last command had this reply."""
-    account = Account(speller, text, keys)
     last = len(account.commands) - 1
     if reply.split(" ")[0] not in ("no", "refused"):
         return MonitorGone(f"{reply!r} is no reply to {account.commands[last]!r}: this program is no monitor")
@@ -61,16 +69,18 @@ def failure(
     operation = account.words(last)
     first = max(0, last + 1 - SHOWN_LINES)
     message = (
-        f"{operation}: {meaning(reply)}\n"
+        f"{operation}: {meaning(reply, account.commands[last])}\n"
         f"line {last + HEAD_LINES + 1} of {kept}, answered {reply!r}; the last lines:\n{account.shown(first=first)}"
     )
     return (NotLinearizable if reply.startswith("no ") else Refused)(message, operation, reply, kept)
 
 
-def meaning(reply: str) -> str:
-    """What a reply says."""
+def meaning(reply: str, line: str) -> str:
+    """What a reply to this line says."""
     words = [it for it in reply.split(" ") if it in MEANINGS]
     verdict = "not RA-linearizable" if reply.startswith("no ") else "refused"
+    if " remove " in line and words == ["query"]:
+        return f"{verdict}, {OTHER_IDENTIFIERS}"
     return f"{verdict}, {MEANINGS[words[0]]}" if words else reply
 
 

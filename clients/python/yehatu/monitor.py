@@ -148,6 +148,8 @@ class Monitor:
     # The caller's side: under the lock.
 
     def _append(self, line: str, expected: Any) -> None:
+        if "\n" in line:
+            line = _one_line(line)
         if self._ended or self._closing:
             self._raise_gone()
         self._expected.append(expected)
@@ -290,3 +292,11 @@ class Monitor:
                 self._said.append(line)
                 if self._answered == 0 and line.startswith((b"building", b"proving", b"proved")):
                     sys.stderr.write(line.decode("utf-8", "replace"))
+
+
+def _one_line(text: str) -> str:
+    """The line without its end."""
+    line = text[:-1] if text.endswith("\n") else text
+    if "\n" in line:
+        raise ValueError(f"{text!r} is more than one line")
+    return line

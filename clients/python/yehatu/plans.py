@@ -5,6 +5,8 @@ from typing import Any, Dict, List, NamedTuple, Set, Tuple
 # Elements of a set are few, so that updates of one element meet.
 SET_ELEMENTS = 3
 LONGEST_CUT = 25
+# So often, at each step, a state is merged in which nothing is new.
+OLD_STATES = 0.1
 
 
 class Step(NamedTuple):
@@ -104,6 +106,8 @@ class Planner:
                 self._add(Step("read", self._random.choice(self._places)))
             elif chance >= reads + deliveries or not self._arrive():
                 self._update()
+            if self._merges and self._random.random() < OLD_STATES:
+                self._merge_an_old_state()
             if self._random.random() < 0.03:
                 cut = self._random.choice(self._places)
                 self._cut_until[cut] = len(self._steps) + self._random.randint(5, LONGEST_CUT)
@@ -140,6 +144,12 @@ class Planner:
             self._reach.merge(replica, sender)
             self._add(Step("merge", replica, sender))
         return bool(ready)
+
+    def _merge_an_old_state(self) -> None:
+        pairs = [(it, sender) for it in self._places for sender in self._places if it != sender]
+        old = [pair for pair in pairs if not self._reach.lacks(*pair)]
+        if old:
+            self._add(Step("merge", *self._random.choice(old)))
 
     def _update(self) -> None:
         self._left -= 1

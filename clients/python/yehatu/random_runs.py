@@ -64,7 +64,7 @@ def check_random(
         failure = failure_of(setting, steps)
         runs += 1
         if failure is not None:
-            raise _raised(_shrunk(setting, failure, progress), seed, runs, failure)
+            raise _raised(setting, _shrunk(setting, failure, progress), seed, runs, failure)
         progress.tell(f"{runs} runs, all right so far")
     return runs
 
@@ -83,21 +83,22 @@ def _shrunk(setting: Setting, failure: Failure, progress: _Progress) -> Failure:
     return shrunk(failure, run)
 
 
-def _raised(small: Failure, seed: int, runs: int, failure: Failure) -> ReportFailed:
+def _raised(setting: Setting, small: Failure, seed: int, runs: int, failure: Failure) -> ReportFailed:
     account = small.recorder.account(small.text)
     kept = kept_history(small.text, None)
     shown = f"{small.text}\n{account.shown(small.replies)}"
     made = f"{len(failure.steps)} steps made {len(small.steps)}"
     ran = f"run {runs}, seed {seed}, {made}; the history is {kept}:\n{shown}"
     if small.raised is not None:
-        what = f"{_called(small.steps[-1])} raised {small.raised!r}"
+        last = small.steps[-1]
+        what = f"{setting.replicas[last.replica]!r}: {_called(last)} raised {small.raised!r}"
         error: ReportFailed = ReplicaRaised(f"{what}\n{ran}", what, "", kept)
         error.__cause__ = small.raised
         return error
     reply = small.replies[-1]
     operation = account.words(len(account.commands) - 1)
     failed = NotLinearizable if small.cause == ("no",) else Refused
-    return failed(f"{operation}: {meaning(reply)}\n{ran}", operation, reply, kept)
+    return failed(f"{operation}: {meaning(reply, account.commands[-1])}\n{ran}", operation, reply, kept)
 
 
 def _called(step: Step) -> str:

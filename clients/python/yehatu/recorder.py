@@ -29,6 +29,7 @@ Act = Optional[Callable[[], Any]]
 class Seen(NamedTuple):
     """What a replica had seen at one moment: how many updates of each replica."""
 
+    replica: Hashable
     counts: Sequence[int]
 
 
@@ -63,6 +64,9 @@ class Recorder:
         self._lock = threading.RLock()
         self._history = history
         self._labels = 0
+        self._commands = 0
+        # What is told before the command of a number: whose state is merged.
+        self._notes: Dict[int, List[str]] = {}
         self._had = [[0] * len(names) for _ in names]
         self._updates: List[List[int]] = [[] for _ in names]
         # Of each message its label, and the replica and place of its update.
@@ -97,7 +101,7 @@ class Recorder:
     def seen(self, replica: Hashable) -> Seen:
         """What the replica has seen by now, for a `merge` of the state that it has now."""
         with self._lock:
-            return Seen(tuple(self._had[self._speller.replicas.place(replica)]))
+            return Seen(replica, tuple(self._had[self._speller.replicas.place(replica)]))
 
     def step(self) -> ContextManager[Any]:
         """`with recorder.step():` makes one step of an act and its reports, where `act` is not at hand."""
@@ -162,13 +166,15 @@ class Recorder:
             self._look()
 
     def close(self) -> Report:
-        """Ends the history, and answers what all came to. Raises what the replies say, if they say no."""
+        """Ends the history, and answers what all came to. Raises what the replies say, if they say no.
+
+        An act that could not be told (`CannotTell`) is raised once more: of what follows it nothing was judged.
+        """
         try:
             report = self._monitor.close()
         finally:
-            if self._monitor.unexpected is not None:
-                with self._lock:
-                    self._look()
+            with self._lock:
+                self._look()
         return report
 
     def __enter__(self) -> "Recorder":
@@ -193,9 +199,8 @@ class Recorder:
         return self._speller.head()
 
     def account(self, text: str) -> account.Account:
-        """This text, which is one of this recorder's, in the user's words."""
-        keys = {sent[0]: key for key, sent in self._messages.items()}
-        return account.Account(self._speller, text, keys)
+        """This text, which is one of this recorder's, in the user's words, without the messages' keys."""
+        return account.Account(self._speller, text, {}, self._notes)
 
     # Under the lock.
 
@@ -219,11 +224,13 @@ class Recorder:
             command, reply = self._monitor.unexpected
             text = self._monitor.history(command + 1)
             keys = {sent[0]: key for key, sent in self._messages.items()}
-            self._failure = account.failure(self._speller, text, reply, keys, self._history)
+            told = account.Account(self._speller, text, keys, self._notes)
+            self._failure = account.failure(told, text, reply, self._history)
         if self._failure is not None:
             raise self._failure
 
     def _post(self, line: str, expected: str) -> None:
+        self._commands += 1
         self._monitor.post(line, expected)
         if self._monitor.unexpected is not None:
             self._look()
@@ -272,6 +279,8 @@ class Recorder:
     def _merge(self, place: int, messages: Union[Seen, Iterable[Hashable]]) -> None:
         if isinstance(messages, Seen):
             had = self._had[place]
+            merges = f"{self._speller.replicas.given[place]!r} merges the state of {messages.replica!r}"
+            self._notes.setdefault(self._commands, []).append(merges)
             merged = [
                 (self._updates[issuer][number], issuer, number)
                 for issuer, count in enumerate(messages.counts)

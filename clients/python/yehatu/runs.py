@@ -101,7 +101,7 @@ class _Run:
         return True
 
     def _merge(self, step: Step) -> bool:
-        if not self._reach.lacks(step.replica, step.update):
+        if step.replica == step.update:
             return False
         self._replicas[step.replica].merge(self._replicas[step.update].state())
         self.recorder.merge(self._names[step.replica], self.recorder.seen(self._names[step.update]))
@@ -131,6 +131,8 @@ def failure_of(setting: Setting, steps: Sequence[Step]) -> Optional[Failure]:
 
 def look_at(setting: Setting) -> bool:
     """Does the user's class merge states, rather than receive messages? Raises what it lacks."""
+    if setting.kind not in OPERATIONS:
+        raise CannotTell(f"there is no kind {setting.kind!r}, but {', '.join(OPERATIONS)}")
     replica = setting.make_replica(setting.replicas[0])
     merges = not hasattr(replica, "receive") and hasattr(replica, "merge")
     wanted = [*OPERATIONS[setting.kind], "read", *(("state", "merge") if merges else ("receive",))]

@@ -17,7 +17,7 @@ def shrunk(failure: Failure, run: Try) -> Failure:
 
 
 def _pass(failure: Failure, run: Try) -> Failure:
-    for candidates in (_without_a_replica, _without_a_part, _without_an_update, _without_two_steps):
+    for candidates in (_without_a_replica, _folded, _without_a_part, _without_an_update, _without_two_steps):
         failure = _smallest(failure, run, candidates)
     return failure
 
@@ -45,6 +45,14 @@ def _without_a_replica(steps: List[Step]) -> Iterator[List[Step]]:
             and not (it.what == "deliver" and it.update in own)
             and not (it.what == "merge" and it.update == replica)
         ]
+
+
+def _folded(steps: List[Step]) -> Iterator[List[Step]]:
+    """One replica does what another one did."""
+    places = sorted({it.replica for it in steps})
+    for gone, kept in ((gone, kept) for gone in places for kept in places if gone != kept):
+        moved = [it._replace(replica=kept) if it.replica == gone else it for it in steps]
+        yield [it._replace(update=kept) if it.what == "merge" and it.update == gone else it for it in moved]
 
 
 def _without_a_part(steps: List[Step]) -> Iterator[List[Step]]:
