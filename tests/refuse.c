@@ -1,8 +1,8 @@
 // Loaded into a program, refuses it one growth: the call of malloc or realloc whose number, from 1 on, stands in the
 // environment. It tells so by a byte to the descriptor that stands there too. Where another descriptor stands there, it
 // tells it at the end how many calls there were, for how many bytes in all, how often a thread left its processor to
-// others, and how many reads and writes there were. It needs no header and no library but the one that every program here stands on, so the toolchain's own
-// compiler makes it.
+// others, and how many reads and writes there were. It needs no header and no library but the one that every program
+// here stands on, so the toolchain's own compiler makes it.
 typedef unsigned long count_t;
 
 extern char *getenv(const char *name);

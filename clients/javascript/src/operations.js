@@ -1,4 +1,5 @@
 // The operations of the five kinds, in the user's own names.
+import { CannotTell } from "./errors.js";
 
 /** The operations that each kind has. */
 export const OPERATIONS = {
@@ -8,6 +9,12 @@ export const OPERATIONS = {
   orset: ["add", "remove"],
   rga: ["insertAfter", "remove"],
 };
+
+/** The operations of this kind. */
+export function ofKind(kind) {
+  if (Object.hasOwn(OPERATIONS, kind)) return OPERATIONS[kind];
+  throw new CannotTell(`there is no kind ${kind}, but ${Object.keys(OPERATIONS).join(", ")}`);
+}
 
 /** A counter: one more. */
 export const increment = () => ({ word: "increment" });

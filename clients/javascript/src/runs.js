@@ -120,12 +120,11 @@ export async function failureOf(setting, steps) {
 
 /** Does the user's class merge states, rather than receive messages? Throws what it lacks. */
 export function lookAt(setting) {
-  const kinds = Object.keys(operations.OPERATIONS);
-  if (!kinds.includes(setting.kind)) throw new CannotTell(`there is no kind ${setting.kind}, but ${kinds.join(", ")}`);
+  const words = operations.ofKind(setting.kind);
   const replica = setting.makeReplica(setting.replicas[0]);
   const has = (it) => typeof replica[it] === "function";
   const merges = !has("receive") && has("merge");
-  const wanted = [...operations.OPERATIONS[setting.kind], "read", ...(merges ? ["state", "merge"] : ["receive"])];
+  const wanted = [...words, "read", ...(merges ? ["state", "merge"] : ["receive"])];
   const lacking = wanted.filter((it) => !has(it));
   if (lacking.length === 0) return merges;
   const { kind } = setting;

@@ -2,7 +2,7 @@
 import { inspect } from "node:util";
 import { CannotTell } from "./errors.js";
 import { Clocks, Numbers, Replicas } from "./numbers.js";
-import { OPERATIONS } from "./operations.js";
+import { ofKind } from "./operations.js";
 
 const LEAST_COUNT = -2_147_483_648;
 const GREATEST_COUNT = 2_147_483_647;
@@ -13,6 +13,7 @@ export class Speller {
   #values = new Numbers();
   #clocks = new Clocks();
   #nothing;
+  #words;
   #bodies = {
     increment: () => "inc",
     decrement: () => "dec",
@@ -23,7 +24,7 @@ export class Speller {
   };
 
   constructor(kind, replicas, nothing = null) {
-    if (!(kind in OPERATIONS)) throw new CannotTell(`there is no kind ${kind}, but ${Object.keys(OPERATIONS)}`);
+    this.#words = ofKind(kind);
     this.kind = kind;
     this.replicas = new Replicas(replicas);
     this.#nothing = nothing;
@@ -36,8 +37,8 @@ export class Speller {
 
   /** The line of an operation at the replica with this number. An OR-Set's has identifiers by number. */
   operation(place, operation) {
-    if (!OPERATIONS[this.kind].includes(operation.word)) {
-      const has = OPERATIONS[this.kind].join(" and ");
+    if (!this.#words.includes(operation.word)) {
+      const has = this.#words.join(" and ");
       throw new CannotTell(`${operation.word} is no operation of the kind ${this.kind}, which has ${has}`);
     }
     return `${this.replicas.names[place]} ${this.#bodies[operation.word](place, operation)}`;

@@ -1,6 +1,8 @@
 """The operations of the five kinds, in the user's own names."""
 from typing import Any, Collection, Dict, Hashable, Iterable, NamedTuple, Optional, Tuple, Union
 
+from .errors import CannotTell
+
 Stamp = Union[int, Tuple[int, Hashable]]
 
 # The operations that each kind has.
@@ -11,6 +13,13 @@ OPERATIONS: Dict[str, Tuple[str, ...]] = {
     "orset": ("add", "remove"),
     "rga": ("insert_after", "remove"),
 }
+
+
+def of_kind(kind: str) -> Tuple[str, ...]:
+    """The operations of this kind."""
+    if kind not in OPERATIONS:
+        raise CannotTell(f"there is no kind {kind!r}, but {', '.join(OPERATIONS)}")
+    return OPERATIONS[kind]
 
 
 class Operation(NamedTuple):

@@ -4,7 +4,7 @@ from typing import Any, Callable, Dict, Hashable, List, NamedTuple, Optional, Se
 
 from . import operations, program
 from .errors import CannotTell
-from .operations import OPERATIONS, Operation
+from .operations import Operation
 from .plans import Reach, Step
 from .recorder import Recorder
 
@@ -131,11 +131,10 @@ def failure_of(setting: Setting, steps: Sequence[Step]) -> Optional[Failure]:
 
 def look_at(setting: Setting) -> bool:
     """Does the user's class merge states, rather than receive messages? Raises what it lacks."""
-    if setting.kind not in OPERATIONS:
-        raise CannotTell(f"there is no kind {setting.kind!r}, but {', '.join(OPERATIONS)}")
+    words = operations.of_kind(setting.kind)
     replica = setting.make_replica(setting.replicas[0])
     merges = not hasattr(replica, "receive") and hasattr(replica, "merge")
-    wanted = [*OPERATIONS[setting.kind], "read", *(("state", "merge") if merges else ("receive",))]
+    wanted = [*words, "read", *(("state", "merge") if merges else ("receive",))]
     lacking = [it for it in wanted if not callable(getattr(replica, it, None))]
     if lacking:
         raise TypeError(f"a replica of the kind {setting.kind} has the methods {wanted}, and this one lacks {lacking}")

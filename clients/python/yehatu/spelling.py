@@ -3,7 +3,7 @@ from typing import Any, Callable, Collection, Dict, Hashable, Iterable, List, Se
 
 from .errors import CannotTell
 from .numbers import Clocks, Numbers, Replicas
-from .operations import OPERATIONS, Operation, Stamp
+from .operations import Operation, Stamp, of_kind
 
 LEAST_COUNT, GREATEST_COUNT = -(1 << 31), (1 << 31) - 1
 KINDS_WITH_CLOCKS = ("register", "lwwset", "rga")
@@ -16,8 +16,7 @@ class Speller:
     """
 
     def __init__(self, kind: str, replicas: Sequence[Hashable], nothing: Any = None) -> None:
-        if kind not in OPERATIONS:
-            raise CannotTell(f"there is no kind {kind!r}, but {', '.join(OPERATIONS)}")
+        words = of_kind(kind)
         self.kind = kind
         self.replicas = Replicas(replicas)
         self.identifiers = Numbers("identifier")
@@ -32,7 +31,7 @@ class Speller:
             "remove": self._remove,
             "insert_after": self._insert,
         }
-        self._bodies = {word: bodies[word] for word in OPERATIONS[kind]}
+        self._bodies = {word: bodies[word] for word in words}
 
     def head(self) -> str:
         """The two first lines."""
