@@ -2,7 +2,7 @@
 use Rattle.std.proofs.Common.{◌≡◌, ◌+◌, ◌<◌, [], ◌∷◌, length, refl, arith}
 use Rattle.std.specs.Prelude.{All}
 use Rattle.std.proofs.lemmas.List.Elements.{All-nil, All-cons, All-weaker}
-use Rattle.ra_labels.specs.declared.command.Command.TheVariants.{Operate, Deliver, Verdict}
+use Rattle.ra_labels.specs.declared.command.Command.TheVariants.{Operate, Deliver, Join, Verdict}
 use Rattle.ra_labels.specs.Records.{Records, label_count, labels_of, next_label}
 
 -- each label's number is below their count
@@ -18,4 +18,5 @@ pub labels_counted : (records : Records) → length (labels_of records) ≡ labe
 labels_counted [] = refl
 labels_counted (Operate by op clock ∷ before) = omega (arith, labels_counted before)
 labels_counted (Deliver to label ∷ before) = labels_counted before
+labels_counted (Join replica from ∷ before) = labels_counted before
 labels_counted (Verdict ∷ before) = labels_counted before

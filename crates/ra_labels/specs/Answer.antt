@@ -10,12 +10,13 @@ use Rattle.ra_labels.specs.declared.operation.Op.TheVariants.{Inc, Dec, Count, W
 use Rattle.ra_labels.specs.declared.label.Stamp.{Stamp}
 use Rattle.ra_labels.specs.declared.label.Label.{Label}
 use Rattle.ra_labels.specs.declared.command.Command.{Command}
-use Rattle.ra_labels.specs.declared.command.Command.TheVariants.{Operate, Deliver, Verdict}
+use Rattle.ra_labels.specs.declared.command.Command.TheVariants.{Operate, Deliver, Join, Verdict}
 use Rattle.ra_labels.specs.declared.refusal.Refusal.{Refusal}
-use Rattle.ra_labels.specs.declared.refusal.Refusal.TheVariants.{UnknownReplica, WrongKind, BadList, StampMissing, StampUnwanted, StampTaken, IdTaken, UnknownLabel, NotAnUpdate, AlreadySeen, NotCausal}
+use Rattle.ra_labels.specs.declared.refusal.Refusal.TheVariants.{UnknownReplica, WrongKind, BadList, StampMissing, StampUnwanted, StampTaken, IdTaken, UnknownLabel, NotAnUpdate, AlreadySeen, NotCausal, ReplicaThere, TooManyReplicas}
 use Rattle.ra_labels.specs.declared.reply.Reply.{Reply}
 use Rattle.ra_labels.specs.declared.reply.Reply.TheVariants as reply
 use Rattle.ra_labels.specs.declared.reply.Fault.{Fault}
+use Rattle.ra_labels.specs.declared.limits.TheConstants.{MOST_REPLICAS}
 use Rattle.ra_labels.specs.Lists.{rises}
 use Rattle.ra_labels.specs.Records.{Records, label_count, labels_of, replica_count, stamp_at}
 use Rattle.ra_labels.specs.Visibility.{had, is_update_at, first_missing}
@@ -149,10 +150,20 @@ abbrev pub refusal_of_delivery : ℕ → Records → ℕ → ℕ → Option Refu
 refusal_of_delivery replicas records to label =
     first_of (when (not (nat_lt to (replica_count replicas records))) UnknownReplica ∷ refusal_at records to label ∷ [])
 
+-- the refusals of a join, in their order
+abbrev pub refusal_of_join : ℕ → Records → ℕ → ℕ → Option Refusal
+refusal_of_join replicas records replica from = let count = replica_count replicas records in first_of (
+    when (not (nat_lt from count) || nat_lt count replica) UnknownReplica
+    ∷ when (nat_lt replica count) ReplicaThere
+    ∷ when (not (nat_lt count MOST_REPLICAS)) TooManyReplicas
+    ∷ []
+    )
+
 -- the first refusal whose sentence is true of the command after these records
 abbrev pub refusal_of : Kind → ℕ → Records → Command → Option Refusal
 refusal_of kind replicas records (Operate by op clock) = refusal_of_operation kind replicas records by op clock
 refusal_of kind replicas records (Deliver to label) = refusal_of_delivery replicas records to label
+refusal_of kind replicas records (Join replica from) = refusal_of_join replicas records replica from
 refusal_of kind replicas records Verdict = None
 
 abbrev pub no_at : Fault → Reply
@@ -163,6 +174,7 @@ abbrev pub answer_to_accepted : Kind → Records → Command → Reply
 answer_to_accepted kind records (Operate by op clock) =
     option_map_or no_at (fault_of kind (Operate by op clock ∷ records)) (reply.Ok (label_count records))
 answer_to_accepted kind records (Deliver to label) = reply.Got label
+answer_to_accepted kind records (Join replica from) = reply.Joined replica
 answer_to_accepted kind records Verdict = reply.Yes (label_count records)
 
 -- the records with a command that is not refused

@@ -12,7 +12,7 @@ use Rattle.ra_labels.specs.declared.operation.Query.TheVariants.{Count, Last, Lw
 use Rattle.ra_labels.specs.declared.label.Stamp.{Stamp}
 use Rattle.ra_labels.specs.declared.label.Label.{Label}
 use Rattle.ra_labels.specs.declared.command.Command.{Command}
-use Rattle.ra_labels.specs.declared.command.Command.TheVariants.{Operate, Deliver, Verdict}
+use Rattle.ra_labels.specs.declared.command.Command.TheVariants.{Operate, Deliver, Join, Verdict}
 use Rattle.ra_labels.specs.declared.reply.Fault.{Fault}
 use Rattle.ra_labels.specs.declared.reply.Reply.{Reply}
 use Rattle.ra_labels.specs.declared.reply.Reply.TheVariants as reply
@@ -112,6 +112,16 @@ WasIssuedAt records replica n =
 abbrev pub WasDeliveredTo : Records → ℕ → ℕ → Type 0
 WasDeliveredTo records replica n =
     (later before : Records) × (records ≡ later ++ Deliver replica n ∷ before) × (is_update_at before n ≡ true)
+
+-- the replica joined from one that had label n
+abbrev pub WasJoinedHaving : Records → ℕ → ℕ → Type 0
+WasJoinedHaving records replica n =
+    (later before : Records) × (from : ℕ) × (records ≡ later ++ Join replica from ∷ before)
+    × (had before from n ≡ true)
+
+-- no replica had anything whose number is none of theirs
+abbrev pub NoneHadBeyond : ℕ → Records → Type 0
+NoneHadBeyond first records = (replica n : ℕ) → replica_count first records ≤ replica → had records replica n ≡ false
 
 -- label n was issued at a replica that had label m before
 abbrev pub WasIssuedHaving : Records → ℕ → ℕ → Type 0
@@ -240,6 +250,13 @@ IsOperation command = (by : ℕ) × (op : Op) × (clock : Option ℕ) × (comman
 abbrev pub IsDeliveryOf : ℕ → Command → Type 0
 IsDeliveryOf n command = (to : ℕ) × (command ≡ Deliver to n)
 
+abbrev pub is_join : Command → Bool
+is_join (Join replica from) = true
+is_join _ = false
+
+abbrev pub IsJoinOf : ℕ → Command → Type 0
+IsJoinOf replica command = (from : ℕ) × (command ≡ Join replica from)
+
 -- what a reply says of the records that the command meets, of those that it leaves, and of the command
 abbrev pub ReplySays : Kind → ℕ → Records → Command → Reply → Type 0
 ReplySays kind replicas records command (reply.Ok n) =
@@ -248,6 +265,9 @@ ReplySays kind replicas records command (reply.Ok n) =
 ReplySays kind replicas records command (reply.Got n) =
     (records_after kind replicas records command ≡ command ∷ records)
     × (fault_of kind (command ∷ records) ≡ None) × IsDeliveryOf n command
+ReplySays kind replicas records command (reply.Joined n) =
+    (n ≡ replica_count replicas records) × (records_after kind replicas records command ≡ command ∷ records)
+    × (fault_of kind (command ∷ records) ≡ None) × IsJoinOf n command
 ReplySays kind replicas records command (reply.Yes n) =
     (n ≡ label_count records) × (records_after kind replicas records command ≡ records)
     × (fault_of kind records ≡ None) × (command ≡ Verdict)

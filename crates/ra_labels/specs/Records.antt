@@ -5,7 +5,7 @@ use Rattle.ra_labels.specs.declared.operation.Op.{Op}
 use Rattle.ra_labels.specs.declared.label.Stamp.{Stamp}
 use Rattle.ra_labels.specs.declared.label.Label.{Label}
 use Rattle.ra_labels.specs.declared.command.Command.{Command}
-use Rattle.ra_labels.specs.declared.command.Command.TheVariants.{Operate}
+use Rattle.ra_labels.specs.declared.command.Command.TheVariants.{Operate, Join}
 
 abbrev pub Records : Type 0
 Records = List Command
@@ -16,9 +16,11 @@ label_count [] = 0
 label_count (Operate replica op clock ∷ before) = label_count before + 1
 label_count (_ ∷ before) = label_count before
 
--- how many replicas there are, of which this many were there first: no command adds one yet
+-- how many replicas there are, of which this many were there first
 abbrev pub replica_count : ℕ → Records → ℕ
-replica_count first records = first
+replica_count first [] = first
+replica_count first (Join replica from ∷ before) = replica_count first before + 1
+replica_count first (_ ∷ before) = replica_count first before
 
 -- the stamp of a replica, with this clock
 abbrev pub stamp_at : ℕ → ℕ → Stamp

@@ -4,7 +4,7 @@ use Rattle.std.specs.Option.{option_map_or}
 use Rattle.std.specs.List.{find, range_with_len}
 use Rattle.ra_labels.specs.declared.operation.Op.{Op}
 use Rattle.ra_labels.specs.declared.operation.Op.TheVariants.{Inc, Dec, Count, Write, Last, LwwAdd, LwwRemove, LwwRead, OrAdd, OrRemove, OrRead, After, RgaRemove, RgaRead}
-use Rattle.ra_labels.specs.declared.command.Command.TheVariants.{Operate, Deliver}
+use Rattle.ra_labels.specs.declared.command.Command.TheVariants.{Operate, Deliver, Join}
 use Rattle.ra_labels.specs.Records.{Records, label_count, label_at}
 
 -- does the operation change the state, be it an update or a query-update?
@@ -28,13 +28,14 @@ is_update (RgaRead list) = false
 abbrev pub is_update_at : Records → ℕ → Bool
 is_update_at records n = option_map_or (λ label. is_update label.op) (label_at records n) false
 
--- is label n an update that the replica issued, or reported as delivered?
+-- is label n an update that the replica issued, or reported as delivered, or that the one had from which it joined?
 abbrev pub had : Records → ℕ → ℕ → Bool
 had [] replica n = false
 had (Operate by op clock ∷ before) replica n =
     (by == replica && n == label_count before && is_update op) || had before replica n
 had (Deliver to label ∷ before) replica n =
     (to == replica && n == label && is_update_at before n) || had before replica n
+had (Join joined from ∷ before) replica n = (joined == replica && had before from n) || had before replica n
 had (_ ∷ before) replica n = had before replica n
 
 -- does label n see label m: had n's replica m when it issued n?

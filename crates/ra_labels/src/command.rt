@@ -19,6 +19,13 @@ pub enum Command {
         /// The delivered label's number.
         label: u32,
     },
+    /// A new replica begins with all that another one had.
+    Join {
+        /// The new replica's number: how many replicas there are so far.
+        replica: u8,
+        /// The number of the one that it begins from.
+        from: u8,
+    },
     /// Is all that was reported so far RA-linearizable by the named order?
     Verdict,
 }

@@ -11,7 +11,8 @@ use crate::operation::Op;
 /// Why a command is refused, in the order in which the reasons are tested.
 #[derive(Clone, Copy, Debug, PartialEq, Eq)]
 pub enum Refusal {
-    /// The replica's number is not below the number of replicas.
+    /// The replica's number is not below the number of replicas. Of a join: that of the one that it begins from is not,
+    /// or the new one's is above it.
     UnknownReplica,
     /// The operation is one of another kind.
     WrongKind,
@@ -33,6 +34,10 @@ pub enum Refusal {
     AlreadySeen,
     /// The least label that the delivered one saw and the receiver has not.
     NotCausal(u32),
+    /// A replica is to join under the number of one that is there.
+    ReplicaThere,
+    /// A replica is to join where no more may: there are as many as there can be.
+    TooManyReplicas,
 }
 
 /// The first refusal that the command's own form deserves in a history of this kind, if any: of `WrongKind`,
@@ -43,7 +48,7 @@ pub fn fits(kind: Kind, command: &Command) -> Option<Refusal>
 {
     match command {
         Command::Operate { op, stamp, .. } => fits_operation(kind, op, *stamp),
-        Command::Deliver { .. } | Command::Verdict => None,
+        Command::Deliver { .. } | Command::Join { .. } | Command::Verdict => None,
     }
 }
 

@@ -28,6 +28,8 @@ pub enum Reply {
     Ok(u32),
     /// The delivery of this label is accepted.
     Got(u32),
+    /// The join of the replica with this number is accepted.
+    Joined(u8),
     /// All holds so far, with this number of labels.
     Yes(u32),
     /// The named order failed at this label. Nothing is accepted any more.

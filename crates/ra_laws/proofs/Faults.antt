@@ -8,7 +8,7 @@ use Rattle.std.proofs.lemmas.Bool.{cases_eq, cases_order, eq-eqb, ne_eqb, cond-t
 use Rattle.ra_labels.specs.declared.kind.Kind.{Kind}
 use Rattle.ra_labels.specs.declared.kind.Kind.TheVariants.{Counter}
 use Rattle.ra_labels.specs.declared.operation.Op.{Op}
-use Rattle.ra_labels.specs.declared.command.Command.TheVariants.{Operate, Deliver, Verdict}
+use Rattle.ra_labels.specs.declared.command.Command.TheVariants.{Operate, Deliver, Join, Verdict}
 use Rattle.ra_labels.specs.declared.reply.Cause.{Cause}
 use Rattle.ra_labels.specs.declared.reply.Cause.TheVariants.{Order, Update, Query}
 use Rattle.ra_labels.specs.declared.reply.Fault.{Fault}
@@ -110,6 +110,12 @@ cause_of-deliver : (kind : Kind) (to label : ℕ) (before : Records)
 cause_of-deliver Counter to label before = refl
 cause_of-deliver _ to label before = refl
 
+-- nor does a join
+cause_of-join : (kind : Kind) (joined from : ℕ) (before : Records)
+    → cause_of kind (Join joined from ∷ before) ≡ cause_of kind before
+cause_of-join Counter joined from before = refl
+cause_of-join _ joined from before = refl
+
 cause_of-verdict : (kind : Kind) (before : Records) → cause_of kind (Verdict ∷ before) ≡ cause_of kind before
 cause_of-verdict Counter before = refl
 cause_of-verdict _ before = refl
@@ -134,6 +140,8 @@ no_cause_from_no_fault kind (Operate by op clock ∷ before) none =
     option_map-none (fault_at (label_count before)) (cause_of kind (Operate by op clock ∷ before))
     (neither (fault_of kind before) _ none).1
 no_cause_from_no_fault kind (Deliver to label ∷ before) none = cause_of-deliver kind to label before
+    ∙ no_cause_from_no_fault kind before none
+no_cause_from_no_fault kind (Join joined from ∷ before) none = cause_of-join kind joined from before
     ∙ no_cause_from_no_fault kind before none
 no_cause_from_no_fault kind (Verdict ∷ before) none = cause_of-verdict kind before
     ∙ no_cause_from_no_fault kind before none
@@ -292,6 +300,9 @@ count_before kind (Operate by op clock ∷ before) fault at =
     (first_or (fault_at (label_count before)) (fault_of kind before) (cause_of kind records) fault at)
 count_before kind (Deliver to label ∷ before) fault at =
     passed_over (fault_of kind before) fault (Deliver to label ∷ before) (records_before_fault kind before) at
+    ∙ count_before kind before fault at
+count_before kind (Join joined from ∷ before) fault at =
+    passed_over (fault_of kind before) fault (Join joined from ∷ before) (records_before_fault kind before) at
     ∙ count_before kind before fault at
 count_before kind (Verdict ∷ before) fault at =
     passed_over (fault_of kind before) fault (Verdict ∷ before) (records_before_fault kind before) at

@@ -2,10 +2,11 @@
 use Rattle.std.proofs.Common.{◌≡◌, ℕ, ◌+◌, ◌≤◌, Bool, true, false, eqb, [], ◌∷◌, Option, refl, sym, ap, ◌∙◌, subst, inl, inr, arith}
 use Rattle.std.specs.Prelude.{◌⊎◌, ◌==◌, ◌&&◌, ◌||◌, nat_lt}
 use Rattle.std.proofs.lemmas.Bool.{false≢true, cases_lt, cases_eq, cases_Bool, lt-ltb, le-ltb, ltb-true, ltb-false}
-use Rattle.std.proofs.lemmas.Bool.{eq-eqb, eqb-true, cond-true, cond-false, or_left, and_parts, and_from}
+use Rattle.std.proofs.Math.Bool.{or_comm}
+use Rattle.std.proofs.lemmas.Bool.{eq-eqb, ne_eqb, eqb-true, cond-true, cond-false, or_left, and_parts, and_from}
 use Rattle.std.proofs.lemmas.Bool.{false_from_ne_true}
 use Rattle.ra_labels.specs.declared.operation.Op.{Op}
-use Rattle.ra_labels.specs.declared.command.Command.TheVariants.{Operate, Deliver, Verdict}
+use Rattle.ra_labels.specs.declared.command.Command.TheVariants.{Operate, Deliver, Join, Verdict}
 use Rattle.ra_labels.specs.Records.{Records, label_count}
 use Rattle.ra_labels.specs.Visibility.{is_update, is_update_at, had, sees, IsCausal}
 use Rattle.ra_labels.specs.Places.{issuer_of, updates_of, place_of}
@@ -148,6 +149,53 @@ is_its before to label replica of = elim (cases_eq to replica) [
   ]
 ]
 
+-- the first ones of two tests are those of the greater count
+or_within : (at a b : ℕ) → a ≤ b → (nat_lt at a || nat_lt at b) ≡ nat_lt at b
+or_within at a b within = elim (cases_lt at a) [
+  | inl below ↦
+      or_left (nat_lt at a) (nat_lt at b) (lt-ltb at a below) ∙ sym (lt-ltb at b (omega (arith, below, within)))
+  | inr above ↦ ap (λ p. p || nat_lt at b) (le-ltb at a above)
+]
+
+or_beyond : (at a b : ℕ) → b ≤ a → (nat_lt at a || nat_lt at b) ≡ nat_lt at a
+or_beyond at a b within = or_comm (nat_lt at a) (nat_lt at b) ∙ or_within at b a within
+
+either_first : (records : Records) (of : ℕ) (test other : ℕ → Bool)
+    → ((count : ℕ) × AreFirstUpdates records of count test) → ((count : ℕ) × AreFirstUpdates records of count other)
+    → (count : ℕ) × AreFirstUpdates records of count (λ n. test n || other n)
+either_first records of test other first second = elim (cases_lt first.0 second.0) [
+  | inl less ↦ (
+    second.0,
+    (
+      second.1.0,
+      λ n is. ap (λ b. b || other n) (first.1.1 n is)
+          ∙ ap (λ b. nat_lt (place_of records n) first.0 || b) (second.1.1 n is)
+          ∙ or_within (place_of records n) first.0 second.0 (omega (arith, less)),
+    ),
+  )
+  | inr more ↦ (
+    first.0,
+    (
+      first.1.0,
+      λ n is. ap (λ b. b || other n) (first.1.1 n is)
+          ∙ ap (λ b. nat_lt (place_of records n) first.0 || b) (second.1.1 n is)
+          ∙ or_beyond (place_of records n) first.0 second.0 more,
+    ),
+  )
+]
+
+-- of any replica's updates, where that is known of another's
+any_first : (records : Records) (replica of : ℕ)
+    → ((replica ≡ of → ⊥) → (count : ℕ) × AreFirstUpdates records of count (had records replica))
+    → (count : ℕ) × AreFirstUpdates records of count (had records replica)
+any_first records replica of others = elim (cases_eq replica of) [
+  | inl same ↦ (
+    updates_of records of,
+    subst (λ r. AreFirstUpdates records of (updates_of records of) (had records r)) (sym same) (own_first records of),
+  )
+  | inr other ↦ others other
+]
+
 -- the law of counts, of another replica's updates
 others_first : (records : Records) → IsCausal records → (replica of : ℕ) → (replica ≡ of → ⊥)
     → (count : ℕ) × AreFirstUpdates records of count (had records replica)
@@ -172,18 +220,32 @@ others_first (Deliver to label ∷ before) causal replica of other =
       )
       | inr another ↦ (rest.0, (rest.1.0, λ n is. had-delivery before to label replica of n another is ∙ rest.1.1 n is))
     ]
+others_first (Join joined from ∷ before) causal replica of other = elim (cases_eq joined replica) [
+  | inl same ↦
+      let both = either_first before of (had before from) (had before replica) (any_first before from of (others_first before causal from of))
+      (others_first before causal replica of other) in (
+        both.0,
+        (
+          both.1.0,
+          λ n is. ap (λ b. b && had before from n || had before replica n) (eq-eqb joined replica same)
+              ∙ both.1.1 n is,
+        ),
+      )
+  | inr new ↦
+      let rest = others_first before causal replica of other in (
+        rest.0,
+        (
+          rest.1.0,
+          λ n is. ap (λ b. b && had before from n || had before replica n) (ne_eqb joined replica new)
+              ∙ rest.1.1 n is,
+        ),
+      )
+]
 others_first (Verdict ∷ before) causal replica of other = others_first before causal replica of other
 
--- and of any replica's
 pub had-first : (records : Records) → IsCausal records → (replica of : ℕ)
     → (count : ℕ) × AreFirstUpdates records of count (had records replica)
-had-first records causal replica of = elim (cases_eq replica of) [
-  | inl same ↦ (
-    updates_of records of,
-    subst (λ r. AreFirstUpdates records of (updates_of records of) (had records r)) (sym same) (own_first records of),
-  )
-  | inr other ↦ others_first records causal replica of other
-]
+had-first records causal replica of = any_first records replica of (others_first records causal replica of)
 
 -- and of what a label sees
 pub sees-first : (records : Records) → IsCausal records → (n of : ℕ)
@@ -206,4 +268,4 @@ sees-first (Operate by op clock ∷ before) causal n of = elim (cases_Bool (eqb 
       )
 ]
 sees-first (Deliver to label ∷ before) causal n of = sees-first before causal.2 n of
-sees-first (Verdict ∷ before) causal n of = sees-first before causal n of
+sees-first (_ ∷ before) causal n of = sees-first before causal n of

@@ -9,7 +9,7 @@ use Rattle.ra_labels.specs.declared.operation.Op.{Op}
 use Rattle.ra_labels.specs.declared.operation.Op.TheVariants.{OrAdd}
 use Rattle.ra_labels.specs.declared.label.Label.{Label}
 use Rattle.ra_labels.specs.declared.command.Command.{Command}
-use Rattle.ra_labels.specs.declared.command.Command.TheVariants.{Operate, Deliver, Verdict}
+use Rattle.ra_labels.specs.declared.command.Command.TheVariants.{Operate, Deliver, Join, Verdict}
 use Rattle.ra_labels.specs.Records.{Records, labels_of, next_label}
 use Rattle.ra_labels.specs.Answer.{identifier_of, has_identifier, is_identifier_taken, gives_taken, refusal_of, with_accepted, records_after, records_after_all}
 use Rattle.ra_labels.specs.Laws.{Gives, IsOwnIdentifier, IdentifiersAreOneLabels}
@@ -76,6 +76,8 @@ once_accepted kind replicas records (Operate by op clock) accepted once l m id l
       ]
     ]
 once_accepted kind replicas records (Deliver to n) accepted once l m id l_there m_there l_gives m_gives =
+    once l m id l_there m_there l_gives m_gives
+once_accepted kind replicas records (Join joined from) accepted once l m id l_there m_there l_gives m_gives =
     once l m id l_there m_there l_gives m_gives
 once_accepted kind replicas records Verdict accepted once l m id l_there m_there l_gives m_gives =
     once l m id l_there m_there l_gives m_gives

@@ -4,6 +4,7 @@ pub mod LabelNumbers
 pub mod SeenLabels
 pub mod Faults
 pub mod Order
+pub mod Joins
 pub mod Replies
 pub mod UniqueOrder
 pub mod StateKinds

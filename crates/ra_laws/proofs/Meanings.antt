@@ -13,14 +13,14 @@ use Rattle.ra_labels.specs.declared.operation.Update.{Update}
 use Rattle.ra_labels.specs.declared.operation.Query.{Query}
 use Rattle.ra_labels.specs.declared.operation.Query.TheVariants.{Count}
 use Rattle.ra_labels.specs.declared.command.Command.{Command}
-use Rattle.ra_labels.specs.declared.command.Command.TheVariants.{Operate, Deliver}
+use Rattle.ra_labels.specs.declared.command.Command.TheVariants.{Operate, Deliver, Join}
 use Rattle.ra_labels.specs.Specification.{State, Number, answers, state_after, is_answered_after}
 use Rattle.ra_labels.specs.Records.{Records, label_count}
 use Rattle.ra_labels.specs.Visibility.{is_update, is_update_at, had, sees}
 use Rattle.ra_labels.specs.Rewriting.{Half, Whole, QueryHalf, UpdateHalf, Act, Does, Asks, Part, update_of, query_of, updates_of}
 use Rattle.ra_labels.specs.Linearization.{are_halves, is_visible_to, is_earlier_there, is_query_half_of, must_precede}
 use Rattle.ra_labels.specs.Linearization.{visible_updates, updates_admitted, is_query_admitted, queries_admitted}
-use Rattle.ra_labels.specs.Laws.{WasIssuedAt, WasDeliveredTo, WasIssuedHaving, IsUpdateSeenBy, IsEarlierAtReplica, AreHalvesOfOneLabel, EachQueryIsAnswered}
+use Rattle.ra_labels.specs.Laws.{WasIssuedAt, WasDeliveredTo, WasJoinedHaving, WasIssuedHaving, IsUpdateSeenBy, IsEarlierAtReplica, AreHalvesOfOneLabel, EachQueryIsAnswered}
 use Rattle.ra_laws.proofs.SeenLabels.{had-append, sees-append}
 use Rattle.ra_labels.proofs.InLists.{list_all-from_contains}
 
@@ -28,17 +28,22 @@ use Rattle.ra_labels.proofs.InLists.{list_all-from_contains}
 pub answers-count : (number asked : ℤ) → Decides (answers (Number number) (Count asked)) (asked ≡ number)
 answers-count number asked = Decides-int_eq asked number
 
+-- the replica issued the label, got it, or joined with it
+abbrev Came : Records → ℕ → ℕ → Type 0
+Came records replica n =
+    WasIssuedAt records replica n ⊎ WasDeliveredTo records replica n ⊎ WasJoinedHaving records replica n
+
 -- what came to the replica came to it in later records too
-came_later : (command : Command) (records : Records) (replica n : ℕ)
-    → WasIssuedAt records replica n ⊎ WasDeliveredTo records replica n
-    → WasIssuedAt (command ∷ records) replica n ⊎ WasDeliveredTo (command ∷ records) replica n
+came_later : (command : Command) (records : Records) (replica n : ℕ) → Came records replica n
+    → Came (command ∷ records) replica n
 came_later command records replica n (inl (later, before, op, clock, is, number, update)) =
     inl (command ∷ later, before, op, clock, ap (λ rs. command ∷ rs) is, number, update)
-came_later command records replica n (inr (later, before, is, update)) =
-    inr (command ∷ later, before, ap (λ rs. command ∷ rs) is, update)
+came_later command records replica n (inr (inl (later, before, is, update))) =
+    inr (inl (command ∷ later, before, ap (λ rs. command ∷ rs) is, update))
+came_later command records replica n (inr (inr (later, before, from, is, had_it))) =
+    inr (inr (command ∷ later, before, from, ap (λ rs. command ∷ rs) is, had_it))
 
-had-came : (records : Records) (replica n : ℕ) → had records replica n ≡ true
-    → WasIssuedAt records replica n ⊎ WasDeliveredTo records replica n
+had-came : (records : Records) (replica n : ℕ) → had records replica n ≡ true → Came records replica n
 had-came [] replica n had_it = absurd (false≢true had_it)
 had-came (Operate by op clock ∷ before) replica n had_it =
     elim (or_cases (by == replica && n == label_count before && is_update op) (had before replica n) had_it) [
@@ -64,28 +69,37 @@ had-came (Deliver to label ∷ before) replica n had_it =
           let place = and_parts (to == replica) (n == label) parts.0 in
           let this : to ≡ replica = eqb-true to replica place.0 in
           let it : label ≡ n = sym (eqb-true n label place.1) in
-          inr ([], before, (λ i. Deliver (this i) (it i) ∷ before), parts.1)
+          inr (inl ([], before, (λ i. Deliver (this i) (it i) ∷ before), parts.1))
       | inr older ↦ came_later (Deliver to label) before replica n (had-came before replica n older)
+    ]
+had-came (Join joined from ∷ before) replica n had_it =
+    elim (or_cases (joined == replica && had before from n) (had before replica n) had_it) [
+      | inl taken ↦
+          let parts = and_parts (joined == replica) (had before from n) taken in
+          inr (inr ([], before, from, ap (λ r. Join r from ∷ before) (eqb-true joined replica parts.0), parts.1))
+      | inr older ↦ came_later (Join joined from) before replica n (had-came before replica n older)
     ]
 had-came (command ∷ before) replica n had_it = came_later command before replica n (had-came before replica n had_it)
 
-came-had : (records : Records) (replica n : ℕ) → WasIssuedAt records replica n ⊎ WasDeliveredTo records replica n
-    → had records replica n ≡ true
+came-had : (records : Records) (replica n : ℕ) → Came records replica n → had records replica n ≡ true
 came-had records replica n (inl (later, before, op, clock, is, number, update)) =
     let place = and_from (replica == replica) (n == label_count before) (eq-eqb replica replica refl)
     (eq-eqb n (label_count before) number) in
     let own = and_from (replica == replica && n == label_count before) (is_update op) place update in
     subst (λ rs. had rs replica n ≡ true) (sym is)
     (had-append later (Operate replica op clock ∷ before) replica n (or_left _ (had before replica n) own))
-came-had records replica n (inr (later, before, is, update)) =
+came-had records replica n (inr (inl (later, before, is, update))) =
     let place = and_from (replica == replica) (n == n) (eq-eqb replica replica refl) (eq-eqb n n refl) in
     let got = and_from (replica == replica && n == n) (is_update_at before n) place update in
     subst (λ rs. had rs replica n ≡ true) (sym is)
     (had-append later (Deliver replica n ∷ before) replica n (or_left _ (had before replica n) got))
+came-had records replica n (inr (inr (later, before, from, is, had_it))) =
+    let taken = and_from (replica == replica) (had before from n) (eq-eqb replica replica refl) had_it in
+    subst (λ rs. had rs replica n ≡ true) (sym is)
+    (had-append later (Join replica from ∷ before) replica n (or_left _ (had before replica n) taken))
 
--- what a replica had is what it issued and what was delivered to it
-pub had-exactly : (records : Records) (replica n : ℕ)
-    → Decides (had records replica n) (WasIssuedAt records replica n ⊎ WasDeliveredTo records replica n)
+-- what a replica had is what it issued, what was delivered to it, and what it joined with
+pub had-exactly : (records : Records) (replica n : ℕ) → Decides (had records replica n) (Came records replica n)
 had-exactly records replica n = (had-came records replica n, came-had records replica n)
 
 issued_later : (command : Command) (records : Records) (n m : ℕ) → WasIssuedHaving records n m

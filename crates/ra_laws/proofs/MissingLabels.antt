@@ -10,10 +10,10 @@ use Rattle.std.proofs.lemmas.Option.{none-some, same_Some}
 use Rattle.ra_laws.proofs.Faults.{not_some}
 use Rattle.ra_labels.specs.declared.kind.Kind.{Kind}
 use Rattle.ra_labels.specs.declared.command.Command.{Command}
-use Rattle.ra_labels.specs.declared.command.Command.TheVariants.{Operate, Deliver, Verdict}
+use Rattle.ra_labels.specs.declared.command.Command.TheVariants.{Operate, Deliver, Join, Verdict}
 use Rattle.ra_labels.specs.declared.refusal.Refusal.{Refusal}
 use Rattle.ra_labels.specs.declared.refusal.Refusal.TheVariants.{UnknownReplica, UnknownLabel, NotAnUpdate, AlreadySeen, NotCausal}
-use Rattle.ra_labels.specs.Records.{Records, label_count}
+use Rattle.ra_labels.specs.Records.{Records, label_count, replica_count}
 use Rattle.ra_labels.specs.Visibility.{is_update_at, had, sees, lacks, first_missing, IsCausal}
 use Rattle.ra_labels.specs.Fault.{fault_of}
 use Rattle.ra_labels.specs.Answer.{when, first_of, refusal_of, refusal_of_delivery, with_accepted, records_after, records_after_all}
@@ -148,16 +148,16 @@ chain-last known there update has (Some m) is_known is_there is_update is_new =
 -- a delivery is refused as not causal exactly where a label is missing that is seen
 pub not_causal-exactly : (replicas : ℕ) (records : Records) (to label m : ℕ)
     → (refusal_of_delivery replicas records to label ≡ Some (NotCausal m))
-    ↔ ((to < replicas) × IsNewUpdate records to label × IsLeastMissing records to label m)
+    ↔ ((to < replica_count replicas records) × IsNewUpdate records to label × IsLeastMissing records to label m)
 not_causal-exactly replicas records to label m = (
   (λ refused.
-      let tests = chain-at (nat_lt to replicas) (nat_lt label (label_count records)) (is_update_at records label)
+      let tests = chain-at (nat_lt to (replica_count replicas records)) (nat_lt label (label_count records)) (is_update_at records label)
       (had records to label) (first_missing records to label) m refused in
-      (ltb-true to replicas tests.0, (tests.2, tests.3), (least_missing records to label m).0 tests.4)),
+      (ltb-true to (replica_count replicas records) tests.0, (tests.2, tests.3), (least_missing records to label m).0 tests.4)),
   (λ known.
       let there = is_update_at-below records label known.1.0 in
-      chain-last (nat_lt to replicas) (nat_lt label (label_count records)) (is_update_at records label)
-      (had records to label) (first_missing records to label) (lt-ltb to replicas known.0)
+      chain-last (nat_lt to (replica_count replicas records)) (nat_lt label (label_count records)) (is_update_at records label)
+      (had records to label) (first_missing records to label) (lt-ltb to (replica_count replicas records) known.0)
       (lt-ltb label (label_count records) there) known.1.0 known.1.1
       ∙ ap (λ missing. first_of (option_map NotCausal missing ∷ [])) ((least_missing records to label m).1 known.2)),
 )
@@ -165,16 +165,17 @@ not_causal-exactly replicas records to label m = (
 -- and is not refused exactly where it is causal
 pub delivered-exactly : (replicas : ℕ) (records : Records) (to label : ℕ)
     → (refusal_of_delivery replicas records to label ≡ None)
-    ↔ ((to < replicas) × (is_update_at records label ≡ true) × IsCausalDelivery records to label)
+    ↔ ((to < replica_count replicas records) × (is_update_at records label ≡ true)
+    × IsCausalDelivery records to label)
 delivered-exactly replicas records to label = (
   (λ accepted.
-      let tests = chain-none (nat_lt to replicas) (nat_lt label (label_count records)) (is_update_at records label)
+      let tests = chain-none (nat_lt to (replica_count replicas records)) (nat_lt label (label_count records)) (is_update_at records label)
       (had records to label) (first_missing records to label) accepted in
-      (ltb-true to replicas tests.0, tests.2, (tests.3, (none_missing records to label).0 tests.4))),
+      (ltb-true to (replica_count replicas records) tests.0, tests.2, (tests.3, (none_missing records to label).0 tests.4))),
   (λ known.
       let there = is_update_at-below records label known.1 in
-      chain-last (nat_lt to replicas) (nat_lt label (label_count records)) (is_update_at records label)
-      (had records to label) (first_missing records to label) (lt-ltb to replicas known.0)
+      chain-last (nat_lt to (replica_count replicas records)) (nat_lt label (label_count records)) (is_update_at records label)
+      (had records to label) (first_missing records to label) (lt-ltb to (replica_count replicas records) known.0)
       (lt-ltb label (label_count records) there) known.1 known.2.0
       ∙ ap (λ missing. first_of (option_map NotCausal missing ∷ [])) ((none_missing records to label).1 known.2.1)),
 )
@@ -187,6 +188,7 @@ accepted_causal kind replicas records (Deliver to label) fine causal =
     let known = (delivered-exactly replicas records to label).0
     (not_some (refusal_of_delivery replicas records to label) fine) in
     (known.2.0, known.2.1, causal)
+accepted_causal kind replicas records (Join joined from) fine causal = causal
 accepted_causal kind replicas records Verdict fine causal = causal
 
 -- the records that an answer leaves are causal

@@ -12,7 +12,7 @@ use Rattle.ra_labels.specs.declared.operation.Op.{Op}
 use Rattle.ra_labels.specs.declared.operation.Update.{Update}
 use Rattle.ra_labels.specs.declared.operation.Update.TheVariants.{After}
 use Rattle.ra_labels.specs.declared.label.Label.{Label}
-use Rattle.ra_labels.specs.declared.command.Command.TheVariants.{Operate, Deliver}
+use Rattle.ra_labels.specs.declared.command.Command.TheVariants.{Operate, Deliver, Join}
 use Rattle.ra_labels.specs.Records.{Records, label_count, labels_of, next_label}
 use Rattle.ra_labels.specs.Visibility.{is_update, is_update_at, had}
 use Rattle.ra_labels.specs.Rewriting.{Part, Act, Does, Asks, acts_of, part_of, parts_of, update_of, updates_of}
@@ -31,7 +31,7 @@ use Rattle.ra_laws.proofs.Order.{IsPermutation-named_labels}
 use Rattle.ra_laws.proofs.Meanings.{some-exactly}
 use Rattle.ra_laws.proofs.States.{state-of_kind, admitted-only, admitted-of_kind}
 use Rattle.ra_laws.proofs.Ranks.{named_differ, have_one_number}
-use Rattle.ra_laws.proofs.Insertion.{order-inserted}
+use Rattle.ra_laws.proofs.Insertion.{order-inserted, order_later}
 use Rattle.ra_laws.proofs.HadUpdates.{filter_all, differ_round, delivery-order, among-append, among-same, among-one, among-not}
 use Rattle.ra_laws.proofs.Rgas.{is_listed}
 use Rattle.ra_laws.proofs.ShownElements.{list-shown_by, shown_by-same}
@@ -92,6 +92,10 @@ one-more kind records passes label u there makes new =
 pub passing-delivery : (kind : Kind) (records : Records) (to n : ℕ) (passes : ℕ → Bool)
     → updates_passing kind (Deliver to n ∷ records) passes ≡ updates_passing kind records passes
 passing-delivery kind records to n passes = ap (updates_among passes) (delivery-order kind records to n)
+
+pub passing-join : (kind : Kind) (records : Records) (joined from : ℕ) (passes : ℕ → Bool)
+    → updates_passing kind (Join joined from ∷ records) passes ≡ updates_passing kind records passes
+passing-join kind records joined from passes = ap (updates_among passes) (order_later kind (Join joined from) records)
 
 pub passing-operation : (kind : Kind) (records : Records) (by : ℕ) (op : Op) (clock : Option ℕ) (passes : ℕ → Bool)
     → passes (label_count records) ≡ false → updates_passing kind (Operate by op clock ∷ records) passes

@@ -7,12 +7,12 @@ use Rattle.std.proofs.lemmas.Option.{none-some, same_Some}
 use Rattle.ra_labels.specs.declared.kind.Kind.{Kind}
 use Rattle.ra_labels.specs.declared.operation.Op.{Op}
 use Rattle.ra_labels.specs.declared.command.Command.{Command}
-use Rattle.ra_labels.specs.declared.command.Command.TheVariants.{Operate, Deliver, Verdict}
+use Rattle.ra_labels.specs.declared.command.Command.TheVariants.{Operate, Deliver, Join, Verdict}
 use Rattle.ra_labels.specs.declared.refusal.Refusal.{Refusal}
 use Rattle.ra_labels.specs.declared.reply.Reply.{Reply}
 use Rattle.ra_labels.specs.declared.reply.Reply.TheVariants as reply
 use Rattle.ra_labels.specs.declared.reply.Fault.{Fault}
-use Rattle.ra_labels.specs.Records.{Records, label_count}
+use Rattle.ra_labels.specs.Records.{Records, label_count, replica_count}
 use Rattle.ra_labels.specs.Fault.{fault_of, fault_at}
 use Rattle.ra_labels.specs.Answer.{no_at, refusal_of, misfit_of, answer_to_accepted, with_accepted, answer_of, records_after, answers_to, records_after_all}
 use Rattle.ra_labels.specs.Rewriting.{Part}
@@ -20,6 +20,7 @@ use Rattle.ra_labels.specs.Linearization.{IsRaLinearization}
 use Rattle.ra_labels.specs.NamedOrder.{named_sequence}
 use Rattle.ra_labels.specs.Laws.{ReplySays}
 use Rattle.ra_laws.proofs.Faults.{holds_from_no_fault}
+use Rattle.ra_laws.proofs.Joins.{joined-exactly}
 
 module _ (kind : Kind) (replicas : ℕ) (records : Records) (command : Command) where
   -- after a fault each answer is the fault, and the records stay
@@ -58,12 +59,15 @@ operation_says kind replicas records by op clock (Some fault) is after = ap (fau
 
 -- the answer to an accepted command
 accepted_says : (kind : Kind) (replicas : ℕ) (records : Records) (command : Command) → fault_of kind records ≡ None
+    → refusal_of kind replicas records command ≡ None
     → records_after kind replicas records command ≡ with_accepted records command
     → ReplySays kind replicas records command (answer_to_accepted kind records command)
-accepted_says kind replicas records (Operate by op clock) none after =
+accepted_says kind replicas records (Operate by op clock) none fine after =
     operation_says kind replicas records by op clock _ refl after
-accepted_says kind replicas records (Deliver to label) none after = (after, none, (to, refl))
-accepted_says kind replicas records Verdict none after = (refl, after, none, refl)
+accepted_says kind replicas records (Deliver to label) none fine after = (after, none, (to, refl))
+accepted_says kind replicas records (Join joined from) none fine after =
+    (((joined-exactly replicas records joined from).0 fine).1, after, none, (from, refl))
+accepted_says kind replicas records Verdict none fine after = (refl, after, none, refl)
 
 -- what each reply says
 says : (kind : Kind) (replicas : ℕ) (records : Records) (command : Command) (fault : Option Fault)
@@ -79,7 +83,7 @@ says kind replicas records command None (Some why) is_fault is_refused =
 says kind replicas records command None None is_fault is_refused =
     subst (ReplySays kind replicas records command)
     (sym (answer_of-accepted kind replicas records command is_fault is_refused))
-    (accepted_says kind replicas records command is_fault
+    (accepted_says kind replicas records command is_fault is_refused
     (records_after-accepted kind replicas records command is_fault is_refused))
 
 pub reply_says : (kind : Kind) (replicas : ℕ) (records : Records) (command : Command)
@@ -94,6 +98,8 @@ no_from_fault kind replicas records command (reply.Ok n) fault known is =
     absurd (none-some fault (sym (ap (fault_of kind) known.1 ∙ known.2) ∙ is))
 no_from_fault kind replicas records command (reply.Got n) fault known is =
     absurd (none-some fault (sym (ap (fault_of kind) known.0 ∙ known.1) ∙ is))
+no_from_fault kind replicas records command (reply.Joined n) fault known is =
+    absurd (none-some fault (sym (ap (fault_of kind) known.1 ∙ known.2) ∙ is))
 no_from_fault kind replicas records command (reply.Yes n) fault known is =
     absurd (none-some fault (sym (ap (fault_of kind) known.1 ∙ known.2) ∙ is))
 no_from_fault kind replicas records command (reply.Refused why) fault known is =
@@ -128,9 +134,9 @@ records_after_all-append kind replicas records (command ∷ first) then =
 
 -- where the replica is known, what the command's own form deserves is the first refusal
 pub misfit_refuses : (kind : Kind) (replicas : ℕ) (records : Records) (by : ℕ) (op : Op) (clock : Option ℕ)
-    (why : Refusal) → by < replicas → misfit_of kind (Operate by op clock) ≡ Some why
+    (why : Refusal) → by < replica_count replicas records → misfit_of kind (Operate by op clock) ≡ Some why
     → refusal_of kind replicas records (Operate by op clock) ≡ Some why
-misfit_refuses kind replicas records by op clock why below is = rw (lt-ltb by replicas below, is)
+misfit_refuses kind replicas records by op clock why below is = rw (lt-ltb by (replica_count replicas records) below, is)
 
 -- a reply Ok or Yes is given where some sequence is an RA-linearization of the records that the command leaves
 pub ok_is_evidence : (kind : Kind) (replicas : ℕ) (records : Records) (command : Command) (n : ℕ)

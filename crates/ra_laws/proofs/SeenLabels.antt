@@ -2,8 +2,8 @@
 use Rattle.std.proofs.Common.{◌≡◌, ℕ, ◌<◌, true, false, eqb, [], ◌∷◌, ◌++◌, refl, sym, ap, ◌∙◌, subst, inl, inr, arith}
 use Rattle.std.specs.Prelude.{◌↔◌, ◌==◌, ◌&&◌}
 use Rattle.std.specs.Option.{option_map_or}
-use Rattle.std.proofs.lemmas.Bool.{false≢true, cases_lt, ne_eqb, eq-eqb, eqb-true, cond-true, cond-false, cond_both, or_cases, or_right, and_parts}
-use Rattle.ra_labels.specs.declared.command.Command.TheVariants.{Operate, Deliver, Verdict}
+use Rattle.std.proofs.lemmas.Bool.{false≢true, cases_lt, ne_eqb, eq-eqb, eqb-true, cond-true, cond-false, cond_both, or_cases, or_left, or_right, and_parts, and_from}
+use Rattle.ra_labels.specs.declared.command.Command.TheVariants.{Operate, Deliver, Join, Verdict}
 use Rattle.ra_labels.specs.Records.{Records, label_count}
 use Rattle.ra_labels.specs.Visibility.{is_update, is_update_at, had, sees, IsCausal}
 use Rattle.ra_labels.specs.Laws.{IsCausalDelivery}
@@ -26,6 +26,8 @@ had-append [] records replica m had_it = had_it
 had-append (Operate by op clock ∷ later) records replica m had_it =
     or_right _ _ (had-append later records replica m had_it)
 had-append (Deliver to label ∷ later) records replica m had_it =
+    or_right _ _ (had-append later records replica m had_it)
+had-append (Join joined from ∷ later) records replica m had_it =
     or_right _ _ (had-append later records replica m had_it)
 had-append (_ ∷ later) records replica m had_it = had-append later records replica m had_it
 
@@ -67,6 +69,11 @@ had_update (Operate by op clock ∷ before) replica m had_it =
 had_update (Deliver to label ∷ before) replica m had_it =
     elim (or_cases (to == replica && m == label && is_update_at before m) (had before replica m) had_it) [
       | inl got ↦ (and_parts (to == replica && m == label) (is_update_at before m) got).1
+      | inr older ↦ had_update before replica m older
+    ]
+had_update (Join joined from ∷ before) replica m had_it =
+    elim (or_cases (joined == replica && had before from m) (had before replica m) had_it) [
+      | inl taken ↦ had_update before from m (and_parts (joined == replica) (had before from m) taken).1
       | inr older ↦ had_update before replica m older
     ]
 had_update (_ ∷ before) replica m had_it = had_update before replica m had_it
@@ -115,6 +122,14 @@ had_closed (Deliver to label ∷ before) causal replica m k had_it seen =
           or_right _ (had before replica k) (subst (λ r. had before r k ≡ true) (eqb-true to replica parts.0) known)
       | inr older ↦ or_right _ (had before replica k) (had_closed before causal.2 replica m k older seen)
     ]
+had_closed (Join joined from ∷ before) causal replica m k had_it seen =
+    elim (or_cases (joined == replica && had before from m) (had before replica m) had_it) [
+      | inl taken ↦
+          let parts = and_parts (joined == replica) (had before from m) taken in
+          let known = had_closed before causal from m k parts.1 seen in
+          or_left _ (had before replica k) (and_from (joined == replica) (had before from k) parts.0 known)
+      | inr older ↦ or_right _ (had before replica k) (had_closed before causal replica m k older seen)
+    ]
 had_closed (Verdict ∷ before) causal replica m k had_it seen = had_closed before causal replica m k had_it seen
 
 -- and a label sees what the labels see that it sees
@@ -134,7 +149,7 @@ sees_through (Operate by op clock ∷ before) causal n m k first then =
     cond-false (eqb n (label_count before)) _ _ other ∙ sees_through before causal n m k seen older)
     first
 sees_through (Deliver to label ∷ before) causal n m k first then = sees_through before causal.2 n m k first then
-sees_through (Verdict ∷ before) causal n m k first then = sees_through before causal n m k first then
+sees_through (_ ∷ before) causal n m k first then = sees_through before causal n m k first then
 
 -- causal records were causal before
 IsCausal-append : (later records : Records) → IsCausal (later ++ records) → IsCausal records

@@ -10,7 +10,7 @@ use Rattle.ra_labels.specs.declared.operation.Op.{Op}
 use Rattle.ra_labels.specs.declared.operation.Update.{Update}
 use Rattle.ra_labels.specs.declared.operation.Update.TheVariants.{After}
 use Rattle.ra_labels.specs.declared.label.Label.{Label}
-use Rattle.ra_labels.specs.declared.command.Command.TheVariants.{Operate, Deliver}
+use Rattle.ra_labels.specs.declared.command.Command.TheVariants.{Operate, Deliver, Join}
 use Rattle.ra_labels.specs.Records.{Records, label_count, labels_of, next_label}
 use Rattle.ra_labels.specs.Rewriting.{updates_of}
 use Rattle.ra_labels.specs.Specification.{state_after, is_admitted}
@@ -25,7 +25,7 @@ use Rattle.ra_laws.proofs.HadUpdates.{differ_round, among-append, among-one, amo
 use Rattle.ra_laws.proofs.Rgas.{list-exactly}
 use Rattle.ra_laws.proofs.LateUpdates.{one_step}
 use Rattle.ra_laws.proofs.KeptUpdates.{needed-now}
-use Rattle.ra_laws.proofs.PassingUpdates.{in-named, in-labels, others-pass, each, each_passes, passing-delivery}
+use Rattle.ra_laws.proofs.PassingUpdates.{in-named, in-labels, others-pass, each, each_passes, passing-delivery, passing-join}
 use Rattle.ra_laws.proofs.PassingUpdates.{passing-operation, passing-admitted, listed-after, there-label, among-from}
 use Rattle.ra_laws.proofs.PassingUpdates.{among-alike, among-fewer}
 use Rattle.ra_laws.proofs.RgaSteps.{split-led, same_number, makes_same}
@@ -270,6 +270,14 @@ settled-delivery records to n had settled is_settled = record {
   had_them = is_settled.had_them;
   where_needed = λ l u there makes had_it. is_settled.where_needed l u there makes had_it
       ∙ sym (ap (is_there (needed_by u)) (passing-delivery Rga records to n settled));
+}
+
+pub settled-join : (records : Records) (joined from : ℕ) (had settled : ℕ → Bool) → IsSettled records had settled
+    → IsSettled (Join joined from ∷ records) had settled
+settled-join records joined from had settled is_settled = record {
+  had_them = is_settled.had_them;
+  where_needed = λ l u there makes had_it. is_settled.where_needed l u there makes had_it
+      ∙ sym (ap (is_there (needed_by u)) (passing-join Rga records joined from settled));
 }
 
 pub settled-operation : (records : Records) (by : ℕ) (op : Op) (clock : Option ℕ) (had settled : ℕ → Bool)

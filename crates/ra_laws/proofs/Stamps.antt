@@ -12,10 +12,10 @@ use Rattle.ra_labels.specs.declared.operation.Op.{Op}
 use Rattle.ra_labels.specs.declared.label.Stamp.{Stamp}
 use Rattle.ra_labels.specs.declared.label.Label.{Label}
 use Rattle.ra_labels.specs.declared.command.Command.{Command}
-use Rattle.ra_labels.specs.declared.command.Command.TheVariants.{Operate, Deliver, Verdict}
+use Rattle.ra_labels.specs.declared.command.Command.TheVariants.{Operate, Deliver, Join, Verdict}
 use Rattle.ra_labels.specs.declared.refusal.Refusal.{Refusal}
 use Rattle.ra_labels.specs.declared.refusal.Refusal.TheVariants.{UnknownReplica, WrongKind, BadList, StampMissing, StampUnwanted, StampTaken, IdTaken}
-use Rattle.ra_labels.specs.Records.{Records, labels_of, next_label, stamp_at}
+use Rattle.ra_labels.specs.Records.{Records, labels_of, next_label, replica_count, stamp_at}
 use Rattle.ra_labels.specs.NamedOrder.{stamp_cmp}
 use Rattle.ra_labels.specs.Fault.{fault_of}
 use Rattle.ra_labels.specs.Answer.{when, first_of, kind_of, is_kind, has_rising_list, carries_stamp, has_clock}
@@ -164,39 +164,39 @@ all-none true None false false is = (refl, refl, refl, refl)
 
 module _ (kind : Kind) (replicas : ℕ) (records : Records) (by : ℕ) (op : Op) (clock : Option ℕ) where
   pub stamp_taken-exactly : (refusal_of kind replicas records (Operate by op clock) ≡ Some StampTaken)
-      ↔ ((by < replicas) × (misfit_of kind (Operate by op clock) ≡ None) × (comes_with_taken records by clock ≡ true))
+      ↔ ((by < replica_count replicas records) × (misfit_of kind (Operate by op clock) ≡ None) × (comes_with_taken records by clock ≡ true))
   stamp_taken-exactly = (
     (λ refused.
         let never = form-not_taken (not (is_kind kind (kind_of op))) (not (has_rising_list op))
         (carries_stamp op && not (has_clock clock)) (not (carries_stamp op) && is_some clock) in
-        let tests = all-stamp (nat_lt by replicas) (misfit_of kind (Operate by op clock))
+        let tests = all-stamp (nat_lt by (replica_count replicas records)) (misfit_of kind (Operate by op clock))
         (comes_with_taken records by clock) (gives_taken records op) never.0 refused in
-        (ltb-true by replicas tests.0, tests.1, tests.2)),
-    (λ known. rw (lt-ltb by replicas known.0, known.1, known.2)),
+        (ltb-true by (replica_count replicas records) tests.0, tests.1, tests.2)),
+    (λ known. rw (lt-ltb by (replica_count replicas records) known.0, known.1, known.2)),
   )
 
   pub id_taken-exactly : (refusal_of kind replicas records (Operate by op clock) ≡ Some IdTaken)
-      ↔ ((by < replicas) × (misfit_of kind (Operate by op clock) ≡ None) × (comes_with_taken records by clock ≡ false)
+      ↔ ((by < replica_count replicas records) × (misfit_of kind (Operate by op clock) ≡ None) × (comes_with_taken records by clock ≡ false)
       × (gives_taken records op ≡ true))
   id_taken-exactly = (
     (λ refused.
         let never = form-not_taken (not (is_kind kind (kind_of op))) (not (has_rising_list op))
         (carries_stamp op && not (has_clock clock)) (not (carries_stamp op) && is_some clock) in
-        let tests = all-id (nat_lt by replicas) (misfit_of kind (Operate by op clock))
+        let tests = all-id (nat_lt by (replica_count replicas records)) (misfit_of kind (Operate by op clock))
         (comes_with_taken records by clock) (gives_taken records op) never.1 refused in
-        (ltb-true by replicas tests.0, tests.1, tests.2, tests.3)),
-    (λ known. rw (lt-ltb by replicas known.0, known.1, known.2, known.3)),
+        (ltb-true by (replica_count replicas records) tests.0, tests.1, tests.2, tests.3)),
+    (λ known. rw (lt-ltb by (replica_count replicas records) known.0, known.1, known.2, known.3)),
   )
 
   pub operated-exactly : (refusal_of kind replicas records (Operate by op clock) ≡ None)
-      ↔ ((by < replicas) × (misfit_of kind (Operate by op clock) ≡ None) × (comes_with_taken records by clock ≡ false)
+      ↔ ((by < replica_count replicas records) × (misfit_of kind (Operate by op clock) ≡ None) × (comes_with_taken records by clock ≡ false)
       × (gives_taken records op ≡ false))
   operated-exactly = (
     (λ accepted.
-        let tests = all-none (nat_lt by replicas) (misfit_of kind (Operate by op clock))
+        let tests = all-none (nat_lt by (replica_count replicas records)) (misfit_of kind (Operate by op clock))
         (comes_with_taken records by clock) (gives_taken records op) accepted in
-        (ltb-true by replicas tests.0, tests.1, tests.2, tests.3)),
-    (λ known. rw (lt-ltb by replicas known.0, known.1, known.2, known.3)),
+        (ltb-true by (replica_count replicas records) tests.0, tests.1, tests.2, tests.3)),
+    (λ known. rw (lt-ltb by (replica_count replicas records) known.0, known.1, known.2, known.3)),
   )
 
 -- a property of the records that each command which is accepted keeps
@@ -230,11 +230,14 @@ fits_accepted kind replicas records (Operate by op clock) accepted each label th
       | inl here ↦
           let known = (operated-exactly kind replicas records by op clock).0 accepted in
           let form = (fits-exactly kind by op clock).0 known.1 in
-          subst (IsFit kind replicas) here
+          subst (IsFit kind (replica_count replicas records)) here
           (record { of_kind = form.0; list = form.1; replica = known.0; stamp = (clock, form.2, refl) })
       | inr further ↦ each label further
     ]
 fits_accepted kind replicas records (Deliver to n) accepted each label there = each label there
+fits_accepted kind replicas records (Join joined from) accepted each label there =
+    let fit = each label there in
+    record { of_kind = fit.of_kind; list = fit.list; replica = omega (arith, fit.replica); stamp = fit.stamp }
 fits_accepted kind replicas records Verdict accepted each label there = each label there
 
 pub labels-fit : (kind : Kind) (replicas : ℕ) (records : Records) (command : Command)
@@ -276,6 +279,8 @@ once_accepted kind replicas records (Operate by op clock) accepted once l m stam
       ]
     ]
 once_accepted kind replicas records (Deliver to n) accepted once l m stamp l_there m_there l_is m_is =
+    once l m stamp l_there m_there l_is m_is
+once_accepted kind replicas records (Join joined from) accepted once l m stamp l_there m_there l_is m_is =
     once l m stamp l_there m_there l_is m_is
 once_accepted kind replicas records Verdict accepted once l m stamp l_there m_there l_is m_is =
     once l m stamp l_there m_there l_is m_is

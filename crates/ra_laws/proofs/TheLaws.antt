@@ -9,11 +9,11 @@ use Rattle.ra_labels.specs.declared.label.Stamp.{Stamp}
 use Rattle.ra_labels.specs.declared.label.Label.{Label}
 use Rattle.ra_labels.specs.contracts.label.StampOrd.TheImpl as derived
 use Rattle.ra_labels.specs.declared.command.Command.{Command}
-use Rattle.ra_labels.specs.declared.command.Command.TheVariants.{Deliver, Verdict}
+use Rattle.ra_labels.specs.declared.command.Command.TheVariants.{Deliver, Join, Verdict}
 use Rattle.ra_labels.specs.declared.reply.Fault.{Fault}
 use Rattle.ra_labels.specs.Lists.{shown}
 use Rattle.ra_labels.specs.Specification.{Written, state_after}
-use Rattle.ra_labels.specs.Records.{Records, label_count, next_label, replica_count, records_to, labels_of}
+use Rattle.ra_labels.specs.Records.{Records, label_count, next_label, records_to, labels_of}
 use Rattle.ra_labels.specs.Visibility.{is_update_at, had, sees, IsCausal}
 use Rattle.ra_labels.specs.Rewriting.{parts_of}
 use Rattle.ra_labels.specs.Linearization.{visible_updates}
@@ -121,6 +121,7 @@ pub use Rattle.ra_laws.proofs.PassingUpdates.{had-operation as a_replica_had_one
 pub use Rattle.ra_laws.proofs.PassingUpdates.{passing-alike as tests_that_agree_let_the_same_updates_pass}
 pub use Rattle.ra_laws.proofs.PassingUpdates.{passing-of_kind as updates_that_pass_are_admitted_where_all_are}
 pub use Rattle.ra_laws.proofs.PassingUpdates.{passing-delivery as a_later_command_leaves_the_updates_that_pass-delivery}
+pub use Rattle.ra_laws.proofs.PassingUpdates.{passing-join as a_later_command_leaves_the_updates_that_pass-join}
 pub use Rattle.ra_laws.proofs.PassingUpdates.{passing-operation as a_later_command_leaves_the_updates_that_pass-operation}
 pub use Rattle.ra_laws.proofs.PassingUpdates.{one-more as one_more_label_puts_its_update_in-place}
 pub use Rattle.ra_laws.proofs.PassingUpdates.{one-more_at as one_more_label_puts_its_update_in-at}
@@ -152,6 +153,7 @@ pub use Rattle.ra_laws.proofs.SettledUpdates.{settled-same as settled_updates_ar
 pub use Rattle.ra_laws.proofs.SettledUpdates.{settled-exactly as what_is_settled_does_not_wait}
 pub use Rattle.ra_laws.proofs.SettledUpdates.{settled-waiting as settled_labels_stay_settled-waiting}
 pub use Rattle.ra_laws.proofs.SettledUpdates.{settled-delivery as settled_labels_stay_settled-delivery}
+pub use Rattle.ra_laws.proofs.SettledUpdates.{settled-join as settled_labels_stay_settled-join}
 pub use Rattle.ra_laws.proofs.SettledUpdates.{settled-operation as settled_labels_stay_settled-operation}
 pub use Rattle.ra_laws.proofs.SettledUpdates.{settled-alike as settled_labels_stay_settled-alike}
 pub use Rattle.ra_laws.proofs.SettledUpdates.{settled-once as what_is_settled_follows_from_what_was_had}
@@ -171,12 +173,23 @@ pub use Rattle.ra_laws.proofs.Arrivals.{removal-all as a_new_label_in_the_list_o
 pub use Rattle.ra_laws.proofs.NewLabels.{offered-insertion as a_new_update_is_admitted_where_a_label_below_it_put_in_what_it_needs-insertion}
 pub use Rattle.ra_laws.proofs.NewLabels.{offered-removal as a_new_update_is_admitted_where_a_label_below_it_put_in_what_it_needs-removal}
 pub use Rattle.ra_laws.proofs.ElementsBetween.{between-later as between_an_anchor_and_its_element_stand_later_ones}
+-- laws::joins
+pub use Rattle.ra_laws.proofs.Joins.{beyond-one as none_had_before_it_joined-one, beyond-all as none_had_before_it_joined-all}
+pub use Rattle.ra_laws.proofs.Joins.{beyond-operation as none_had_before_it_joined-operation}
+pub use Rattle.ra_laws.proofs.Joins.{beyond-delivery as none_had_before_it_joined-delivery}
+pub use Rattle.ra_laws.proofs.Joins.{beyond-join as none_had_before_it_joined-join}
+pub use Rattle.ra_laws.proofs.Joins.{joined-issued as a_new_replica_had_what_the_other_had-issued}
+pub use Rattle.ra_laws.proofs.Joins.{joined-labels as a_new_replica_had_what_the_other_had-labels}
+pub use Rattle.ra_laws.proofs.Joins.{joined-own as a_new_replica_had_what_the_other_had-own}
+pub use Rattle.ra_laws.proofs.Joins.{joined-others as a_new_replica_had_what_the_other_had-others}
+pub use Rattle.ra_laws.proofs.Joins.{joined-order as a_new_replica_had_what_the_other_had-order}
 -- laws::records
+pub use Rattle.ra_laws.proofs.Joins.{joins-counted as each_join_adds_a_replica}
 pub use Rattle.ra_laws.proofs.LabelNumbers.{label_at-operation as an_operation_is_found_as_its_label-found}
 pub use Rattle.ra_laws.proofs.LabelNumbers.{records_to-operation as records_to_a_label_end_with_it-there}
 pub use Rattle.ra_laws.proofs.LabelNumbers.{records_to-none as records_to_a_label_end_with_it-none}
 -- laws::visibility
-pub use Rattle.ra_laws.proofs.Meanings.{had-exactly as had_what_was_issued_or_delivered, sees-exactly as sees_what_its_replica_had}
+pub use Rattle.ra_laws.proofs.Meanings.{had-exactly as had_what_it_issued_got_or_joined_with, sees-exactly as sees_what_its_replica_had}
 pub use Rattle.ra_laws.proofs.SeenLabels.{sees-append as sees_the_same_later, is_update_at-append as is_the_same_later}
 pub use Rattle.ra_laws.proofs.SeenLabels.{had_update as had_updates-updates, is_update_at-below as had_updates-there}
 pub use Rattle.ra_laws.proofs.SeenLabels.{had-append as had_is_kept, causal-exactly as causal_where_each_delivery_is}
@@ -277,6 +290,7 @@ pub use Rattle.ra_laws.proofs.Replies.{records_after_all-append as answers_in_tu
 pub use Rattle.ra_laws.proofs.Replies.{misfit_refuses as misfits_are_refused-operation}
 pub use Rattle.ra_laws.proofs.MissingLabels.{not_causal-exactly as not_causal_where_a_seen_label_is_missing}
 pub use Rattle.ra_laws.proofs.MissingLabels.{delivered-exactly as delivered_where_causal}
+pub use Rattle.ra_laws.proofs.Joins.{joined-exactly as joins_are_accepted_with_the_next_number}
 pub use Rattle.ra_laws.proofs.MissingLabels.{records_after-causal as answers_keep_records_causal-one}
 
 pub a_register_has_the_last_value-none : state_after Register [] ≡ Some (Written None)
@@ -287,9 +301,6 @@ elements_are_shown_in_their_order-one x = refl
 
 pub elements_are_shown_in_their_order-hidden : (x : ℕ) → shown ((x, false) ∷ []) ≡ []
 elements_are_shown_in_their_order-hidden x = refl
-
-pub no_command_adds_a_replica : (first : ℕ) (records : Records) → replica_count first records ≡ first
-no_command_adds_a_replica first records = refl
 
 pub an_operation_is_found_as_its_label-stamped : (before : Records) (by : ℕ) (op : Op) (clock : ℕ)
     → next_label before by op (Some clock)
@@ -308,6 +319,9 @@ an_operation_is_found_as_its_label-unstamped before by op = refl
 
 pub misfits_are_refused-delivery : (kind : Kind) (to label : ℕ) → misfit_of kind (Deliver to label) ≡ None
 misfits_are_refused-delivery kind to label = refl
+
+pub misfits_are_refused-join : (kind : Kind) (replica from : ℕ) → misfit_of kind (Join replica from) ≡ None
+misfits_are_refused-join kind replica from = refl
 
 pub misfits_are_refused-verdict : (kind : Kind) (replicas : ℕ) (records : Records)
     → refusal_of kind replicas records Verdict ≡ None

@@ -8,7 +8,7 @@ use Rattle.std.proofs.lemmas.Option.{none-some}
 use Rattle.ra_labels.specs.declared.operation.Op.{Op}
 use Rattle.ra_labels.specs.declared.label.Stamp.{Stamp}
 use Rattle.ra_labels.specs.declared.label.Label.{Label}
-use Rattle.ra_labels.specs.declared.command.Command.TheVariants.{Operate, Deliver, Verdict}
+use Rattle.ra_labels.specs.declared.command.Command.TheVariants.{Operate}
 use Rattle.ra_labels.specs.Records.{Records, label_count, labels_of}
 use Rattle.ra_labels.specs.Visibility.{sees, had}
 use Rattle.ra_labels.specs.NamedOrder.{lowest_rank, stamp_cmp, greater_of, greatest_stamp, timestamp_of}
@@ -216,5 +216,4 @@ timestamp-append (Operate by op clock ∷ later) records label below =
     ap (λ seen. unwrap_or label.stamp (greatest_stamp seen))
     (seen_by-next (later ++ records) by op clock label (omega (arith, grows, below)))
     ∙ timestamp-append later records label below
-timestamp-append (Deliver to n ∷ later) records label below = timestamp-append later records label below
-timestamp-append (Verdict ∷ later) records label below = timestamp-append later records label below
+timestamp-append (_ ∷ later) records label below = timestamp-append later records label below

@@ -6,7 +6,7 @@ use Rattle.std.proofs.lemmas.Bool.{false≢true, cases_lt, cases_Bool, eq-eqb, n
 use Rattle.std.proofs.lemmas.Bool.{cond_both, or_left, or_right, and_parts, and_from}
 use Rattle.ra_labels.specs.declared.operation.Op.{Op}
 use Rattle.ra_labels.specs.declared.label.Label.{Label}
-use Rattle.ra_labels.specs.declared.command.Command.TheVariants.{Operate, Deliver, Verdict}
+use Rattle.ra_labels.specs.declared.command.Command.TheVariants.{Operate, Deliver, Join, Verdict}
 use Rattle.ra_labels.specs.Records.{Records, label_count, labels_of}
 use Rattle.ra_labels.specs.Visibility.{is_update, is_update_at, had, sees}
 use Rattle.ra_labels.specs.Places.{issuer_of, updates_of, place_of}
@@ -225,6 +225,7 @@ had-own (Operate by op clock ∷ before) replica n is = elim (newest_or_older be
   | inr old ↦ or_right _ (had before replica n) (had-own before replica n old.1)
 ]
 had-own (Deliver to label ∷ before) replica n is = or_right _ (had before replica n) (had-own before replica n is)
+had-own (Join joined from ∷ before) replica n is = or_right _ (had before replica n) (had-own before replica n is)
 had-own (Verdict ∷ before) replica n is = had-own before replica n is
 
 -- an update sees those of its replica that have a place before its own

@@ -1,5 +1,5 @@
 -- Kinds whose updates may stand in any order that respects visibility, and what makes a no of theirs final.
-use Rattle.std.specs.Prelude.{◌≡◌, ℕ, Bool, true, false, ◌&&◌, List, Contains, filter, is_some, IsTrue, IsPermutation}
+use Rattle.std.specs.Prelude.{ℕ, Bool, true, false, ◌&&◌, List, Contains, filter, is_some, IsTrue, IsPermutation}
 use Rattle.ra_labels.specs.declared.kind.Kind.{Kind}
 use Rattle.ra_labels.specs.declared.kind.Kind.TheVariants.{Counter, Register, LwwSet, OrSet, Rga}
 use Rattle.ra_labels.specs.Records.{Records, records_to}

@@ -4,3 +4,4 @@ pub mod Worked
 pub mod WorkedTimestamps
 pub mod WorkedOrSets
 pub mod WorkedRgas
+pub mod WorkedJoins

@@ -9,6 +9,7 @@ pub mod counts;
 pub mod fault;
 pub mod identifiers;
 pub mod insertion;
+pub mod joins;
 pub mod late;
 pub mod linearization;
 pub mod one_step;

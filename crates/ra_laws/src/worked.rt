@@ -11,6 +11,7 @@ ghost use Rattle.ra_labels.specs.Fault.{fault_of, fault_at};
 ghost use Rattle.ra_laws.specs.Worked.{answers_of_three, records_of_three, seen_by, answers_of_two, delivered_and_read, delivered_out_of_causal_order, two_are_missing, delivered_to_one, two_reads, read_numbered, the_query_half, the_update_half, the_increment, the_read, nothing_was_delivered, only_verdicts, nothing_to_count, each_counts_what_it_had, stamped_and_unknown, each_refusal};
 
 pub mod finals;
+pub mod joins;
 pub mod or_sets;
 pub mod rgas;
 pub mod timestamps;

@@ -3,17 +3,18 @@ ghost use Rattle.std.specs.Prelude.{◌≡◌, ◌↔◌, ℕ, ◌<◌, true, fa
 ghost use Rattle.ra_labels.specs.declared.kind.Kind.{Kind};
 ghost use Rattle.ra_labels.specs.declared.operation.Op.{Op};
 ghost use Rattle.ra_labels.specs.declared.command.Command.{Command};
-ghost use Rattle.ra_labels.specs.declared.command.Command.TheVariants.{Operate, Deliver, Verdict};
+ghost use Rattle.ra_labels.specs.declared.command.Command.TheVariants.{Operate, Deliver, Join, Verdict};
 ghost use Rattle.ra_labels.specs.declared.refusal.Refusal.{Refusal};
 ghost use Rattle.ra_labels.specs.declared.refusal.Refusal.TheVariants.{StampTaken, IdTaken, NotCausal};
 ghost use Rattle.ra_labels.specs.declared.reply.Fault.{Fault};
 ghost use Rattle.ra_labels.specs.declared.reply.Reply.TheVariants as reply;
-ghost use Rattle.ra_labels.specs.Records.{Records};
+ghost use Rattle.ra_labels.specs.declared.limits.TheConstants.{MOST_REPLICAS};
+ghost use Rattle.ra_labels.specs.Records.{Records, replica_count};
 ghost use Rattle.ra_labels.specs.Visibility.{is_update_at, IsCausal};
 ghost use Rattle.ra_labels.specs.Rewriting.{Part};
 ghost use Rattle.ra_labels.specs.Linearization.{IsRaLinearization};
 ghost use Rattle.ra_labels.specs.Fault.{fault_of};
-ghost use Rattle.ra_labels.specs.Answer.{no_at, kind_of, has_rising_list, misfit_of, comes_with_taken, gives_taken, refusal_of, refusal_of_delivery, answer_of, records_after, answers_to, records_after_all};
+ghost use Rattle.ra_labels.specs.Answer.{no_at, kind_of, has_rising_list, misfit_of, comes_with_taken, gives_taken, refusal_of, refusal_of_delivery, refusal_of_join, answer_of, records_after, answers_to, records_after_all};
 ghost use Rattle.ra_labels.specs.Laws.{ReplySays, IsCausalDelivery, IsNewUpdate, IsLeastMissing, HasItsClock, EachLabelFits};
 
 /// What each reply says of the records that the command meets, and of those that it leaves.
@@ -58,13 +59,14 @@ pub fn answers_in_turn()
         ≡ records_after_all kind replicas (records_after_all kind replicas records first) later }
 {}
 
-/// What a command's own form deserves is the first refusal of an operation of a known replica. Deliveries and
+/// What a command's own form deserves is the first refusal of an operation of a known replica. Deliveries, joins and
 /// verdicts have no form of their own that could deserve one, and a verdict is never refused.
 pub fn misfits_are_refused()
     ensures operation { (kind : Kind) (replicas : ℕ) (records : Records) (by : ℕ) (op : Op) (clock : Option ℕ)
-        (why : Refusal) → by < replicas → misfit_of kind (Operate by op clock) ≡ Some why
+        (why : Refusal) → by < replica_count replicas records → misfit_of kind (Operate by op clock) ≡ Some why
         → refusal_of kind replicas records (Operate by op clock) ≡ Some why }
     ensures delivery { (kind : Kind) (to label : ℕ) → misfit_of kind (Deliver to label) ≡ None }
+    ensures join { (kind : Kind) (replica from : ℕ) → misfit_of kind (Join replica from) ≡ None }
     ensures verdict { (kind : Kind) (replicas : ℕ) (records : Records)
         → refusal_of kind replicas records Verdict ≡ None }
 {}
@@ -74,13 +76,23 @@ pub fn misfits_are_refused()
 pub fn not_causal_where_a_seen_label_is_missing()
     ensures { (replicas : ℕ) (records : Records) (to label n : ℕ)
         → (refusal_of_delivery replicas records to label ≡ Some (NotCausal n))
-        ↔ ((to < replicas) × IsNewUpdate records to label × IsLeastMissing records to label n) }
+        ↔ ((to < replica_count replicas records) × IsNewUpdate records to label × IsLeastMissing records to label n) }
 {}
 
 /// A delivery is not refused exactly where the replica is there, the label is an update, and the delivery is causal.
 pub fn delivered_where_causal()
     ensures { (replicas : ℕ) (records : Records) (to label : ℕ) → (refusal_of_delivery replicas records to label ≡ None)
-        ↔ ((to < replicas) × (is_update_at records label ≡ true) × IsCausalDelivery records to label) }
+        ↔ ((to < replica_count replicas records) × (is_update_at records label ≡ true)
+        × IsCausalDelivery records to label) }
+{}
+
+/// A join is not refused exactly where the replica that it begins from is there, the new one's number is how many are
+/// there, and more may join.
+pub fn joins_are_accepted_with_the_next_number()
+    ensures { (replicas : ℕ) (records : Records) (replica from : ℕ)
+        → (refusal_of_join replicas records replica from ≡ None)
+        ↔ ((from < replica_count replicas records) × (replica ≡ replica_count replicas records)
+        × (replica_count replicas records < MOST_REPLICAS)) }
 {}
 
 /// Answers keep records causal, and so the records that commands leave are, from none on.
@@ -103,7 +115,7 @@ pub fn forms_that_deserve_no_refusal()
 pub fn operations_with_a_taken_stamp_are_refused()
     ensures { (kind : Kind) (replicas : ℕ) (records : Records) (by : ℕ) (op : Op) (clock : Option ℕ)
         → (refusal_of kind replicas records (Operate by op clock) ≡ Some StampTaken)
-        ↔ ((by < replicas) × (misfit_of kind (Operate by op clock) ≡ None)
+        ↔ ((by < replica_count replicas records) × (misfit_of kind (Operate by op clock) ≡ None)
         × (comes_with_taken records by clock ≡ true)) }
 {}
 
@@ -111,7 +123,7 @@ pub fn operations_with_a_taken_stamp_are_refused()
 pub fn operations_with_a_taken_identifier_are_refused()
     ensures { (kind : Kind) (replicas : ℕ) (records : Records) (by : ℕ) (op : Op) (clock : Option ℕ)
         → (refusal_of kind replicas records (Operate by op clock) ≡ Some IdTaken)
-        ↔ ((by < replicas) × (misfit_of kind (Operate by op clock) ≡ None)
+        ↔ ((by < replica_count replicas records) × (misfit_of kind (Operate by op clock) ≡ None)
         × (comes_with_taken records by clock ≡ false) × (gives_taken records op ≡ true)) }
 {}
 
@@ -119,7 +131,7 @@ pub fn operations_with_a_taken_identifier_are_refused()
 pub fn operations_are_accepted_where_nothing_is_taken()
     ensures { (kind : Kind) (replicas : ℕ) (records : Records) (by : ℕ) (op : Op) (clock : Option ℕ)
         → (refusal_of kind replicas records (Operate by op clock) ≡ None)
-        ↔ ((by < replicas) × (misfit_of kind (Operate by op clock) ≡ None)
+        ↔ ((by < replica_count replicas records) × (misfit_of kind (Operate by op clock) ≡ None)
         × (comes_with_taken records by clock ≡ false) × (gives_taken records op ≡ false)) }
 {}
 

@@ -5,7 +5,7 @@ ghost use Rattle.ra_labels.specs.declared.kind.Kind.TheVariants.{Rga};
 ghost use Rattle.ra_labels.specs.declared.operation.Op.{Op};
 ghost use Rattle.ra_labels.specs.declared.operation.Update.{Update};
 ghost use Rattle.ra_labels.specs.declared.label.Label.{Label};
-ghost use Rattle.ra_labels.specs.declared.command.Command.TheVariants.{Operate, Deliver};
+ghost use Rattle.ra_labels.specs.declared.command.Command.TheVariants.{Operate, Deliver, Join};
 ghost use Rattle.ra_labels.specs.Records.{Records, label_count, labels_of};
 ghost use Rattle.ra_labels.specs.Visibility.{is_update, is_update_at, had, sees};
 ghost use Rattle.ra_labels.specs.Specification.{is_admitted};
@@ -49,6 +49,8 @@ pub fn a_replica_had_one_more()
 pub fn a_later_command_leaves_the_updates_that_pass()
     ensures delivery { (kind : Kind) (records : Records) (to n : ℕ) (passes : ℕ → Bool)
         → updates_passing kind (Deliver to n ∷ records) passes ≡ updates_passing kind records passes }
+    ensures join { (kind : Kind) (records : Records) (joined from : ℕ) (passes : ℕ → Bool)
+        → updates_passing kind (Join joined from ∷ records) passes ≡ updates_passing kind records passes }
     ensures operation { (kind : Kind) (records : Records) (by : ℕ) (op : Op) (clock : Option ℕ) (passes : ℕ → Bool)
         → passes (label_count records) ≡ false
         → updates_passing kind (Operate by op clock ∷ records) passes ≡ updates_passing kind records passes }

@@ -1,12 +1,13 @@
 //! The records.
-ghost use Rattle.std.specs.Prelude.{◌≡◌, ℕ, ◌≤◌, [], ◌∷◌, ◌++◌, Option, Some, None};
+ghost use Rattle.std.specs.Prelude.{◌≡◌, ℕ, ◌+◌, ◌≤◌, [], ◌∷◌, ◌++◌, length, filter, Option, Some, None};
 ghost use Rattle.ra_labels.specs.declared.operation.Op.{Op};
 ghost use Rattle.ra_labels.specs.declared.command.Command.TheVariants.{Operate};
 ghost use Rattle.ra_labels.specs.Records.{Records, label_count, label_at, next_label, records_to, replica_count};
+ghost use Rattle.ra_labels.specs.Laws.{is_join};
 
-/// No command adds a replica: there are as many as there were first.
-pub fn no_command_adds_a_replica()
-    ensures { (first : ℕ) (records : Records) → replica_count first records ≡ first }
+/// Each join adds a replica, and no other command does.
+pub fn each_join_adds_a_replica()
+    ensures { (first : ℕ) (records : Records) → replica_count first records ≡ first + length (filter is_join records) }
 {}
 
 /// An operation is found, in all later records, as the label with the number of labels before it; with its replica, and

@@ -5,7 +5,7 @@ ghost use Rattle.ra_labels.specs.declared.kind.Kind.TheVariants.{Rga};
 ghost use Rattle.ra_labels.specs.declared.operation.Op.{Op};
 ghost use Rattle.ra_labels.specs.declared.operation.Update.{Update};
 ghost use Rattle.ra_labels.specs.declared.label.Label.{Label};
-ghost use Rattle.ra_labels.specs.declared.command.Command.TheVariants.{Operate, Deliver};
+ghost use Rattle.ra_labels.specs.declared.command.Command.TheVariants.{Operate, Deliver, Join};
 ghost use Rattle.ra_labels.specs.Records.{Records, label_count, labels_of};
 ghost use Rattle.ra_labels.specs.Specification.{is_admitted};
 ghost use Rattle.ra_labels.specs.Linearization.{updates_admitted};
@@ -51,6 +51,8 @@ pub fn settled_labels_stay_settled()
         → IsSettled records (or_label had label.number) settled }
     ensures delivery { (records : Records) (to n : ℕ) (had settled : ℕ → Bool) → IsSettled records had settled
         → IsSettled (Deliver to n ∷ records) had settled }
+    ensures join { (records : Records) (joined from : ℕ) (had settled : ℕ → Bool) → IsSettled records had settled
+        → IsSettled (Join joined from ∷ records) had settled }
     ensures operation { (records : Records) (by : ℕ) (op : Op) (clock : Option ℕ) (had settled : ℕ → Bool)
         → had (label_count records) ≡ false → IsSettled records had settled
         → IsSettled (Operate by op clock ∷ records) had settled }

@@ -3,12 +3,13 @@ ghost use Rattle.std.specs.Prelude.{◌≡◌, ◌↔◌, ◌⊎◌, ℕ, ◌<�
 ghost use Rattle.ra_labels.specs.declared.command.Command.TheVariants.{Deliver};
 ghost use Rattle.ra_labels.specs.Records.{Records, label_count};
 ghost use Rattle.ra_labels.specs.Visibility.{had, is_update_at, sees, first_missing, IsCausal};
-ghost use Rattle.ra_labels.specs.Laws.{WasIssuedAt, WasDeliveredTo, WasIssuedHaving, IsCausalDelivery, IsLeastMissing};
+ghost use Rattle.ra_labels.specs.Laws.{WasIssuedAt, WasDeliveredTo, WasJoinedHaving, WasIssuedHaving, IsCausalDelivery, IsLeastMissing};
 
-/// What a replica had is what it issued, where that is an update, and what was delivered to it.
-pub fn had_what_was_issued_or_delivered()
+/// What a replica had is what it issued, where that is an update, what was delivered to it, and what the one had from
+/// which it joined.
+pub fn had_what_it_issued_got_or_joined_with()
     ensures { (records : Records) (replica n : ℕ) → (had records replica n ≡ true)
-        ↔ (WasIssuedAt records replica n ⊎ WasDeliveredTo records replica n) }
+        ↔ (WasIssuedAt records replica n ⊎ WasDeliveredTo records replica n ⊎ WasJoinedHaving records replica n) }
 {}
 
 /// What a label sees is what its replica had before it.
