@@ -73,5 +73,7 @@ impl NamedOrder for ExecOrder {
 
     ghost lists = { λ order past stands. first_numbers-listed order past.kind past.records stands.0 stands.1 };
 
+    ghost keeps_joined = { λ order past joined from stands few. stands };
+
     ghost keeps = { λ order past to label stands. stands };
 }

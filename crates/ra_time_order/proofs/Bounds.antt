@@ -5,7 +5,7 @@ use Rattle.std.proofs.lemmas.Bool.{or_cases, or_left, or_right, and_parts, and_f
 use Rattle.std.proofs.lemmas.List.Elements.{All-contains}
 use Rattle.ra_labels.specs.declared.label.Stamp.{Stamp}
 use Rattle.ra_labels.specs.declared.label.Label.{Label}
-use Rattle.ra_labels.specs.declared.command.Command.TheVariants.{Operate, Deliver, Verdict}
+use Rattle.ra_labels.specs.declared.command.Command.TheVariants.{Operate, Deliver, Join, Verdict}
 use Rattle.ra_labels.specs.NamedOrder.{greatest_stamp, timestamp_of}
 use Rattle.ra_labels.specs.Records.{Records, label_count, labels_of, next_label}
 use Rattle.ra_labels.specs.Visibility.{had, sees, is_update, is_update_at, IsCausal}
@@ -34,6 +34,8 @@ own_had (Operate by op clock ∷ before) l found is =
     ]
 own_had (Deliver to label ∷ before) l found is =
     or_right (to == l.replica && l.number == label && is_update_at before l.number) (had before l.replica l.number) (own_had before l found is)
+own_had (Join joined from ∷ before) l found is =
+    or_right (joined == l.replica && had before from l.number) (had before l.replica l.number) (own_had before l found is)
 own_had (Verdict ∷ before) l found is = own_had before l found is
 
 -- a replica had what its labels see
@@ -53,6 +55,8 @@ seen_had (Operate by op clock ∷ before) m k found is =
     ]
 seen_had (Deliver to label ∷ before) m k found is =
     or_right (to == m.replica && k == label && is_update_at before k) (had before m.replica k) (seen_had before m k found is)
+seen_had (Join joined from ∷ before) m k found is =
+    or_right (joined == m.replica && had before from k) (had before m.replica k) (seen_had before m k found is)
 seen_had (Verdict ∷ before) m k found is = seen_had before m k found is
 
 module _ (records : Records) (next : Next) where

@@ -1,15 +1,18 @@
 -- The greatest stamps of all replicas, one by one.
-use Rattle.std.proofs.Common.{◌≡◌, ℕ, ◌+◌, ◌<◌, ◌≤◌, true, List, [], length, get_or, sym, ap, ◌∙◌, inl, inr, arith, add-one, Option}
-use Rattle.std.specs.Prelude.{set, nat_lt}
-use Rattle.std.proofs.Math.Seq.{map-set_same}
-use Rattle.std.proofs.lemmas.Bool.{cases_eq, lt-ltb}
-use Rattle.std.proofs.lemmas.List.{length-map, map-set, get_or-map, get_or-set_same, get_or-set_other}
-use Rattle.std.proofs.lemmas.List.Sums.{list_all-from_AllPass}
+use Rattle.std.proofs.Common.{◌≡◌, ℕ, zero, suc, ◌+◌, ◌<◌, ◌≤◌, true, List, [], length, get_or, sym, ap, ◌∙◌, inl, inr, arith, add-one, Option}
+use Rattle.std.specs.Prelude.{All, set, nat_lt, replicate, take}
+use Rattle.std.proofs.Math.Nat.{min-le_left, min-le_right}
+use Rattle.std.proofs.Math.Seq.{map-set_same, take-nil}
+use Rattle.std.proofs.lemmas.Bool.{cases_eq, cases_lt, lt-ltb, ltb-true}
+use Rattle.std.proofs.lemmas.List.{get_or-take, length-map, length-take, length-set, length-replicate, map-set, get_or-map, get_or-replicate, get_or-set_same, get_or-set_other, get_or_past}
+use Rattle.std.proofs.lemmas.List.Elements.{All-get_or}
+use Rattle.std.proofs.lemmas.List.Sums.{list_all-from_AllPass, AllPass-from_list_all}
 use Rattle.ra_labels.specs.declared.label.Stamp.{Stamp}
 use Rattle.ra_labels.specs.NamedOrder.{greater_of}
-use Rattle.ra_time_order.specs.Greatest.{Greatest, greatest_among, with_stamp}
+use Rattle.ra_time_order.specs.Greatest.{Greatest, last_of, greatest_among, with_stamp}
 use Rattle.ra_time_order.specs.Stamps.{stamps_at, greatest_in}
-use Rattle.ra_time_order.specs.Replicas.{stamps_of, have_room}
+use Rattle.ra_time_order.specs.Replicas.{stamps_of, have_room, ReplicasKept}
+use Rattle.ra_time_order.proofs.Ranks.{greater_lowest}
 
 stamps_there : (members : List Greatest) (q : ℕ) (had : Greatest) → q < length members → had ≡ get_or members q had → stamps_at (stamps_of members) q ≡ had.stamps
 stamps_there members q had there is =
@@ -22,37 +25,103 @@ stamps_pushed members q new had own there is made =
     map-set (λ (m : Greatest). m.stamps) members q new
     ∙ ap (set (stamps_of members) q) (made ∙ ap (λ row. with_stamp row own) (sym (stamps_there members q had there is)))
 
-pub greatest_more : (members : List Greatest) (stamps : List (List Stamp)) (count : ℕ → ℕ) (q : ℕ) (g new : Stamp) (had : Greatest)
-    → stamps_of members ≡ stamps → q < length members → had ≡ get_or members q had → g ≡ greatest_in stamps count q
+-- of the first so many replicas one more
+pub greatest_more : (members : List Greatest) (n : ℕ) (stamps : List (List Stamp)) (count : ℕ → ℕ) (q : ℕ) (g new : Stamp) (had : Greatest)
+    → stamps_of members ≡ stamps → q < length (take n members) → had ≡ get_or (take n members) q had → g ≡ greatest_in stamps count q
     → new ≡ greater_of g (greatest_among had.stamps (count q)) → new ≡ greatest_in stamps count (q + 1)
-greatest_more members stamps count q g new had same there is so_far made =
-    let row : stamps_at stamps q ≡ had.stamps = ap (λ ss. stamps_at ss q) (sym same) ∙ stamps_there members q had there is in
+greatest_more members n stamps count q g new had same first is so_far made =
+    let there : q < length members = omega (arith, first, length-take n members, min-le_right n (length members)) in
+    let among : q < n = omega (arith, first, length-take n members, min-le_left n (length members)) in
+    let row : stamps_at stamps q ≡ had.stamps =
+    ap (λ ss. stamps_at ss q) (sym same) ∙ stamps_there members q had there (is ∙ get_or-take n members q had among) in
     made
     ∙ ap (λ s. greater_of s (greatest_among had.stamps (count q))) so_far
     ∙ ap (λ r. greater_of (greatest_in stamps count q) (greatest_among r (count q))) (sym row)
     ∙ ap (greatest_in stamps count) (sym (add-one q))
+
+-- replicas without stamps add nothing
+pub greatest_without : (stamps : List (List Stamp)) (count : ℕ → ℕ) (used q : ℕ) → ((k : ℕ) → used ≤ k → stamps_at stamps k ≡ []) → used ≤ q
+    → greatest_in stamps count used ≡ greatest_in stamps count q
+greatest_without stamps count used zero none over = let is : used ≡ 0 = omega arith in ap (greatest_in stamps count) is
+greatest_without stamps count used (suc q) none over = elim (cases_lt q used) [
+  | inl last ↦ let is : used ≡ suc q = omega arith in ap (greatest_in stamps count) is
+  | inr further ↦
+      let before = greatest_in stamps count q in
+      greatest_without stamps count used q none (omega arith)
+      ∙ sym (ap (λ row. greater_of before (greatest_among row (count q))) (none q (omega arith))
+      ∙ ap (λ row. greater_of before (last_of row)) (take-nil (count q))
+      ∙ greater_lowest before)
+]
 
 pub stamps_spared : (members : List Greatest) (q : ℕ) (new had : Greatest) → had ≡ get_or members q had → new.stamps ≡ had.stamps
     → stamps_of (set members q new) ≡ stamps_of members
 stamps_spared members q new had is same =
     map-set_same (λ (m : Greatest). m.stamps) members q new had (same ∙ ap (λ (m : Greatest). m.stamps) is)
 
-pub same_length : (members others : List Greatest) → stamps_of members ≡ stamps_of others → length members ≡ length others
-same_length members others same =
-    sym (length-map members (λ (m : Greatest). m.stamps)) ∙ ap (λ (ss : List (List Stamp)). length ss) same ∙ length-map others (λ (m : Greatest). m.stamps)
-
-pub room_more : (members : List Greatest) (q : ℕ) (new : Greatest) → q < length members → 0 < new.room
-    → ((k : ℕ) (d : Greatest) → k < q → 0 < (get_or members k d).room)
-    → (k : ℕ) (d : Greatest) → k < q + 1 → 0 < (get_or (set members q new) k d).room
-room_more members q new there some before k d below = elim (cases_eq k q) [
-  | inl here ↦
-      let is : get_or (set members q new) k d ≡ new = ap (λ i. get_or (set members q new) i d) here ∙ get_or-set_same members q new d there in
-      omega (arith, ap (λ (m : Greatest). m.room) is)
-  | inr other ↦
-      let is : get_or (set members q new) k d ≡ get_or members k d = get_or-set_other members q k new d other in
-      omega (arith, ap (λ (m : Greatest). m.room) is, before k d (omega arith))
+no_stamps : (n k : ℕ) → stamps_at (replicate n []) k ≡ []
+no_stamps n k = elim (cases_lt k n) [
+  | inl there ↦ get_or-replicate n k [] [] there
+  | inr past ↦ get_or_past (replicate n []) k [] (omega (arith, past, length-replicate {A = List Stamp} n []))
 ]
 
-pub room_of_all : (members : List Greatest) (n : ℕ) → length members ≤ n → ((k : ℕ) (d : Greatest) → k < n → 0 < (get_or members k d).room) → have_room members ≡ true
-room_of_all members n all room =
-    list_all-from_AllPass (λ (m : Greatest). nat_lt 0 m.room) members (λ k d there. lt-ltb 0 (get_or members k d).room (room k d (omega (arith, there))))
+pub kept_at_first : (members : List Greatest) (n : ℕ) → stamps_of members ≡ replicate n [] → 0 < n → n < 256
+    → All (λ (m : Greatest). 0 < m.room) members → ReplicasKept members 0 0
+kept_at_first members n are some few room =
+    let long : length members ≡ n =
+    sym (length-map members (λ (m : Greatest). m.stamps)) ∙ ap (λ (ss : List (List Stamp)). length ss) are ∙ length-replicate n [] in
+    record {
+      few = omega (arith, few, long);
+      there = omega (arith, some, long);
+      room = λ k d below other. All-get_or (λ (m : Greatest). 0 < m.room) members k d below room;
+      within = omega arith;
+      unused = λ k over. ap (λ ss. stamps_at ss k) are ∙ no_stamps n k;
+    }
+
+module _ (members : List Greatest) (newest used : ℕ) (kept : ReplicasKept members newest used) (new : Greatest) where
+  pub kept_spared : (had : Greatest) → had ≡ get_or members newest had → new.stamps ≡ had.stamps → ReplicasKept (set members newest new) newest used
+  kept_spared had is same =
+      let long = length-set members newest new in
+      record {
+        few = omega (arith, kept.few, long);
+        there = omega (arith, kept.there, long);
+        room = λ k d below other.
+            let one : get_or (set members newest new) k d ≡ get_or members k d = get_or-set_other members newest k new d other in
+            omega (arith, ap (λ (m : Greatest). m.room) one, kept.room k d (omega (arith, below, long)) other);
+        within = omega (arith, kept.within, long);
+        unused = λ k over. ap (λ ss. stamps_at ss k) (stamps_spared members newest new had is same) ∙ kept.unused k over;
+      }
+
+  -- with room for the newest one there is room for each
+  pub room_for_all : 0 < new.room → have_room (set members newest new) ≡ true
+  room_for_all some =
+      list_all-from_AllPass (λ (m : Greatest). nat_lt 0 m.room) (set members newest new) (λ k d below.
+      let there : k < length members = omega (arith, below, length-set members newest new) in
+      lt-ltb 0 (get_or (set members newest new) k d).room (elim (cases_eq k newest) [
+        | inl here ↦
+            let one : get_or (set members newest new) k d ≡ new =
+            ap (λ i. get_or (set members newest new) i d) here ∙ get_or-set_same members newest new d kept.there in
+            omega (arith, ap (λ (m : Greatest). m.room) one, some)
+        | inr other ↦
+            let one : get_or (set members newest new) k d ≡ get_or members k d = get_or-set_other members newest k new d other in
+            omega (arith, ap (λ (m : Greatest). m.room) one, kept.room k d there other)
+      ]))
+
+  pub kept_pushed : (q now : ℕ) → q < length members → have_room members ≡ true → used ≤ now → q < now → now ≤ length members
+      → ReplicasKept (set members q new) q now
+  kept_pushed q now there all no_less further within =
+      let long = length-set members q new in
+      record {
+        few = omega (arith, kept.few, long);
+        there = omega (arith, there, long);
+        room = λ k d below other.
+            let one : get_or (set members q new) k d ≡ get_or members k d = get_or-set_other members q k new d other in
+            let old : k < length members = omega (arith, below, long) in
+            let some = ltb-true 0 (get_or members k d).room (AllPass-from_list_all (λ (m : Greatest). nat_lt 0 m.room) members all k d old) in
+            omega (arith, ap (λ (m : Greatest). m.room) one, some);
+        within = omega (arith, long, within);
+        unused = λ k over.
+            let other : k ≡ q → ⊥ = λ e. omega (arith, e, over, further) in
+            ap (λ ss. stamps_at ss k) (map-set (λ (m : Greatest). m.stamps) members q new)
+            ∙ get_or-set_other (stamps_of members) q k new.stamps [] other
+            ∙ kept.unused k (omega (arith, over, no_less));
+      }

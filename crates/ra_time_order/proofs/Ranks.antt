@@ -3,7 +3,7 @@ use Rattle.std.proofs.Common.{◌≡◌, zero, suc, true, false, List, [], ◌�
 use Rattle.std.specs.Prelude.{◌⊎◌, Contains}
 use Rattle.std.specs.Option.{option_map_or}
 use Rattle.std.specs.Ordering.{is_lt}
-use Rattle.std.proofs.lemmas.Bool.{true≢false, cases_lt, cases_order, cond_both, false_from_ne_true}
+use Rattle.std.proofs.lemmas.Bool.{true≢false, cases_lt, cases_order, cond-false, cond_both, false_from_ne_true}
 use Rattle.ra_labels.specs.declared.label.Stamp.{Stamp}
 use Rattle.ra_labels.specs.declared.label.Label.{Label}
 use Rattle.ra_labels.specs.NamedOrder.{lowest_rank, stamp_cmp, greater_of, greatest_stamp}
@@ -106,6 +106,10 @@ greater_above s t =
 pub greater_is_one : (s t : Stamp) → (greater_of s t ≡ s) ⊎ (greater_of s t ≡ t)
 greater_is_one s t =
     cond_both (is_lt (stamp_cmp s t)) t s (λ r. (r ≡ s) ⊎ (r ≡ t)) (λ _. inr refl) (λ _. inl refl)
+
+pub greater_lowest : (s : Stamp) → greater_of s lowest_rank ≡ s
+greater_lowest s =
+    cond-false (is_lt (stamp_cmp s lowest_rank)) lowest_rank s (not_below s lowest_rank (lowest_at_most s))
 
 -- an element of a list is its head, or stands behind it
 pub head_or_behind : (x : Label) (xs : List Label) (y : Label) → Contains (x ∷ xs) y → (x ≡ y) ⊎ Contains xs y

@@ -201,7 +201,8 @@ module _ (records : Records) (next : Next) where
 
     pub greatest_with_label : AreGreatestOf with_it first now
     greatest_with_label = record {
-      replicas = length_with (is_update next.op) ∙ are.replicas;
+      replicas = omega (arith, are.replicas, length_with (is_update next.op));
+      places = omega (arith, are.places, length_with (is_update next.op));
       known = known_with;
       updates = updates_with;
       above = above_with;

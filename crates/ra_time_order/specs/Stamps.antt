@@ -2,6 +2,7 @@
 use Rattle.std.specs.Prelude.{◌≡◌, ℕ, suc, zero, ◌<◌, ◌≤◌, ◌⊎◌, Bool, true, false, List, [], length, get_or, set, Option, Some, Contains}
 use Rattle.ra_labels.specs.declared.label.Stamp.{Stamp}
 use Rattle.ra_labels.specs.declared.label.Label.{Label}
+use Rattle.ra_labels.specs.declared.limits.TheConstants.{MOST_REPLICAS}
 use Rattle.ra_labels.specs.NamedOrder.{lowest_rank, greater_of}
 use Rattle.ra_labels.specs.Places.{updates_of, place_of}
 use Rattle.ra_labels.specs.Records.{Records, labels_of, replica_count}
@@ -23,7 +24,9 @@ IsAmong records replica count label =
 
 -- of each replica the greatest own stamp among its first updates, for each number of them
 pub record AreGreatestOf (stamps : List (List Stamp)) (first : ℕ) (records : Records) : Type 0 where
-  pub replicas : length stamps ≡ replica_count first records
+  -- there is one for each replica, and for those that come later
+  pub replicas : replica_count first records ≤ length stamps
+  pub places : MOST_REPLICAS ≤ length stamps
   pub known : (label : Label) → Contains (labels_of records) label → label.replica < length stamps
   pub updates : (q : ℕ) → q < length stamps → length (stamps_at stamps q) ≡ updates_of records q
   pub above : (q count : ℕ) (label : Label) (stamp : Stamp) → q < length stamps → IsAmong records q count label

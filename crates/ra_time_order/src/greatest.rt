@@ -1,5 +1,5 @@
 //! The greatest own stamp among a replica's first updates, for each number of them.
-ghost use Rattle.std.specs.Prelude.{◌≡◌, ◌<◌, ◌++◌, ◌∷◌, [], not, OnOk};
+ghost use Rattle.std.specs.Prelude.{◌≡◌, ◌<◌, ◌++◌, ◌∷◌, [], not, IfOk, OnOk};
 ghost use Rattle.std.specs.Ordering.{is_lt};
 ghost use Rattle.ra_labels.specs.NamedOrder.{stamp_cmp, greater_of};
 ghost use Rattle.ra_time_order.specs.Greatest.{greatest_among, with_stamp};
@@ -24,13 +24,14 @@ impl Model for Greatest {
 }
 
 impl Greatest {
-    /// No updates.
-    pub fn new(alloc: Global) -> Greatest
-        ensures { result.stamps ≡ [] }
+    /// No updates, and room for one.
+    pub fn new(alloc: Global) -> Result<Greatest, NoMemory>
+        ensures stamps { IfOk result (λ made. made.stamps ≡ []) }
+        ensures room { IfOk result (λ made. 0 < made.room) }
     {
-        Greatest {
-            stamps: Vec::new(alloc),
-        }
+        Ok(Greatest {
+            stamps: Vec::with_capacity(alloc, 1)?,
+        })
     }
 
     /// Room for one more update.

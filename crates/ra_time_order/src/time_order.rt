@@ -9,7 +9,7 @@ use crate::entry::Entry;
 use crate::greatest::is_at_most;
 use crate::replicas::Replicas;
 use crate::sorted::Sorted;
-use ra_labels::{Label, NoMemory};
+use ra_labels::{Label, MOST_REPLICAS, NoMemory};
 use ra_visibility::{NamedOrder, Place, Seen};
 use std::alloc::Global;
 use std::marker::Model;
@@ -32,13 +32,14 @@ impl Model for TimeOrder {
 impl TimeOrder {
     ghost use Rattle.ra_time_order.specs.Standing.{IsTimeOrderOf};
 
-    /// The order of no labels, of so many replicas. Costs room for a run.
+    /// The order of no labels, of so many replicas and of those that join. Costs room for a run, and for an update of
+    /// each replica that may come.
     pub fn new(alloc: Global, replicas: u8) -> Result<TimeOrder, NoMemory>
         ensures listed { IfOk result (λ order. ⟦<TimeOrder as NamedOrder>⟧.listed order ≡ []) }
         ensures stands { IfOk result (λ order. (kind : Kind) → IsByTimestamp kind
             → ⟦<TimeOrder as NamedOrder>⟧.stands_for order (nothing_yet kind replicas)) }
     {
-        let replicas = Replicas::new(alloc, replicas)?;
+        let replicas = Replicas::new(alloc, replicas.max(MOST_REPLICAS))?;
         Ok(TimeOrder {
             sorted: Sorted::new(alloc)?,
             replicas,
@@ -48,7 +49,7 @@ impl TimeOrder {
 
 impl NamedOrder for TimeOrder {
     ghost use Rattle.ra_time_order.specs.Standing.{IsTimeOrderOf};
-    ghost use Rattle.ra_time_order.specs.Lawful.{listed-named, stands_delivered};
+    ghost use Rattle.ra_time_order.specs.Lawful.{listed-named, stands_joined, stands_delivered};
 
     ghost listed = { λ order. map (λ entry. entry.label) order.entries };
 
@@ -57,7 +58,8 @@ impl NamedOrder for TimeOrder {
     ghost stands_for = { λ order past. IsTimeOrderOf order past };
 
     /// Costs a constant where the label has a stamp of its own above those of all labels. Else a look-up for each
-    /// replica, a step for each run behind the place and a binary search in one.
+    /// replica up to the one with the highest number that issued an update, a step for each run behind the place and a
+    /// binary search in one.
     fn place(&self, label: &Label, seen: &Seen<'_>) -> Place {
         if is_past_all(&self.sorted, label) {
             return Place {
@@ -73,14 +75,15 @@ impl NamedOrder for TimeOrder {
         }
     }
 
-    /// Costs a look at each replica, and a move of half a run where the newest label filled it.
+    /// Costs a look at the replica that issued the newest update, and a move of half a run where the newest label
+    /// filled it.
     fn spare(&mut self) -> Result<(), NoMemory> {
         self.replicas.spare()?;
         self.sorted.spare()
     }
 
-    /// Costs a step for each run behind the place and a move within one, and a look-up for each replica where the label
-    /// has no stamp of its own.
+    /// Costs a step for each run behind the place and a move within one, and where the label has no stamp of its own a
+    /// look-up for each replica up to the one with the highest number that issued an update.
     fn put(&mut self, label: &Label, seen: &Seen<'_>, _place: Place) {
         let rank = self.replicas.rank(label.stamp, seen);
         self.sorted.insert(Entry {
@@ -97,6 +100,8 @@ impl NamedOrder for TimeOrder {
     }
 
     ghost lists = { λ order past stands. listed-named order past stands };
+
+    ghost keeps_joined = { λ order past joined from stands few. stands_joined order past joined from stands few };
 
     ghost keeps = { λ order past to n stands. stands_delivered order past to n stands };
 }

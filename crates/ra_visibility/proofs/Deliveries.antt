@@ -1,14 +1,15 @@
 -- What holds after a delivery of a replica's next update.
-use Rattle.std.proofs.Common.{◌≡◌, ◌≢◌, ℕ, ◌+◌, ◌<◌, ◌≤◌, Bool, true, false, List, length, get_or, refl, sym, ap, ◌∙◌, subst, arith}
-use Rattle.std.specs.Prelude.{◌==◌, ◌&&◌, ◌||◌, nat_lt, set, take, drop}
+use Rattle.std.proofs.Common.{◌≡◌, ◌≢◌, ℕ, ◌+◌, ◌<◌, ◌≤◌, Bool, true, false, length, get_or, refl, sym, ap, ◌∙◌, subst, arith}
+use Rattle.std.specs.Prelude.{◌==◌, ◌&&◌, ◌||◌, nat_lt, set}
 use Rattle.std.proofs.lemmas.List.{length-set, get_or-set_same, get_or-set_other}
 use Rattle.std.proofs.lemmas.Bool.{eq-eqb, ne_eqb, lt-ltb}
 use Rattle.ra_labels.specs.declared.command.Command.TheVariants.{Deliver}
 use Rattle.ra_labels.specs.Visibility.{had, is_update_at}
 use Rattle.ra_labels.specs.Situation.{Past, past_with}
+use Rattle.ra_laws.proofs.TheLaws.{none_had_before_it_joined-delivery}
 use Rattle.ra_visibility.specs.Replica.{Replica, new_replica, with_next}
-use Rattle.ra_visibility.specs.Seen.{Seen, is_in, count_in}
-use Rattle.ra_visibility.specs.Tracked.{Tracked, seen_count, IsVisibilityOf, replicas_in, labels_in, replica_at, row_at, had_count, had_in, seen_in, counts_at}
+use Rattle.ra_visibility.specs.Seen.{is_in, count_in}
+use Rattle.ra_visibility.specs.Tracked.{Tracked, seen_count, IsVisibilityOf, replicas_in, labels_in, replica_at, row_at, had_count, had_in, seen_in}
 use Rattle.ra_visibility.specs.Changes.{with_delivery}
 use Rattle.ra_visibility.specs.Kept.{TrackedKept, IsUpdateOf, issued_count, issued_at}
 use Rattle.ra_visibility.proofs.Tests.{at_or_else, below_or_not, lt_same, in_same, update_there}
@@ -52,13 +53,8 @@ had_more t to from below inside =
 count_same : (t : Tracked) (to from : ℕ) → replicas_in (gained t to from) ≡ replicas_in t
 count_same t to from = length-set t.replicas to (with_next (replica_at t to) from)
 
-counts_same : (t : Tracked) (to from at : ℕ) → counts_at (gained t to from) at ≡ counts_at t at
-counts_same t to from at = ap (λ k. take k (drop at t.stored)) (count_same t to from)
-
 seen_same : (t : Tracked) (to from n : ℕ) → seen_in (gained t to from) n ≡ seen_in t n
-seen_same t to from n =
-    let fill : List ℕ → Seen = λ counts. record { rows = t.rows; counts = set counts (row_at t n).replica (row_at t n).place } in
-    ap fill (counts_same t to from (row_at t n).counts)
+seen_same t to from n = refl
 
 update_same : (t : Tracked) (to from q p n : ℕ) → IsUpdateOf t q p n → IsUpdateOf (gained t to from) q p n
 update_same t to from q p n is = record { there = is.there; replica = is.replica; update = is.update; place = is.place }
@@ -120,13 +116,18 @@ kept_gained t to label kept next =
     let count : replicas_in (gained t to from) ≡ replicas_in t = count_same t to from in
     let issued : (q : ℕ) → (replica_at (gained t to from) q).issued ≡ (replica_at t q).issued = λ q. issued_same t to from q below in
     let inside : from < length (replica_at t to).counts = omega (arith, kept.had_length to below) in
+    let long_enough : (q : ℕ) → length (replica_at (gained t to from) q).counts ≡ length (replica_at t q).counts = λ q. at_or_else q to
+    (λ same. ap (λ (r : Replica). length r.counts) (replica_there t to from q below same)
+    ∙ length-set (replica_at t to).counts from (had_count t to from + 1) ∙ ap (λ k. length (replica_at t k).counts) (sym same))
+    (λ other. ap (λ (r : Replica). length r.counts) (replica_else t to from q other)) in
     record {
       few_replicas = omega (arith, kept.few_replicas);
       few_labels = kept.few_labels;
       few_counts = kept.few_counts;
       few_issued = λ q. omega (arith, ap length (issued q), kept.few_issued q);
       row_replica = λ n l. omega (arith, kept.row_replica n l);
-      row_counts = λ n l. omega (arith, kept.row_counts n l);
+      row_counts = kept.row_counts;
+      row_width = λ n l. ((kept.row_width n l).0, omega (arith, count, (kept.row_width n l).1));
       row_seen = λ n of l o. omega (arith, ap (λ s. count_in s of) (seen_same t to from n), ap length (issued of), kept.row_seen n of l (omega arith));
       row_issued = λ n l u.
           let r = (row_at t n).replica in
@@ -142,9 +143,13 @@ kept_gained t to label kept next =
             ap (λ xs. get_or xs r 0) (issued q),
             kept.issued_rise q p r (omega arith) pr (omega (arith, ap length (issued q), lr)),
           );
-      had_length = λ q lq. at_or_else q to
-          (λ same. ap (λ (r : Replica). length r.counts) (replica_there t to from q below same) ∙ length-set (replica_at t to).counts from (had_count t to from + 1) ∙ kept.had_length to below ∙ sym count)
-          (λ other. ap (λ (r : Replica). length r.counts) (replica_else t to from q other) ∙ kept.had_length q (omega arith) ∙ sym count);
+      had_length = λ q lq. omega (arith, count, long_enough q, kept.had_length q (omega (arith, count, lq)));
+      had_places = λ q lq. omega (arith, long_enough q, kept.had_places q (omega (arith, count, lq)));
+      had_beyond = λ q of lq past.
+          let none = kept.had_beyond q of (omega (arith, count, lq)) (omega (arith, count, past)) in
+          at_or_else q to
+          (λ same. had_others_at t to from q of below same (λ own. absurd (omega (arith, own, from_below, count, past))) ∙ none)
+          (λ other. had_else t to from q of other ∙ none);
       had_issued = λ q of lq lof. at_or_else q to
           (λ same. at_or_else of from
           (λ here. rw (same, here) (omega (arith, had_more t to from below inside, ap length (issued from))))
@@ -157,11 +162,15 @@ kept_gained t to label kept next =
           omega (arith, ap (λ s. count_in s of) (seen_same t to from n), closed_gained t to label q n of kept next (omega (arith, count, lq)) ln (omega (arith, count, lof)) u h);
       stored_there = λ q at lq e. at_or_else q to
           (λ same. absurd (cc (e, ap (λ (r : Replica). r.stored) (replica_there t to from q below same))))
-          (λ other. omega (arith, kept.stored_there q at (omega arith) (sym (ap (λ (r : Replica). r.stored) (replica_else t to from q other)) ∙ e)));
+          (λ other. kept.stored_there q at (omega (arith, count, lq)) (sym (ap (λ (r : Replica). r.stored) (replica_else t to from q other)) ∙ e));
+      stored_width = λ q at lq e. at_or_else q to
+          (λ same. absurd (cc (e, ap (λ (r : Replica). r.stored) (replica_there t to from q below same))))
+          (λ other.
+          let was = kept.stored_width q at (omega (arith, count, lq)) (sym (ap (λ (r : Replica). r.stored) (replica_else t to from q other)) ∙ e) in
+          (was.0, omega (arith, count, was.1)));
       stored_same = λ q at of lq e lof differs. at_or_else q to
           (λ same. absurd (cc (e, ap (λ (r : Replica). r.stored) (replica_there t to from q below same))))
-          (λ other. ap (λ xs. get_or xs of 0) (counts_same t to from at)
-          ∙ kept.stored_same q at of (omega arith) (sym (ap (λ (r : Replica). r.stored) (replica_else t to from q other)) ∙ e) (omega arith) differs
+          (λ other. kept.stored_same q at of (omega arith) (sym (ap (λ (r : Replica). r.stored) (replica_else t to from q other)) ∙ e) (omega arith) differs
           ∙ sym (had_else t to from q of other));
     }
 
@@ -216,6 +225,7 @@ stands_delivered t past to label kept next stands =
       issuer = stands.issuer;
       place = stands.place;
       issued = λ q below. ap length (issued_same t to from q next.receiver) ∙ stands.issued q (omega (arith, same, below));
+      beyond = none_had_before_it_joined-delivery past.first past.records to label (omega (arith, stands.replicas, next.receiver)) stands.beyond;
     }
 
 -- what is kept, with the delivery

@@ -1,14 +1,15 @@
 -- What is where after a replica's next label.
 use Rattle.std.proofs.Common.{◌≡◌, ◌≢◌, ℕ, ◌+◌, ◌<◌, ◌≤◌, Bool, true, false, List, [], ◌∷◌, ◌++◌, length, get_or, Option, Some, None, refl, sym, ap, ◌∙◌, arith, length-append}
 use Rattle.std.specs.Prelude.{set, take, drop}
-use Rattle.std.proofs.lemmas.List.{length-set, get_or-set_same, get_or-set_other, get_or_past, get_or_push, take-append-le, drop-append-le, length-drop, length-take-le}
+use Rattle.std.proofs.lemmas.List.{length-set, get_or-set_same, get_or-set_other, get_or_past, get_or_push, get_or-take, take-append-le, drop-append-le, length-drop, length-take-le}
 use Rattle.std.proofs.Math.ListN.{get_or-append}
 use Rattle.std.proofs.Math.Seq.{drop-append_seam, take-length}
 use Rattle.ra_visibility.specs.declared.row.Row.{Row}
+use Rattle.ra_visibility.specs.declared.stored.Stored.{Stored}
 use Rattle.ra_visibility.specs.Replica.{Replica, new_replica, with_own, stored_at}
 use Rattle.ra_visibility.specs.Seen.{no_row}
 use Rattle.ra_visibility.specs.Tracked.{Tracked, replicas_in, labels_in, replica_at, row_at, had_count, seen_in, seen_count, counts_at}
-use Rattle.ra_visibility.specs.Changes.{place_of_counts, stored_with, with_label}
+use Rattle.ra_visibility.specs.Changes.{stored_for, stored_with, with_label}
 use Rattle.ra_visibility.specs.Kept.{TrackedKept, issued_count, issued_at}
 use Rattle.ra_visibility.proofs.Tests.{at_or_else, below_or_not}
 
@@ -43,41 +44,64 @@ own_last r by n p true is at = get_or_push r.issued n 0 p (sym at)
 own_last r by n p false is at = absurd (cc is)
 
 -- the stored counts
-pub stored_before : (s : Option ℕ) (stored counts : List ℕ) (at k : ℕ) → at + k ≤ length stored
+pub stored_before : (s : Option Stored) (stored counts : List ℕ) (at k : ℕ) → at + k ≤ length stored
     → take k (drop at (stored_with s stored counts)) ≡ take k (drop at stored)
 stored_before (Some a) stored counts at k fits = refl
 stored_before None stored counts at k fits =
     ap (take k) (drop-append-le at stored counts (omega arith))
     ∙ take-append-le k (drop at stored) counts (omega (arith, length-drop at stored))
 
-pub stored_longer : (s : Option ℕ) (stored counts : List ℕ)
+pub stored_longer : (s : Option Stored) (stored counts : List ℕ)
     → (length stored ≤ length (stored_with s stored counts)) × (length (stored_with s stored counts) ≤ length stored + length counts)
 stored_longer (Some a) stored counts = (omega arith, omega arith)
 stored_longer None stored counts = (omega (arith, length-append stored counts), omega (arith, length-append stored counts))
 
-pub own_stored : (s : Option ℕ) (stored counts : List ℕ) (of k : ℕ) → length counts ≡ k
-    → ((at : ℕ) → s ≡ Some at → get_or (take k (drop at stored)) of 0 ≡ get_or counts of 0)
-    → get_or (take k (drop (place_of_counts s (length stored)) (stored_with s stored counts))) of 0 ≡ get_or counts of 0
-own_stored (Some at) stored counts of k long same = same at refl
+pub own_stored : (s : Option Stored) (stored counts : List ℕ) (of k : ℕ) → length counts ≡ k
+    → ((there : Stored) → s ≡ Some there → get_or (take there.width (drop there.at stored)) of 0 ≡ get_or counts of 0)
+    → let there = stored_for s (length stored) k in
+    get_or (take there.width (drop there.at (stored_with s stored counts))) of 0 ≡ get_or counts of 0
+own_stored (Some there) stored counts of k long same = same there refl
 own_stored None stored counts of k long same =
     ap (λ xs. get_or (take k xs) of 0) (drop-append_seam stored counts)
     ∙ ap (λ j. get_or (take j counts) of 0) (sym long)
     ∙ ap (λ xs. get_or xs of 0) (take-length counts)
 
-pub own_there : (s : Option ℕ) (stored counts : List ℕ) (k : ℕ) → length counts ≡ k → ((at : ℕ) → s ≡ Some at → at + k ≤ length stored)
-    → place_of_counts s (length stored) + k ≤ length (stored_with s stored counts)
+pub own_there : (s : Option Stored) (stored counts : List ℕ) (k : ℕ) → length counts ≡ k
+    → ((there : Stored) → s ≡ Some there → there.at + there.width ≤ length stored)
+    → let there = stored_for s (length stored) k in there.at + there.width ≤ length (stored_with s stored counts)
 own_there (Some at) stored counts k long there = there at refl
 own_there None stored counts k long there = omega (arith, length-append stored counts, long)
 
+-- the replica's own count is one of them, and each is one of a replica that is there
+pub own_width : (s : Option Stored) (end k by : ℕ) → by < k
+    → ((there : Stored) → s ≡ Some there → (by < there.width) × (there.width ≤ k))
+    → (by < (stored_for s end k).width) × ((stored_for s end k).width ≤ k)
+own_width (Some there) end k by below within = within there refl
+own_width None end k by below within = (below, omega arith)
+
 -- where the label's counts stand, its replica and its row
-abbrev pub counts_of_label : Tracked → ℕ → ℕ
-counts_of_label t by = place_of_counts (replica_at t by).stored (length t.stored)
+abbrev pub counts_of_label : Tracked → ℕ → Stored
+counts_of_label t by = stored_for (replica_at t by).stored (length t.stored) (replicas_in t)
 
 abbrev pub new_row : Tracked → ℕ → Bool → Row
-new_row t by update = record { replica = by; is_update = update; place = issued_count t by; counts = counts_of_label t by }
+new_row t by update = record {
+  replica = by;
+  is_update = update;
+  width = (counts_of_label t by).width;
+  place = issued_count t by;
+  counts = (counts_of_label t by).at;
+}
 
 abbrev pub own_replica : Tracked → ℕ → Bool → Replica
 own_replica t by update = with_own (replica_at t by) by update (labels_in t)
+
+-- its counts of those that are there
+abbrev pub own_counts : Tracked → ℕ → Bool → List ℕ
+own_counts t by update = take (replicas_in t) (own_replica t by update).counts
+
+pub own_counts_length : (t : Tracked) (by : ℕ) (update : Bool) → TrackedKept t → by < replicas_in t → length (own_counts t by update) ≡ replicas_in t
+own_counts_length t by update kept below =
+    length-take-le (replicas_in t) (own_replica t by update).counts (omega (arith, own_length (replica_at t by) by (labels_in t) update, kept.had_length by below))
 
 pub labels_more : (t : Tracked) (by : ℕ) (update : Bool) → labels_in (with_label t by update) ≡ labels_in t + 1
 labels_more t by update = length-append t.rows (new_row t by update ∷ [])
@@ -150,46 +174,49 @@ pub had_else : (t : Tracked) (by q of : ℕ) (update : Bool) → q ≢ by → ha
 had_else t by q of update other = ap (λ (r : Replica). get_or r.counts of 0) (replica_else t by q update other)
 
 -- what each label sees
-pub counts_same : (t : Tracked) (by at : ℕ) (update : Bool) → at + replicas_in t ≤ length t.stored → counts_at (with_label t by update) at ≡ counts_at t at
-counts_same t by at update fits =
-    ap (λ k. take k (drop at (with_label t by update).stored)) (count_same t by update)
-    ∙ stored_before (replica_at t by).stored t.stored (own_replica t by update).counts at (replicas_in t) fits
+pub counts_same : (t : Tracked) (by at width : ℕ) (update : Bool) → at + width ≤ length t.stored → counts_at (with_label t by update) at width ≡ counts_at t at width
+counts_same t by at width update fits =
+    stored_before (replica_at t by).stored t.stored (own_counts t by update) at width fits
 
 pub counts_new : (t : Tracked) (by of : ℕ) (update : Bool) → TrackedKept t → by < replicas_in t → of < replicas_in t → of ≢ by
-    → get_or (counts_at (with_label t by update) (counts_of_label t by)) of 0 ≡ had_count t by of
+    → get_or (counts_at (with_label t by update) (counts_of_label t by).at (counts_of_label t by).width) of 0 ≡ had_count t by of
 counts_new t by of update kept below inside other =
-    let long : length (own_replica t by update).counts ≡ replicas_in t = own_length (replica_at t by) by (labels_in t) update ∙ kept.had_length by below in
-    let had : get_or (own_replica t by update).counts of 0 ≡ had_count t by of = own_other (replica_at t by) by (labels_in t) of update other in
-    ap (λ k. get_or (take k (drop (counts_of_label t by) (with_label t by update).stored)) of 0) (count_same t by update)
-    ∙ own_stored (replica_at t by).stored t.stored (own_replica t by update).counts of (replicas_in t) long
-    (λ at e. kept.stored_same by at of below e inside other ∙ sym had)
+    let had : get_or (own_counts t by update) of 0 ≡ had_count t by of =
+    get_or-take (replicas_in t) (own_replica t by update).counts of 0 inside ∙ own_other (replica_at t by) by (labels_in t) of update other in
+    own_stored (replica_at t by).stored t.stored (own_counts t by update) of (replicas_in t) (own_counts_length t by update kept below)
+    (λ there e. kept.stored_same by there of below e inside other ∙ sym had)
     ∙ had
 
 pub counts_there : (t : Tracked) (by : ℕ) (update : Bool) → TrackedKept t → by < replicas_in t
-    → counts_of_label t by + replicas_in t ≤ length (with_label t by update).stored
+    → (counts_of_label t by).at + (counts_of_label t by).width ≤ length (with_label t by update).stored
 counts_there t by update kept below =
-    let long : length (own_replica t by update).counts ≡ replicas_in t = own_length (replica_at t by) by (labels_in t) update ∙ kept.had_length by below in
-    own_there (replica_at t by).stored t.stored (own_replica t by update).counts (replicas_in t) long (λ at e. kept.stored_there by at below e)
+    own_there (replica_at t by).stored t.stored (own_counts t by update) (replicas_in t) (own_counts_length t by update kept below) (λ there e. kept.stored_there by there below e)
+
+pub width_there : (t : Tracked) (by : ℕ) → TrackedKept t → by < replicas_in t
+    → (by < (counts_of_label t by).width) × ((counts_of_label t by).width ≤ replicas_in t)
+width_there t by kept below =
+    own_width (replica_at t by).stored (length t.stored) (replicas_in t) by below (λ there e. kept.stored_width by there below e)
 
 pub seen_before : (t : Tracked) (by n : ℕ) (update : Bool) → TrackedKept t → n < labels_in t
     → (seen_in (with_label t by update) n).counts ≡ (seen_in t n).counts
 seen_before t by n update kept before =
-    ap (λ (r : Row). set (counts_at (with_label t by update) r.counts) r.replica r.place) (row_else t by n update (omega (arith, before)))
-    ∙ ap (λ xs. set xs (row_at t n).replica (row_at t n).place) (counts_same t by (row_at t n).counts update (kept.row_counts n before))
+    ap (λ (r : Row). set (counts_at (with_label t by update) r.counts r.width) r.replica r.place) (row_else t by n update (omega (arith, before)))
+    ∙ ap (λ xs. set xs (row_at t n).replica (row_at t n).place) (counts_same t by (row_at t n).counts (row_at t n).width update (kept.row_counts n before))
 
 -- the new label sees what its replica had
 pub seen_new : (t : Tracked) (by n of : ℕ) (update : Bool) → TrackedKept t → by < replicas_in t → of < replicas_in t → n ≡ labels_in t
     → seen_count (with_label t by update) n of ≡ had_count t by of
 seen_new t by n of update kept below inside new =
-    let counts = counts_at (with_label t by update) (counts_of_label t by) in
+    let there = counts_of_label t by in
+    let counts = counts_at (with_label t by update) there.at there.width in
     let long : by < length counts =
     omega (
       arith,
-      length-take-le (replicas_in (with_label t by update)) (drop (counts_of_label t by) (with_label t by update).stored)
-          (omega (arith, length-drop (counts_of_label t by) (with_label t by update).stored, counts_there t by update kept below, count_same t by update)),
-      count_same t by update,
+      length-take-le there.width (drop there.at (with_label t by update).stored)
+          (omega (arith, length-drop there.at (with_label t by update).stored, counts_there t by update kept below)),
+      (width_there t by kept below).0,
     ) in
-    ap (λ (r : Row). get_or (set (counts_at (with_label t by update) r.counts) r.replica r.place) of 0) (row_new t by n update new)
+    ap (λ (r : Row). get_or (set (counts_at (with_label t by update) r.counts r.width) r.replica r.place) of 0) (row_new t by n update new)
     ∙ at_or_else of by
     (λ own.
     ap (λ k. get_or (set counts by (issued_count t by)) k 0) own

@@ -12,6 +12,7 @@ use Rattle.ra_labels.specs.Records.{label_count, label_at, next_label}
 use Rattle.ra_labels.specs.Visibility.{had, sees, is_update, is_update_at}
 use Rattle.ra_labels.specs.Places.{issuer_of, place_of, updates_of}
 use Rattle.ra_labels.specs.Situation.{Past, past_with}
+use Rattle.ra_laws.proofs.TheLaws.{none_had_before_it_joined-operation}
 use Rattle.ra_visibility.specs.declared.row.Row.{Row}
 use Rattle.ra_visibility.specs.Seen.{no_row, is_in}
 use Rattle.ra_visibility.specs.Tracked.{Tracked, IsVisibilityOf, replicas_in, labels_in, replica_at, row_at, is_update_in, had_count, had_in, seen_in, sees_in}
@@ -183,4 +184,5 @@ stands_issued t by past op clock update kept below stands is =
       issuer = λ n known. issuer_issued t by n past op clock update stands known;
       place = λ n known. place_issued t by n past op clock update below stands known;
       issued = λ q known. updates_issued t by q past op clock update below stands is (omega (arith, count, known));
+      beyond = none_had_before_it_joined-operation past.first past.records by op clock (omega (arith, stands.replicas, below)) stands.beyond;
     }

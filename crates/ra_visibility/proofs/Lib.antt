@@ -2,6 +2,7 @@ pub mod Tests
 pub mod Deliveries
 pub mod MissingLabels
 pub mod Runs
+pub mod Joins
 pub mod IssuedRows
 pub mod NextLabels
 pub mod IssuedVisibility

@@ -176,9 +176,9 @@ none_parts true true false (Some m) is = absurd (cc is)
 pub seen_own : (t : Tracked) (label : ℕ) → TrackedKept t → label < labels_in t → seen_count t label (row_at t label).replica ≡ (row_at t label).place
 seen_own t label kept there =
     let row = row_at t label in
-    let long : length (counts_at t row.counts) ≡ replicas_in t =
-    length-take-le (replicas_in t) (drop row.counts t.stored) (omega (arith, length-drop row.counts t.stored, kept.row_counts label there)) in
-    get_or-set_same (counts_at t row.counts) row.replica row.place 0 (omega (arith, long, kept.row_replica label there))
+    let long : length (counts_at t row.counts row.width) ≡ row.width =
+    length-take-le row.width (drop row.counts t.stored) (omega (arith, length-drop row.counts t.stored, kept.row_counts label there)) in
+    get_or-set_same (counts_at t row.counts row.width) row.replica row.place 0 (omega (arith, long, (kept.row_width label there).0))
 
 -- where nothing is missing, the receiver had all that the label sees
 none_lacked : (t : Tracked) (to label of : ℕ) → TrackedKept t → label < labels_in t → first_missing_in t to label ≡ None → of < replicas_in t

@@ -8,7 +8,7 @@ use Rattle.std.proofs.lemmas.List.Sorted.{Contains-permutation, IsPermutation-sy
 use Rattle.std.proofs.lemmas.Grind.{flat_map-append}
 use Rattle.ra_labels.specs.declared.kind.Kind.{Kind}
 use Rattle.ra_labels.specs.declared.label.Label.{Label}
-use Rattle.ra_labels.specs.declared.command.Command.TheVariants.{Operate, Deliver, Verdict}
+use Rattle.ra_labels.specs.declared.command.Command.TheVariants.{Operate, Deliver, Join, Verdict}
 use Rattle.ra_labels.specs.Records.{Records, label_count, labels_of}
 use Rattle.ra_labels.specs.Rewriting.{Part, parts_of}
 use Rattle.ra_labels.specs.Linearization.{must_precede, extends, extends_visibility}
@@ -17,7 +17,7 @@ use Rattle.ra_labels.proofs.InLists.{bool_same, list_all-contains, list_all-from
 use Rattle.ra_labels.proofs.Members.{behind_head, piece_of, in_piece}
 use Rattle.ra_labels.proofs.Parts.{part_is_of, some_part}
 use Rattle.ra_labels.specs.Situation.{Next, next_of, operate, label_of}
-use Rattle.ra_laws.proofs.TheLaws.{named_labels_are_sorted-same}
+use Rattle.ra_laws.proofs.TheLaws.{named_labels_are_sorted-same, a_new_replica_had_what_the_other_had-order}
 use Rattle.ra_visibility.specs.declared.order.Place.{Place}
 use Rattle.ra_visibility.specs.Order.{must_stand_before, IsPlaceOf, EachFitted}
 use Rattle.ra_visibility.proofs.Insertions.{named_below_count, order_delivered, order_after_verdict, at_its_place}
@@ -134,6 +134,12 @@ pub delivery_extends : (kind : Kind) (records : Records) (to label : ℕ)
     → extends_visibility (Deliver to label ∷ records) (named_sequence kind (Deliver to label ∷ records)) ≡ extends_visibility records (named_sequence kind records)
 delivery_extends kind records to label = ap (λ labels. extends (must_precede records) (flat_map parts_of labels)) (order_delivered kind records to label)
 
+-- nor does a join
+pub join_extends : (kind : Kind) (records : Records) (joined from : ℕ)
+    → extends_visibility (Join joined from ∷ records) (named_sequence kind (Join joined from ∷ records)) ≡ extends_visibility records (named_sequence kind records)
+join_extends kind records joined from =
+    ap (λ labels. extends (must_precede records) (flat_map parts_of labels)) (a_new_replica_had_what_the_other_had-order kind records joined from)
+
 -- where each label fitted, the named sequence extends visibility
 pub extends_where_each_fitted : (kind : Kind) (records : Records) → EachFitted kind records → extends_visibility records (named_sequence kind records) ≡ true
 extends_where_each_fitted kind [] each = refl
@@ -143,5 +149,7 @@ extends_where_each_fitted kind (Operate by op clock ∷ before) each =
     ∙ and_from (extends_visibility before (named_sequence kind before)) place.0.fits (extends_where_each_fitted kind before each.1) place.2
 extends_where_each_fitted kind (Deliver to label ∷ before) each =
     delivery_extends kind before to label ∙ extends_where_each_fitted kind before each
+extends_where_each_fitted kind (Join joined from ∷ before) each =
+    join_extends kind before joined from ∙ extends_where_each_fitted kind before each
 extends_where_each_fitted kind (Verdict ∷ before) each =
     ap (λ labels. extends (must_precede before) (flat_map parts_of labels)) (order_after_verdict kind before) ∙ extends_where_each_fitted kind before each

@@ -2,12 +2,13 @@
 use Rattle.std.proofs.Common.{◌≡◌, ◌≢◌, ℕ, ◌+◌, ◌<◌, ◌≤◌, Bool, true, false, length, get_or, Some, refl, sym, ap, ◌∙◌, subst, arith}
 use Rattle.ra_visibility.specs.declared.limits.TheConstants.{MOST_LABELS}
 use Rattle.ra_visibility.specs.declared.row.Row.{Row}
+use Rattle.ra_visibility.specs.declared.stored.Stored.{Stored}
 use Rattle.ra_visibility.specs.Replica.{Replica}
 use Rattle.ra_visibility.specs.Tracked.{Tracked, seen_count, replicas_in, labels_in, replica_at, row_at, had_count, counts_at}
 use Rattle.ra_visibility.specs.Changes.{with_label}
 use Rattle.ra_visibility.specs.Kept.{TrackedKept, IsUpdateOf, issued_count, issued_at}
 use Rattle.ra_visibility.proofs.Tests.{at_or_else, below_or_not}
-use Rattle.ra_visibility.proofs.IssuedRows.{ones, counts_of_label, own_replica, own_length, labels_more, row_new, row_else, count_same, replica_there, replica_else, issued_there, issued_else, issued_more, issued_before, issued_last, had_there, had_own, had_else, counts_same, counts_new, counts_there, seen_before, seen_new, stored_longer}
+use Rattle.ra_visibility.proofs.IssuedRows.{ones, counts_of_label, own_replica, own_counts, own_counts_length, width_there, own_length, labels_more, row_new, row_else, count_same, replica_there, replica_else, issued_there, issued_else, issued_more, issued_before, issued_last, had_there, had_own, had_else, counts_same, counts_new, counts_there, seen_before, seen_new, stored_longer}
 
 -- an update where there was one, and the new one
 update_before : (t : Tracked) (by q p n : ℕ) (update : Bool) → IsUpdateOf t q p n → IsUpdateOf (with_label t by update) q p n
@@ -86,10 +87,10 @@ closed_issued t by q n of update kept below known inside there is had =
     omega (arith, ap (λ xs. get_or xs of 0) (seen_before t by n update kept early), kept.closed q n of known early inside was_update was, no_less))
 
 -- the counts of a replica that are stored, after the label
-stored_after : (t : Tracked) (by q at : ℕ) (update : Bool) → by < replicas_in t → (replica_at (with_label t by update) q).stored ≡ Some at → q ≡ by → counts_of_label t by ≡ at
+stored_after : (t : Tracked) (by q : ℕ) (at : Stored) (update : Bool) → by < replicas_in t → (replica_at (with_label t by update) q).stored ≡ Some at → q ≡ by → counts_of_label t by ≡ at
 stored_after t by q at update below e same = cc (e, ap (λ (r : Replica). r.stored) (replica_there t by q update below same))
 
-stored_else : (t : Tracked) (by q at : ℕ) (update : Bool) → (replica_at (with_label t by update) q).stored ≡ Some at → q ≢ by → (replica_at t q).stored ≡ Some at
+stored_else : (t : Tracked) (by q : ℕ) (at : Stored) (update : Bool) → (replica_at (with_label t by update) q).stored ≡ Some at → q ≢ by → (replica_at t q).stored ≡ Some at
 stored_else t by q at update e other = sym (ap (λ (r : Replica). r.stored) (replica_else t by q update other)) ∙ e
 
 -- what is kept, with the label
@@ -99,8 +100,13 @@ kept_issued t by update kept below room =
     let count : replicas_in new ≡ replicas_in t = count_same t by update in
     let labels : labels_in new ≡ labels_in t + 1 = labels_more t by update in
     let inside : by < length (replica_at t by).counts = omega (arith, kept.had_length by below) in
-    let counts : length (own_replica t by update).counts ≡ replicas_in t = own_length (replica_at t by) by (labels_in t) update ∙ kept.had_length by below in
-    let longer = stored_longer (replica_at t by).stored t.stored (own_replica t by update).counts in
+    let places : length (own_replica t by update).counts ≡ length (replica_at t by).counts = own_length (replica_at t by) by (labels_in t) update in
+    let counts : length (own_counts t by update) ≡ replicas_in t = own_counts_length t by update kept below in
+    let longer = stored_longer (replica_at t by).stored t.stored (own_counts t by update) in
+    let width = width_there t by kept below in
+    let long_enough : (q : ℕ) → q < replicas_in t → length (replica_at new q).counts ≡ length (replica_at t q).counts = λ q known. at_or_else q by
+    (λ same. ap (λ (r : Replica). length r.counts) (replica_there t by q update below same) ∙ places ∙ ap (λ k. length (replica_at t k).counts) (sym same))
+    (λ other. ap (λ (r : Replica). length r.counts) (replica_else t by q update other)) in
     record {
       few_replicas = omega (arith, count, kept.few_replicas);
       few_labels = omega (arith, labels, room);
@@ -112,8 +118,19 @@ kept_issued t by update kept below room =
           (λ last. omega (arith, count, ap (λ (r : Row). r.replica) (row_new t by n update last)))
           (λ before. omega (arith, count, ap (λ (r : Row). r.replica) (row_else t by n update before), kept.row_replica n (omega (arith, labels, l, before))));
       row_counts = λ n l. at_or_else n (labels_in t)
-          (λ last. omega (arith, count, ap (λ (r : Row). r.counts) (row_new t by n update last), counts_there t by update kept below))
-          (λ before. omega (arith, count, ap (λ (r : Row). r.counts) (row_else t by n update before), longer.0, kept.row_counts n (omega (arith, labels, l, before))));
+          (λ last. omega (arith, ap (λ (r : Row). r.counts + r.width) (row_new t by n update last), counts_there t by update kept below))
+          (λ before. omega (arith, ap (λ (r : Row). r.counts + r.width) (row_else t by n update before), longer.0, kept.row_counts n (omega (arith, labels, l, before))));
+      row_width = λ n l. at_or_else n (labels_in t)
+          (λ last. let row = row_new t by n update last in (
+            subst (λ (r : Row). r.replica < r.width) (sym row) width.0,
+            subst (λ (r : Row). r.width ≤ replicas_in new) (sym row) (omega (arith, count, width.1)),
+          ))
+          (λ before.
+          let row = row_else t by n update before in
+          let old = kept.row_width n (omega (arith, labels, l, before)) in (
+            subst (λ (r : Row). r.replica < r.width) (sym row) old.0,
+            subst (λ (r : Row). r.width ≤ replicas_in new) (sym row) (omega (arith, count, old.1)),
+          ));
       row_seen = λ n of l o. at_or_else n (labels_in t)
           (λ last. omega (arith, seen_new t by n of update kept below (omega (arith, count, o)) last, kept.had_issued by of below (omega (arith, count, o)), issued_more t by of update below))
           (λ before.
@@ -160,30 +177,40 @@ kept_issued t by update kept below room =
           let early : p < issued_count t q = omega (arith, pr, last) in
           omega (arith, issued_before t by q p update below early, issued_last t by q r update below is same last, (kept.issued_row q p known early).there))
           (λ other. absurd (omega (arith, issued_else t by q update other, lr, after))));
-      had_length = λ q lq. at_or_else q by
-          (λ same. ap (λ (r : Replica). length r.counts) (replica_there t by q update below same) ∙ counts ∙ sym count)
-          (λ other. ap (λ (r : Replica). length r.counts) (replica_else t by q update other) ∙ kept.had_length q (omega (arith, count, lq)) ∙ sym count);
+      had_length = λ q lq. let known : q < replicas_in t = omega (arith, count, lq) in omega (arith, count, long_enough q known, kept.had_length q known);
+      had_places = λ q lq. let known : q < replicas_in t = omega (arith, count, lq) in omega (arith, long_enough q known, kept.had_places q known);
+      had_beyond = λ q of lq past.
+          let known : q < replicas_in t = omega (arith, count, lq) in
+          let none = kept.had_beyond q of known (omega (arith, count, past)) in
+          at_or_else q by
+          (λ same. had_there t by q of update below same (λ own. absurd (omega (arith, own, below, count, past))) ∙ none)
+          (λ other. had_else t by q of update other ∙ none);
       had_issued = λ q of lq lof. had_within t by q of update kept below (omega (arith, count, lq)) (omega (arith, count, lof));
       had_own = λ q lq. at_or_else q by
           (λ same. omega (arith, had_own t by q q update below inside same same, issued_there t by q update below same, kept.had_own q (omega (arith, count, lq))))
           (λ other. omega (arith, had_else t by q q update other, issued_else t by q update other, kept.had_own q (omega (arith, count, lq))));
       closed = λ q n of lq ln lof u h. closed_issued t by q n of update kept below (omega (arith, count, lq)) (omega (arith, count, lof)) ln u h;
       stored_there = λ q at lq e. at_or_else q by
-          (λ same. omega (arith, count, stored_after t by q at update below e same, counts_there t by update kept below))
-          (λ other. omega (arith, count, longer.0, kept.stored_there q at (omega (arith, count, lq)) (stored_else t by q at update e other)));
+          (λ same. omega (arith, ap (λ (s : Stored). s.at + s.width) (stored_after t by q at update below e same), counts_there t by update kept below))
+          (λ other. omega (arith, longer.0, kept.stored_there q at (omega (arith, count, lq)) (stored_else t by q at update e other)));
+      stored_width = λ q at lq e. at_or_else q by
+          (λ same. let is = ap (λ (s : Stored). s.width) (stored_after t by q at update below e same) in
+          (omega (arith, same, is, width.0), omega (arith, count, is, width.1)))
+          (λ other. let was = kept.stored_width q at (omega (arith, count, lq)) (stored_else t by q at update e other) in
+          (was.0, omega (arith, count, was.1)));
       stored_same = λ q at of lq e lof differs.
           let known : q < replicas_in t = omega (arith, count, lq) in
           let inside_of : of < replicas_in t = omega (arith, count, lof) in
           at_or_else q by
           (λ same.
           let foreign : of ≢ by = λ own. differs (own ∙ sym same) in
-          ap (λ k. get_or (counts_at new k) of 0) (sym (stored_after t by q at update below e same))
+          ap (λ (s : Stored). get_or (counts_at new s.at s.width) of 0) (sym (stored_after t by q at update below e same))
           ∙ counts_new t by of update kept below inside_of foreign
           ∙ ap (λ k. had_count t k of) (sym same)
           ∙ sym (had_there t by q of update below same foreign))
           (λ other.
           let was = stored_else t by q at update e other in
-          ap (λ xs. get_or xs of 0) (counts_same t by at update (kept.stored_there q at known was))
+          ap (λ xs. get_or xs of 0) (counts_same t by at.at at.width update (kept.stored_there q at known was))
           ∙ kept.stored_same q at of known was inside_of differs
           ∙ sym (had_else t by q of update other));
     }

@@ -9,8 +9,8 @@ use Rattle.ra_visibility.proofs.Tests.{at_or_else, both_or_none}
 use Rattle.ra_visibility.proofs.MissingLabels.{find_none, seen_own, missing_where}
 
 -- a label sees as many updates of another replica as its stored counts say
-seen_other : (t : Tracked) (n of : ℕ) → of ≢ (row_at t n).replica → seen_count t n of ≡ get_or (counts_at t (row_at t n).counts) of 0
-seen_other t n of other = get_or-set_other (counts_at t (row_at t n).counts) (row_at t n).replica of (row_at t n).place 0 other
+pub seen_other : (t : Tracked) (n of : ℕ) → of ≢ (row_at t n).replica → seen_count t n of ≡ get_or (counts_at t (row_at t n).counts (row_at t n).width) of 0
+seen_other t n of other = get_or-set_other (counts_at t (row_at t n).counts (row_at t n).width) (row_at t n).replica of (row_at t n).place 0 other
 
 -- the label is its replica's next there, and shares its stored counts with the update before it
 pub record IsNextOfRun (t : Tracked) (to label before : ℕ) : Type 0 where
@@ -18,6 +18,7 @@ pub record IsNextOfRun (t : Tracked) (to label before : ℕ) : Type 0 where
   pub some : 0 < (row_at t label).place
   pub earlier : before ≡ issued_at t (row_at t label).replica ((row_at t label).place - 1)
   pub shared : (row_at t before).counts ≡ (row_at t label).counts
+  pub width : (row_at t before).width ≡ (row_at t label).width
 
 -- then nothing is missing
 pub run_misses_none : (t : Tracked) (to label before : ℕ) → TrackedKept t → to < replicas_in t → label < labels_in t → IsNextOfRun t to label before
@@ -37,7 +38,7 @@ run_misses_none t to label before kept receiver there run =
     (λ other.
     let same : seen_count t label r ≡ seen_count t before r =
     seen_other t label r other
-    ∙ ap (λ at. get_or (counts_at t at) r 0) (sym run.shared)
+    ∙ (λ i. get_or (counts_at t (sym run.shared i) (sym run.width i)) r 0)
     ∙ sym (seen_other t before r (λ e. other (e ∙ is.replica))) in
     let had : (row_at t before).place < had_count t to (row_at t before).replica =
     omega (arith, is.place, ap (had_count t to) is.replica, run.next, run.some) in
@@ -49,9 +50,9 @@ run_misses_none t to label before kept receiver there run =
 -- said of what is read
 pub run_read : (t : Tracked) (to label : ℕ) (row before : Row) (counts issued : List ℕ) → row ≡ row_at t label → counts ≡ (replica_at t to).counts
     → get_or counts row.replica 0 ≡ row.place → get_or counts row.replica 0 ≢ 0 → issued ≡ (replica_at t row.replica).issued
-    → before ≡ row_at t (get_or issued (get_or counts row.replica 0 - 1) 0) → before.counts ≡ row.counts
+    → before ≡ row_at t (get_or issued (get_or counts row.replica 0 - 1) 0) → before.counts ≡ row.counts → before.width ≡ row.width
     → IsNextOfRun t to label (get_or issued (get_or counts row.replica 0 - 1) 0)
-run_read t to label row before counts issued is counts_are next more issued_are before_is shared = record {
+run_read t to label row before counts issued is counts_are next more issued_are before_is shared width = record {
   next =
       ap (λ (r : Row). had_count t to r.replica) (sym is) ∙ sym (ap (λ xs. get_or xs row.replica 0) counts_are)
       ∙ next ∙ ap (λ (r : Row). r.place) is;
@@ -61,4 +62,5 @@ run_read t to label row before counts issued is counts_are next more issued_are 
       ∙ ap (λ k. issued_at t row.replica (k - 1)) next
       ∙ ap (λ (r : Row). issued_at t r.replica (r.place - 1)) is;
   shared = sym (ap (λ (r : Row). r.counts) before_is) ∙ shared ∙ ap (λ (r : Row). r.counts) is;
+  width = sym (ap (λ (r : Row). r.width) before_is) ∙ width ∙ ap (λ (r : Row). r.width) is;
 }

@@ -1,14 +1,17 @@
 -- A tracker after a change: what is kept, what is left when the change is taken back, and the visibility.
-use Rattle.std.proofs.Common.{◌≡◌, ℕ, ◌<◌, Bool, Option, None, sym, ap, ◌∙◌, subst, arith}
+use Rattle.std.proofs.Common.{◌≡◌, ℕ, ◌+◌, ◌<◌, Bool, Option, None, sym, ap, ◌∙◌, subst, arith}
 use Rattle.std.specs.Prelude.{is_none}
 use Rattle.ra_labels.specs.declared.operation.Op.{Op}
 use Rattle.ra_labels.specs.declared.command.Command.TheVariants.{Operate, Deliver}
+use Rattle.ra_labels.specs.declared.command.Command.TheVariants as command
+use Rattle.ra_labels.specs.declared.limits.TheConstants.{MOST_REPLICAS}
 use Rattle.ra_labels.specs.Visibility.{is_update}
 use Rattle.ra_labels.specs.Situation.{Past, past_with}
-use Rattle.ra_visibility.specs.declared.last_change.LastChange.TheVariants.{Issue, Delivery}
+use Rattle.ra_visibility.specs.declared.last_change.LastChange.TheVariants.{Issue, Delivery, Join}
+use Rattle.ra_visibility.specs.declared.stored.Stored.{Stored}
 use Rattle.ra_visibility.specs.declared.limits.TheConstants.{MOST_LABELS}
 use Rattle.ra_visibility.specs.Tracked.{Tracked, IsVisibilityOf, replicas_in, labels_in, replica_at, row_at, had_count, refusal_in}
-use Rattle.ra_visibility.specs.Changes.{with_label, without_label, with_delivery, without_delivery}
+use Rattle.ra_visibility.specs.Changes.{with_label, without_label, with_delivery, without_delivery, with_joined, without_joined}
 use Rattle.ra_visibility.specs.Kept.{TrackedKept}
 use Rattle.ra_visibility.specs.Tracker.{TrackerKept}
 use Rattle.ra_visibility.proofs.IssuedRows.{labels_more}
@@ -16,7 +19,8 @@ use Rattle.ra_visibility.proofs.NextLabels.{kept_issued}
 use Rattle.ra_visibility.proofs.IssuedVisibility.{stands_issued}
 use Rattle.ra_visibility.proofs.Deliveries.{kept_delivered, stands_delivered, gained_more}
 use Rattle.ra_visibility.proofs.MissingLabels.{next_where_taken}
-use Rattle.ra_visibility.proofs.Withdrawals.{label_back, delivery_back}
+use Rattle.ra_visibility.proofs.Withdrawals.{label_back, delivery_back, join_back}
+use Rattle.ra_visibility.proofs.Joins.{one_more, kept_joined, stands_joined}
 
 -- the tracked before and after an issue
 pub record Issues (old new : Tracked) (by : ℕ) (update was_stored : Bool) : Type 0 where
@@ -55,7 +59,7 @@ issue_stands old new by update was_stored is past op clock stands kind =
     subst (λ t. IsVisibilityOf t (past_with past (Operate by op clock))) (sym is.made) (stands_issued old by past op clock update is.kept is.replica stands kind)
 
 -- the tracked before and after a delivery that is not refused
-pub record Delivers (old new : Tracked) (to label from : ℕ) (at : Option ℕ) : Type 0 where
+pub record Delivers (old new : Tracked) (to label from : ℕ) (at : Option Stored) : Type 0 where
   pub kept : TrackedKept old
   pub replica : to < replicas_in old
   pub taken : refusal_in old to label ≡ None
@@ -64,7 +68,7 @@ pub record Delivers (old new : Tracked) (to label from : ℕ) (at : Option ℕ) 
   pub stored : at ≡ (replica_at old to).stored
 
 -- said of the fields
-pub delivers : (inside old new : Tracked) (to label from : ℕ) (at : Option ℕ) → inside ≡ old → TrackedKept inside → to < replicas_in old → None ≡ refusal_in inside to label
+pub delivers : (inside old new : Tracked) (to label from : ℕ) (at : Option Stored) → inside ≡ old → TrackedKept inside → to < replicas_in old → None ≡ refusal_in inside to label
     → new ≡ with_delivery inside to label → from ≡ (row_at inside label).replica → at ≡ (replica_at inside to).stored → Delivers old new to label from at
 delivers inside old new to label from at same kept replica taken made is stored = record {
   kept = subst TrackedKept same kept;
@@ -75,12 +79,12 @@ delivers inside old new to label from at same kept replica taken made is stored 
   stored = stored ∙ ap (λ t. (replica_at t to).stored) same;
 }
 
-pub delivery_taken_back : (old new : Tracked) (to label from : ℕ) (at : Option ℕ) → Delivers old new to label from at → without_delivery new to from at ≡ old
+pub delivery_taken_back : (old new : Tracked) (to label from : ℕ) (at : Option Stored) → Delivers old new to label from at → without_delivery new to from at ≡ old
 delivery_taken_back old new to label from at is =
     let next = next_where_taken old to label is.kept is.replica is.taken in
     ap (λ t. without_delivery t to from at) is.made ∙ delivery_back old to label from at is.kept is.replica next.there is.whose is.stored
 
-pub delivery_keeps : (old new : Tracked) (to label from : ℕ) (at : Option ℕ) → Delivers old new to label from at → TrackerKept new (Delivery to from at)
+pub delivery_keeps : (old new : Tracked) (to label from : ℕ) (at : Option Stored) → Delivers old new to label from at → TrackerKept new (Delivery to from at)
 delivery_keeps old new to label from at is =
     let next = next_where_taken old to label is.kept is.replica is.taken in
     let more = gained_more old to label is.kept next in
@@ -94,8 +98,43 @@ delivery_keeps old new to label from at is =
       );
     }
 
-pub delivery_stands : (old new : Tracked) (to label from : ℕ) (at : Option ℕ) → Delivers old new to label from at
+pub delivery_stands : (old new : Tracked) (to label from : ℕ) (at : Option Stored) → Delivers old new to label from at
     → (past : Past) → IsVisibilityOf old past → IsVisibilityOf new (past_with past (Deliver to label))
 delivery_stands old new to label from at is past stands =
     let next = next_where_taken old to label is.kept is.replica is.taken in
     subst (λ t. IsVisibilityOf t (past_with past (Deliver to label))) (sym is.made) (stands_delivered old past to label is.kept next stands)
+
+-- the tracked before and after a join
+pub record Joins (old new : Tracked) (from : ℕ) : Type 0 where
+  pub kept : TrackedKept old
+  pub there : from < replicas_in old
+  pub room : replicas_in old < MOST_REPLICAS
+  pub made : new ≡ with_joined old from
+
+-- said of the fields
+pub joins : (inside old new : Tracked) (from : ℕ) → inside ≡ old → TrackedKept inside → from < replicas_in old → replicas_in old < MOST_REPLICAS
+    → new ≡ with_joined inside from → Joins old new from
+joins inside old new from same kept there room made = record {
+  kept = subst TrackedKept same kept;
+  there = there;
+  room = room;
+  made = made ∙ ap (λ t. with_joined t from) same;
+}
+
+pub join_taken_back : (old new : Tracked) (from : ℕ) → Joins old new from → without_joined new ≡ old
+join_taken_back old new from is = ap without_joined is.made ∙ join_back old from
+
+pub join_keeps : (old new : Tracked) (from : ℕ) → Joins old new from → TrackerKept new Join
+join_keeps old new from is = record {
+  now = subst TrackedKept (sym is.made) (kept_joined old from is.kept is.there is.room);
+  before = subst TrackedKept (sym (join_taken_back old new from is)) is.kept;
+  taken_back = omega (arith, ap replicas_in is.made, one_more old from);
+}
+
+pub join_more : (old new : Tracked) (from : ℕ) → Joins old new from → replicas_in new ≡ replicas_in old + 1
+join_more old new from is = ap replicas_in is.made ∙ one_more old from
+
+pub join_stands : (old new : Tracked) (from : ℕ) → Joins old new from → (past : Past) → IsVisibilityOf old past
+    → IsVisibilityOf new (past_with past (command.Join (replicas_in old) from))
+join_stands old new from is past stands =
+    subst (λ t. IsVisibilityOf t (past_with past (command.Join (replicas_in old) from))) (sym is.made) (stands_joined old from is.kept is.there past stands)

@@ -4,11 +4,12 @@ use Rattle.std.specs.Prelude.{set, take, is_none, if◌then◌else◌}
 use Rattle.std.proofs.lemmas.List.{set-set, set-get_or, get_or-set_same}
 use Rattle.std.proofs.Math.Seq.{take-append_seam}
 use Rattle.ra_visibility.specs.declared.row.Row.{Row}
-use Rattle.ra_visibility.specs.Replica.{Replica, new_replica, with_own, without_own, stored_at, with_next, without_last}
+use Rattle.ra_visibility.specs.declared.stored.Stored.{Stored}
+use Rattle.ra_visibility.specs.Replica.{Replica, new_replica, joined_from, with_own, without_own, stored_at, with_next, without_last}
 use Rattle.ra_visibility.specs.Tracked.{Tracked, replicas_in, labels_in, replica_at, row_at}
-use Rattle.ra_visibility.specs.Changes.{place_of_counts, stored_with, with_label, without_label, with_delivery, without_delivery}
+use Rattle.ra_visibility.specs.Changes.{stored_for, stored_with, with_label, without_label, with_delivery, without_delivery, with_joined, without_joined}
 use Rattle.ra_visibility.specs.Kept.{TrackedKept}
-use Rattle.ra_visibility.proofs.IssuedRows.{counts_of_label, new_row, own_replica, labels_more, row_new, replica_there}
+use Rattle.ra_visibility.proofs.IssuedRows.{counts_of_label, new_row, own_replica, own_counts, labels_more, row_new, replica_there}
 
 -- a count raised and lowered
 count_back : (xs : List ℕ) (i : ℕ) → i < length xs → set (set xs i (get_or xs i 0 + 1)) i (get_or (set xs i (get_or xs i 0 + 1)) i 0 - 1) ≡ xs
@@ -26,21 +27,21 @@ last_back xs x =
 written_back : (xs : List Replica) (i : ℕ) (x y d : Replica) → y ≡ get_or xs i d → set (set xs i x) i y ≡ xs
 written_back xs i x y d same = set-set xs i x y ∙ ap (set xs i) same ∙ set-get_or xs i d
 
-issue_back : (r : Replica) (by n : ℕ) (update : Bool) (at : ℕ) → by < length r.counts → without_own (stored_at (with_own r by update n) (Some at)) by update ≡ stored_at r (Some at)
+issue_back : (r : Replica) (by n : ℕ) (update : Bool) (at : Stored) → by < length r.counts → without_own (stored_at (with_own r by update n) (Some at)) by update ≡ stored_at r (Some at)
 issue_back r by n true at inside =
     let counts = count_back r.counts by inside in
     let issued = last_back r.issued n in
     cc (counts, issued)
 issue_back r by n false at inside = refl
 
-stored_back : (s : Option ℕ) (end : ℕ) → (if is_none s then None else Some (place_of_counts s end)) ≡ s
-stored_back (Some at) end = refl
-stored_back None end = refl
+stored_back : (s : Option Stored) (end width : ℕ) → (if is_none s then None else Some (stored_for s end width)) ≡ s
+stored_back (Some at) end width = refl
+stored_back None end width = refl
 
-table_back : (s : Option ℕ) (stored counts : List ℕ)
-    → (if is_none s then take (place_of_counts s (length stored)) (stored_with s stored counts) else stored_with s stored counts) ≡ stored
-table_back (Some at) stored counts = refl
-table_back None stored counts = take-append_seam stored counts
+table_back : (s : Option Stored) (stored counts : List ℕ) (width : ℕ)
+    → (if is_none s then take (stored_for s (length stored) width).at (stored_with s stored counts) else stored_with s stored counts) ≡ stored
+table_back (Some at) stored counts width = refl
+table_back None stored counts width = take-append_seam stored counts
 
 abbrev tracked_of : List Replica → List Row → List ℕ → Tracked
 tracked_of replicas rows stored = record { replicas = replicas; rows = rows; stored = stored }
@@ -68,11 +69,11 @@ label_back t by update kept below =
     ap (λ r. without_own r by update) (replica_there t by by update below refl) ∙ issue_back (replica_at t by) by (labels_in t) update at inside in
     let given : Replica → Replica = λ r. stored_at r (if was then None else r.stored) in
     let replica : given (without_own (replica_at new by) by update) ≡ replica_at t by =
-    ap given own ∙ ap (stored_at (replica_at t by)) (stored_back (replica_at t by).stored (length t.stored)) in
+    ap given own ∙ ap (stored_at (replica_at t by)) (stored_back (replica_at t by).stored (length t.stored) (replicas_in t)) in
     let replicas = written_back t.replicas by (stored_at (own_replica t by update) (Some at)) (given (without_own (replica_at new by) by update)) (new_replica 0) replica in
     let rows = take-append_seam t.rows (new_row t by update ∷ []) in
-    let stored_left = if was then take at new.stored else new.stored in
-    let stored = table_back (replica_at t by).stored t.stored (own_replica t by update).counts in
+    let stored_left = if was then take at.at new.stored else new.stored in
+    let stored = table_back (replica_at t by).stored t.stored (own_counts t by update) (replicas_in t) in
     left
     ∙ ap (λ xs. tracked_of xs (take (labels_in t) new.rows) stored_left) replicas
     ∙ ap (λ xs. tracked_of t.replicas xs stored_left) rows
@@ -83,7 +84,7 @@ get_back r from inside =
     let of_counts : List ℕ → Replica = λ counts. record { counts = counts; issued = r.issued; stored = r.stored } in
     ap of_counts (count_back r.counts from inside)
 
-pub delivery_back : (t : Tracked) (to label from : ℕ) (at : Option ℕ) → TrackedKept t → to < replicas_in t → label < labels_in t
+pub delivery_back : (t : Tracked) (to label from : ℕ) (at : Option Stored) → TrackedKept t → to < replicas_in t → label < labels_in t
     → from ≡ (row_at t label).replica → at ≡ (replica_at t to).stored
     → without_delivery (with_delivery t to label) to from at ≡ t
 delivery_back t to label from at kept below there is stored =
@@ -98,3 +99,6 @@ delivery_back t to label from at kept below there is stored =
     ∙ get_back (replica_at t to) r inside in
     let replicas = written_back t.replicas to next (without_last (replica_at new to) from at) (new_replica 0) same in
     ap (λ xs. tracked_of xs t.rows t.stored) replicas
+
+pub join_back : (t : Tracked) (from : ℕ) → without_joined (with_joined t from) ≡ t
+join_back t from = ap (λ xs. tracked_of xs t.rows t.stored) (last_back t.replicas (joined_from (replica_at t from)))

@@ -1,7 +1,9 @@
 -- What holds of every tracker.
 use Rattle.std.specs.Prelude.{◌≡◌, ◌≢◌, ℕ, ◌+◌, ◌*◌, ◌<◌, ◌≤◌, true, Some, length, get_or}
+use Rattle.ra_labels.specs.declared.limits.TheConstants.{MOST_REPLICAS}
+use Rattle.ra_visibility.specs.declared.stored.Stored.{Stored}
 use Rattle.ra_visibility.specs.declared.last_change.LastChange.{LastChange}
-use Rattle.ra_visibility.specs.declared.last_change.LastChange.TheVariants.{Nothing, Issue, Delivery}
+use Rattle.ra_visibility.specs.declared.last_change.LastChange.TheVariants.{Nothing, Issue, Delivery, Join}
 use Rattle.ra_visibility.specs.declared.limits.TheConstants.{MOST_LABELS}
 use Rattle.ra_visibility.specs.Tracked.{Tracked, replicas_in, labels_in, replica_at, row_at, had_count, seen_count, counts_at}
 
@@ -28,7 +30,10 @@ pub record TrackedKept (tracked : Tracked) : Type 0 where
   -- a label's replica is there, and its stored counts are
   pub row_replica : (n : ℕ) → n < labels_in tracked → (row_at tracked n).replica < replicas_in tracked
   pub row_counts : (n : ℕ) → n < labels_in tracked
-      → (row_at tracked n).counts + replicas_in tracked ≤ length tracked.stored
+      → (row_at tracked n).counts + (row_at tracked n).width ≤ length tracked.stored
+  -- its own replica's is one of them, and each is one of a replica that is there
+  pub row_width : (n : ℕ) → n < labels_in tracked
+      → ((row_at tracked n).replica < (row_at tracked n).width) × ((row_at tracked n).width ≤ replicas_in tracked)
   -- no label sees more updates of a replica than it issued
   pub row_seen : (n of : ℕ) → n < labels_in tracked → of < replicas_in tracked
       → seen_count tracked n of ≤ issued_count tracked of
@@ -40,9 +45,12 @@ pub record TrackedKept (tracked : Tracked) : Type 0 where
       → IsUpdateOf tracked q p (issued_at tracked q p)
   pub issued_rise : (q p r : ℕ) → q < replicas_in tracked → p < r → r < issued_count tracked q
       → issued_at tracked q p < issued_at tracked q r
-  -- a replica has a count for each, no more than was issued there, and its own is that number
+  -- a replica has a count for each, and for those that may join; none more than was issued there, and its own is that
+  -- number
   pub had_length : (q : ℕ) → q < replicas_in tracked
-      → length (replica_at tracked q).counts ≡ replicas_in tracked
+      → replicas_in tracked ≤ length (replica_at tracked q).counts
+  pub had_places : (q : ℕ) → q < replicas_in tracked → MOST_REPLICAS ≤ length (replica_at tracked q).counts
+  pub had_beyond : (q of : ℕ) → q < replicas_in tracked → replicas_in tracked ≤ of → had_count tracked q of ≡ 0
   pub had_issued : (q of : ℕ) → q < replicas_in tracked → of < replicas_in tracked
       → had_count tracked q of ≤ issued_count tracked of
   pub had_own : (q : ℕ) → q < replicas_in tracked → had_count tracked q q ≡ issued_count tracked q
@@ -52,10 +60,13 @@ pub record TrackedKept (tracked : Tracked) : Type 0 where
       → (row_at tracked n).place < had_count tracked q (row_at tracked n).replica
       → seen_count tracked n of ≤ had_count tracked q of
   -- where a replica's counts are stored, these are its counts, its own apart
-  pub stored_there : (q at : ℕ) → q < replicas_in tracked → (replica_at tracked q).stored ≡ Some at
-      → at + replicas_in tracked ≤ length tracked.stored
-  pub stored_same : (q at of : ℕ) → q < replicas_in tracked → (replica_at tracked q).stored ≡ Some at
-      → of < replicas_in tracked → of ≢ q → get_or (counts_at tracked at) of 0 ≡ had_count tracked q of
+  pub stored_there : (q : ℕ) (stored : Stored) → q < replicas_in tracked → (replica_at tracked q).stored ≡ Some stored
+      → stored.at + stored.width ≤ length tracked.stored
+  pub stored_width : (q : ℕ) (stored : Stored) → q < replicas_in tracked → (replica_at tracked q).stored ≡ Some stored
+      → (q < stored.width) × (stored.width ≤ replicas_in tracked)
+  pub stored_same : (q : ℕ) (stored : Stored) (of : ℕ) → q < replicas_in tracked
+      → (replica_at tracked q).stored ≡ Some stored → of < replicas_in tracked → of ≢ q
+      → get_or (counts_at tracked stored.at stored.width) of 0 ≡ had_count tracked q of
 
 -- what the last change needs to be taken back
 abbrev pub CanBeTakenBack : Tracked → LastChange → Type 0
@@ -63,3 +74,4 @@ CanBeTakenBack tracked Nothing = Unit {0}
 CanBeTakenBack tracked (Issue was_stored) = 0 < labels_in tracked
 CanBeTakenBack tracked (Delivery to from at) =
     (to < replicas_in tracked) × (from < replicas_in tracked) × (0 < had_count tracked to from)
+CanBeTakenBack tracked Join = 0 < replicas_in tracked

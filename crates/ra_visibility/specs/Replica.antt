@@ -1,17 +1,22 @@
 -- What is kept of a replica.
 use Rattle.std.specs.Prelude.{ℕ, ◌+◌, ◌-◌, Bool, List, [], ◌∷◌, ◌++◌, Option, None, length, get_or, set, take, replicate, if◌then◌else◌}
+use Rattle.ra_visibility.specs.declared.stored.Stored.{Stored}
 
 pub record Replica : Type 0 where
-  -- how many updates of each replica it had, its own among them
+  -- how many updates of each replica it had, its own among them, with places for those that join
   pub counts : List ℕ
   -- the labels of its own updates, in their order
   pub issued : List ℕ
   -- where its counts are stored, if nothing was delivered to it since
-  pub stored : Option ℕ
+  pub stored : Option Stored
 
--- it had nothing, of so many replicas
+-- it had nothing, with places for so many replicas
 abbrev pub new_replica : ℕ → Replica
-new_replica replicas = record { counts = replicate replicas 0; issued = []; stored = None }
+new_replica places = record { counts = replicate places 0; issued = []; stored = None }
+
+-- one that joins from it: it had the same, and issued nothing
+abbrev pub joined_from : Replica → Replica
+joined_from replica = record { counts = replica.counts; issued = []; stored = None }
 
 -- its next label, an update or not
 abbrev pub with_own : Replica → ℕ → Bool → ℕ → Replica
@@ -30,7 +35,7 @@ without_own replica own update = record {
 }
 
 -- its counts are stored here, or nowhere
-abbrev pub stored_at : Replica → Option ℕ → Replica
+abbrev pub stored_at : Replica → Option Stored → Replica
 stored_at replica at = record { counts = replica.counts; issued = replica.issued; stored = at }
 
 -- it got the next update of another
@@ -42,7 +47,7 @@ with_next replica from = record {
 }
 
 -- the last update that it got of another taken back
-abbrev pub without_last : Replica → ℕ → Option ℕ → Replica
+abbrev pub without_last : Replica → ℕ → Option Stored → Replica
 without_last replica from at = record {
   counts = set replica.counts from (get_or replica.counts from 0 - 1);
   issued = replica.issued;

@@ -14,7 +14,7 @@ count_in seen replica = get_or seen.counts replica 0
 
 -- no label: not an update
 abbrev pub no_row : Row
-no_row = record { replica = 0; is_update = false; place = 0; counts = 0 }
+no_row = record { replica = 0; is_update = false; width = 0; place = 0; counts = 0 }
 
 -- is the label an update, and its place among its replica's updates below their count?
 abbrev pub is_in : Seen → ℕ → Bool

@@ -7,6 +7,7 @@ use Rattle.ra_labels.specs.Records.{label_count}
 use Rattle.ra_labels.specs.Visibility.{had, sees, is_update_at}
 use Rattle.ra_labels.specs.Answer.{when, first_of}
 use Rattle.ra_labels.specs.Places.{issuer_of, place_of, updates_of}
+use Rattle.ra_labels.specs.Laws.{NoneHadBeyond}
 use Rattle.ra_labels.specs.Situation.{Past, replicas_of}
 use Rattle.ra_visibility.specs.declared.row.Row.{Row}
 use Rattle.ra_visibility.specs.Replica.{Replica, new_replica}
@@ -16,7 +17,7 @@ pub record Tracked : Type 0 where
   pub replicas : List Replica
   -- of each label, the oldest first
   pub rows : List Row
-  -- rows of counts, one for each replica, one row behind the other
+  -- rows of counts, one for each replica that was there, one row behind the other
   pub stored : List ℕ
 
 abbrev pub replicas_in : Tracked → ℕ
@@ -36,15 +37,15 @@ row_at tracked n = get_or tracked.rows n no_row
 abbrev pub had_count : Tracked → ℕ → ℕ → ℕ
 had_count tracked replica of = get_or (replica_at tracked replica).counts of 0
 
--- the row of counts that is stored here
-abbrev pub counts_at : Tracked → ℕ → List ℕ
-counts_at tracked at = take (replicas_in tracked) (drop at tracked.stored)
+-- the row of counts, so many, that is stored here
+abbrev pub counts_at : Tracked → ℕ → ℕ → List ℕ
+counts_at tracked at width = take width (drop at tracked.stored)
 
 -- what a label sees
 abbrev pub seen_in : Tracked → ℕ → Seen
 seen_in tracked n =
     let row = row_at tracked n in
-    record { rows = tracked.rows; counts = set (counts_at tracked row.counts) row.replica row.place }
+    record { rows = tracked.rows; counts = set (counts_at tracked row.counts row.width) row.replica row.place }
 
 -- how many updates of a replica a label sees
 abbrev pub seen_count : Tracked → ℕ → ℕ → ℕ
@@ -93,3 +94,5 @@ pub record IsVisibilityOf (tracked : Tracked) (past : Past) : Type 0 where
   pub place : (n : ℕ) → n < labels_in tracked → (row_at tracked n).place ≡ place_of past.records n
   pub issued : (replica : ℕ) → replica < replicas_in tracked
       → length (replica_at tracked replica).issued ≡ updates_of past.records replica
+  -- what is kept says nothing of those that are not there yet
+  pub beyond : NoneHadBeyond past.first past.records

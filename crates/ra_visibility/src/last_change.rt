@@ -1,3 +1,5 @@
+use crate::stored::Stored;
+
 /// The last change of a tracker, as far as it can be taken back.
 #[derive(Clone, Copy)]
 pub enum LastChange {
@@ -15,6 +17,8 @@ pub enum LastChange {
         /// From this one.
         from: u8,
         /// Where the receiver's counts were stored before.
-        stored: Option<u32>,
+        stored: Option<Stored>,
     },
+    /// A replica joined: the last one.
+    Join,
 }

@@ -4,7 +4,7 @@ ghost use Rattle.std.specs.List.{insert};
 ghost use Rattle.std.specs.List.Sorted.{IsPartitionPoint};
 ghost use Rattle.std.specs.Ordering.{is_lt};
 ghost use Rattle.ra_labels.specs.declared.kind.Kind.{Kind};
-ghost use Rattle.ra_labels.specs.declared.command.Command.TheVariants.{Deliver};
+ghost use Rattle.ra_labels.specs.declared.command.Command.TheVariants.{Deliver, Join};
 ghost use Rattle.ra_labels.specs.Records.{Records};
 ghost use Rattle.ra_labels.specs.Visibility.{had, sees, is_update_at, IsCausal};
 ghost use Rattle.ra_labels.specs.Linearization.{extends_visibility};
@@ -88,6 +88,15 @@ pub fn visibility_is_extended_where_a_label_fits()
 pub fn visibility_is_extended_where_each_label_fitted()
     ensures { (kind : Kind) (records : Records) → EachFitted kind records
         → extends_visibility records (named_sequence kind records) ≡ true }
+{}
+
+/// A join leaves the named order, and whether its sequence extends visibility.
+pub fn joins_leave_the_order()
+    ensures order { (kind : Kind) (records : Records) (joined from : ℕ)
+        → named_labels kind (Join joined from ∷ records) ≡ named_labels kind records }
+    ensures visibility { (kind : Kind) (records : Records) (joined from : ℕ)
+        → extends_visibility (Join joined from ∷ records) (named_sequence kind (Join joined from ∷ records))
+        ≡ extends_visibility records (named_sequence kind records) }
 {}
 
 /// A delivery leaves the named order, and whether its sequence extends visibility.

@@ -1,8 +1,9 @@
 //! Where labels stand in the named order of their kind.
 ghost use Rattle.std.specs.Prelude.{◌≡◌, ℕ, ◌+◌, ◌<◌, List, length, OnOk};
 ghost use Rattle.std.specs.List.{slice_get};
-ghost use Rattle.ra_labels.specs.declared.command.Command.TheVariants.{Deliver};
-ghost use Rattle.ra_labels.specs.Situation.{Past, past_with, Next, operate};
+ghost use Rattle.ra_labels.specs.declared.command.Command.TheVariants.{Deliver, Join};
+ghost use Rattle.ra_labels.specs.declared.limits.TheConstants.{MOST_REPLICAS};
+ghost use Rattle.ra_labels.specs.Situation.{Past, past_with, replicas_of, Next, operate};
 ghost use Rattle.ra_visibility.specs.Order.{ComesNext, IsPlaceOf, numbers_in};
 
 use crate::limits::MOST_LABELS;
@@ -56,6 +57,10 @@ pub trait NamedOrder: Drop + Send {
     // its list is the named order
     ghost lists: { (order : Self) (past : Past) → stands_for order past
         → listed order ≡ numbers_in past.kind past.records };
+
+    // a join changes nothing
+    ghost keeps_joined: { (order : Self) (past : Past) (joined from : ℕ) → stands_for order past
+        → replicas_of past < MOST_REPLICAS → stands_for order (past_with past (Join joined from)) };
 
     // a delivery changes nothing
     ghost keeps: { (order : Self) (past : Past) (to label : ℕ) → stands_for order past

@@ -1,7 +1,8 @@
 //! What is kept of one replica: its updates in turn, and how many of each other one it had.
 ghost use Rattle.std.specs.Prelude.{◌≡◌, ◌<◌, ◌≤◌, ℕ, IfOk, OnOk, OnErr, Option, Some, None, true, length, get_or};
-ghost use Rattle.ra_visibility.specs.Replica.{new_replica, with_own, without_own, stored_at, with_next, without_last};
+ghost use Rattle.ra_visibility.specs.Replica.{new_replica, joined_from, with_own, without_own, stored_at, with_next, without_last};
 
+use crate::stored::Stored;
 use ra_labels::NoMemory;
 use std::alloc::Global;
 use std::marker::Model;
@@ -9,12 +10,12 @@ use std::marker::Model;
 /// What is kept of a replica.
 #[derive(Drop)]
 pub struct Replica {
-    /// How many updates of each replica it had, its own among them.
+    /// How many updates of each replica it had, its own among them; with places for those that join.
     counts: Vec<u32>,
     /// The labels of its own updates, in their order.
     issued: Vec<u32>,
     /// Where its counts are stored, if they are: nothing was delivered to it since.
-    stored: Option<u32>,
+    stored: Option<Stored>,
 }
 
 impl Model for Replica {
@@ -26,14 +27,30 @@ impl Model for Replica {
 }
 
 impl Replica {
-    /// It had nothing, of so many replicas.
-    pub fn new(alloc: Global, replicas: u8) -> Result<Replica, NoMemory>
-        ensures { IfOk result (λ replica. replica ≡ new_replica replicas) }
+    /// It had nothing, with places for so many replicas.
+    pub fn new(alloc: Global, places: u8) -> Result<Replica, NoMemory>
+        ensures { IfOk result (λ replica. replica ≡ new_replica places) }
     {
         Ok(Replica {
-            counts: vec![in alloc; 0; replicas as usize]?,
+            counts: vec![in alloc; 0; places as usize]?,
             issued: Vec::new(alloc),
             stored: None,
+        })
+    }
+
+    /// A replica that joins from this one: it had the same, and issued nothing.
+    pub fn joined(&self) -> Result<Replica, NoMemory>
+        ensures { IfOk result (λ replica. replica ≡ joined_from self.now) }
+    {
+        let alloc = *self.counts.allocator();
+        let mut counts = Vec::with_capacity(alloc, self.counts.len())?;
+        counts.extend_from_slice(self.counts.as_slice())?;
+        // The other's row lacks its own count, so it is not shared.
+        let stored = None;
+        Ok(Replica {
+            counts,
+            issued: Vec::new(alloc),
+            stored,
         })
     }
 
@@ -52,14 +69,14 @@ impl Replica {
     }
 
     /// Where its counts are stored, if they are.
-    pub fn stored(&self) -> Option<u32>
+    pub fn stored(&self) -> Option<Stored>
         ensures { result ≡ self.now.stored }
     {
         self.stored
     }
 
     /// Its counts are stored here, or nowhere.
-    pub fn store_at(&mut self, at: Option<u32>)
+    pub fn store_at(&mut self, at: Option<Stored>)
         ensures { self.new ≡ stored_at self.old at }
     {
         self.stored = at;
@@ -102,7 +119,7 @@ impl Replica {
     }
 
     /// Takes the last update that it got of another back.
-    pub fn take_delivery_back(&mut self, from: u8, stored: Option<u32>)
+    pub fn take_delivery_back(&mut self, from: u8, stored: Option<Stored>)
         requires from { from < length self.old.counts }
         requires some { 0 < get_or self.old.counts from 0 }
         ensures { self.new ≡ without_last self.old from stored }

@@ -5,6 +5,9 @@ pub struct Row {
     pub replica: u8,
     /// Does it change the state?
     pub is_update: bool,
+    /// How many counts there are of what it sees: one for each replica that was there when they were stored. Of those
+    /// that joined since it sees nothing.
+    pub width: u8,
     /// How many updates its replica had issued before it.
     pub place: u32,
     /// Where the counts of what it sees begin in the table of stored counts, its own replica's apart.

@@ -1,15 +1,17 @@
 //! What replicas had and labels see, as counts.
-ghost use Rattle.std.specs.Prelude.{◌≡◌, ◌<◌, IfOk, OnErr, None, true, is_none};
+ghost use Rattle.std.specs.Prelude.{◌≡◌, ◌<◌, IfOk, OnOk, OnErr, None, true, is_none, replicate};
+ghost use Rattle.ra_visibility.specs.Replica.{new_replica};
 ghost use Rattle.ra_visibility.specs.Tracked.{replicas_in, labels_in, replica_at, row_at, had_count, had_in, seen_in, first_missing_in, refusal_in};
 ghost use Rattle.ra_visibility.specs.Least.{lesser_of};
-ghost use Rattle.ra_visibility.specs.Changes.{nothing_in, with_label, with_delivery, without_label, without_delivery};
+ghost use Rattle.ra_visibility.specs.Changes.{places_for, nothing_in, with_label, with_delivery, with_joined, without_label, without_delivery, without_joined};
 ghost use Rattle.ra_visibility.specs.Kept.{TrackedKept};
 
 use crate::limits::MOST_LABELS;
 use crate::replica::Replica;
 use crate::row::Row;
 use crate::seen::Seen;
-use ra_labels::{NoMemory, Refusal};
+use crate::stored::Stored;
+use ra_labels::{MOST_REPLICAS, NoMemory, Refusal};
 use std::alloc::Global;
 use std::marker::Model;
 
@@ -18,7 +20,7 @@ use std::marker::Model;
 pub struct Tracked {
     replicas: Vec<Replica>,
     rows: Vec<Row>,
-    /// Rows of counts, one for each replica, one row behind the other.
+    /// Rows of counts, one for each replica that was there, one row behind the other.
     stored: Vec<u32>,
 }
 
@@ -35,12 +37,8 @@ impl Tracked {
     pub fn new(alloc: Global, replicas: u8) -> Result<Tracked, NoMemory>
         ensures { IfOk result (λ tracked. tracked ≡ nothing_in replicas) }
     {
-        let mut members = Vec::with_capacity(alloc, replicas as usize)?;
-        for _ in 0..replicas {
-            members.push(Replica::new(alloc, replicas)?)?;
-        }
         Ok(Tracked {
-            replicas: members,
+            replicas: new_replicas(alloc, replicas, places_for(replicas))?,
             rows: Vec::new(alloc),
             stored: Vec::new(alloc),
         })
@@ -54,6 +52,14 @@ impl Tracked {
         self.rows.len() as u32
     }
 
+    /// How many replicas there are.
+    pub fn replicas(&self) -> u8
+        requires { TrackedKept self.now }
+        ensures { result ≡ replicas_in self.now }
+    {
+        self.replicas.len() as u8
+    }
+
     /// The next label of the replica: answers whether its counts were stored for it.
     pub fn issue(&mut self, replica: u8, update: bool) -> Result<bool, NoMemory>
         requires kept { TrackedKept self.old }
@@ -64,28 +70,33 @@ impl Tracked {
         ensures same { OnErr result (self.new ≡ self.old) }
     {
         let label = self.rows.len() as u32;
-        let end = self.stored.len() as u32;
+        let at = self.stored.len() as u32;
+        let width = self.replicas.len();
         self.rows.reserve(1)?;
-        self.stored.reserve(self.replicas.len())?;
+        self.stored.reserve(width)?;
         let member = &mut self.replicas[replica as usize];
         let place = member.issued().len() as u32;
-        let stored = member.stored();
+        let was = member.stored();
         member.issue(replica, update, label)?;
-        let counts = match stored {
-            Some(at) => at,
+        let stored = match was {
+            Some(there) => there,
             None => {
-                self.stored.extend_from_slice(member.counts())?;
-                end
+                self.stored.extend_from_slice(&member.counts()[..width])?;
+                Stored {
+                    at,
+                    width: width as u8,
+                }
             }
         };
-        member.store_at(Some(counts));
+        member.store_at(Some(stored));
         self.rows.push_reserved(Row {
             replica,
             is_update: update,
+            width: stored.width,
             place,
-            counts,
+            counts: stored.at,
         });
-        Ok(stored.is_none())
+        Ok(was.is_none())
     }
 
     /// Has the replica the label?
@@ -111,7 +122,7 @@ impl Tracked {
     {
         let row = self.rows[label as usize];
         let start = row.counts as usize;
-        let counts = &self.stored.as_slice()[start..start + self.replicas.len()];
+        let counts = &self.stored.as_slice()[start..start + row.width as usize];
         Seen::new(self.rows.as_slice(), row.replica, row.place, counts)
     }
 
@@ -153,7 +164,8 @@ impl Tracked {
             return false;
         }
         let before = self.replica(row.replica).issued()[had as usize - 1];
-        self.row(before).counts == row.counts
+        let earlier = self.row(before);
+        earlier.counts == row.counts && earlier.width == row.width
     }
 
     // The least label that this one sees and the replica has not.
@@ -166,10 +178,10 @@ impl Tracked {
         let seen = self.vis(label);
         let had = self.replica(replica).counts();
         let mut least: Option<u32> = None;
-        for (from, count) in had.iter().enumerate() {
-            let from = from as u8;
-            if *count < seen.count(from) {
-                let missing = self.replica(from).issued()[*count as usize];
+        for from in 0..self.replicas.len() as u8 {
+            let count = had[from as usize];
+            if count < seen.count(from) {
+                let missing = self.replica(from).issued()[count as usize];
                 least = Some(lesser(least, missing));
             }
         }
@@ -193,7 +205,7 @@ impl Tracked {
     }
 
     /// The label is delivered to the replica: answers whose it is, and where the receiver's counts were stored.
-    pub fn deliver(&mut self, replica: u8, label: u32) -> (u8, Option<u32>)
+    pub fn deliver(&mut self, replica: u8, label: u32) -> (u8, Option<Stored>)
         requires kept { TrackedKept self.old }
         requires replica { replica < replicas_in self.old }
         requires label { label < labels_in self.old }
@@ -226,7 +238,7 @@ impl Tracked {
     }
 
     /// Takes a delivery back.
-    pub fn take_delivery_back(&mut self, to: u8, from: u8, stored: Option<u32>)
+    pub fn take_delivery_back(&mut self, to: u8, from: u8, stored: Option<Stored>)
         requires kept { TrackedKept self.old }
         requires to { to < replicas_in self.old }
         requires from { from < replicas_in self.old }
@@ -236,6 +248,43 @@ impl Tracked {
         let member = &mut self.replicas[to as usize];
         member.take_delivery_back(from, stored);
     }
+
+    /// A replica joins, with all that the other one had.
+    pub fn join(&mut self, from: u8) -> Result<(), NoMemory>
+        requires { from < replicas_in self.old }
+        ensures joined { OnOk result (self.new ≡ with_joined self.old from) }
+        ensures same { OnErr result (self.new ≡ self.old) }
+    {
+        self.replicas.reserve(1)?;
+        let joined = self.replica(from).joined()?;
+        self.replicas.push_reserved(joined);
+        Ok(())
+    }
+
+    /// Takes the last replica back.
+    pub fn take_join_back(&mut self)
+        ensures { self.new ≡ without_joined self.old }
+    {
+        self.replicas.pop();
+    }
+}
+
+// So many replicas that had nothing, each with so many places for counts.
+fn new_replicas(alloc: Global, replicas: u8, places: u8) -> Result<Vec<Replica>, NoMemory>
+    ensures { IfOk result (λ made. made.items ≡ replicate replicas (new_replica places)) }
+{
+    let mut members = Vec::with_capacity(alloc, replicas as usize)?;
+    for _ in 0..replicas {
+        members.push(Replica::new(alloc, places)?)?;
+    }
+    Ok(members)
+}
+
+// So many places for counts are made at once, so that a join leaves those of the others.
+fn places_for(replicas: u8) -> u8
+    ensures { result ≡ places_for replicas }
+{
+    replicas.max(MOST_REPLICAS)
 }
 
 // The lesser of two labels, the first of which may be missing.

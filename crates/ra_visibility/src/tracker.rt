@@ -3,7 +3,8 @@ ghost use Rattle.std.specs.Prelude.{◌≡◌, ℕ, ◌+◌, ◌<◌, ◌≤◌,
 ghost use Rattle.ra_labels.specs.Visibility.{is_update, IsCausal};
 ghost use Rattle.ra_labels.specs.declared.kind.Kind.{Kind};
 ghost use Rattle.ra_labels.specs.declared.operation.Op.{Op};
-ghost use Rattle.ra_labels.specs.declared.command.Command.TheVariants.{Operate, Deliver as Delivered};
+ghost use Rattle.ra_labels.specs.declared.command.Command.TheVariants.{Operate, Deliver as Delivered, Join};
+ghost use Rattle.ra_labels.specs.declared.limits.TheConstants.{MOST_REPLICAS};
 ghost use Rattle.ra_labels.specs.declared.refusal.Refusal.{Refusal};
 ghost use Rattle.ra_labels.specs.Situation.{Past, nothing_yet, past_with};
 ghost use Rattle.ra_visibility.specs.declared.fault.DeliverFault.TheVariants.{Refused};
@@ -38,7 +39,7 @@ impl Model for Tracker {
 }
 
 impl Tracker {
-    /// A tracker of no records, at this many replicas. Costs a row of counts for each of them.
+    /// A tracker of no records, at this many replicas. Costs 64 counts for each of them, or as many as there are more.
     pub fn new(alloc: Global, replicas: u8) -> Result<Tracker, NoMemory>
         ensures stands { IfOk result (λ tracker.
             (kind : Kind) → IsVisibilityOf tracker.now (nothing_yet kind replicas)) }
@@ -121,12 +122,31 @@ impl Tracker {
         Ok(())
     }
 
-    /// Takes the last issue or delivery back. It takes no memory and always succeeds. Costs at most a row of counts.
+    /// A replica joins with all that the other one had: its number. It is out of memory where a growth is refused, and
+    /// then as before. Costs a copy of the other's counts.
+    pub fn join(&mut self, from: u8) -> Result<u8, NoMemory>
+        requires from { from < replicas_in self.old.now }
+        requires room { replicas_in self.old.now < MOST_REPLICAS }
+        ensures number { IfOk result (λ joined. joined ≡ replicas_in self.old.now) }
+        ensures stands { OnOk result ((past : Past) → IsVisibilityOf self.old.now past
+            → IsVisibilityOf self.new.now (past_with past (Join (replicas_in self.old.now) from))) }
+        ensures before { OnOk result (self.new.before ≡ Some self.old.now) }
+        ensures labels { labels_in self.new.now ≡ labels_in self.old.now }
+        ensures replicas { OnOk result (replicas_in self.new.now ≡ replicas_in self.old.now + 1) }
+        ensures same { OnErr result (self.new ≡ self.old) }
+    {
+        let joined = self.tracked.replicas();
+        self.tracked.join(from)?;
+        self.last = LastChange::Join;
+        Ok(joined)
+    }
+
+    /// Takes the last issue, delivery or join back. It takes no memory and always succeeds. Costs at most a row of
+    /// counts.
     pub fn withdraw(&mut self)
         requires { IsSome self.old.before }
         ensures now { Some self.new.now ≡ self.old.before }
         ensures before { self.new.before ≡ None }
-        ensures replicas { replicas_in self.new.now ≡ replicas_in self.old.now }
     {
         match self.last {
             LastChange::Nothing => {}
@@ -134,6 +154,7 @@ impl Tracker {
             LastChange::Delivery { to, from, stored } => {
                 self.tracked.take_delivery_back(to, from, stored);
             }
+            LastChange::Join => self.tracked.take_join_back(),
         }
         self.last = LastChange::Nothing;
     }

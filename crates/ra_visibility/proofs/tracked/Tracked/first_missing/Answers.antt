@@ -1,4 +1,4 @@
-use Rattle.std.proofs.Common.{◌≡◌, ℕ, ◌+◌, ◌<◌, List, length, get_or, Some, sym, ap, ◌∙◌, subst, arith}
+use Rattle.std.proofs.Common.{◌≡◌, ℕ, ◌+◌, ◌<◌, List, get_or, Some, sym, ap, ◌∙◌, subst, arith}
 use Rattle.ra_visibility.specs.Replica.{Replica}
 use Rattle.ra_visibility.specs.Seen.{Seen, count_in}
 use Rattle.ra_visibility.specs.Tracked.{replicas_in, replica_at, had_count, seen_count}
@@ -17,7 +17,7 @@ loop-from-preserved c =
     let had : c.counts-had.result.now ≡ (replica_at t to).counts = c.counts-had.ensures ∙ ap (λ (r : Replica). r.counts) c.replica.ensures in
     let count : get_or c.counts-had.result.now end 0 ≡ had_count t to end = ap (λ (xs : List ℕ). get_or xs end 0) had in
     let sees : c.count.result ≡ seen_count t label end = c.count.ensures ∙ ap (λ (s : Seen). count_in s end) c.vis-seen.ensures in
-    let known : end < replicas_in t = omega (arith, ap (λ (xs : List ℕ). length xs) had, c.requires.kept.had_length to c.requires.replica, c.loop-from-test.true) in
+    let known : end < replicas_in t = omega (arith, c.len-from-end.ensures, ap replicas_in c.self.view_is, c.loop-from-test.true) in
     elim c.if-count.branch [
       | then-count w ↦
           let issued : w.issued.result.now ≡ (replica_at t end).issued = w.issued.ensures ∙ ap (λ (r : Replica). r.issued) w.replica-then-count.ensures in
@@ -35,8 +35,7 @@ loop-from-preserved c =
 pub returns : goal.returns
 returns c =
     let t = c.args.self.now in
-    let had : c.counts-had.result.now ≡ (replica_at t c.args.replica).counts = c.counts-had.ensures ∙ ap (λ (r : Replica). r.counts) c.replica.ensures in
     let all : c.loop-from.from ≡ replicas_in t =
-    omega (arith, ap (λ (xs : List ℕ). length xs) had, c.requires.kept.had_length c.args.replica c.requires.replica, c.loop-from-test.false, c.loop-from.auto.from-end) in
+    omega (arith, c.len-from-end.ensures, ap replicas_in c.self.view_is, c.loop-from-test.false, c.loop-from.auto.from-end) in
     least_found t c.args.replica c.args.label c.loop-from.least c.requires.kept c.requires.label
     (subst (λ (k : ℕ). IsLeastOf t c.args.replica c.args.label k c.loop-from.least) all c.loop-from.invariant)

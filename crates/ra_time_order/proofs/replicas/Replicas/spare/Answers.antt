@@ -1,0 +1,20 @@
+use Rattle.std.proofs.Common.{ap, ◌∙◌}
+use Rattle.std.proofs.lemmas.Result.{on_ok_weaker}
+use Rattle.ra_time_order.specs.Replicas.{Replicas}
+use Rattle.ra_time_order.proofs.Members.{stamps_spared, kept_spared, room_for_all}
+use Rattle.ra_time_order.proofs.replicas.Replicas.spare.Goals as goal
+
+pub returns-clause-stamps : goal.returns-clause-stamps
+returns-clause-stamps c =
+    stamps_spared c.self.inside.members.items c.self.inside.newest c.spare.new.self c.index_mut.result.now c.index_mut.ensures.value c.spare.ensures.stamps
+    ∙ ap (λ (r : Replicas). r.stamps) c.self.view_is
+
+pub returns-clause-room : goal.returns-clause-room
+returns-clause-room c = on_ok_weaker c.spare.result
+    (room_for_all c.self.inside.members.items c.self.inside.newest c.self.inside.used c.self.invariant c.spare.new.self)
+    c.spare.ensures.room
+
+pub invariant_of-self : goal.invariant_of-self
+invariant_of-self c =
+    kept_spared c.self.inside.members.items c.self.inside.newest c.self.inside.used c.self.invariant c.spare.new.self
+    c.index_mut.result.now c.index_mut.ensures.value c.spare.ensures.stamps
