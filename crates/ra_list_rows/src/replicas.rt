@@ -69,6 +69,14 @@ fn remove_own(
     }
 }
 
+// A list for a replica that joins from the one of this list.
+fn copy_of(rt: &impl Abort, list: &ReplicaList) -> ReplicaList {
+    match list.copy() {
+        Ok(copy) => copy,
+        Err(_) => panic!(rt; "no memory"),
+    }
+}
+
 // Does the list have a state, and does that show just these elements?
 fn shows(list: &ReplicaList, elements: Vec<u32>) -> bool {
     match list.state() {
@@ -77,7 +85,7 @@ fn shows(list: &ReplicaList, elements: Vec<u32>) -> bool {
     }
 }
 
-// Each element stands behind the one before it, and each third is removed.
+// Each element stands behind the one before it, and each third is removed; and the list is copied.
 #[test]
 fn labels_of_its_own_lead_to_a_state(rt: HostRuntime) {
     let mut list = list_of(&rt, rt.alloc());
@@ -98,7 +106,7 @@ fn labels_of_its_own_lead_to_a_state(rt: HostRuntime) {
         }
     }
     assert_eq!(rt; list.greatest().clock, 1_999);
-    assert!(rt; shows(&list, shown));
+    assert!(rt; shows(&copy_of(&rt, &list), shown));
 }
 
 // Of two replicas the second has nothing of what the first one issued, and issues labels on an element of it.
@@ -126,4 +134,32 @@ fn labels_wait_for_what_is_not_there(rt: HostRuntime) {
         panic!(rt; "no memory");
     };
     assert!(rt; shows(&first, shown));
+}
+
+// A replica joins from one that has a label that waits: that one waits at the new one too, whose own labels leave the
+// other one as it was.
+#[test]
+fn those_that_wait_wait_at_a_replica_that_joins(rt: HostRuntime) {
+    let mut list = list_of(&rt, rt.alloc());
+    let mut all = all_of(&rt, rt.alloc());
+    let stamp = Stamp {
+        clock: 1,
+        replica: 0,
+    };
+    assert!(rt; insert(&mut all, 10, stamp, ROOT) == Ok(true));
+    let later = Stamp {
+        clock: 2,
+        replica: 1,
+    };
+    assert_eq!(rt; put(&rt, &mut list, &mut all, 1, 20, later, 1), 0);
+    let mut copy = copy_of(&rt, &list);
+    assert!(rt; copy.state().is_none());
+    let own = Stamp {
+        clock: 3,
+        replica: 2,
+    };
+    assert_eq!(rt; put(&rt, &mut copy, &mut all, 2, 30, own, ROOT), 1);
+    assert!(rt; copy.state().is_none());
+    assert_eq!(rt; copy.greatest(), own);
+    assert_eq!(rt; list.greatest(), later);
 }

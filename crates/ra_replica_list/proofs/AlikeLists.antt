@@ -4,12 +4,13 @@ use Rattle.std.specs.Prelude.{Contains}
 use Rattle.std.proofs.lemmas.Bool.{cases_eq}
 use Rattle.ra_labels.specs.declared.kind.Kind.TheVariants.{Rga}
 use Rattle.ra_labels.specs.declared.label.Stamp.{Stamp}
-use Rattle.ra_labels.specs.declared.command.Command.TheVariants.{Deliver}
+use Rattle.ra_labels.specs.declared.command.Command.TheVariants.{Deliver, Join}
 use Rattle.ra_labels.specs.Records.{Records}
 use Rattle.ra_labels.specs.Specification.{State, state_after}
 use Rattle.ra_labels.specs.Laws.{NoneTwice}
-use Rattle.ra_labels.specs.Waiting.{is_there}
-use Rattle.ra_laws.proofs.TheLaws.{settled_labels_stay_settled-delivery, settled_labels_stay_settled-alike, a_later_command_leaves_the_updates_that_pass-delivery}
+use Rattle.ra_labels.specs.Insertion.{updates_passing}
+use Rattle.ra_labels.specs.Waiting.{is_there, IsSettled}
+use Rattle.ra_laws.proofs.TheLaws.{settled_labels_stay_settled-delivery, settled_labels_stay_settled-join, settled_labels_stay_settled-alike, a_later_command_leaves_the_updates_that_pass-delivery, a_later_command_leaves_the_updates_that_pass-join}
 use Rattle.ra_element_list.specs.ElementList.{Arrival}
 use Rattle.ra_replica_list.specs.declared.deed.Deed.{Deed}
 use Rattle.ra_replica_list.specs.Waiting.{labels_under}
@@ -60,24 +61,36 @@ module _ {arrivals : List Arrival} {deeds : List (Option Deed)} {records : Recor
     };
   }
 
-  -- a delivery leaves what is kept of the same labels
+  -- later records in which the same labels are settled, and make the same updates, leave what is kept of these labels
+  kept_left : {state : State} {marks : List Bool} {waiting : List (ℕ × List ℕ)} {had settled : ℕ → Bool} (now : Records) → IsSettled now had settled → updates_passing Rga now settled ≡ updates_passing Rga records settled
+      → IsListWith state marks waiting arrivals deeds records had settled → IsListWith state marks waiting arrivals deeds now had settled
+  kept_left now settles same kept = record {
+    settles = settles;
+    after = ap (state_after Rga) same ∙ kept.after;
+    there = record {
+      there = λ number known. kept.there.there number known ∙ ap (is_there (element_at arrivals number)) (sym same);
+      others = kept.there.others;
+    };
+    waiting_labels = record {
+      waits = kept.waiting_labels.waits;
+      only = kept.waiting_labels.only;
+      once = kept.waiting_labels.once;
+    };
+  }
+
+  -- so does a delivery, and so does a replica that joins
   pub kept_delivered : {state : State} {marks : List Bool} {waiting : List (ℕ × List ℕ)} {had settled : ℕ → Bool} (to m : ℕ) → IsListWith state marks waiting arrivals deeds records had settled
       → IsListWith state marks waiting arrivals deeds (Deliver to m ∷ records) had settled
   kept_delivered {had = had} {settled = settled} to m kept =
-      let same = a_later_command_leaves_the_updates_that_pass-delivery Rga records to m settled in
-      record {
-        settles = settled_labels_stay_settled-delivery records to m had settled kept.settles;
-        after = ap (state_after Rga) same ∙ kept.after;
-        there = record {
-          there = λ number known. kept.there.there number known ∙ ap (is_there (element_at arrivals number)) (sym same);
-          others = kept.there.others;
-        };
-        waiting_labels = record {
-          waits = kept.waiting_labels.waits;
-          only = kept.waiting_labels.only;
-          once = kept.waiting_labels.once;
-        };
-      }
+      kept_left (Deliver to m ∷ records) (settled_labels_stay_settled-delivery records to m had settled kept.settles) (a_later_command_leaves_the_updates_that_pass-delivery Rga records to m settled) kept
+
+  pub kept_joined : {state : State} {marks : List Bool} {waiting : List (ℕ × List ℕ)} {had settled : ℕ → Bool} (joined from : ℕ) → IsListWith state marks waiting arrivals deeds records had settled
+      → IsListWith state marks waiting arrivals deeds (Join joined from ∷ records) had settled
+  kept_joined {had = had} {settled = settled} joined from kept =
+      kept_left (Join joined from ∷ records) (settled_labels_stay_settled-join records joined from had settled kept.settles) (a_later_command_leaves_the_updates_that_pass-join Rga records joined from settled) kept
+
+pub greatest_joined : {records : Records} {greatest : Stamp} {had : ℕ → Bool} (joined from : ℕ) → IsGreatestOf records had greatest → IsGreatestOf (Join joined from ∷ records) had greatest
+greatest_joined joined from top = record { above = top.above; own = top.own }
 
 pub greatest_delivered : {records : Records} {greatest : Stamp} {had : ℕ → Bool} (to m : ℕ) → IsGreatestOf records had greatest → IsGreatestOf (Deliver to m ∷ records) had greatest
 greatest_delivered to m top = record { above = top.above; own = top.own }

@@ -2,6 +2,7 @@
 use Rattle.std.proofs.Common.{◌≡◌, ◌≢◌, ℕ, cond, List, [], ◌∷◌, ◌++◌, length, Option, Some, None, refl, sym, ap, ◌∙◌, subst, inl, inr}
 use Rattle.std.specs.Prelude.{nat_eq, unwrap_or, option_map, Vec, Contains}
 use Rattle.std.specs.Map.{lookup}
+use Rattle.std.specs.List.{AllZip}
 use Rattle.std.specs.declared.alloc.Global.{Global}
 use Rattle.std.proofs.lemmas.Bool.{cases_eq, eq-eqb, ne_eqb, cond-true, cond-false}
 use Rattle.std.proofs.lemmas.Option.{none-some, same_Some}
@@ -77,3 +78,14 @@ some_waits ((number, labels) ∷ entries) some filled =
 pub put_back : (entries same next : Entries) (number : ℕ) (labels : Vec ℕ Global) → same ≡ entries → (q : ℕ) → lookup (nat_eq q) next ≡ cond (nat_eq number q) (Some labels) (lookup (nat_eq q) same)
     → lookup (nat_eq q) next ≡ cond (nat_eq number q) (Some labels) (lookup (nat_eq q) entries)
 put_back entries same next number labels is q updates = updates ∙ ap (λ (es : Entries). cond (nat_eq number q) (Some labels) (lookup (nat_eq q) es)) is
+
+-- clones of entries say the same
+module _ (C : ℕ → ℕ → Type 0) (D : Vec ℕ Global → Vec ℕ Global → Type 0) (same_number : (x y : ℕ) → C x y → y ≡ x) (same_labels : (v w : Vec ℕ Global) → D v w → w.items ≡ v.items) where
+  pub cloned : (entries next : Entries) → AllZip (λ p q. C p.0 q.0 × D p.1 q.1) entries next → waiting_in next ≡ waiting_in entries
+  cloned [] [] each = refl
+  cloned [] (q ∷ next) each = absurd each
+  cloned (p ∷ entries) [] each = absurd each
+  cloned (p ∷ entries) (q ∷ next) ((number, labels), each) =
+      ap (λ (k : ℕ). (k, q.1.items) ∷ waiting_in next) (same_number p.0 q.0 number)
+      ∙ ap (λ (ls : List ℕ). (p.0, ls) ∷ waiting_in next) (same_labels p.1 q.1 labels)
+      ∙ ap (λ (es : List (ℕ × List ℕ)). (p.0, p.1.items) ∷ es) (cloned entries next each)

@@ -1,23 +1,25 @@
--- What later labels and deliveries leave of the list of a replica.
-use Rattle.std.proofs.Common.{◌≡◌, ℕ, Bool, true, false, List, [], ◌∷◌, ◌++◌, length, Option, Some, None, refl}
+-- What later labels, deliveries and joins leave of the list of a replica.
+use Rattle.std.proofs.Common.{◌≡◌, ℕ, Bool, true, false, List, [], ◌∷◌, ◌++◌, length, Option, Some, None, refl, sym}
 use Rattle.ra_labels.specs.declared.kind.Kind.TheVariants.{Rga}
 use Rattle.ra_labels.specs.declared.operation.Op.{Op}
 use Rattle.ra_labels.specs.declared.operation.Update.TheVariants.{After}
-use Rattle.ra_labels.specs.declared.command.Command.TheVariants.{Operate, Deliver}
-use Rattle.ra_labels.specs.Records.{Records, label_count}
+use Rattle.ra_labels.specs.declared.command.Command.TheVariants.{Operate, Deliver, Join}
+use Rattle.ra_labels.specs.Records.{Records, label_count, replica_count}
 use Rattle.ra_labels.specs.Visibility.{is_update, had}
 use Rattle.ra_labels.specs.Linearization.{updates_admitted}
 use Rattle.ra_labels.specs.NamedOrder.{named_sequence}
+use Rattle.ra_labels.specs.Laws.{NoneHadBeyond}
 use Rattle.ra_labels.specs.Insertion.{Makes}
+use Rattle.ra_laws.proofs.TheLaws.{a_new_replica_had_what_the_other_had-labels}
 use Rattle.ra_element_list.specs.ElementList.{Arrival, ElementList}
 use Rattle.ra_replica_list.specs.declared.deed.Deed.{Deed}
 use Rattle.ra_replica_list.specs.declared.deed.Deed.TheVariants.{PutsIn, Removes}
 use Rattle.ra_replica_list.specs.Deeds.{element_at, AreElementsOf}
 use Rattle.ra_replica_list.specs.ReplicaList.{ReplicaList, IsListOf, IsListBy}
 use Rattle.ra_replica_list.proofs.Deeds.{deeds_stand}
-use Rattle.ra_replica_list.proofs.AlikeLists.{kept_alike, kept_delivered, greatest_alike, greatest_delivered}
+use Rattle.ra_replica_list.proofs.AlikeLists.{kept_alike, kept_delivered, kept_joined, greatest_alike, greatest_delivered, greatest_joined}
 use Rattle.ra_replica_list.proofs.TakenLabels.{not_settled}
-use Rattle.ra_replica_list.proofs.NewMarks.{not_had, had_by_other, had_no_query, had_to_other, none_longer, kept_known, greatest_known}
+use Rattle.ra_replica_list.proofs.NewMarks.{not_had, had_by_other, had_no_query, had_to_other, had_by_new, none_longer, kept_known, greatest_known}
 use Rattle.ra_replica_list.proofs.NewDeeds.{needed_same, first_same, longer_by_one}
 
 -- with a label that was not had: it puts in an element, or does something else
@@ -67,3 +69,25 @@ delivery-stays list all deeds records replica to n stand held other =
       kept = kept_alike (had (Deliver to n ∷ records) replica) same (kept_delivered to n held.kept);
       greatest = greatest_alike (had (Deliver to n ∷ records) replica) same (greatest_delivered to n held.greatest);
     }
+
+-- a replica that joins leaves the list of what the same labels were had
+joined_alike : (list : ReplicaList) (arrivals : List Arrival) (deeds : List (Option Deed)) (records : Records) (joined from : ℕ) (was now : ℕ → Bool) → ((n : ℕ) → was n ≡ now n) → IsListBy list arrivals deeds records was
+    → IsListBy list arrivals deeds (Join joined from ∷ records) now
+joined_alike list arrivals deeds records joined from was now same held = record {
+  settled = held.settled;
+  kept = kept_alike now same (kept_joined joined from held.kept);
+  greatest = greatest_alike now same (greatest_joined joined from held.greatest);
+}
+
+pub join-stays : (list : ReplicaList) (arrivals : List Arrival) (deeds : List (Option Deed)) (records : Records) (replica joined from : ℕ) → IsListOf list arrivals deeds records replica → ¬ (joined ≡ replica)
+    → IsListOf list arrivals deeds (Join joined from ∷ records) replica
+join-stays list arrivals deeds records replica joined from held other =
+    joined_alike list arrivals deeds records joined from (had records replica) (had (Join joined from ∷ records) replica) (had_by_new records joined from replica other) held
+
+-- and it has the list of the other one
+pub join-copied : (list : ReplicaList) (arrivals : List Arrival) (deeds : List (Option Deed)) (first : ℕ) (records : Records) (from : ℕ) → NoneHadBeyond first records → IsListOf list arrivals deeds records from
+    → let joined = replica_count first records in IsListOf list arrivals deeds (Join joined from ∷ records) joined
+join-copied list arrivals deeds first records from beyond held =
+    let joined = replica_count first records in
+    joined_alike list arrivals deeds records joined from (had records from) (had (Join joined from ∷ records) joined)
+    (λ n. sym (a_new_replica_had_what_the_other_had-labels first records from n beyond)) held

@@ -7,7 +7,7 @@ use Rattle.ra_labels.specs.declared.kind.Kind.TheVariants.{Rga}
 use Rattle.ra_labels.specs.declared.operation.Op.{Op}
 use Rattle.ra_labels.specs.declared.label.Stamp.{Stamp}
 use Rattle.ra_labels.specs.declared.label.Label.{Label}
-use Rattle.ra_labels.specs.declared.command.Command.TheVariants.{Operate, Deliver}
+use Rattle.ra_labels.specs.declared.command.Command.TheVariants.{Operate, Deliver, Join}
 use Rattle.ra_labels.specs.Records.{Records, label_count, labels_of, next_label}
 use Rattle.ra_labels.specs.Visibility.{is_update, is_update_at, had}
 use Rattle.ra_labels.specs.Specification.{State, state_after}
@@ -44,6 +44,10 @@ had_no_query records by op clock replica query n = sym (or_same (by == replica &
 pub had_to_other : (records : Records) (to m replica : ℕ) → ¬ (to ≡ replica) → (n : ℕ) → had records replica n ≡ had (Deliver to m ∷ records) replica n
 had_to_other records to m replica other n = sym (or_same (to == replica && n == m && is_update_at records n) (had records replica n)
     (ap (λ b. b && n == m && is_update_at records n) (ne_eqb to replica other)))
+
+pub had_by_new : (records : Records) (joined from replica : ℕ) → ¬ (joined ≡ replica) → (n : ℕ) → had records replica n ≡ had (Join joined from ∷ records) replica n
+had_by_new records joined from replica other n = sym (or_same (joined == replica && had records from n) (had records replica n)
+    (ap (λ b. b && had records from n) (ne_eqb joined replica other)))
 
 -- what each label but the next one does
 pub older_deed : (deeds : List (Option Deed)) (d : Option Deed) (count n : ℕ) (deed : Deed) → length deeds ≡ count → ¬ (n ≡ count) → deed_at (deeds ++ d ∷ []) n ≡ Some deed → deed_at deeds n ≡ Some deed

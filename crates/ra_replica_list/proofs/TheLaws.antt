@@ -12,7 +12,7 @@ use Rattle.ra_replica_list.specs.declared.deed.Deed.TheVariants.{Removes}
 use Rattle.ra_replica_list.specs.Deeds.{element_at, AreElementsOf}
 use Rattle.ra_replica_list.specs.ReplicaList.{ReplicaList, IsListOf}
 use Rattle.ra_replica_list.proofs.LaterRecords.{removal-stays}
-pub use Rattle.ra_replica_list.proofs.LaterRecords.{insertion-stays as a_list_stays_with_what_others_do-insertion, query-stays as a_list_stays_with_what_others_do-query, delivery-stays as a_list_stays_with_what_others_do-delivery}
+pub use Rattle.ra_replica_list.proofs.LaterRecords.{insertion-stays as a_list_stays_with_what_others_do-insertion, query-stays as a_list_stays_with_what_others_do-query, delivery-stays as a_list_stays_with_what_others_do-delivery, join-stays as a_list_stays_with_what_others_do-join, join-copied as a_new_replica_has_the_list_of_the_other}
 pub use Rattle.ra_replica_list.proofs.Ranks.{greatest-ranks as the_greatest_stamp_ranks_the_next_label}
 
 pub a_list_stays_with_what_others_do-removal : (list : ReplicaList) (all : ElementList) (deeds : List (Option Deed)) (records : Records) (replica by number : ℕ) (op : Op)

@@ -1,14 +1,15 @@
-//! What later labels and deliveries leave of the list of a replica, each law the clause of a function that does
+//! What later labels, deliveries and joins leave of the list of a replica, each law the clause of a function that does
 //! nothing.
 ghost use Rattle.std.specs.Prelude.{◌≡◌, ℕ, true, false, List, ◌++◌, ◌∷◌, [], length, Option, Some, None};
 ghost use Rattle.ra_labels.specs.declared.kind.Kind.TheVariants.{Rga};
 ghost use Rattle.ra_labels.specs.declared.operation.Op.{Op};
 ghost use Rattle.ra_labels.specs.declared.operation.Update.TheVariants.{After, RgaRemove};
-ghost use Rattle.ra_labels.specs.declared.command.Command.TheVariants.{Operate, Deliver};
-ghost use Rattle.ra_labels.specs.Records.{Records, next_label};
+ghost use Rattle.ra_labels.specs.declared.command.Command.TheVariants.{Operate, Deliver, Join};
+ghost use Rattle.ra_labels.specs.Records.{Records, replica_count, next_label};
 ghost use Rattle.ra_labels.specs.Visibility.{is_update};
 ghost use Rattle.ra_labels.specs.Linearization.{updates_admitted};
 ghost use Rattle.ra_labels.specs.NamedOrder.{named_sequence, timestamp_of};
+ghost use Rattle.ra_labels.specs.Laws.{NoneHadBeyond};
 ghost use Rattle.ra_labels.specs.Insertion.{Makes};
 ghost use Rattle.ra_element_list.specs.ElementList.{Arrival, ElementList};
 ghost use Rattle.ra_replica_list.specs.declared.deed.Deed.{Deed};
@@ -17,7 +18,7 @@ ghost use Rattle.ra_replica_list.specs.Deeds.{element_at, AreElementsOf};
 ghost use Rattle.ra_replica_list.specs.ReplicaList.{ReplicaList, IsListOf};
 
 /// A label of another replica leaves the list of a replica, whatever it does, and so does a label of its own that does
-/// nothing; and so does a delivery to another one.
+/// nothing; and so does a delivery to another one, and another one that joins.
 pub fn a_list_stays_with_what_others_do()
     ensures insertion { (list : ReplicaList) (all : ElementList) (new : Arrival) (deeds : List (Option Deed))
         (records : Records) (replica by : ℕ) (op : Op) (clock : Option ℕ) → AreElementsOf all deeds records
@@ -38,6 +39,17 @@ pub fn a_list_stays_with_what_others_do()
     ensures delivery { (list : ReplicaList) (all : ElementList) (deeds : List (Option Deed)) (records : Records)
         (replica to n : ℕ) → AreElementsOf all deeds records → IsListOf list all.arrivals deeds records replica
         → ¬ (to ≡ replica) → IsListOf list all.arrivals deeds (Deliver to n ∷ records) replica }
+    ensures join { (list : ReplicaList) (arrivals : List Arrival) (deeds : List (Option Deed)) (records : Records)
+        (replica joined from : ℕ) → IsListOf list arrivals deeds records replica → ¬ (joined ≡ replica)
+        → IsListOf list arrivals deeds (Join joined from ∷ records) replica }
+{}
+
+/// A list of the replica from which a new one joins is one of the new replica.
+pub fn a_new_replica_has_the_list_of_the_other()
+    ensures { (list : ReplicaList) (arrivals : List Arrival) (deeds : List (Option Deed)) (first : ℕ)
+        (records : Records) (from : ℕ) → NoneHadBeyond first records → IsListOf list arrivals deeds records from
+        → let joined = replica_count first records in
+        IsListOf list arrivals deeds (Join joined from ∷ records) joined }
 {}
 
 /// A label with no stamp of its own ranks by the greatest stamp of the labels that its replica had.

@@ -1,5 +1,5 @@
 //! Which elements are in the list of a replica, by their numbers.
-ghost use Rattle.std.specs.Prelude.{◌≡◌, ◌==◌, ◌||◌, ◌<◌, ℕ, true, [], set, vec_len, OnOk, OnErr};
+ghost use Rattle.std.specs.Prelude.{◌≡◌, ◌==◌, ◌||◌, ◌<◌, ℕ, true, [], set, vec_len, IfOk, OnOk, OnErr};
 ghost use Rattle.ra_element_list.specs.ElementList.{is_marked};
 ghost use Rattle.ra_replica_list.specs.Marks.{was_marked};
 
@@ -21,6 +21,15 @@ impl Marks {
         Marks {
             marks: Vec::new(alloc),
         }
+    }
+
+    /// The same numbers, in a set of its own. Costs a step for each number up to the greatest that there is room for.
+    pub fn copy(&self) -> Result<Marks, NoMemory>
+        ensures { IfOk result (λ copy. copy.marks.items ≡ self.now.marks.items) }
+    {
+        Ok(Marks {
+            marks: self.marks.clone()?,
+        })
     }
 
     /// Is the number in?

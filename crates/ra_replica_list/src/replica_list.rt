@@ -75,6 +75,20 @@ impl ReplicaList {
         })
     }
 
+    /// An equal list of its own: those that wait, wait there too. Costs as much as the state is large and labels wait,
+    /// and a mark for each element that came before the last one that is there.
+    pub fn copy(&self) -> Result<ReplicaList, NoMemory>
+        ensures { IfOk result (λ copy. copy ≡ self.now) }
+    {
+        Ok(ReplicaList {
+            alloc: self.alloc,
+            state: self.state.copy()?,
+            there: self.there.copy()?,
+            greatest: self.greatest,
+            waiting: self.waiting.copy()?,
+        })
+    }
+
     /// The state after all updates that the replica had; none where these are not admitted, since one waits.
     pub fn state(&self) -> Option<&State>
         ensures { (all : ElementList) (deeds : List (Option Deed)) (records : Records) (replica : ℕ)

@@ -1,5 +1,5 @@
 //! The labels that wait at a replica, each for an element that is not there yet.
-ghost use Rattle.std.specs.Prelude.{◌≡◌, true, false, ℕ, ◌++◌, ◌∷◌, [], ◌≢◌, Contains, OnOk, OnErr};
+ghost use Rattle.std.specs.Prelude.{◌≡◌, true, false, ℕ, ◌++◌, ◌∷◌, [], ◌≢◌, Contains, IfOk, OnOk, OnErr};
 ghost use Rattle.ra_replica_list.specs.Waiting.{labels_under};
 
 use ra_labels::NoMemory;
@@ -36,6 +36,16 @@ impl Waiting {
             alloc,
             under: HashMap::new(alloc),
         }
+    }
+
+    /// The same labels, which wait for the same elements. Costs a step for each of them.
+    pub fn copy(&self) -> Result<Waiting, NoMemory>
+        ensures { IfOk result (λ copy. copy ≡ self.now) }
+    {
+        Ok(Waiting {
+            alloc: self.alloc,
+            under: self.under.clone()?,
+        })
     }
 
     /// Does none wait?

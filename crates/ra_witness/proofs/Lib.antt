@@ -22,3 +22,4 @@ pub mod RgaCauses
 pub mod NewLabel
 pub mod NewElement
 pub mod TakenElements
+pub mod Joins

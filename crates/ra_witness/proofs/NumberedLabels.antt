@@ -13,7 +13,7 @@ use Rattle.ra_labels.specs.declared.kind.Kind.{Kind}
 use Rattle.ra_labels.specs.declared.operation.Op.{Op}
 use Rattle.ra_labels.specs.declared.operation.Update.{Update}
 use Rattle.ra_labels.specs.declared.label.Label.{Label}
-use Rattle.ra_labels.specs.declared.command.Command.TheVariants.{Operate, Deliver, Verdict}
+use Rattle.ra_labels.specs.declared.command.Command.TheVariants.{Operate, Deliver, Join, Verdict}
 use Rattle.ra_labels.specs.Records.{Records, label_count, label_at, labels_of, next_label}
 use Rattle.ra_labels.specs.Visibility.{is_update, is_update_at}
 use Rattle.ra_labels.specs.Rewriting.{Half, Act, Does, Asks, acts_of, update_of}
@@ -119,6 +119,8 @@ update_found (Operate by op clock ∷ before) n is =
     ]
 update_found (Deliver to label ∷ before) n is = let (l, at) = update_found before n is in
     (l, record { there = at.there; number = at.number; update = at.update; found = at.found })
+update_found (Join joined from ∷ before) n is = let (l, at) = update_found before n is in
+    (l, record { there = at.there; number = at.number; update = at.update; found = at.found })
 update_found (Verdict ∷ before) n is = let (l, at) = update_found before n is in
     (l, record { there = at.there; number = at.number; update = at.update; found = at.found })
 
@@ -141,6 +143,7 @@ found_in_turn (Operate by op clock ∷ before) rest =
     ap (slice_get (older ++ label ∷ rest)) (sym (counted_in_turn before)) ∙ get_at_seam older label rest in
     subst (λ (ls : List Label). AllByRecursion (IsFoundIn ls) (label ∷ labels_of before)) (sym list) (head, found_in_turn before (label ∷ rest))
 found_in_turn (Deliver to label ∷ before) rest = found_in_turn before rest
+found_in_turn (Join joined from ∷ before) rest = found_in_turn before rest
 found_in_turn (Verdict ∷ before) rest = found_in_turn before rest
 
 -- each label of the named order is found at its number

@@ -1,4 +1,4 @@
--- What a witness stands for with one label or delivery more.
+-- What a witness stands for with one label, delivery or replica more.
 use Rattle.std.proofs.Common.{◌≡◌, ℕ, ◌<◌, Bool, true, false, cond, List, ◌∷◌, length, Option, Some, None, refl, sym, ap, ◌∙◌}
 use Rattle.std.specs.Prelude.{◌&&◌, ◌||◌, not, is_some, option_map}
 use Rattle.std.specs.Option.{option_or, option_to_list}
@@ -8,10 +8,11 @@ use Rattle.ra_labels.specs.declared.kind.Kind.{Kind}
 use Rattle.ra_labels.specs.declared.operation.Op.{Op}
 use Rattle.ra_labels.specs.declared.label.Label.{Label}
 use Rattle.ra_labels.specs.declared.command.Command.{Command}
-use Rattle.ra_labels.specs.declared.command.Command.TheVariants.{Deliver}
+use Rattle.ra_labels.specs.declared.command.Command.TheVariants.{Deliver, Join}
 use Rattle.ra_labels.specs.declared.refusal.Refusal.{Refusal}
 use Rattle.ra_labels.specs.declared.reply.Cause.TheVariants as cause
 use Rattle.ra_labels.specs.declared.operation.Update.{Update}
+use Rattle.ra_labels.specs.declared.limits.TheConstants.{MOST_REPLICAS}
 use Rattle.ra_labels.specs.Records.{Records, label_count, labels_of}
 use Rattle.ra_labels.specs.Rewriting.{Half, Act, acts_of}
 use Rattle.ra_labels.specs.Linearization.{extends_visibility, updates_admitted}
@@ -19,8 +20,8 @@ use Rattle.ra_labels.specs.NamedOrder.{named_labels, named_sequence}
 use Rattle.ra_labels.specs.Fault.{fault_of, fault_at, cause_of}
 use Rattle.ra_labels.specs.Answer.{refusal_of, records_after, with_accepted}
 use Rattle.ra_labels.proofs.Counted.{labels_counted}
-use Rattle.ra_labels.specs.Situation.{Past, past_with, IsAccepted, Next, operate, label_of}
-use Rattle.ra_laws.proofs.TheLaws.{no_fault_holds, named_labels_are_sorted-same, operations_are_accepted_where_nothing_is_taken, stamps_are_given_once-one, identifiers_are_given_once-one, accepted_labels_fit-one, delivered_where_causal, no_cause_where_records_hold}
+use Rattle.ra_labels.specs.Situation.{Past, replicas_of, past_with, IsAccepted, Next, operate, label_of}
+use Rattle.ra_laws.proofs.TheLaws.{no_fault_holds, named_labels_are_sorted-same, operations_are_accepted_where_nothing_is_taken, stamps_are_given_once-one, identifiers_are_given_once-one, accepted_labels_fit-one, delivered_where_causal, joins_are_accepted_with_the_next_number, none_had_before_it_joined-one, no_cause_where_records_hold}
 use Rattle.ra_visibility.specs.declared.order.Place.{Place}
 use Rattle.ra_visibility.specs.declared.limits.TheConstants.{MOST_LABELS}
 use Rattle.ra_visibility.specs.Seen.{Seen}
@@ -28,7 +29,7 @@ use Rattle.ra_visibility.specs.Order.{IsPlaceOf, numbers_in, ComesNext}
 use Rattle.ra_visibility.proofs.TheLaws.{visibility_is_extended_where_a_label_fits}
 use Rattle.ra_witness.specs.declared.witness.Witness.{Witness}
 use Rattle.ra_witness.specs.Labels.{updates_in, first_of, update_in}
-use Rattle.ra_witness.specs.Offered.{IsOffered, IsTold}
+use Rattle.ra_witness.specs.Offered.{IsOffered, IsTold, IsJoinedFrom}
 use Rattle.ra_witness.specs.Effects.{AreEffectsOf}
 use Rattle.ra_witness.specs.Witness.{IsWitnessOf}
 
@@ -94,6 +95,13 @@ no_fault_more kind records next none because =
     ap (λ o. option_or o (option_map (fault_at (label_count records)) (cause_of kind (operate next ∷ records)))) none
     ∙ ap (option_map (fault_at (label_count records))) because
 
+-- a join that is not refused: the replica is there from which it is, and fewer than may be there are
+pub may_join : (past : Past) (from : ℕ) → IsAccepted past (Join (replicas_of past) from)
+    → (from < replicas_of past) × (replicas_of past < MOST_REPLICAS)
+may_join past from accepted =
+    let known = (joins_are_accepted_with_the_next_number past.first past.records (replicas_of past) from).0 accepted in
+    (known.0, known.2)
+
 module _ {O : Type 0} (stands_for : O → Past → Type 0) where
   -- the label that comes next is offered where it fits
   pub is_offered : (w : Witness O) (past : Past) (next : Next) (label : Label) (seen : Seen) (place : Place)
@@ -140,6 +148,7 @@ module _ {O : Type 0} (stands_for : O → Past → Type 0) where
         fits = rw after at (accepted_labels_fit-one past.kind past.first past.records (operate next) stands.fits);
         stamps = rw after at (stamps_are_given_once-one past.kind past.first past.records (operate next) stands.stamps);
         identifiers = rw after at (identifiers_are_given_once-one past.kind past.first past.records (operate next) stands.identifiers);
+        beyond = rw after at (none_had_before_it_joined-one past.kind past.first past.records (operate next) stands.beyond);
       }
 
   -- the witness with the delivery
@@ -148,6 +157,7 @@ module _ {O : Type 0} (stands_for : O → Past → Type 0) where
       → AreEffectsOf new.kept (past_with past (Deliver to n)) → IsWitnessOf stands_for new (past_with past (Deliver to n))
   delivered old new past to n stands accepted order kept =
       let told = is_told old past to n stands accepted in
+      let after = accepted_after past (Deliver to n) stands.none accepted in
       record {
         order = order;
         kept = kept;
@@ -156,6 +166,30 @@ module _ {O : Type 0} (stands_for : O → Past → Type 0) where
         fits = stands.fits;
         stamps = stands.stamps;
         identifiers = stands.identifiers;
+        beyond = rw after at (none_had_before_it_joined-one past.kind past.first past.records (Deliver to n) stands.beyond);
+      }
+
+  -- and a join that is not refused is from a replica that is there
+  pub is_joined : (w : Witness O) (past : Past) (from : ℕ) → IsWitnessOf stands_for w past
+      → IsAccepted past (Join (replicas_of past) from) → IsJoinedFrom past from
+  is_joined w past from stands accepted = record { there = (may_join past from accepted).0; beyond = stands.beyond }
+
+  -- the witness with the replica that joins
+  pub joined : (old new : Witness O) (past : Past) (from : ℕ) → IsWitnessOf stands_for old past
+      → let join = Join (replicas_of past) from in IsAccepted past join → stands_for new.order (past_with past join)
+      → AreEffectsOf new.kept (past_with past join) → IsWitnessOf stands_for new (past_with past join)
+  joined old new past from stands accepted order kept =
+      let join = Join (replicas_of past) from in
+      let after = accepted_after past join stands.none accepted in
+      record {
+        order = order;
+        kept = kept;
+        causal = stands.causal;
+        none = stands.none;
+        fits = rw after at (accepted_labels_fit-one past.kind past.first past.records join stands.fits);
+        stamps = stands.stamps;
+        identifiers = stands.identifiers;
+        beyond = rw after at (none_had_before_it_joined-one past.kind past.first past.records join stands.beyond);
       }
 
   -- the witness as it was
@@ -169,4 +203,5 @@ module _ {O : Type 0} (stands_for : O → Past → Type 0) where
     fits = stands.fits;
     stamps = stands.stamps;
     identifiers = stands.identifiers;
+    beyond = stands.beyond;
   }

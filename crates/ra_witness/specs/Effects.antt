@@ -19,7 +19,7 @@ use Rattle.ra_witness.specs.Standing.{AreStatesOf}
 use Rattle.ra_witness.specs.Overriding.{updates_of, labels_in}
 use Rattle.ra_witness.specs.Overridden.{AreWritesOf, AreLastOf, AreBelow}
 use Rattle.ra_witness.specs.Rga.{IsRgaOf}
-use Rattle.ra_witness.specs.Offered.{IsOffered, IsTold}
+use Rattle.ra_witness.specs.Offered.{IsOffered, IsTold, IsJoinedFrom}
 
 -- of a counter or an OR-Set
 pub record IsCommutingOf (kept : commuting.Commuting) (past : Past) : Type 0 where
@@ -69,6 +69,12 @@ pub record MayTell (kept : Effects) (to n : ℕ) : Type 0 where
   pub past : Past
   pub stands : AreEffectsOf kept past
   pub told : IsTold past to n
+
+-- after some past of which this is kept the next replica joins from this one
+pub record MayShare (kept : Effects) (from : ℕ) : Type 0 where
+  pub past : Past
+  pub stands : AreEffectsOf kept past
+  pub joins : IsJoinedFrom past from
 
 -- after some past of which this is kept the label is offered, which does this
 pub record MayWrite (kept : overriding.Overriding) (label : Label) (update : Option Update) : Type 0 where

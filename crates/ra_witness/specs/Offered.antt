@@ -1,4 +1,4 @@
--- What is known of a label that is offered, and of one that is told.
+-- What is known of a label that is offered, of one that is told, and of a replica that joins.
 use Rattle.std.specs.Prelude.{◌≡◌, ℕ, ◌<◌, ◌∷◌, true, None}
 use Rattle.ra_labels.specs.declared.label.Label.{Label}
 use Rattle.ra_labels.specs.declared.command.Command.TheVariants.{Deliver}
@@ -8,7 +8,7 @@ use Rattle.ra_labels.specs.Linearization.{extends_visibility}
 use Rattle.ra_labels.specs.NamedOrder.{named_sequence}
 use Rattle.ra_labels.specs.Fault.{Holds}
 use Rattle.ra_labels.specs.Answer.{misfit_of}
-use Rattle.ra_labels.specs.Laws.{StampsAreOneLabels, IdentifiersAreOneLabels}
+use Rattle.ra_labels.specs.Laws.{NoneHadBeyond, StampsAreOneLabels, IdentifiersAreOneLabels}
 use Rattle.ra_labels.specs.Situation.{Past, replicas_of, Next, operate, label_of}
 use Rattle.ra_visibility.specs.declared.limits.TheConstants.{MOST_LABELS}
 
@@ -30,3 +30,8 @@ pub record IsTold (past : Past) (to n : ℕ) : Type 0 where
   pub causal : IsCausal (Deliver to n ∷ past.records)
   pub stamps : StampsAreOneLabels past.records
   pub identifiers : IdentifiersAreOneLabels past.records
+
+-- the replica is there from which the next one joins, and none had anything that is not there
+pub record IsJoinedFrom (past : Past) (from : ℕ) : Type 0 where
+  pub there : from < replicas_of past
+  pub beyond : NoneHadBeyond past.first past.records

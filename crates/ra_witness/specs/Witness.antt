@@ -1,12 +1,12 @@
 -- What contracts see of a witness, and when it is that of a past.
 use Rattle.std.specs.Prelude.{◌≡◌, ℕ, ◌<◌, None}
 use Rattle.ra_labels.specs.declared.label.Label.{Label}
-use Rattle.ra_labels.specs.declared.command.Command.TheVariants.{Deliver}
+use Rattle.ra_labels.specs.declared.command.Command.TheVariants.{Deliver, Join}
 use Rattle.ra_labels.specs.Records.{label_count}
 use Rattle.ra_labels.specs.Visibility.{IsCausal}
 use Rattle.ra_labels.specs.Fault.{fault_of}
-use Rattle.ra_labels.specs.Laws.{EachLabelFits, StampsAreOneLabels, IdentifiersAreOneLabels}
-use Rattle.ra_labels.specs.Situation.{Past, IsAccepted, Next}
+use Rattle.ra_labels.specs.Laws.{NoneHadBeyond, EachLabelFits, StampsAreOneLabels, IdentifiersAreOneLabels}
+use Rattle.ra_labels.specs.Situation.{Past, replicas_of, IsAccepted, Next}
 use Rattle.ra_visibility.specs.Order.{ComesNext}
 use Rattle.ra_visibility.specs.Seen.{Seen}
 use Rattle.ra_visibility.specs.declared.limits.TheConstants.{MOST_LABELS}
@@ -23,6 +23,8 @@ pub record IsWitnessOf {O : Type 0} (stands_for : O → Past → Type 0) (witnes
   pub fits : EachLabelFits past.kind past.first past.records
   pub stamps : StampsAreOneLabels past.records
   pub identifiers : IdentifiersAreOneLabels past.records
+  -- what is kept says nothing of replicas that are not there
+  pub beyond : NoneHadBeyond past.first past.records
 
 -- the label may be offered: it comes next after some past of few enough labels, of which the witness is that
 pub record MayOffer {O : Type 0} (stands_for : O → Past → Type 0) (witness : Witness O) (label : Label) (seen : Seen)
@@ -38,3 +40,9 @@ pub record MayDeliver {O : Type 0} (stands_for : O → Past → Type 0) (witness
   pub past : Past
   pub stands : IsWitnessOf stands_for witness past
   pub accepted : IsAccepted past (Deliver to n)
+
+-- the next replica may join from this one: that is not refused after some past of which the witness is that
+pub record MayJoin {O : Type 0} (stands_for : O → Past → Type 0) (witness : Witness O) (from : ℕ) : Type 0 where
+  pub past : Past
+  pub stands : IsWitnessOf stands_for witness past
+  pub accepted : IsAccepted past (Join (replicas_of past) from)

@@ -79,6 +79,19 @@ impl Commuting {
             &self.updates[label as usize],
         )
     }
+
+    /// The next replica has what this one has. Costs a copy of its state.
+    pub fn join(&mut self, from: u8) -> Result<(), NoMemory>
+        requires { from < vec_len self.old.states }
+        ensures updates { self.new.updates ≡ self.old.updates }
+        ensures states { OnOk result (self.new.states.items
+            ≡ self.old.states.items ++ state_at self.old.states.items from ∷ []) }
+        ensures same_states { OnErr result (self.new.states.items ≡ self.old.states.items) }
+    {
+        let state = self.states[from as usize].copy()?;
+        self.states.push(state)?;
+        Ok(())
+    }
 }
 
 // Makes the update, if there is one: answers how many steps that took.

@@ -4,7 +4,7 @@ ghost use Rattle.std.specs.List.{slice_get};
 ghost use Rattle.ra_labels.specs.declared.kind.Kind.{Kind};
 ghost use Rattle.ra_labels.specs.declared.kind.Kind.TheVariants as kinds;
 ghost use Rattle.ra_labels.specs.declared.label.Label.{Label};
-ghost use Rattle.ra_labels.specs.declared.command.Command.TheVariants.{Deliver};
+ghost use Rattle.ra_labels.specs.declared.command.Command.TheVariants.{Deliver, Join};
 ghost use Rattle.ra_labels.specs.Visibility.{had};
 ghost use Rattle.ra_labels.specs.Rewriting.{acts_of};
 ghost use Rattle.ra_labels.specs.NamedOrder.{named_labels, named_sequence};
@@ -13,13 +13,13 @@ ghost use Rattle.ra_labels.specs.Fault.{cause_of};
 ghost use Rattle.ra_labels.specs.Laws.{EachLabelFits};
 ghost use Rattle.ra_labels.specs.Specification.{is_admitted};
 ghost use Rattle.ra_labels.specs.Insertion.{updates_among, updates_had};
-ghost use Rattle.ra_labels.specs.Situation.{Past, nothing_yet, past_with, Next, operate};
+ghost use Rattle.ra_labels.specs.Situation.{Past, replicas_of, nothing_yet, past_with, Next, operate};
 ghost use Rattle.ra_rewrite.specs.Parts.{acts_in};
 ghost use Rattle.ra_witness.specs.Labels.{update_in, updates_by_number};
 ghost use Rattle.ra_witness.specs.States.{steps_of};
 ghost use Rattle.ra_witness.specs.Sequence.{has_query_half};
-ghost use Rattle.ra_witness.specs.Offered.{IsOffered, IsTold};
-ghost use Rattle.ra_witness.specs.Effects.{AreEffectsOf, IsOverridingOf, MayMeet, MayTake, MayWrite, MayTell};
+ghost use Rattle.ra_witness.specs.Offered.{IsOffered, IsTold, IsJoinedFrom};
+ghost use Rattle.ra_witness.specs.Effects.{AreEffectsOf, IsOverridingOf, MayMeet, MayTake, MayWrite, MayTell, MayShare};
 
 use crate::commuting::Commuting;
 use crate::overriding::Overriding;
@@ -113,6 +113,20 @@ impl Effects {
                 Ok(1)
             }
             Effects::Rga(kept) => kept.deliver(replica, label),
+        }
+    }
+
+    /// The next replica joins from this one.
+    pub fn join(&mut self, from: u8) -> Result<(), NoMemory>
+        requires { MayShare self.old from }
+        ensures joined { (past : Past) → AreEffectsOf self.old past → IsJoinedFrom past from
+            → OnOk result (AreEffectsOf self.new (past_with past (Join (replicas_of past) from))) }
+        ensures same { (past : Past) → AreEffectsOf self.old past → OnErr result (AreEffectsOf self.new past) }
+    {
+        match self {
+            Effects::Commuting(kept) => kept.join(from),
+            Effects::Overriding(kept) => kept.join(from),
+            Effects::Rga(kept) => kept.join(from),
         }
     }
 

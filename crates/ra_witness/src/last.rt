@@ -1,5 +1,5 @@
 //! Of one replica, the last label on each element.
-ghost use Rattle.std.specs.Prelude.{◌≡◌, ◌<◌, ℕ, [], Some, vec_len, slice_set, OnOk, OnErr};
+ghost use Rattle.std.specs.Prelude.{◌≡◌, ◌<◌, ℕ, [], Some, vec_len, slice_set, IfOk, OnOk, OnErr};
 ghost use Rattle.ra_witness.specs.Last.{label_on};
 
 use ra_labels::NoMemory;
@@ -20,6 +20,15 @@ impl Last {
         Last {
             labels: Vec::new(alloc),
         }
+    }
+
+    /// The same labels. Costs a step for each element up to the last one that there is room for.
+    pub fn copy(&self) -> Result<Last, NoMemory>
+        ensures { IfOk result (λ copy. copy.labels.items ≡ self.now.labels.items) }
+    {
+        Ok(Last {
+            labels: self.labels.clone()?,
+        })
     }
 
     /// The label of the last update on the element.

@@ -1,10 +1,11 @@
-//! What one more label or delivery changes in what is kept, each law the clause of a function that does nothing.
-ghost use Rattle.std.specs.Prelude.{◌≡◌, ℕ, ◌+◌, ◌<◌, true, false, not, List, [], ◌∷◌, ◌++◌, length, map, flat_map, Option, Some, None, if◌then◌else◌};
+//! What one more label, delivery or replica changes in what is kept, each law the clause of a function that does
+//! nothing.
+ghost use Rattle.std.specs.Prelude.{◌≡◌, ℕ, ◌+◌, ◌<◌, true, false, not, List, [], ◌∷◌, ◌++◌, length, map, flat_map, Option, Some, None, get_or, if◌then◌else◌};
 ghost use Rattle.ra_labels.specs.declared.kind.Kind.{Kind};
 ghost use Rattle.ra_labels.specs.declared.kind.Kind.TheVariants.{Counter, Register, LwwSet, OrSet, Rga};
 ghost use Rattle.ra_labels.specs.declared.operation.Op.{Op};
 ghost use Rattle.ra_labels.specs.declared.operation.Update.{Update};
-ghost use Rattle.ra_labels.specs.declared.command.Command.TheVariants.{Operate, Deliver};
+ghost use Rattle.ra_labels.specs.declared.command.Command.TheVariants.{Operate, Deliver, Join};
 ghost use Rattle.ra_labels.specs.declared.reply.Cause.TheVariants as cause;
 ghost use Rattle.ra_labels.specs.Records.{Records, label_count};
 ghost use Rattle.ra_labels.specs.Visibility.{had, is_update_at, IsCausal};
@@ -16,13 +17,14 @@ ghost use Rattle.ra_labels.specs.Fault.{Holds, cause_of};
 ghost use Rattle.ra_labels.specs.Answer.{kind_of, is_kind};
 ghost use Rattle.ra_labels.specs.Laws.{IdentifiersAreOneLabels, StampsAreOneLabels};
 ghost use Rattle.ra_labels.specs.Insertion.{updates_had, Makes};
-ghost use Rattle.ra_labels.specs.Situation.{Past, past_of, past_with, Next, operate};
+ghost use Rattle.ra_labels.specs.Situation.{Past, past_of, replicas_of, past_with, Next, operate};
 ghost use Rattle.ra_visibility.specs.Order.{IsByTimestamp, numbers_in};
 ghost use Rattle.ra_witness.specs.Numbers.{element_of, number_with};
 ghost use Rattle.ra_witness.specs.Sequence.{ref_of, refs_at};
 ghost use Rattle.ra_witness.specs.Labels.{update_in, updates_by_number, cause_in};
-ghost use Rattle.ra_witness.specs.States.{update_at, states_after};
+ghost use Rattle.ra_witness.specs.States.{state_at, update_at, states_after};
 ghost use Rattle.ra_witness.specs.Standing.{AreStatesOf};
+ghost use Rattle.ra_witness.specs.Offered.{IsJoinedFrom};
 ghost use Rattle.ra_witness.specs.declared.written.Written.{Written};
 ghost use Rattle.ra_witness.specs.Overriding.{updates_of, write_at, last_label, counting, last_with};
 ghost use Rattle.ra_witness.specs.Overridden.{AreWritesOf, AreLastOf, IsLastOn, AreBelow, IsNextWrite};
@@ -70,6 +72,13 @@ pub fn what_is_kept_with_a_delivery()
         → IsCausal (Deliver to n ∷ records)
         → let now = past_of OrSet first (Deliver to n ∷ records) in
         AreStatesOf updates (states_after states to (update_at updates n)) now }
+{}
+
+/// With a replica that joins what is kept is what was kept, and once more the state of that from which it joins.
+pub fn what_is_kept_with_a_join()
+    ensures { (updates : List (Option Update)) (states : List State) (past : Past) (from : ℕ)
+        → AreStatesOf updates states past → IsJoinedFrom past from
+        → AreStatesOf updates (states ++ state_at states from ∷ []) (past_with past (Join (replicas_of past) from)) }
 {}
 
 /// What is kept of a register or an LWW set with one more delivery is what was kept, once the receiver made the update
@@ -143,4 +152,11 @@ pub fn the_last_labels_with_a_delivery()
         → length next ≡ length lasts
         → ((q c : ℕ) → last_label next q c ≡ last_with lasts to write.on (counting writes lasts to n write) q c)
         → AreLastOf writes next (Deliver to n ∷ records) }
+{}
+
+/// A replica that joins has the last labels of that from which it joins.
+pub fn the_last_labels_with_a_join()
+    ensures { (writes : List (Option Written)) (lasts : List (List (Option ℕ))) (past : Past) (from : ℕ)
+        → AreLastOf writes lasts past.records → length lasts ≡ replicas_of past → IsJoinedFrom past from
+        → AreLastOf writes (lasts ++ get_or lasts from [] ∷ []) (Join (replicas_of past) from ∷ past.records) }
 {}

@@ -5,6 +5,7 @@
 //! of a register or an LWW set that one of the delivered update and the last one on the same element which stands later
 //! (`overriding`); of an RGA the insertion directly behind the nearest element before it, in the list of all elements,
 //! that is there (`rga`). An RGA's update whose anchor or element is not there waits for it, and follows when it comes.
+//! A replica that joins begins with a copy of what is kept of the other one.
 //!
 //! The one contract for the layers above: `Witness::offer` answers the cause of the fault of the records with the new
 //! label, or none exactly where there is none. `laws` says what one more label or delivery changes in what is kept, and

@@ -1,5 +1,5 @@
 //! Of a register and of an LWW set: of the updates on one element the last one counts.
-ghost use Rattle.std.specs.Prelude.{◌≡◌, ◌==◌, ◌+◌, ◌<◌, ◌≤◌, ◌^◌, ◌++◌, ◌∷◌, [], ℕ, true, nat_eq, replicate, set, vec_len, option_map, Option, Some, None, IfOk, IfSome, IsSome, OnOk, OnErr, if◌then◌else◌};
+ghost use Rattle.std.specs.Prelude.{◌≡◌, ◌==◌, ◌+◌, ◌<◌, ◌≤◌, ◌^◌, ◌++◌, ◌∷◌, [], ℕ, true, nat_eq, replicate, get_or, set, vec_len, option_map, Option, Some, None, IfOk, IfSome, IsSome, OnOk, OnErr, if◌then◌else◌};
 ghost use Rattle.std.specs.List.{list_all};
 ghost use Rattle.std.specs.HashMap.{get, hash_map_len};
 ghost use Rattle.ra_labels.specs.declared.label.Stamp.{Stamp};
@@ -148,6 +148,27 @@ impl Overriding {
         let state = &mut self.states[replica as usize];
         let last = &mut self.lasts[replica as usize];
         bring(state, last, writes, label, written)
+    }
+
+    /// The next replica has what this one has. Costs a copy of its state and of its last labels.
+    pub fn join(&mut self, from: u8) -> Result<(), NoMemory>
+        requires state { from < vec_len self.old.states }
+        requires last { from < vec_len self.old.lasts }
+        ensures writes { self.new.writes ≡ self.old.writes }
+        ensures numbers { self.new.numbers ≡ self.old.numbers }
+        ensures states { OnOk result (self.new.states.items
+            ≡ self.old.states.items ++ state_at self.old.states.items from ∷ []) }
+        ensures lasts { OnOk result (labels_in self.new.lasts.items ≡ labels_in self.old.lasts.items
+            ++ get_or (labels_in self.old.lasts.items) from [] ∷ []) }
+        ensures same_states { OnErr result (self.new.states.items ≡ self.old.states.items) }
+        ensures same_lasts { OnErr result (self.new.lasts.items ≡ self.old.lasts.items) }
+    {
+        let state = self.states[from as usize].copy()?;
+        let last = self.lasts[from as usize].copy()?;
+        self.states.reserve(1)?;
+        self.lasts.push(last)?;
+        self.states.push_reserved(state);
+        Ok(())
     }
 }
 

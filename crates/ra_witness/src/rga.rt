@@ -4,8 +4,8 @@ ghost use Rattle.ra_labels.specs.declared.kind.Kind.TheVariants as kinds;
 ghost use Rattle.ra_labels.specs.declared.operation.Op.{Op};
 ghost use Rattle.ra_labels.specs.declared.operation.Op.TheVariants as ops;
 ghost use Rattle.ra_labels.specs.declared.label.Label.{Label};
-ghost use Rattle.ra_labels.specs.declared.command.Command.TheVariants.{Operate, Deliver};
-ghost use Rattle.ra_labels.specs.Records.{Records};
+ghost use Rattle.ra_labels.specs.declared.command.Command.TheVariants.{Operate, Deliver, Join};
+ghost use Rattle.ra_labels.specs.Records.{Records, replica_count};
 ghost use Rattle.ra_labels.specs.Visibility.{had};
 ghost use Rattle.ra_labels.specs.Rewriting.{acts_of};
 ghost use Rattle.std.specs.Ordering.{is_lt, is_le};
@@ -21,7 +21,7 @@ ghost use Rattle.std.specs.List.{list_all};
 ghost use Rattle.ra_replica_list.specs.Deeds.{element_at};
 ghost use Rattle.ra_witness.specs.Labels.{queries_in, cause_in};
 ghost use Rattle.ra_witness.specs.Rga.{IsRgaOf, MayGrow, MayHear};
-ghost use Rattle.ra_witness.specs.Offered.{IsOffered, IsTold};
+ghost use Rattle.ra_witness.specs.Offered.{IsOffered, IsTold, IsJoinedFrom};
 
 use crate::asked;
 use ra_element_list::{ElementList, ROOT};
@@ -218,6 +218,20 @@ impl Rga {
             unreachable!()
         };
         self.lists[replica as usize].deliver(&self.all, deeds, label, deed)
+    }
+
+    /// The next replica joins from this one: it has an equal list. Costs a copy of the list.
+    pub fn join(&mut self, from: u8) -> Result<(), NoMemory>
+        requires { from < vec_len self.old.lists }
+        ensures joined { (first : ℕ) (records : Records) → IsRgaOf self.old first records
+            → IsJoinedFrom (past_of kinds.Rga first records) from
+            → OnOk result (IsRgaOf self.new first (Join (replica_count first records) from ∷ records)) }
+        ensures same { (first : ℕ) (records : Records) → IsRgaOf self.old first records
+            → OnErr result (IsRgaOf self.new first records) }
+    {
+        let list = self.lists[from as usize].copy()?;
+        self.lists.push(list)?;
+        Ok(())
     }
 
     /// Where the collections live.

@@ -3,17 +3,17 @@ ghost use Rattle.std.specs.Prelude.{◌≡◌, ◌+◌, ◌<◌, ◌≤◌, ◌+
 ghost use Rattle.ra_labels.specs.declared.kind.Kind.{Kind};
 ghost use Rattle.ra_labels.specs.declared.kind.Kind.TheVariants as kinds;
 ghost use Rattle.ra_labels.specs.declared.label.Label.{Label};
-ghost use Rattle.ra_labels.specs.declared.command.Command.TheVariants.{Deliver};
+ghost use Rattle.ra_labels.specs.declared.command.Command.TheVariants.{Deliver, Join};
 ghost use Rattle.ra_labels.specs.Visibility.{had};
 ghost use Rattle.ra_labels.specs.NamedOrder.{named_labels, named_sequence};
 ghost use Rattle.ra_labels.specs.Fault.{cause_of};
 ghost use Rattle.ra_labels.specs.Specification.{is_admitted};
 ghost use Rattle.ra_labels.specs.Insertion.{updates_among, updates_had};
-ghost use Rattle.ra_labels.specs.Situation.{Past, nothing_yet, past_with, IsAccepted, Next, operate};
+ghost use Rattle.ra_labels.specs.Situation.{Past, replicas_of, nothing_yet, past_with, IsAccepted, Next, operate};
 ghost use Rattle.ra_witness.specs.Labels.{update_in};
 ghost use Rattle.ra_witness.specs.States.{steps_of};
 ghost use Rattle.ra_witness.specs.Sequence.{ref_of};
-ghost use Rattle.ra_witness.specs.Witness.{IsWitnessOf, MayOffer, MayDeliver};
+ghost use Rattle.ra_witness.specs.Witness.{IsWitnessOf, MayOffer, MayDeliver, MayJoin};
 ghost use Rattle.ra_visibility.specs.Order.{ComesNext};
 
 use crate::effects::Effects;
@@ -123,6 +123,22 @@ impl<O: NamedOrder> Witness<O> {
         let steps = self.kept.deliver(replica, label)?;
         self.steps = self.steps.saturating_add(steps);
         Ok(())
+    }
+
+    /// The next replica joins from this one, and has all that this one had. It is out of memory where a growth is
+    /// refused, and then as before. It takes no step. Costs a copy of what is kept of the one replica, and nothing of
+    /// the others: of its state, of a register or an LWW set also a number for each element, and of an RGA a mark for
+    /// each element of all labels and those of its updates that wait.
+    pub fn join(&mut self, from: u8) -> Result<(), NoMemory>
+        requires { MayJoin O.stands_for self.old from }
+        ensures joined { (past : Past) → IsWitnessOf O.stands_for self.old past
+            → let join = Join (replicas_of past) from in IsAccepted past join
+            → OnOk result (IsWitnessOf O.stands_for self.new (past_with past join)) }
+        ensures same { (past : Past) → IsWitnessOf O.stands_for self.old past
+            → OnErr result (IsWitnessOf O.stands_for self.new past) }
+        ensures steps { self.new.steps ≡ self.old.steps }
+    {
+        self.kept.join(from)
     }
 
     /// How many updates were made on a replica's state, by calls that changed the witness: the clauses bound this

@@ -1,4 +1,4 @@
-use Rattle.ra_replica_list.proofs.LaterRecords.{insertion-stays, removal-stays, query-stays, delivery-stays}
+use Rattle.ra_replica_list.proofs.LaterRecords.{insertion-stays, removal-stays, query-stays, delivery-stays, join-stays}
 use Rattle.ra_replica_list.proofs.laws.a_list_stays_with_what_others_do.Goals as goal
 
 pub returns : goal.returns
@@ -7,4 +7,5 @@ returns c = record {
   removal = λ list all deeds records replica by number op clock stand held other makes. removal-stays list all deeds records replica by number op clock stand held other;
   query = query-stays;
   delivery = delivery-stays;
+  join = join-stays;
 }

@@ -11,6 +11,7 @@ use Rattle.ra_witness.proofs.Forms.{of_its_kind, its_op, has_stamp}
 use Rattle.ra_witness.proofs.AdmittedElements.{insertion_new, insertion_needs, removal_needs}
 use Rattle.ra_witness.proofs.RgaCauses.{asks_only}
 use Rattle.ra_witness.proofs.TakenElements.{rga_asked}
+use Rattle.ra_witness.proofs.ReplicaLists.{rga_same_kept}
 use Rattle.ra_witness.proofs.rga.Rga.take.Goals as goal
 
 pub returns-in_default-clause-taken : goal.returns-in_default-clause-taken
@@ -56,3 +57,29 @@ remove-requires-clause-known c =
     let admitted = subst (λ o. updates_admitted variant.Rga (named_sequence variant.Rga (Operate may.next.by o may.next.clock ∷ may.records)) ≡ true) is may.admitted in
     let needs = removal_needs self.all self.deeds.items may.records may.stands.elements may.first may.next.by may.next.clock label c.in-RgaRemove.element after _ refl admitted in
     (needs.number, needs.within, needs.is)
+
+pub returns-in-After-clause-taken : goal.returns-in-After-clause-taken
+returns-in-After-clause-taken c = λ first records next stands offered admitted.
+    let self = c.args.self.now in
+    let reserved : Rga = record { deeds = c.reserve.new.self; all = self.all; lists = self.lists } in
+    c.put_in.ensures.taken first records next (rga_same_kept self reserved first records stands c.in_ok-reserve.ensures.items refl refl) offered admitted
+    (sym (its_op (past_of variant.Rga first records) next c.args.label.now offered) ∙ c.in-After.is)
+
+pub returns-in-After-clause-same : goal.returns-in-After-clause-same
+returns-in-After-clause-same c = λ first records stands.
+    let self = c.args.self.now in
+    let reserved : Rga = record { deeds = c.reserve.new.self; all = self.all; lists = self.lists } in
+    c.put_in.ensures.same first records (rga_same_kept self reserved first records stands c.in_ok-reserve.ensures.items refl refl)
+
+pub returns-in-RgaRemove-clause-taken : goal.returns-in-RgaRemove-clause-taken
+returns-in-RgaRemove-clause-taken c = λ first records next stands offered admitted.
+    let self = c.args.self.now in
+    let reserved : Rga = record { deeds = c.reserve.new.self; all = self.all; lists = self.lists } in
+    c.remove.ensures.taken first records next (rga_same_kept self reserved first records stands c.in_ok-reserve.ensures.items refl refl) offered admitted
+    (sym (its_op (past_of variant.Rga first records) next c.args.label.now offered) ∙ c.in-RgaRemove.is)
+
+pub returns-in-RgaRemove-clause-same : goal.returns-in-RgaRemove-clause-same
+returns-in-RgaRemove-clause-same c = λ first records stands.
+    let self = c.args.self.now in
+    let reserved : Rga = record { deeds = c.reserve.new.self; all = self.all; lists = self.lists } in
+    c.remove.ensures.same first records (rga_same_kept self reserved first records stands c.in_ok-reserve.ensures.items refl refl)
