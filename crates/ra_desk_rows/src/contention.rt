@@ -7,7 +7,7 @@ use crate::desks::{Answer, counted, reply_in};
 use crate::lock::GREATEST;
 use crate::lock::threads::start_together;
 use ra_desk::Desk;
-use ra_labels::{Command, Reply};
+use ra_labels::{Command, Refusal, Reply};
 use ra_monitor::Monitor;
 use ra_ticket::{CallFault, Glance, Pass};
 use std::alloc::{AllocError, Global};
@@ -20,12 +20,40 @@ use std::thread::Threads;
 /// How many passes there are.
 const PASSES: u8 = 64;
 
-// What was answered: how often yes, how often that the log is full, and how often that no ticket is left.
+/// The numbers under which replicas may join three that are there: 3 to 63.
+const FIRST_TO_JOIN: u8 = 3;
+
+const JOINS: u32 = 61;
+
+// What a pass asks, call by call.
+#[derive(Clone, Copy, Debug, PartialEq, Eq)]
+enum Asks {
+    Verdict,
+    /// The replicas join, one after another.
+    Joins,
+}
+
+impl Asks {
+    fn command(self, call: u32) -> Command {
+        match self {
+            Asks::Verdict => Command::Verdict,
+            Asks::Joins => Command::Join {
+                replica: FIRST_TO_JOIN + (call % JOINS) as u8,
+                from: 0,
+            },
+        }
+    }
+}
+
+// What was answered: how often yes, how often that the log is full, and how often that no ticket is left; and of joins
+// how often that the replica joined, and that it was there.
 #[derive(Clone, Copy, Debug, PartialEq, Eq)]
 struct Told {
     yes: u32,
     full: u32,
     worn: u32,
+    joined: u32,
+    there: u32,
 }
 
 impl Told {
@@ -33,11 +61,15 @@ impl Told {
         yes: 0,
         full: 0,
         worn: 0,
+        joined: 0,
+        there: 0,
     };
 
     fn add(&mut self, answer: Answer) {
         match answer {
             Ok(Reply::Yes(0)) => self.yes = self.yes.saturating_add(1),
+            Ok(Reply::Joined(_)) => self.joined = self.joined.saturating_add(1),
+            Ok(Reply::Refused(Refusal::ReplicaThere)) => self.there = self.there.saturating_add(1),
             Err(CallFault::Full(Command::Verdict)) => self.full = self.full.saturating_add(1),
             Err(CallFault::Worn(Command::Verdict)) => self.worn = self.worn.saturating_add(1),
             _ => {}
@@ -52,15 +84,15 @@ struct Asked {
     told: Told,
 }
 
-// The pass asks for the verdict so often.
-fn ask<R: Wait>(rt: &R, desk: &Desk, pass: Pass<Monitor>, calls: u32) -> Asked
+// The pass asks so often.
+fn ask<R: Wait>(rt: &R, desk: &Desk, pass: Pass<Monitor>, asks: Asks, calls: u32) -> Asked
     requires { IsPassOf desk.now pass }
     ensures { IsPassOf desk.now result.pass }
 {
     let mut pass = pass;
     let mut told = Told::NOTHING;
-    for _ in 0..calls {
-        told.add(desk.submit(rt, &mut pass, Command::Verdict));
+    for call in 0..calls {
+        told.add(desk.submit(rt, &mut pass, asks.command(call)));
     }
     Asked { pass, told }
 }
@@ -72,6 +104,7 @@ fn ask_all<R: Threads + Wait + Sync>(
     desk: &Desk,
     passes: Vec<Pass<Monitor>>,
     callers: u8,
+    asks: Asks,
     calls: u32,
 ) -> Result<Vec<Option<Asked>>, AllocError>
     requires { All (IsPassOf desk.now) passes.items }
@@ -88,7 +121,7 @@ fn ask_all<R: Threads + Wait + Sync>(
         {
             start_together(&started, count);
             if pass.number() < callers {
-                Some(ask(rt, desk, pass, calls))
+                Some(ask(rt, desk, pass, asks, calls))
             } else {
                 None
             }
@@ -104,6 +137,8 @@ fn told_to(asked: &[Option<Asked>]) -> Told {
             all.yes = all.yes.saturating_add(told.yes);
             all.full = all.full.saturating_add(told.full);
             all.worn = all.worn.saturating_add(told.worn);
+            all.joined = all.joined.saturating_add(told.joined);
+            all.there = all.there.saturating_add(told.there);
         }
     }
     all
@@ -170,7 +205,7 @@ fn each_has(rt: &impl Abort, monitor: &Monitor, calls: usize) {
 #[test]
 fn sixty_four_passes_have_their_calls_and_meet(rt: HostRuntime) {
     let (desk, passes) = counted(&rt, rt.alloc(), 640, PASSES, 0);
-    let asked = match ask_all(&rt, &desk, passes, PASSES, 10) {
+    let asked = match ask_all(&rt, &desk, passes, PASSES, Asks::Verdict, 10) {
         Ok(asked) => asked,
         Err(_) => panic!(rt; "no memory"),
     };
@@ -196,12 +231,12 @@ fn sixty_four_passes_find_an_end(rt: HostRuntime) {
     let full = Told {
         yes: 50,
         full: 14,
-        worn: 0,
+        ..Told::NOTHING
     };
     let worn = Told {
         yes: 10,
-        full: 0,
         worn: 54,
+        ..Told::NOTHING
     };
     let half = Told {
         yes: 32,
@@ -213,7 +248,7 @@ fn sixty_four_passes_find_an_end(rt: HostRuntime) {
         (6_400, 0, 32, half),
     ] {
         let (desk, passes) = counted(&rt, rt.alloc(), limit, PASSES, first);
-        let asked = match ask_all(&rt, &desk, passes, callers, 1) {
+        let asked = match ask_all(&rt, &desk, passes, callers, Asks::Verdict, 1) {
             Ok(asked) => asked,
             Err(_) => panic!(rt; "no memory"),
         };
@@ -228,6 +263,30 @@ fn sixty_four_passes_find_an_end(rt: HostRuntime) {
             Ok(monitor) => assert_eq!(rt; monitor.log().len(), told.yes as usize),
             Err(_) => panic!(rt; "not settled"),
         }
+    }
+}
+
+// Each pass has the same replicas join, so each joins once, and was there each other time.
+#[test]
+fn eight_passes_have_each_replica_join_once(rt: HostRuntime) {
+    let (desk, passes) = counted(&rt, rt.alloc(), 1_000, 8, 0);
+    let asked = match ask_all(&rt, &desk, passes, 8, Asks::Joins, JOINS) {
+        Ok(asked) => asked,
+        Err(_) => panic!(rt; "no memory"),
+    };
+    let all = Told {
+        joined: 61,
+        there: 427,
+        ..Told::NOTHING
+    };
+    assert_eq!(rt; told_to(asked.as_slice()), all);
+    let pass = first_of(&rt, &desk, asked);
+    match desk.close(pass) {
+        Ok(monitor) => {
+            assert_eq!(rt; monitor.log().len(), 488);
+            assert_eq!(rt; monitor.replicas(), 64);
+        }
+        Err(_) => panic!(rt; "not settled"),
     }
 }
 

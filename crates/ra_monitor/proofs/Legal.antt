@@ -5,7 +5,7 @@ use Rattle.std.proofs.lemmas.List.Sums.{sum_by_push}
 use Rattle.ra_labels.specs.declared.kind.Kind.{Kind}
 use Rattle.ra_labels.specs.declared.command.Command.{Command}
 use Rattle.ra_labels.specs.declared.reply.Reply.{Reply}
-use Rattle.ra_labels.specs.declared.reply.Reply.TheVariants.{Ok, Got, Yes, No, Refused}
+use Rattle.ra_labels.specs.declared.reply.Reply.TheVariants.{Ok, Got, Joined, Yes, No, Refused}
 use Rattle.ra_labels.specs.declared.reply.Fault.{Fault}
 use Rattle.ra_labels.specs.Records.{Records}
 use Rattle.ra_labels.specs.NamedOrder.{named_sequence}
@@ -47,6 +47,7 @@ no_fault_after : (kind : Kind) (replicas : ℕ) (records : Records) (command : C
 no_fault_after kind replicas records command (Ok n) says said = ap (fault_of kind) says.1 ∙ says.2
 no_fault_after kind replicas records command (Yes n) says said = ap (fault_of kind) says.1 ∙ says.2
 no_fault_after kind replicas records command (Got n) says said = absurd (cc (said))
+no_fault_after kind replicas records command (Joined n) says said = absurd (cc (said))
 no_fault_after kind replicas records command (No n why) says said = absurd (cc (said))
 no_fault_after kind replicas records command (Refused why) says said = absurd (cc (said))
 

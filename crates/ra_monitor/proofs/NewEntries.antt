@@ -5,6 +5,7 @@ use Rattle.ra_monitor.specs.declared.monitor.Monitor.TheInside.{Inside}
 use Rattle.ra_monitor.specs.Replies.{is_refused}
 use Rattle.ra_monitor.specs.Monitor.{MonitorEntry, answer_after, records_of, refused_count, IsLegalLog, IsNextTicket}
 use Rattle.ra_monitor.specs.History.{StandsFor, past_in}
+use Rattle.ra_monitor.specs.Limits.{AreReplicas}
 use Rattle.ra_monitor.specs.Kept.{monitor_of, MonitorKept}
 use Rattle.ra_monitor.proofs.Legal.{legal-push, records_of-push, refused_count-push}
 
@@ -19,12 +20,14 @@ pub kept_after : (m n : Inside) (entry : MonitorEntry) → MonitorKept m → IsN
     → n.setup ≡ m.setup → n.log.items ≡ m.log.items ++ entry ∷ []
     → StandsFor n.history (past_in m.setup (records_after m.setup.kind m.setup.replicas (records_of m.setup m.log.items) entry.command))
     → n.history.labels ≤ m.history.labels + 1
+    → (AreReplicas m.history.replicas → AreReplicas n.history.replicas)
     → n.refused ≡ m.refused + cond (is_refused entry.reply) 1 0
     → MonitorKept n
-kept_after m n entry kept next room answered setup log stands labels refused =
+kept_after m n entry kept next room answered setup log stands labels replicas refused =
     let grown : length n.log.items ≡ length m.log.items + 1 = ap length log ∙ length-append m.log.items (entry ∷ []) in
     record {
       replicas = rw setup kept.replicas;
+      joined = replicas kept.joined;
       limit = rw setup kept.limit;
       fits = rw setup (omega (arith, grown));
       legal = rw (setup, log) (legal_after m entry kept next answered);

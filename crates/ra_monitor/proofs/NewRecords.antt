@@ -5,7 +5,7 @@ use Rattle.std.specs.Option.{option_or, option_map_or}
 use Rattle.ra_labels.specs.declared.kind.Kind.{Kind}
 use Rattle.ra_labels.specs.declared.label.Label.{Label}
 use Rattle.ra_labels.specs.declared.label.Stamp.{Stamp}
-use Rattle.ra_labels.specs.declared.command.Command.TheVariants.{Deliver}
+use Rattle.ra_labels.specs.declared.command.Command.TheVariants.{Deliver, Join}
 use Rattle.ra_labels.specs.declared.reply.Cause.{Cause}
 use Rattle.ra_labels.specs.declared.reply.Reply.TheVariants as reply
 use Rattle.ra_labels.specs.Records.{Records, label_count}
@@ -65,15 +65,16 @@ pub stands_taken : (old new : History) (past : Past) (next : Next) (label : Labe
     → IsWitnessOf IsOrderOf new.witness (past_with past (operate next))
     → IsTakenIn (operate next ∷ past.records) new.taken
     → vec_len new.taken.clocks ≡ vec_len old.taken.clocks
-    → new.labels ≡ label.number + 1 → new.tracker ≡ old.tracker → new.fault ≡ old.fault
+    → new.labels ≡ label.number + 1 → new.tracker ≡ old.tracker → new.fault ≡ old.fault → new.replicas ≡ old.replicas
     → StandsFor new (past_with past (operate next))
-stands_taken old new past next label brought newest because witness taken places labels tracker fault =
+stands_taken old new past next label brought newest because witness taken places labels tracker fault replicas =
     let now = operate next ∷ past.records in
     let none : fault_of past.kind now ≡ None = fault_with past.kind past.records next None newest.none because in
     record {
       tracker = rw tracker newest.tracker;
       causal = newest.causal;
       labels = omega (arith, labels, ap (λ (l : Label). l.number) newest.becomes);
+      replicas = replicas ∙ newest.replicas;
       witness = rw (none_lost past.kind now none) witness;
       taken = rw (none_lost past.kind now none) taken;
       places = places ∙ newest.places;
@@ -86,8 +87,8 @@ pub stands_failed : (old new : History) (past : Past) (next : Next) (label : Lab
     → IsWitnessOf IsOrderOf new.witness past
     → new.taken ≡ old.taken
     → new.labels ≡ label.number + 1 → new.tracker ≡ old.tracker → new.fault ≡ Some (fault_at label.number why)
-    → StandsFor new (past_with past (operate next))
-stands_failed old new past next label brought why newest because witness taken labels tracker fault =
+    → new.replicas ≡ old.replicas → StandsFor new (past_with past (operate next))
+stands_failed old new past next label brought why newest because witness taken labels tracker fault replicas =
     let now = operate next ∷ past.records in
     let is : label.number ≡ label_count past.records = ap (λ (l : Label). l.number) newest.becomes in
     let before = before_failed past.kind past.records next why newest.none because in
@@ -95,6 +96,7 @@ stands_failed old new past next label brought why newest because witness taken l
       tracker = rw tracker newest.tracker;
       causal = newest.causal;
       labels = omega (arith, labels, is);
+      replicas = replicas ∙ newest.replicas;
       witness = rw before witness;
       taken = rw (before, taken) newest.taken;
       places = ap (λ (t : Taken). vec_len t.clocks) taken ∙ newest.places;
@@ -141,12 +143,13 @@ pub stands_delivered : (old new : History) (past : Past) (to label : ℕ)
     → StandsFor old past → fault_of past.kind past.records ≡ None
     → IsVisibilityOf new.tracker.now (past_with past (Deliver to label)) → IsCausal (Deliver to label ∷ past.records)
     → IsWitnessOf IsOrderOf new.witness (past_with past (Deliver to label))
-    → new.labels ≡ old.labels → new.taken ≡ old.taken → new.fault ≡ old.fault
+    → new.labels ≡ old.labels → new.taken ≡ old.taken → new.fault ≡ old.fault → new.replicas ≡ old.replicas
     → StandsFor new (past_with past (Deliver to label))
-stands_delivered old new past to label stands none tracker causal witness labels taken fault = record {
+stands_delivered old new past to label stands none tracker causal witness labels taken fault replicas = record {
   tracker = tracker;
   causal = causal;
   labels = labels ∙ stands.labels;
+  replicas = replicas ∙ stands.replicas;
   witness = rw (none_lost past.kind (Deliver to label ∷ past.records) none) witness;
   taken = rw (none_lost past.kind (Deliver to label ∷ past.records) none, taken) (taken_delivered past.records to label old.taken (taken_known old past stands none));
   places = ap (λ (t : Taken). vec_len t.clocks) taken ∙ stands.places;
@@ -158,14 +161,15 @@ pub newest_stands : (old new : History) (past : Past) (next : Next) (label : Lab
     → StandsFor old past → fault_of past.kind past.records ≡ None
     → IsVisibilityOf new.tracker.now (past_with past (operate next))
     → label ≡ label_of past.records next → brought ≡ brought_by next.by next.op next.clock
-    → new.labels ≡ old.labels → new.witness ≡ old.witness → new.fault ≡ old.fault
+    → new.labels ≡ old.labels → new.witness ≡ old.witness → new.fault ≡ old.fault → new.replicas ≡ old.replicas
     → IsTakenIn past.records new.taken → vec_len new.taken.clocks ≡ vec_len old.taken.clocks
     → IsAccepted past (operate next)
     → HasNewest new past next label brought
-newest_stands old new past next label brought stands none tracker is brings labels witness fault taken places accepted = record {
+newest_stands old new past next label brought stands none tracker is brings labels witness fault replicas taken places accepted = record {
   tracker = tracker;
   causal = stands.causal;
   labels = labels ∙ stands.labels;
+  replicas = replicas ∙ stands.replicas;
   witness = rw witness (witness_known old past stands none);
   taken = taken;
   places = places ∙ stands.places;
@@ -181,13 +185,44 @@ pub stands_same : (old new : History) (past : Past) → StandsFor old past
     → new.tracker.now ≡ old.tracker.now → new.labels ≡ old.labels
     → IsWitnessOf IsOrderOf new.witness (before_fault past)
     → IsTakenIn (records_before_fault past.kind past.records) new.taken → vec_len new.taken.clocks ≡ vec_len old.taken.clocks
-    → new.fault ≡ old.fault → StandsFor new past
-stands_same old new past stands tracker labels witness taken places fault = record {
+    → new.fault ≡ old.fault → new.replicas ≡ old.replicas → StandsFor new past
+stands_same old new past stands tracker labels witness taken places fault replicas = record {
   tracker = rw tracker stands.tracker;
   causal = stands.causal;
   labels = labels ∙ stands.labels;
+  replicas = replicas ∙ stands.replicas;
   witness = witness;
   taken = taken;
   places = places ∙ stands.places;
+  fault = fault ∙ stands.fault;
+}
+
+-- a join takes nothing
+taken_joined : (records : Records) (joined from : ℕ) (old new : Taken) → ((stamp : Stamp) → is_stamp_in new stamp ≡ is_stamp_in old stamp)
+    → ((identifier : ℕ) → is_identifier_in new identifier ≡ is_identifier_in old identifier)
+    → IsTakenIn records old → IsTakenIn (Join joined from ∷ records) new
+taken_joined records joined from old new stamps identifiers known = record {
+  stamps = λ stamp. stamps stamp ∙ known.stamps stamp;
+  identifiers = λ identifier. identifiers identifier ∙ known.identifiers identifier;
+}
+
+-- the history after a join
+pub stands_joined : (old new : History) (past : Past) (joined from : ℕ)
+    → StandsFor old past → fault_of past.kind past.records ≡ None
+    → IsVisibilityOf new.tracker.now (past_with past (Join joined from))
+    → IsWitnessOf IsOrderOf new.witness (past_with past (Join joined from))
+    → ((stamp : Stamp) → is_stamp_in new.taken stamp ≡ is_stamp_in old.taken stamp)
+    → ((identifier : ℕ) → is_identifier_in new.taken identifier ≡ is_identifier_in old.taken identifier)
+    → vec_len new.taken.clocks ≡ vec_len old.taken.clocks + 1 → new.labels ≡ old.labels → new.fault ≡ old.fault
+    → new.replicas ≡ old.replicas + 1
+    → StandsFor new (past_with past (Join joined from))
+stands_joined old new past joined from stands none tracker witness stamps identifiers places labels fault replicas = record {
+  tracker = tracker;
+  causal = stands.causal;
+  labels = labels ∙ stands.labels;
+  replicas = replicas ∙ ap (λ k. k + 1) stands.replicas;
+  witness = rw (none_lost past.kind (Join joined from ∷ past.records) none) witness;
+  taken = rw (none_lost past.kind (Join joined from ∷ past.records) none) (taken_joined past.records joined from old.taken new.taken stamps identifiers (taken_known old past stands none));
+  places = places ∙ ap (λ k. k + 1) stands.places;
   fault = fault ∙ stands.fault;
 }

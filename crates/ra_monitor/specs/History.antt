@@ -1,7 +1,8 @@
 -- The past that the fields of a history stand for.
 use Rattle.std.specs.Prelude.{◌≡◌, ℕ, ◌<◌, ◌∷◌, [], Option, None, vec_len}
 use Rattle.ra_labels.specs.declared.command.Command.{Command}
-use Rattle.ra_labels.specs.declared.command.Command.TheVariants.{Operate, Deliver, Verdict}
+use Rattle.ra_labels.specs.declared.command.Command.TheVariants.{Operate, Deliver, Join, Verdict}
+use Rattle.ra_labels.specs.declared.limits.TheConstants.{MOST_REPLICAS}
 use Rattle.ra_labels.specs.declared.refusal.Refusal.{Refusal}
 use Rattle.ra_labels.specs.declared.label.Label.{Label}
 use Rattle.ra_labels.specs.Records.{Records, label_count}
@@ -19,10 +20,11 @@ use Rattle.ra_monitor.specs.Order.{IsOrderOf}
 use Rattle.ra_monitor.specs.declared.brought.Brought.{Brought}
 use Rattle.ra_monitor.specs.Taken.{HasRoom, brought_by, IsTakenIn}
 
--- the command is of a replica that is there, or of none
+-- the command is of a replica that is there, or of none; or it makes the next one, where one more may join
 abbrev pub IsAtReplica : ℕ → Command → Type 0
 IsAtReplica replicas (Operate replica op clock) = replica < replicas
 IsAtReplica replicas (Deliver replica label) = replica < replicas
+IsAtReplica replicas (Join replica from) = (from < replicas) × (replica ≡ replicas) × (replicas < MOST_REPLICAS)
 IsAtReplica replicas Verdict = Unit {0}
 
 -- what may be refused of a command at a replica that is there, and whose form fits
@@ -30,6 +32,7 @@ abbrev pub refusal_after_form : Records → Command → Option Refusal
 refusal_after_form records (Operate by op clock) =
     first_of (when (comes_with_taken records by clock) StampTaken ∷ when (gives_taken records op) IdTaken ∷ [])
 refusal_after_form records (Deliver to label) = refusal_at records to label
+refusal_after_form records (Join replica from) = None
 refusal_after_form records Verdict = None
 
 -- and what is left of that where nothing is taken
@@ -51,6 +54,7 @@ pub record StandsFor (history : History) (past : Past) : Type 0 where
   pub tracker : IsVisibilityOf history.tracker.now past
   pub causal : IsCausal past.records
   pub labels : history.labels ≡ label_count past.records
+  pub replicas : history.replicas ≡ replicas_of past
   -- the labels before the fault in their order, and what each replica's updates before the fault lead to
   pub witness : IsWitnessOf IsOrderOf history.witness (before_fault past)
   -- and what they have that no other label may have
@@ -66,6 +70,7 @@ pub record HasNewest (history : History) (past : Past) (next : Next) (label : La
   pub tracker : IsVisibilityOf history.tracker.now (past_with past (operate next))
   pub causal : IsCausal past.records
   pub labels : history.labels ≡ label_count past.records
+  pub replicas : history.replicas ≡ replicas_of past
   pub witness : IsWitnessOf IsOrderOf history.witness past
   pub taken : IsTakenIn past.records history.taken
   pub places : vec_len history.taken.clocks ≡ replicas_of past
@@ -96,6 +101,13 @@ pub record MayPassOn (history : History) (to label : ℕ) : Type 0 where
   pub none : fault_of past.kind past.records ≡ None
   pub refused : refusal_of past.kind past.first past.records (Deliver to label) ≡ refusal_at past.records to label
   pub replica : to < replicas_of past
+
+-- it stands for some past without a fault, after which the next replica may join from this one
+pub record MayJoin (history : History) (from : ℕ) : Type 0 where
+  pub past : Past
+  pub stands : StandsFor history past
+  pub none : fault_of past.kind past.records ≡ None
+  pub accepted : IsAccepted past (Join (replicas_of past) from)
 
 -- the label is the newest one after some past of few labels, and there is room for what it brings
 pub record MayAnswer (history : History) (label : Label) (brought : Brought) : Type 0 where

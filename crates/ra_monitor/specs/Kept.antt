@@ -15,6 +15,7 @@ monitor_of m = record { setup = m.setup; log = m.log.items; room = room_in m.set
 
 pub record MonitorKept (m : Inside) : Type 0 where
   pub replicas : AreReplicas m.setup.replicas
+  pub joined : AreReplicas m.history.replicas
   pub limit : IsLimit m.setup.limit
   pub fits : length m.log.items ≤ m.setup.limit
   pub legal : IsLegalLog m.setup m.log.items

@@ -1,7 +1,7 @@
 -- How many replicas and entries there may be.
 use Rattle.std.specs.Prelude.{ℕ, ◌≤◌}
 use Rattle.ra_journal.specs.declared.journal.TheConstants.{MOST_ENTRIES}
-use Rattle.ra_monitor.specs.declared.limits.TheConstants.{MOST_REPLICAS}
+use Rattle.ra_labels.specs.declared.limits.TheConstants.{MOST_REPLICAS}
 
 abbrev pub AreReplicas : ℕ → Type 0
 AreReplicas replicas = (1 ≤ replicas) × (replicas ≤ MOST_REPLICAS)

@@ -1,7 +1,8 @@
 -- What is known of the order that a kind names: what is known of the one that it is.
-use Rattle.std.specs.Prelude.{◌≡◌, ℕ, List}
-use Rattle.ra_labels.specs.declared.command.Command.TheVariants.{Deliver}
-use Rattle.ra_labels.specs.Situation.{Past, past_with}
+use Rattle.std.specs.Prelude.{◌≡◌, ℕ, ◌<◌, List}
+use Rattle.ra_labels.specs.declared.command.Command.TheVariants.{Deliver, Join}
+use Rattle.ra_labels.specs.declared.limits.TheConstants.{MOST_REPLICAS}
+use Rattle.ra_labels.specs.Situation.{Past, past_with, replicas_of}
 use Rattle.ra_visibility.specs.Order.{numbers_in}
 use Rattle.ra_exec_order.specs.contracts.exec_order.ExecOrderNamedOrder.TheImpl as executed
 use Rattle.ra_exec_order.specs.contracts.exec_order.ExecOrderNamedOrder.TheImpl.Laws as executed_laws
@@ -30,6 +31,14 @@ pub lists_named : (order : Order) (past : Past)
     → IsOrderOf order past → listed_in order ≡ numbers_in past.kind past.records
 lists_named (Execution order) past stands = executed_laws.lists-law order past stands
 lists_named (Time order) past stands = timed_laws.lists-law order past stands
+
+-- a join changes nothing
+pub keeps_joined : (order : Order) (past : Past) (joined from : ℕ)
+    → IsOrderOf order past → replicas_of past < MOST_REPLICAS → IsOrderOf order (past_with past (Join joined from))
+keeps_joined (Execution order) past joined from stands room =
+    executed_laws.keeps_joined-law order past joined from stands room
+keeps_joined (Time order) past joined from stands room =
+    timed_laws.keeps_joined-law order past joined from stands room
 
 -- a delivery changes nothing
 pub keeps_delivered : (order : Order) (past : Past) (to label : ℕ)

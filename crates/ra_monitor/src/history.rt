@@ -1,24 +1,25 @@
 //! The accepted commands as what they amount to: a command is taken here, refused or answered.
-ghost use Rattle.std.specs.Prelude.{◌≡◌, ◌+◌, ◌≤◌, ◌∷◌, [], map, IfOk, OnErr, OnOk, Option, None, if◌then◌else◌, is_some};
+ghost use Rattle.std.specs.Prelude.{◌≡◌, ℕ, ◌+◌, ◌≤◌, ◌∷◌, [], map, IfOk, OnErr, OnOk, Option, None, if◌then◌else◌, is_some};
 ghost use Rattle.std.specs.Option.{option_or, option_map_or};
 ghost use Rattle.ra_labels.specs.declared.operation.Op.{Op};
-ghost use Rattle.ra_labels.specs.Records.{Records, label_count, next_label};
+ghost use Rattle.ra_labels.specs.Records.{Records, label_count, replica_count, next_label};
 ghost use Rattle.ra_labels.specs.NamedOrder.{named_sequence};
 ghost use Rattle.ra_labels.specs.Fault.{fault_of};
-ghost use Rattle.ra_labels.specs.Answer.{no_at, misfit_of, comes_with_taken, gives_taken, refusal_of, refusal_at, answer_of, answer_to_accepted, records_after};
-ghost use Rattle.ra_labels.specs.Situation.{Past, past_of, past_with, IsAccepted, Next, next_of, operate};
+ghost use Rattle.ra_labels.specs.Answer.{no_at, misfit_of, comes_with_taken, gives_taken, refusal_of, refusal_of_join, refusal_at, answer_of, answer_to_accepted, records_after};
+ghost use Rattle.ra_labels.specs.Situation.{Past, past_of, past_with, replicas_of, IsAccepted, Next, next_of, operate};
 ghost use Rattle.ra_witness.specs.Sequence.{ref_of};
 ghost use Rattle.ra_witness.specs.Witness.{IsWitnessOf};
 ghost use Rattle.ra_monitor.specs.Order.{IsOrderOf};
 ghost use Rattle.ra_monitor.specs.Taken.{IsTakenIn};
-ghost use Rattle.ra_monitor.specs.History.{IsAtReplica, StandsFor, HasNewest, IsOfFew, MayAccept, MayPassOn, MayAnswer, refusal_after_form, refusal_left, past_in, before_fault};
+ghost use Rattle.ra_monitor.specs.Limits.{AreReplicas};
+ghost use Rattle.ra_monitor.specs.History.{IsAtReplica, StandsFor, HasNewest, IsOfFew, MayAccept, MayPassOn, MayJoin, MayAnswer, refusal_after_form, refusal_left, past_in, before_fault};
 ghost use Rattle.ra_monitor.specs.declared.setup.Setup.{Setup};
 
 use crate::brought::{Brought, identifier_of};
 use crate::order::Order;
 use crate::setup::Setup;
 use crate::taken::Taken;
-use ra_labels::{Command, Fault, Label, NoMemory, Op, Refusal, Reply, Stamp, fits};
+use ra_labels::{Command, Fault, Label, MOST_REPLICAS, NoMemory, Op, Refusal, Reply, Stamp, fits};
 use ra_visibility::{DeliverFault, Tracker};
 use ra_witness::{PartRef, Witness};
 use std::alloc::Global;
@@ -29,6 +30,8 @@ use std::mem;
 pub struct History {
     /// How many labels there are.
     pub labels: u32,
+    /// How many replicas there are.
+    pub replicas: u8,
     /// What each replica had, and what each label sees.
     pub tracker: Tracker,
     /// The labels before the fault in their order, and what each replica's updates before the fault lead to.
@@ -49,6 +52,7 @@ impl History {
         let witness = Witness::new(alloc, setup.kind, setup.replicas, order)?;
         Ok(History {
             labels: 0,
+            replicas: setup.replicas,
             tracker,
             witness,
             taken: Taken::new(alloc, setup.replicas)?,
@@ -78,6 +82,7 @@ impl History {
             → OnErr result (StandsFor self.new (past_in setup.now records)) }
         ensures one { self.new.labels ≤ self.old.labels + 1 }
         ensures kept { OnErr result (self.new.labels ≡ self.old.labels) }
+        ensures replicas { AreReplicas self.old.replicas → AreReplicas self.new.replicas }
         // It gives up only where the command joins the records.
         ensures joins { (records : Records) → StandsFor self.old (past_in setup.now records) → OnErr result
             (records_after setup.now.kind setup.now.replicas records command.old ≡ command.old ∷ records) }
@@ -91,6 +96,7 @@ impl History {
         match command {
             Command::Operate { replica, op, stamp } => self.accept(*replica, op, *stamp),
             Command::Deliver { replica, label } => self.deliver(*replica, *label),
+            Command::Join { from, .. } => self.join(*from),
             Command::Verdict => Ok(Reply::Yes(self.labels)),
         }
     }
@@ -99,9 +105,10 @@ impl History {
     // tracker tells them.
     fn refusal_of(&self, setup: &Setup, command: &Command) -> Option<Refusal>
         ensures first { (records : Records) → IsTakenIn records self.now.taken
+            → self.now.replicas ≡ replica_count setup.now.replicas records
             → refusal_of setup.now.kind setup.now.replicas records command.now
             ≡ option_or result (refusal_left records command.now) }
-        ensures known { result ≡ None → IsAtReplica setup.now.replicas command.now }
+        ensures known { result ≡ None → IsAtReplica self.now.replicas command.now }
         ensures fits { result ≡ None → misfit_of setup.now.kind command.now ≡ None }
     {
         match self.refusal_of_form(setup, command) {
@@ -125,7 +132,7 @@ impl History {
                     None
                 }
             }
-            Command::Deliver { .. } | Command::Verdict => None,
+            Command::Deliver { .. } | Command::Join { .. } | Command::Verdict => None,
         }
     }
 
@@ -150,22 +157,69 @@ impl History {
         }
     }
 
-    // The first refusal that the command deserves by its replica or by its form, if any.
+    // The first refusal that the command deserves by its replicas or by its form, if any.
     fn refusal_of_form(&self, setup: &Setup, command: &Command) -> Option<Refusal>
-        ensures first { (records : Records) → refusal_of setup.now.kind setup.now.replicas records command.now
+        ensures first { (records : Records) → self.now.replicas ≡ replica_count setup.now.replicas records
+            → refusal_of setup.now.kind setup.now.replicas records command.now
             ≡ option_or result (refusal_after_form records command.now) }
-        ensures known { result ≡ None → IsAtReplica setup.now.replicas command.now }
+        ensures known { result ≡ None → IsAtReplica self.now.replicas command.now }
         ensures fits { result ≡ None → misfit_of setup.now.kind command.now ≡ None }
     {
         match command {
             Command::Operate { replica, .. } | Command::Deliver { replica, .. } => {
-                if *replica >= setup.replicas {
+                if *replica >= self.replicas {
                     return Some(Refusal::UnknownReplica);
                 }
             }
+            Command::Join { replica, from } => return self.refusal_of_join(*replica, *from),
             Command::Verdict => {}
         }
         fits(setup.kind, command)
+    }
+
+    // The first refusal that a join deserves, if any.
+    fn refusal_of_join(&self, replica: u8, from: u8) -> Option<Refusal>
+        ensures first { (first : ℕ) (records : Records) → self.now.replicas ≡ replica_count first records
+            → refusal_of_join first records replica from ≡ result }
+        ensures known { result ≡ None → IsAtReplica self.now.replicas (Command.Join replica from) }
+    {
+        if from >= self.replicas || replica > self.replicas {
+            Some(Refusal::UnknownReplica)
+        } else if replica < self.replicas {
+            Some(Refusal::ReplicaThere)
+        } else if self.replicas >= MOST_REPLICAS {
+            Some(Refusal::TooManyReplicas)
+        } else {
+            None
+        }
+    }
+
+    // Has the next replica join from this one, which is not refused. All that is taken besides is asked for before the
+    // witness, and where that gives up, the tracker takes the replica back.
+    fn join(&mut self, from: u8) -> Result<Reply, NoMemory>
+        requires { MayJoin self.old from }
+        ensures taken { (past : Past) → StandsFor self.old past → fault_of past.kind past.records ≡ None
+            → let join = Command.Join (replicas_of past) from in IsAccepted past join
+            → IfOk result (λ reply.
+            (reply ≡ Reply.Joined (replicas_of past)) × StandsFor self.new (past_with past join)) }
+        ensures err { (past : Past) → StandsFor self.old past → OnErr result (StandsFor self.new past) }
+        ensures one { OnOk result (self.new.replicas ≡ self.old.replicas + 1) }
+        ensures kept { OnErr result (self.new.replicas ≡ self.old.replicas) }
+        ensures labels { self.new.labels ≡ self.old.labels }
+    {
+        self.taken.make_place()?;
+        let joined = self.tracker.join(from)?;
+        match self.witness.join(from) {
+            Ok(()) => {
+                self.taken.add_replica();
+                self.replicas += 1;
+                Ok(Reply::Joined(joined))
+            }
+            Err(NoMemory) => {
+                self.tracker.withdraw();
+                Err(NoMemory)
+            }
+        }
     }
 
     // Takes a delivery to a replica that is there, or refuses it.
@@ -182,6 +236,7 @@ impl History {
         ensures joins { (past : Past) → StandsFor self.old past
             → OnErr result (refusal_at past.records replica label ≡ None) }
         ensures labels { self.new.labels ≡ self.old.labels }
+        ensures replicas { self.new.replicas ≡ self.old.replicas }
     {
         match self.tracker.deliver(replica, label) {
             Ok(()) => {}
@@ -207,6 +262,7 @@ impl History {
             × StandsFor self.new (past_with past (Command.Operate replica op.old clock))) }
         ensures err { (past : Past) → StandsFor self.old past → OnErr result (StandsFor self.new past) }
         ensures op { op.new ≡ op.old }
+        ensures replicas { self.new.replicas ≡ self.old.replicas }
         ensures one { OnOk result (self.new.labels ≡ self.old.labels + 1) }
         ensures kept { OnErr result (self.new.labels ≡ self.old.labels) }
     {
@@ -235,6 +291,7 @@ impl History {
             → OnErr result (IsWitnessOf IsOrderOf self.new.witness past) }
         ensures one { OnOk result (self.new.labels ≡ self.old.labels + 1) }
         ensures tracker { self.new.tracker ≡ self.old.tracker }
+        ensures replicas { self.new.replicas ≡ self.old.replicas }
         ensures kept { OnErr result (self.new.labels ≡ self.old.labels) }
         ensures taken { OnErr result (self.new.taken ≡ self.old.taken) }
         ensures fault { OnErr result (self.new.fault ≡ self.old.fault) }

@@ -7,12 +7,12 @@ ghost use Rattle.ra_monitor.specs.contracts.monitor.MonitorJournal.TheImpl as jo
 ghost use Rattle.ra_monitor.specs.Replies.{is_yes};
 ghost use Rattle.ra_monitor.specs.Monitor.{MonitorEntry, answer_after, records_of, IsLegalLog, IsRaLinearizable, IsNoAtFault, IsFinalNo};
 ghost use Rattle.ra_journal.specs.declared.journal.TheConstants.{MOST_ENTRIES};
-ghost use Rattle.ra_monitor.specs.declared.limits.TheConstants.{MOST_REPLICAS};
+ghost use Rattle.ra_labels.specs.declared.limits.TheConstants.{MOST_REPLICAS};
 ghost use Rattle.ra_monitor.specs.declared.setup.Setup.{Setup};
 
 /// The limits in figures: so many replicas at most, and so many entries of a log.
 pub fn limits()
-    ensures replicas { MOST_REPLICAS ≡ 16 }
+    ensures replicas { MOST_REPLICAS ≡ 64 }
     ensures entries { MOST_ENTRIES ≡ 1048576 }
 {}
 

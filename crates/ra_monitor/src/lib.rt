@@ -17,7 +17,6 @@ mod clocks;
 mod faults;
 mod history;
 pub mod laws;
-mod limits;
 mod monitor;
 mod order;
 mod report;
@@ -26,8 +25,9 @@ mod setup;
 mod taken;
 
 pub use faults::NewFault;
-pub use limits::MOST_REPLICAS;
 pub use monitor::Monitor;
+/// So many replicas there are at most.
+pub use ra_labels::MOST_REPLICAS;
 pub use report::Report;
 pub use reporter::Reporter;
 pub use setup::Setup;

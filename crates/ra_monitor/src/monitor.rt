@@ -1,6 +1,6 @@
 //! The monitor of one thread: a log, and the history that it amounts to.
 ghost use Rattle.std.specs.Prelude.{◌≡◌, ℕ, ◌+◌, ◌-◌, ◌<◌, ◌≤◌, ◌++◌, ◌∷◌, ◌↔◌, [], length, map, min, cond, vec_len, vec_capacity, option_map, IsTrue, IfSome, IfOk, IfErr, IsOk, OnErr, OnOk, IsErrOf};
-ghost use Rattle.ra_labels.specs.Records.{label_count};
+ghost use Rattle.ra_labels.specs.Records.{label_count, replica_count};
 ghost use Rattle.ra_labels.specs.Linearization.{IsRaLinearization};
 ghost use Rattle.ra_labels.specs.NamedOrder.{named_sequence};
 ghost use Rattle.ra_labels.specs.Answer.{answer_of, records_after};
@@ -15,11 +15,10 @@ mod tests;
 
 use crate::faults::NewFault;
 use crate::history::History;
-use crate::limits::MOST_REPLICAS;
 use crate::report::Report;
 use crate::setup::Setup;
 use ra_journal::{Entry, Journal, MOST_ENTRIES, StepFault};
-use ra_labels::{Command, Kind, NoMemory, Reply};
+use ra_labels::{Command, Kind, MOST_REPLICAS, NoMemory, Reply};
 use ra_witness::PartRef;
 use std::alloc::Global;
 use std::marker::Model;
@@ -48,7 +47,7 @@ impl Model for Monitor {
 impl Monitor {
     ghost use Rattle.ra_monitor.specs.Monitor.{records_of, records_before_fault_in, fault_in, refused_count, IsLegalLog, IsFinalFault};
 
-    /// A monitor of a history of this kind, at this many replicas, whose log may have `limit` entries.
+    /// A monitor of a history of this kind, at this many replicas first, whose log may have `limit` entries.
     pub fn new(alloc: Global, kind: Kind, replicas: u8, limit: u32) -> Result<Monitor, NewFault>
         ensures log { IfOk result (λ monitor. monitor.log ≡ []) }
         ensures kind { IfOk result (λ monitor. monitor.setup.kind ≡ kind) }
@@ -88,12 +87,12 @@ impl Monitor {
         self.log.as_slice()
     }
 
-    /// How many replicas there are. It takes no memory.
+    /// How many replicas there are by now, those that joined included. It takes no memory.
     pub fn replicas(&self) -> u8
-        ensures replicas { result ≡ self.now.setup.replicas }
+        ensures replicas { result ≡ replica_count self.now.setup.replicas (records_of self.now.setup self.now.log) }
         ensures range { AreReplicas result }
     {
-        self.setup.replicas
+        self.history.replicas
     }
 
     /// How many entries can be logged without a growth, as far as the limit lets them. It takes no memory.
@@ -271,7 +270,7 @@ fn refusals(reply: Reply) -> u32
 {
     match reply {
         Reply::Refused(_) => 1,
-        Reply::Ok(_) | Reply::Got(_) | Reply::Yes(_) | Reply::No { .. } => 0,
+        Reply::Ok(_) | Reply::Got(_) | Reply::Joined(_) | Reply::Yes(_) | Reply::No { .. } => 0,
     }
 }
 

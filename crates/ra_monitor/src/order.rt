@@ -33,7 +33,7 @@ impl Order {
 }
 
 impl NamedOrder for Order {
-    ghost use Rattle.ra_monitor.specs.Order.{listed_in, room_in, IsOrderOf, lists_named, keeps_delivered};
+    ghost use Rattle.ra_monitor.specs.Order.{listed_in, room_in, IsOrderOf, lists_named, keeps_joined, keeps_delivered};
 
     ghost listed = { λ order. listed_in order };
 
@@ -70,6 +70,8 @@ impl NamedOrder for Order {
     }
 
     ghost lists = { λ order past stands. lists_named order past stands };
+
+    ghost keeps_joined = { λ order past joined from stands room. keeps_joined order past joined from stands room };
 
     ghost keeps = { λ order past to label stands. keeps_delivered order past to label stands };
 }

@@ -1,5 +1,5 @@
 //! What no two labels may have: own stamps, and identifiers of additions.
-ghost use Rattle.std.specs.Prelude.{◌≡◌, ℕ, ◌<◌, ◌||◌, false, IfOk, OnOk, vec_len};
+ghost use Rattle.std.specs.Prelude.{◌≡◌, ℕ, ◌+◌, ◌<◌, ◌||◌, false, IfOk, OnOk, vec_len, vec_capacity};
 ghost use Rattle.ra_labels.specs.declared.label.Stamp.{Stamp};
 ghost use Rattle.ra_monitor.specs.Taken.{is_stamp_in, is_identifier_in, HasRoom, CanKeep, has_brought, gives_brought};
 
@@ -64,6 +64,28 @@ impl Taken {
         clocks.make_room()?;
         self.identifiers.reserve(1)?;
         Ok(())
+    }
+
+    /// A place for one more replica, and nothing else changes.
+    pub fn make_place(&mut self) -> Result<(), NoMemory>
+        ensures place { OnOk result (vec_len self.new.clocks < vec_capacity self.new.clocks) }
+        ensures clocks { self.new.clocks.items ≡ self.old.clocks.items }
+        ensures replicas { vec_len self.new.clocks ≡ vec_len self.old.clocks }
+        ensures identifiers { self.new.identifiers ≡ self.old.identifiers }
+    {
+        self.clocks.reserve(1)?;
+        Ok(())
+    }
+
+    /// One more replica, which has no stamp yet. It takes no memory.
+    pub fn add_replica(&mut self)
+        requires { vec_len self.old.clocks < vec_capacity self.old.clocks }
+        ensures replicas { vec_len self.new.clocks ≡ vec_len self.old.clocks + 1 }
+        ensures stamps { (stamp : Stamp) → is_stamp_in self.new stamp ≡ is_stamp_in self.old stamp }
+        ensures identifiers { self.new.identifiers ≡ self.old.identifiers }
+    {
+        let clocks = Clocks::new(*self.clocks.allocator());
+        self.clocks.push_reserved(clocks);
     }
 
     /// Takes what a label brings, for which there is room. It takes no memory.

@@ -9,6 +9,8 @@ mod counters;
 #[cfg(test)]
 mod first_calls;
 #[cfg(test)]
+mod joins;
+#[cfg(test)]
 mod limits;
 #[cfg(test)]
 mod lists;

@@ -34,14 +34,16 @@ fn is_handed_back(answer: Result<Reply, StepFault<Command>>) -> bool {
 }
 
 #[test]
-fn replicas_are_one_to_sixteen_and_tested_first(rt: HostRuntime) {
+fn replicas_are_one_to_sixty_four_and_tested_first(rt: HostRuntime) {
     for (replicas, limit, fault) in [
         (0, 0, Some(NewFault::BadReplicas)),
-        (17, 1, Some(NewFault::BadReplicas)),
-        (16, 0, Some(NewFault::BadLimit)),
-        (16, 1_048_577, Some(NewFault::BadLimit)),
+        (65, 1, Some(NewFault::BadReplicas)),
+        (255, 1, Some(NewFault::BadReplicas)),
+        (64, 0, Some(NewFault::BadLimit)),
+        (64, 1_048_577, Some(NewFault::BadLimit)),
         (1, 1, None),
-        (16, 1_048_576, None),
+        (17, 1, None),
+        (64, 1_048_576, None),
     ] {
         let made = Monitor::new(rt.alloc(), Kind::Counter, replicas, limit);
         assert_eq!(rt; made.err(), fault, "at {replicas} and {limit}");

@@ -42,6 +42,8 @@ pub enum Say {
     RgaRemoveAt(u8, u32, u32),
     RgaRead(u8, &'static [u32]),
     Got(u8, u32),
+    /// The new replica, and the one from which it joins.
+    Join(u8, u8),
     Verdict,
 }
 
@@ -71,6 +73,7 @@ fn command_of(rt: &impl Abort, alloc: Global, say: Say) -> Command {
             stamped(replica, Op::RgaRemove(element), clock)
         }
         Say::Got(replica, label) => got(replica, label),
+        Say::Join(replica, from) => Command::Join { replica, from },
         Say::Verdict => Command::Verdict,
         Say::Elements(replica, list) => { bare(replica, Op::LwwRead(elements_of(rt, alloc, list))) }
         Say::OrRead(replica, list) => { bare(replica, Op::OrRead(elements_of(rt, alloc, list))) }
@@ -82,7 +85,7 @@ fn command_of(rt: &impl Abort, alloc: Global, say: Say) -> Command {
     }
 }
 
-/// A history of three replicas.
+/// A history that three replicas begin.
 #[derive(Clone, Copy)]
 pub struct Row {
     /// What it shows.

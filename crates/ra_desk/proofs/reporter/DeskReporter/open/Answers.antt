@@ -4,6 +4,8 @@ use Rattle.ra_labels.specs.declared.command.Command.{Command}
 use Rattle.ra_labels.specs.declared.reply.Reply.{Reply}
 use Rattle.ra_monitor.specs.declared.monitor.Monitor.{Monitor}
 use Rattle.ra_monitor.specs.contracts.monitor.MonitorJournal.TheImpl.{ghosts}
+use Rattle.ra_labels.specs.Records.{replica_count}
+use Rattle.ra_monitor.specs.Monitor.{records_of}
 use Rattle.ra_monitor.specs.declared.setup.Setup.{Setup}
 use Rattle.ra_ticket.specs.declared.pass.Pass.{Pass}
 use Rattle.ra_ticket.specs.Callers.{pass_of, passes_of}
@@ -12,12 +14,18 @@ use Rattle.ra_ticket.specs.Passes.{next_reached, serving_reached, pass_setup, se
 use Rattle.ra_desk.proofs.Told.{All-of_map}
 use Rattle.ra_desk.proofs.reporter.DeskReporter.open.Goals as goal
 
+-- no replica joined yet
+first_ones : (c : goal.In_ok-callers) → c.replicas.result ≡ c.args.monitor.setup.replicas
+first_ones c =
+    let setup = c.args.monitor.setup in
+    c.replicas.ensures.replicas ∙ ap (λ log. replica_count setup.replicas (records_of setup log)) c.requires
+
 -- the setup that is read off the monitor is the monitor's
 read_off : (c : goal.In_ok-callers)
     → record { kind = c.report.result.kind; replicas = c.replicas.result; limit = c.limit.result } ≡ c.args.monitor.setup
 read_off c = λ i. record {
   kind = c.report.ensures.kind i;
-  replicas = c.replicas.ensures.replicas i;
+  replicas = first_ones c i;
   limit = c.limit.ensures.limit i;
 }
 

@@ -17,6 +17,7 @@ answer-answer-requires c =
     let self = c.args.self.now in
     let with_label : History = record {
       labels = self.labels;
+      replicas = self.replicas;
       tracker = c.issue.new.self;
       witness = self.witness;
       taken = c.make_room.new.self;
@@ -27,7 +28,7 @@ answer-answer-requires c =
       next = next_of c.args.replica c.args.op.now c.args.clock;
       newest = newest_stands self with_label r.past (next_of c.args.replica c.args.op.now c.args.clock) c.label_of-label.result c.by-brought.result r.stands r.none
           (c.in_ok-issue.ensures.stands r.past c.args.op.now c.args.clock r.stands.tracker (sym c.is_update.ensures))
-          (c.label_of-label.ensures.next r.past.records r.stands.labels ∙ ap (λ (o : Op). next_label r.past.records c.args.replica o c.args.clock) c.replace.ensures.value) c.by-brought.ensures refl refl refl
+          (c.label_of-label.ensures.next r.past.records r.stands.labels ∙ ap (λ (o : Op). next_label r.past.records c.args.replica o c.args.clock) c.replace.ensures.value) c.by-brought.ensures refl refl refl refl
           (taken_alike r.past.records self.taken c.make_room.new.self c.make_room.ensures.stamps c.make_room.ensures.identifiers (taken_known self r.past r.stands r.none))
           c.make_room.ensures.replicas r.accepted;
       few = r.few;
@@ -39,6 +40,7 @@ returns-in-Ok-clause-taken c = λ past stands none accepted.
     let self = c.args.self.now in
     let with_label : History = record {
       labels = self.labels;
+      replicas = self.replicas;
       tracker = c.issue.new.self;
       witness = self.witness;
       taken = c.make_room.new.self;
@@ -47,7 +49,7 @@ returns-in-Ok-clause-taken c = λ past stands none accepted.
     c.in-Ok.ensures.answered past (next_of c.args.replica c.args.op.now c.args.clock)
     (newest_stands self with_label past (next_of c.args.replica c.args.op.now c.args.clock) c.label_of-label.result c.by-brought.result stands none
     (c.in_ok-issue.ensures.stands past c.args.op.now c.args.clock stands.tracker (sym c.is_update.ensures))
-    (c.label_of-label.ensures.next past.records stands.labels ∙ ap (λ (o : Op). next_label past.records c.args.replica o c.args.clock) c.replace.ensures.value) c.by-brought.ensures refl refl refl
+    (c.label_of-label.ensures.next past.records stands.labels ∙ ap (λ (o : Op). next_label past.records c.args.replica o c.args.clock) c.replace.ensures.value) c.by-brought.ensures refl refl refl refl
     (taken_alike past.records self.taken c.make_room.new.self c.make_room.ensures.stamps c.make_room.ensures.identifiers (taken_known self past stands none))
     c.make_room.ensures.replicas accepted)
 
@@ -64,4 +66,4 @@ returns-in-Err-clause-err c = λ past stands.
     (c.in-Err.ensures.witness (before_fault past) stands.witness)
     (rw c.in-Err.ensures.taken (taken_alike before self.taken c.make_room.new.self c.make_room.ensures.stamps c.make_room.ensures.identifiers stands.taken))
     (ap (λ (t : Taken). vec_len t.clocks) c.in-Err.ensures.taken ∙ c.make_room.ensures.replicas)
-    c.in-Err.ensures.fault
+    c.in-Err.ensures.fault c.in-Err.ensures.replicas

@@ -32,7 +32,7 @@ returns-in-None-clause-answered c = λ past next newest.
     (λ identifier. c.keep.ensures.identifiers identifier ∙ ap (λ (b : Brought). gives_brought b identifier || is_identifier_in self.taken identifier) newest.brings)
     newest.taken in (
       reply_to past.kind past.records next None label.number newest.none because is,
-      stands_taken self _ past next label brought newest because witness taken c.keep.ensures.replicas refl refl refl,
+      stands_taken self _ past next label brought newest because witness taken c.keep.ensures.replicas refl refl refl refl,
     )
 
 pub returns-in-Some-clause-answered : goal.returns-in-Some-clause-answered
@@ -45,5 +45,5 @@ returns-in-Some-clause-answered c = λ past next newest.
     let because : Some c.in-Some.cause ≡ cause_of past.kind (operate next ∷ past.records) = sym c.in-Some.is ∙ c.in_ok-cause.ensures.cause past next newest.witness comes in
     let witness = c.in_ok-cause.ensures.same past newest.witness (λ none. absurd (cc (none, c.in-Some.is))) in (
       c.no_at.ensures ∙ reply_to past.kind past.records next (Some c.in-Some.cause) label.number newest.none because is,
-      stands_failed self _ past next label brought c.in-Some.cause newest because witness refl refl refl refl,
+      stands_failed self _ past next label brought c.in-Some.cause newest because witness refl refl refl refl refl,
     )

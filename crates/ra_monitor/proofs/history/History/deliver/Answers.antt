@@ -35,12 +35,12 @@ returns-in-Ok-deliver-clause-taken c = λ past stands none form.
     let old = c.args.self.now in
     let to = c.args.replica in
     let label = c.args.label in
-    let new : History = record { labels = old.labels; tracker = c.deliver.new.self; witness = c.deliver-2.new.self; taken = old.taken; fault = old.fault } in
+    let new : History = record { labels = old.labels; replicas = old.replicas; tracker = c.deliver.new.self; witness = c.deliver-2.new.self; taken = old.taken; fault = old.fault } in
     let known : to < replicas_in old.tracker.now = omega (arith, c.requires.replica, c.requires.stands.tracker.replicas) in
     let accepted : refusal_at past.records to label ≡ None = sym (refused_as_the_records_say old.tracker.now past to label stands.tracker known) ∙ c.in-Ok.ensures.taken in
     let delivered = stands_delivered old new past to label stands none
     (c.in-Ok.ensures.stands past stands.tracker) (c.in-Ok.ensures.causal past stands.tracker stands.causal)
-    (c.in-Ok-deliver.ensures.delivered past (witness_known old past stands none) (form ∙ accepted)) refl refl refl in
+    (c.in-Ok-deliver.ensures.delivered past (witness_known old past stands none) (form ∙ accepted)) refl refl refl refl in
     subst (λ (o : Option Refusal). (reply.Got label ≡ option_map_or reply.Refused o (reply.Got label))
     × StandsFor new (past_of past.kind past.first (if is_some o then past.records else Deliver to label ∷ past.records))) (sym accepted) (refl, delivered)
 
@@ -50,7 +50,7 @@ returns-in-Err-Refused-clause-taken c = λ past stands none form.
     let to = c.args.replica in
     let label = c.args.label in
     let why = c.in-Err-Refused.refusal in
-    let new : History = record { labels = old.labels; tracker = c.deliver.new.self; witness = old.witness; taken = old.taken; fault = old.fault } in
+    let new : History = record { labels = old.labels; replicas = old.replicas; tracker = c.deliver.new.self; witness = old.witness; taken = old.taken; fault = old.fault } in
     let said = rw c.in-Err-Refused.field-0-is at c.in-Err-Refused.ensures.refused in
     let known : to < replicas_in old.tracker.now = omega (arith, c.requires.replica, c.requires.stands.tracker.replicas) in
     let refused : refusal_at past.records to label ≡ Some why =
@@ -59,6 +59,7 @@ returns-in-Err-Refused-clause-taken c = λ past stands none form.
       tracker = rw c.in-Err-Refused.ensures.same stands.tracker;
       causal = stands.causal;
       labels = stands.labels;
+      replicas = stands.replicas;
       witness = stands.witness;
       taken = stands.taken;
       places = stands.places;

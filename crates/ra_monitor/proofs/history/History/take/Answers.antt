@@ -5,13 +5,14 @@ use Rattle.ra_labels.proofs.Results.{on_err, on_err_any}
 use Rattle.ra_labels.specs.declared.kind.Kind.{Kind}
 use Rattle.ra_labels.specs.declared.operation.Op.{Op}
 use Rattle.ra_labels.specs.declared.command.Command.{Command}
-use Rattle.ra_labels.specs.declared.command.Command.TheVariants.{Operate, Deliver}
+use Rattle.ra_labels.specs.declared.command.Command.TheVariants.{Operate, Deliver, Join}
 use Rattle.ra_labels.specs.declared.refusal.Refusal.{Refusal}
 use Rattle.ra_labels.specs.declared.reply.Reply.{Reply}
-use Rattle.ra_labels.specs.declared.reply.Reply.TheVariants.{Refused, Got}
-use Rattle.ra_labels.specs.Records.{Records}
+use Rattle.ra_labels.specs.declared.reply.Reply.TheVariants.{Refused, Got, Joined}
+use Rattle.ra_labels.specs.Records.{Records, replica_count}
 use Rattle.ra_labels.specs.Fault.{fault_of}
 use Rattle.ra_labels.specs.Answer.{no_at, refusal_of, refusal_at, answer_of, answer_to_accepted, records_after}
+use Rattle.ra_laws.proofs.TheLaws.{joins_are_accepted_with_the_next_number}
 use Rattle.ra_monitor.specs.History.{StandsFor, refusal_left, past_in}
 use Rattle.ra_monitor.proofs.NewRecords.{taken_known}
 use Rattle.ra_monitor.proofs.history.History.take.Goals as goal
@@ -43,7 +44,7 @@ returns-in-Operate-clause-taken c = λ records stands.
     let clock = c.in-Operate.stamp in
     let none : fault_of setup.kind records ≡ None = sym stands.fault ∙ c.in_default.is in
     let accepted : refusal_of setup.kind setup.replicas records command ≡ None =
-    c.in_default-refusal_of.ensures.first records (taken_known c.args.self.now (past_in setup records) stands none) ∙ nothing_left records command by op clock c.in-Operate.is in
+    c.in_default-refusal_of.ensures.first records (taken_known c.args.self.now (past_in setup records) stands none) stands.replicas ∙ nothing_left records command by op clock c.in-Operate.is in
     let taken = c.accept.ensures.taken (past_in setup records) stands none
     (ap (refusal_of setup.kind setup.replicas records) (sym c.in-Operate.is) ∙ accepted) in
     let replied = subst (λ (r : Reply). IfOk c.accept.result (λ reply. (reply ≡ r) × StandsFor c.accept.new.self (past_in setup (Operate by op clock ∷ records))))
@@ -68,7 +69,7 @@ returns-in-Some-refusal_of-clause-taken c = λ records stands.
     let self = c.args.self.now in
     let none : fault_of setup.kind records ≡ None = sym stands.fault ∙ c.in_default.is in
     let is : refusal_of setup.kind setup.replicas records command ≡ Some c.in-Some-refusal_of.refusal =
-    c.refusal_of.ensures.first records (taken_known self (past_in setup records) stands none)
+    c.refusal_of.ensures.first records (taken_known self (past_in setup records) stands none) stands.replicas
     ∙ ap (λ o. option_or o (refusal_left records command)) c.in-Some-refusal_of.is in
     let both = refused setup.kind setup.replicas records command c.in-Some-refusal_of.refusal none is in
     (both.0, subst (λ (r : Records). StandsFor self (past_in setup r)) both.1 stands)
@@ -96,7 +97,7 @@ returns-in-Deliver-clause-taken c = λ records stands.
     let label = c.in-Deliver.label in
     let none : fault_of setup.kind records ≡ None = sym stands.fault ∙ c.in_default.is in
     let same : refusal_of setup.kind setup.replicas records command ≡ refusal_at records to label =
-    c.in_default-refusal_of.ensures.first records (taken_known c.args.self.now (past_in setup records) stands none)
+    c.in_default-refusal_of.ensures.first records (taken_known c.args.self.now (past_in setup records) stands none) stands.replicas
     ∙ ap (refusal_left records) c.in-Deliver.is in
     let taken = c.deliver.ensures.taken (past_in setup records) stands none
     (ap (refusal_of setup.kind setup.replicas records) (sym c.in-Deliver.is) ∙ same) in
@@ -113,7 +114,7 @@ accept-requires c =
     let command = c.args.command.now in
     let none : fault_of setup.kind r.records ≡ None = sym r.stands.fault ∙ c.in_default.is in
     let accepted : refusal_of setup.kind setup.replicas r.records command ≡ None =
-    c.in_default-refusal_of.ensures.first r.records (taken_known c.args.self.now (past_in setup r.records) r.stands none)
+    c.in_default-refusal_of.ensures.first r.records (taken_known c.args.self.now (past_in setup r.records) r.stands none) r.stands.replicas
     ∙ nothing_left r.records command c.in-Operate.replica c.in-Operate.op c.in-Operate.stamp c.in-Operate.is in
     record {
       past = past_in setup r.records;
@@ -131,7 +132,7 @@ returns-in-Operate-clause-joins c = λ records stands.
     let is = c.in-Operate.is in
     let none : fault_of setup.kind records ≡ None = sym stands.fault ∙ c.in_default.is in
     let accepted : refusal_of setup.kind setup.replicas records command ≡ None =
-    c.in_default-refusal_of.ensures.first records (taken_known c.args.self.now (past_in setup records) stands none)
+    c.in_default-refusal_of.ensures.first records (taken_known c.args.self.now (past_in setup records) stands none) stands.replicas
     ∙ nothing_left records command c.in-Operate.replica c.in-Operate.op c.in-Operate.stamp is in
     on_err_any c.accept.result (
     sym (joined setup.kind setup.replicas records command c.in-Operate.replica c.in-Operate.op c.in-Operate.stamp is none accepted)
@@ -146,9 +147,73 @@ returns-in-Deliver-clause-joins c = λ records stands.
     let is = c.in-Deliver.is in
     let none : fault_of setup.kind records ≡ None = sym stands.fault ∙ c.in_default.is in
     let same : refusal_of setup.kind setup.replicas records command ≡ refusal_at records to label =
-    c.in_default-refusal_of.ensures.first records (taken_known c.args.self.now (past_in setup records) stands none)
+    c.in_default-refusal_of.ensures.first records (taken_known c.args.self.now (past_in setup records) stands none) stands.replicas
     ∙ ap (refusal_left records) is in
     on_err c.deliver.result (c.deliver.ensures.joins (past_in setup records) stands) (λ left.
     sym (delivered_records setup.kind setup.replicas records command to label is none same)
     ∙ ap (λ (o : Option Refusal). if is_some o then records else Deliver to label ∷ records) left
     ∙ ap (λ (d : Command). d ∷ records) (sym is))
+
+-- an accepted join makes the next replica
+next_joined : (kind : Kind) (replicas : ℕ) (records : Records) (command : Command) (replica from : ℕ) → command ≡ Join replica from
+    → refusal_of kind replicas records command ≡ None → command ≡ Join (replica_count replicas records) from
+next_joined kind replicas records command replica from is accepted =
+    is ∙ ap (λ r. Join r from)
+    ((joins_are_accepted_with_the_next_number replicas records replica from).0 (ap (refusal_of kind replicas records) (sym is) ∙ accepted)).1
+
+join_answered : (kind : Kind) (replicas : ℕ) (records : Records) (command : Command) (joined from : ℕ) → command ≡ Join joined from
+    → fault_of kind records ≡ None → refusal_of kind replicas records command ≡ None
+    → (Joined joined ≡ answer_of kind replicas records command) × (Join joined from ∷ records ≡ records_after kind replicas records command)
+join_answered kind replicas records command joined from is none accepted = (
+  sym (ap (λ o. option_map_or no_at o (option_map_or Refused (refusal_of kind replicas records command) (answer_to_accepted kind records command))) none
+      ∙ ap (λ o. option_map_or Refused o (answer_to_accepted kind records command)) accepted
+      ∙ ap (answer_to_accepted kind records) is),
+  rw (none, accepted, is) refl,
+)
+
+no_join_left : (records : Records) (command : Command) (replica from : ℕ) → command ≡ Join replica from → refusal_left records command ≡ None
+no_join_left records command replica from is = ap (refusal_left records) is
+
+pub join-requires : goal.join-requires
+join-requires c =
+    let r = c.requires in
+    let setup = c.args.setup.now in
+    let command = c.args.command.now in
+    let none : fault_of setup.kind r.records ≡ None = sym r.stands.fault ∙ c.in_default.is in
+    let accepted : refusal_of setup.kind setup.replicas r.records command ≡ None =
+    c.in_default-refusal_of.ensures.first r.records (taken_known c.args.self.now (past_in setup r.records) r.stands none) r.stands.replicas
+    ∙ no_join_left r.records command c.in-Join.replica c.in-Join.from c.in-Join.is in
+    let next = next_joined setup.kind setup.replicas r.records command c.in-Join.replica c.in-Join.from c.in-Join.is accepted in
+    record {
+      past = past_in setup r.records;
+      stands = r.stands;
+      none = none;
+      accepted = ap (refusal_of setup.kind setup.replicas r.records) (sym next) ∙ accepted;
+    }
+
+pub returns-in-Join-clause-taken : goal.returns-in-Join-clause-taken
+returns-in-Join-clause-taken c = λ records stands.
+    let setup = c.args.setup.now in
+    let command = c.args.command.now in
+    let from = c.in-Join.from in
+    let joined = replica_count setup.replicas records in
+    let none : fault_of setup.kind records ≡ None = sym stands.fault ∙ c.in_default.is in
+    let accepted : refusal_of setup.kind setup.replicas records command ≡ None =
+    c.in_default-refusal_of.ensures.first records (taken_known c.args.self.now (past_in setup records) stands none) stands.replicas
+    ∙ no_join_left records command c.in-Join.replica from c.in-Join.is in
+    let next = next_joined setup.kind setup.replicas records command c.in-Join.replica from c.in-Join.is accepted in
+    let both = join_answered setup.kind setup.replicas records command joined from next none accepted in
+    let taken = c.join.ensures.taken (past_in setup records) stands none (ap (refusal_of setup.kind setup.replicas records) (sym next) ∙ accepted) in
+    let replied = subst (λ (r : Reply). IfOk c.join.result (λ reply. (reply ≡ r) × StandsFor c.join.new.self (past_in setup (Join joined from ∷ records)))) both.0 taken in
+    subst (λ (r : Records). IfOk c.join.result (λ reply. (reply ≡ answer_of setup.kind setup.replicas records command) × StandsFor c.join.new.self (past_in setup r))) both.1 replied
+
+pub returns-in-Join-clause-joins : goal.returns-in-Join-clause-joins
+returns-in-Join-clause-joins c = λ records stands.
+    let setup = c.args.setup.now in
+    let command = c.args.command.now in
+    let none : fault_of setup.kind records ≡ None = sym stands.fault ∙ c.in_default.is in
+    let accepted : refusal_of setup.kind setup.replicas records command ≡ None =
+    c.in_default-refusal_of.ensures.first records (taken_known c.args.self.now (past_in setup records) stands none) stands.replicas
+    ∙ no_join_left records command c.in-Join.replica c.in-Join.from c.in-Join.is in
+    let both = join_answered setup.kind setup.replicas records command c.in-Join.replica c.in-Join.from c.in-Join.is none accepted in
+    on_err_any c.join.result (sym both.1 ∙ ap (λ (d : Command). d ∷ records) (sym c.in-Join.is))

@@ -34,7 +34,7 @@ invariant_of-self-in-Ok c =
     let m = c.self.inside in
     let stands = (c.in-Ok.ensures.taken (records_of m.setup m.log.items) c.self.invariant.history).1 in
     let room : length m.log.items < m.setup.limit = omega (arith, c.self.invariant.fits, c.len.ensures, c.if-len-self.false, m.log.ok.0) in
-    kept_after m _ (entry_of c) c.self.invariant (next_is c) room (answered c) refl (log_is c) stands c.in-Ok.ensures.one (ap (λ (k : ℕ). m.refused + k) c.refusals.ensures)
+    kept_after m _ (entry_of c) c.self.invariant (next_is c) room (answered c) refl (log_is c) stands c.in-Ok.ensures.one c.take.ensures.replicas (ap (λ (k : ℕ). m.refused + k) c.refusals.ensures)
 
 pub returns-in-Ok-clause-legal : goal.returns-in-Ok-clause-legal
 returns-in-Ok-clause-legal c = rw (log_is c) (legal_after c.self.inside (entry_of c) c.self.invariant (next_is c) (answered c))

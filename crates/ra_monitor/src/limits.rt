@@ -1,2 +1,0 @@
-/// The greatest number of replicas.
-pub const MOST_REPLICAS: u8 = 16;

@@ -1,0 +1,259 @@
+//! Replicas that join: worked histories of each kind, and as many as there can be.
+
+use crate::commands::{got, increment, read, reply_to, reporter_of};
+use crate::rows::{Row, Say, are_answered};
+use ra_labels::{Cause, Command, Fault, Kind, Refusal, Reply};
+use std::process::Abort;
+
+const NO_AT_ONE: Reply = Reply::No {
+    label: 1,
+    cause: Cause::Query,
+};
+
+const JOINS: [Row; 10] = [
+    Row {
+        name: "each refusal of a join, in its order",
+        kind: Kind::Counter,
+        steps: &[
+            (Say::Inc(0), Reply::Ok(0)),
+            (Say::Join(3, 0), Reply::Joined(3)),
+            (Say::Read(3, 1), Reply::Ok(1)),
+            (Say::Join(2, 0), Reply::Refused(Refusal::ReplicaThere)),
+            (Say::Join(3, 1), Reply::Refused(Refusal::ReplicaThere)),
+            (Say::Join(4, 4), Reply::Refused(Refusal::UnknownReplica)),
+            (Say::Join(5, 0), Reply::Refused(Refusal::UnknownReplica)),
+            (Say::Join(2, 9), Reply::Refused(Refusal::UnknownReplica)),
+            (Say::Got(3, 0), Reply::Refused(Refusal::AlreadySeen)),
+            (Say::Read(4, 1), Reply::Refused(Refusal::UnknownReplica)),
+            (Say::Read(1, 0), Reply::Ok(2)),
+            (Say::Verdict, Reply::Yes(3)),
+        ],
+        labels: 3,
+        refused: 7,
+        fault: None,
+        sequence: &[0, 1, 2],
+    },
+    Row {
+        name: "a join before any label, and of one that joined",
+        kind: Kind::Counter,
+        steps: &[
+            (Say::Join(3, 1), Reply::Joined(3)),
+            (Say::Join(4, 3), Reply::Joined(4)),
+            (Say::Inc(4), Reply::Ok(0)),
+            (Say::Got(3, 0), Reply::Got(0)),
+            (Say::Read(3, 1), Reply::Ok(1)),
+            (Say::Read(4, 1), Reply::Ok(2)),
+            (Say::Read(1, 0), Reply::Ok(3)),
+        ],
+        labels: 4,
+        refused: 0,
+        fault: None,
+        sequence: &[0, 1, 2, 3],
+    },
+    Row {
+        name: "afterwards it sees other labels than its source",
+        kind: Kind::Counter,
+        steps: &[
+            (Say::Inc(0), Reply::Ok(0)),
+            (Say::Join(3, 0), Reply::Joined(3)),
+            (Say::Inc(0), Reply::Ok(1)),
+            (Say::Read(3, 1), Reply::Ok(2)),
+            (Say::Read(0, 2), Reply::Ok(3)),
+            (Say::Got(3, 1), Reply::Got(1)),
+            (Say::Read(3, 2), Reply::Ok(4)),
+            (Say::Inc(3), Reply::Ok(5)),
+            (Say::Read(0, 2), Reply::Ok(6)),
+            (Say::Got(0, 5), Reply::Got(5)),
+            (Say::Read(0, 3), Reply::Ok(7)),
+            (Say::Got(2, 5), Reply::Refused(Refusal::NotCausal(0))),
+        ],
+        labels: 8,
+        refused: 1,
+        fault: None,
+        sequence: &[0, 1, 2, 3, 4, 5, 6, 7],
+    },
+    Row {
+        name: "a join after a no is answered with it",
+        kind: Kind::Counter,
+        steps: &[
+            (Say::Inc(0), Reply::Ok(0)),
+            (Say::Read(1, 1), NO_AT_ONE),
+            (Say::Join(3, 0), NO_AT_ONE),
+            (Say::Inc(3), NO_AT_ONE),
+        ],
+        labels: 2,
+        refused: 0,
+        fault: Some(Fault {
+            label: 1,
+            cause: Cause::Query,
+        }),
+        sequence: &[0],
+    },
+    Row {
+        name: "a joined replica's read that its source would not give",
+        kind: Kind::Counter,
+        steps: &[
+            (Say::Inc(0), Reply::Ok(0)),
+            (Say::Join(3, 1), Reply::Joined(3)),
+            (Say::Read(3, 1), NO_AT_ONE),
+        ],
+        labels: 2,
+        refused: 0,
+        fault: Some(Fault {
+            label: 1,
+            cause: Cause::Query,
+        }),
+        sequence: &[0],
+    },
+    Row {
+        name: "an addition is joined with and taken out",
+        kind: Kind::OrSet,
+        steps: &[
+            (Say::OrAdd(0, 4, 1), Reply::Ok(0)),
+            (Say::Join(3, 0), Reply::Joined(3)),
+            (Say::OrRemove(3, 4, &[1]), Reply::Ok(1)),
+            (Say::OrRead(0, &[4]), Reply::Ok(2)),
+            (Say::Got(0, 1), Reply::Got(1)),
+            (Say::OrRead(0, &[]), Reply::Ok(3)),
+        ],
+        labels: 4,
+        refused: 0,
+        fault: None,
+        sequence: &[0, 1, 1, 2, 3],
+    },
+    Row {
+        name: "removals before a join and after it",
+        kind: Kind::OrSet,
+        steps: &[
+            (Say::OrAdd(0, 4, 1), Reply::Ok(0)),
+            (Say::OrAdd(1, 4, 2), Reply::Ok(1)),
+            (Say::Got(0, 1), Reply::Got(1)),
+            (Say::OrRemove(0, 4, &[1, 2]), Reply::Ok(2)),
+            (Say::Join(3, 0), Reply::Joined(3)),
+            (Say::OrRead(3, &[]), Reply::Ok(3)),
+            (Say::OrAdd(3, 4, 3), Reply::Ok(4)),
+            (Say::OrRemove(3, 4, &[3]), Reply::Ok(5)),
+            (Say::Got(0, 4), Reply::Got(4)),
+            (Say::OrRead(0, &[4]), Reply::Ok(6)),
+            (Say::Got(0, 5), Reply::Got(5)),
+            (Say::OrRead(0, &[]), Reply::Ok(7)),
+            (Say::OrRead(1, &[4]), Reply::Ok(8)),
+            (Say::OrAdd(3, 5, 2), Reply::Refused(Refusal::IdTaken)),
+        ],
+        labels: 9,
+        refused: 1,
+        fault: None,
+        sequence: &[0, 1, 2, 2, 3, 4, 5, 5, 6, 7, 8],
+    },
+    Row {
+        name: "a register's last write is joined with, and an older one comes late",
+        kind: Kind::Register,
+        steps: &[
+            (Say::Write(0, 7, 5), Reply::Ok(0)),
+            (Say::Write(1, 8, 3), Reply::Ok(1)),
+            (Say::Join(3, 0), Reply::Joined(3)),
+            (Say::Last(3, Some(7)), Reply::Ok(2)),
+            (Say::Got(3, 1), Reply::Got(1)),
+            (Say::Last(3, Some(7)), Reply::Ok(3)),
+            (Say::Write(3, 9, 6), Reply::Ok(4)),
+            (Say::Got(1, 0), Reply::Got(0)),
+            (Say::Got(1, 4), Reply::Got(4)),
+            (Say::Last(1, Some(9)), Reply::Ok(5)),
+            (Say::Last(2, None), Reply::Ok(6)),
+            (Say::Write(3, 9, 6), Reply::Refused(Refusal::StampTaken)),
+        ],
+        labels: 7,
+        refused: 1,
+        fault: None,
+        sequence: &[6, 1, 0, 2, 3, 4, 5],
+    },
+    Row {
+        name: "a set's removal comes late to the one that joined",
+        kind: Kind::LwwSet,
+        steps: &[
+            (Say::Add(0, 4, 1), Reply::Ok(0)),
+            (Say::Remove(1, 4, 2), Reply::Ok(1)),
+            (Say::Join(3, 0), Reply::Joined(3)),
+            (Say::Elements(3, &[4]), Reply::Ok(2)),
+            (Say::Got(3, 1), Reply::Got(1)),
+            (Say::Elements(3, &[]), Reply::Ok(3)),
+            (Say::Join(4, 3), Reply::Joined(4)),
+            (Say::Add(4, 5, 3), Reply::Ok(4)),
+            (Say::Elements(4, &[5]), Reply::Ok(5)),
+            (Say::Elements(3, &[]), Reply::Ok(6)),
+        ],
+        labels: 7,
+        refused: 0,
+        fault: None,
+        sequence: &[0, 2, 1, 3, 6, 4, 5],
+    },
+    Row {
+        name: "what waits at the source waits at the one that joined, and follows there",
+        kind: Kind::Rga,
+        steps: &[
+            (Say::After(0, 0, 1, 1), Reply::Ok(0)),
+            (Say::After(1, 1, 2, 2), Reply::Ok(1)),
+            (Say::Got(2, 1), Reply::Got(1)),
+            (Say::Join(3, 2), Reply::Joined(3)),
+            (Say::Got(3, 0), Reply::Got(0)),
+            (Say::RgaRead(3, &[1, 2]), Reply::Ok(2)),
+            (Say::After(3, 2, 3, 3), Reply::Ok(3)),
+            (Say::Got(2, 3), Reply::Refused(Refusal::NotCausal(0))),
+            (Say::Got(2, 0), Reply::Got(0)),
+            (Say::Got(2, 3), Reply::Got(3)),
+            (Say::RgaRead(2, &[1, 2, 3]), Reply::Ok(4)),
+            (Say::RgaRemove(3, 1), Reply::Ok(5)),
+            (Say::RgaRead(3, &[2, 3]), Reply::Ok(6)),
+            (Say::RgaRead(2, &[1, 2, 3]), Reply::Ok(7)),
+        ],
+        labels: 8,
+        refused: 1,
+        fault: None,
+        sequence: &[0, 1, 2, 3, 4, 5, 6, 7],
+    },
+];
+
+#[test]
+fn replicas_join(rt: HostRuntime) {
+    are_answered(&rt, rt.alloc(), &JOINS);
+}
+
+// The replicas that there can be at most.
+const MOST: u8 = 64;
+
+#[test]
+fn two_replicas_become_sixty_four(rt: HostRuntime) {
+    let mut reporter = reporter_of(&rt, rt.alloc(), Kind::Counter, 2, 1_048_576);
+    for replica in 2..MOST {
+        let issuer = replica - 1;
+        let number = reporter.monitor().report().labels;
+        assert_eq!(rt;
+            reply_to(&rt, &mut reporter, increment(issuer)),
+            Reply::Ok(number)
+        );
+        let join = Command::Join {
+            replica,
+            from: issuer,
+        };
+        assert_eq!(rt; reply_to(&rt, &mut reporter, join), Reply::Joined(replica));
+        assert_eq!(rt; reporter.monitor().replicas(), replica + 1);
+    }
+    // The replica from which it joins and the next number are asked for before there is no room.
+    for (replica, from, why) in [
+        (64, 0, Refusal::TooManyReplicas),
+        (64, 64, Refusal::UnknownReplica),
+        (65, 0, Refusal::UnknownReplica),
+        (255, 255, Refusal::UnknownReplica),
+        (63, 0, Refusal::ReplicaThere),
+    ] {
+        let reply = reply_to(&rt, &mut reporter, Command::Join { replica, from });
+        assert_eq!(rt; reply, Reply::Refused(why), "{replica} from {from}");
+    }
+    assert_eq!(rt; reply_to(&rt, &mut reporter, read(63, 62)), Reply::Ok(62));
+    assert_eq!(rt; reply_to(&rt, &mut reporter, read(0, 0)), Reply::Ok(63));
+    assert_eq!(rt;
+        reply_to(&rt, &mut reporter, got(0, 61)),
+        Reply::Refused(Refusal::NotCausal(0))
+    );
+    assert_eq!(rt; reporter.monitor().replicas(), 64);
+}
