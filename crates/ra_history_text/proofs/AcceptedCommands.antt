@@ -1,35 +1,29 @@
 -- The accepted commands of a legal log are its records.
-use Rattle.std.proofs.Common.{◌≡◌, ℕ, Bool, true, false, not, ltb, cond, List, [], ◌∷◌, ◌++◌, length, Option, Some, None, refl, sym, ap, subst, ◌∙◌}
+use Rattle.std.proofs.Common.{◌≡◌, ℕ, Bool, true, false, not, cond, List, [], ◌∷◌, ◌++◌, Option, Some, None, refl, sym, ap, subst, ◌∙◌}
 use Rattle.std.specs.Prelude.{reverse, is_some, ◌||◌}
-use Rattle.std.specs.Option.{option_or, option_map_or}
+use Rattle.std.specs.Option.{option_map_or}
 use Rattle.std.specs.List.{AllByRecursion}
-use Rattle.std.proofs.lemmas.Bool.{ltb-true, not-false}
 use Rattle.std.proofs.lemmas.List.{append_assoc, append-nil, map-append, reverse-append}
 use Rattle.std.proofs.Math.Bool.{or-false}
 use Rattle.ra_labels.specs.declared.kind.Kind.{Kind}
 use Rattle.ra_labels.specs.declared.operation.Op.{Op}
-use Rattle.ra_labels.specs.declared.operation.Op.TheVariants.{Count, Last, LwwRemove, LwwRead}
-use Rattle.ra_labels.specs.declared.operation.Op.TheVariants.{OrRead, RgaRemove, RgaRead}
-use Rattle.ra_labels.specs.declared.kind.Kind.TheVariants.{Rga}
 use Rattle.ra_labels.specs.declared.command.Command.{Command}
-use Rattle.ra_labels.specs.declared.command.Command.TheVariants.{Operate, Deliver, Verdict}
+use Rattle.ra_labels.specs.declared.command.Command.TheVariants.{Operate, Deliver, Join, Verdict}
 use Rattle.ra_labels.specs.declared.refusal.Refusal.{Refusal}
-use Rattle.ra_labels.specs.declared.refusal.Refusal.TheVariants.{UnknownReplica, WrongKind}
 use Rattle.ra_labels.specs.declared.reply.Fault.{Fault}
 use Rattle.ra_labels.specs.declared.reply.Reply.{Reply}
 use Rattle.ra_labels.specs.declared.reply.Reply.TheVariants as reply
 use Rattle.ra_labels.specs.Records.{Records, label_count}
 use Rattle.ra_labels.specs.Fault.{fault_of}
-use Rattle.ra_labels.specs.Answer.{when, is_kind, kind_of, misfit_of, no_at, refusal_of, answer_to_accepted}
+use Rattle.ra_labels.specs.Answer.{no_at, refusal_of, answer_to_accepted}
 use Rattle.ra_labels.specs.Answer.{with_accepted, answer_of, records_after, records_after_all}
 use Rattle.ra_monitor.specs.declared.setup.Setup.{Setup}
 use Rattle.ra_monitor.specs.Monitor.{MonitorEntry, commands_of, records_of, answer_after}
 use Rattle.ra_journal.specs.Log.{IsLegalAfter}
-use Rattle.ra_lines.specs.Grammar.{has_words}
-use Rattle.ra_lines.specs.Spelling.{HasLine}
 use Rattle.ra_history_text.specs.Accepted.{is_no, tells_accepted, accepted_one, accepted_in}
 
-reverse_cons : (command : Command) (records : Records) → reverse (command ∷ records) ≡ reverse records ++ command ∷ []
+pub reverse_cons : (command : Command) (records : Records)
+    → reverse (command ∷ records) ≡ reverse records ++ command ∷ []
 reverse_cons command records = reverse-append (command ∷ []) records
 
 -- what one answer tells: the records behind it, and whether they have a fault
@@ -104,6 +98,11 @@ tells_taken kind n records (Deliver to label) sound taken = record {
   failed_is = ap (λ (r : Records). is_some (fault_of kind r)) taken.records_are
       ∙ sym (or-false (is_some (fault_of kind records)));
 }
+tells_taken kind n records (Join replica from) sound taken = record {
+  records_are = taken.records_are;
+  failed_is = ap (λ (r : Records). is_some (fault_of kind r)) taken.records_are
+      ∙ sym (or-false (is_some (fault_of kind records)));
+}
 tells_taken kind n records (Operate by op clock) sound taken =
     tells_operation kind n records by op clock (fault_of kind (Operate by op clock ∷ records)) sound refl taken
 
@@ -127,14 +126,14 @@ tells kind n records command = tells_by kind n records command (fault_of kind re
 
 -- ---- a whole log
 
-records-append : (kind : Kind) (n : ℕ) (records : Records) (commands later : List Command)
+pub records-append : (kind : Kind) (n : ℕ) (records : Records) (commands later : List Command)
     → records_after_all kind n records (commands ++ later)
     ≡ records_after_all kind n (records_after_all kind n records commands) later
 records-append kind n records [] later = refl
 records-append kind n records (c ∷ commands) later =
     records-append kind n (records_after kind n records c) commands later
 
-records_push : (setup : Setup) (before : List MonitorEntry) (entry : MonitorEntry)
+pub records_push : (setup : Setup) (before : List MonitorEntry) (entry : MonitorEntry)
     → records_of setup (before ++ entry ∷ []) ≡ records_after setup.kind setup.replicas
     (records_of setup before) entry.command
 records_push setup before entry =
@@ -169,87 +168,9 @@ accepted_are setup before (entry ∷ log) legal =
     ∙ ap (λ (cs : List Command). cs ++ accepted_in (failed || is_no entry.reply) log) one
     ∙ append_assoc (reverse records) (accepted_one failed entry) (accepted_in (failed || is_no entry.reply) log)
 
--- ---- an accepted command can be spelled
-
-first_none : (b : Bool) (why : Refusal) (later : Option Refusal) → option_or (when b why) later ≡ None
-    → (b ≡ false) × (later ≡ None)
-first_none true why later e = absurd cc
-first_none false why later e = (refl, e)
-
-own_words : (op : Op) (kind : Kind) → is_kind kind (kind_of op) ≡ true → has_words op kind ≡ true
-own_words (Count value) kind e = e
-own_words (Last value) kind e = e
-own_words (LwwRemove x) Rga e = absurd cc
-own_words (LwwRemove x) _ e = refl
-own_words (LwwRead list) kind e = e
-own_words (OrRead list) kind e = e
-own_words (RgaRemove x) kind e = e
-own_words (RgaRead list) kind e = e
-own_words _ kind e = refl
-
-or_none : {X : Type 0} (o later : Option X) → option_or o later ≡ None → o ≡ None
-or_none None later e = refl
-or_none (Some x) later e = absurd cc
-
-misfit_none : (kind : Kind) (by : ℕ) (op : Op) (clock : Option ℕ) (later : Option Refusal)
-    → option_or (misfit_of kind (Operate by op clock)) later ≡ None → is_kind kind (kind_of op) ≡ true
-misfit_none kind by op clock later e =
-    let own = first_none (not (is_kind kind (kind_of op))) WrongKind _
-    (or_none (misfit_of kind (Operate by op clock)) later e) in
-    not-false (is_kind kind (kind_of op)) own.0
-
-pub spelled : (kind : Kind) (names : List (List ℕ)) (records : Records) (command : Command)
-    → refusal_of kind (length names) records command ≡ None → HasLine kind names command
-spelled kind names records Verdict fits = tt
-spelled kind names records (Deliver to label) fits =
-    let known = first_none (not (ltb to (length names))) UnknownReplica _ fits in
-    ltb-true to (length names) (not-false (ltb to (length names)) known.0)
-spelled kind names records (Operate by op clock) fits =
-    let known = first_none (not (ltb by (length names))) UnknownReplica _ fits in
-    let form = misfit_none kind by op clock _ known.1 in
-    (ltb-true by (length names) (not-false (ltb by (length names)) known.0), own_words op kind form)
-
--- what an answer tells that is no refusal and no earlier no
-line_by : (kind : Kind) (names : List (List ℕ)) (records : Records) (command : Command) (o : Option Fault)
-    (p : Option Refusal) → fault_of kind records ≡ o
-    → refusal_of kind (length names) records command ≡ p
-    → tells_accepted (is_some (fault_of kind records)) (answer_of kind (length names) records command) ≡ true
-    → HasLine kind names command
-line_by kind names records command (Some fault) p failed refused e = absurd (let never = rw failed at e in cc)
-line_by kind names records command None (Some why) sound refused e = absurd (let never = rw (sound, refused) at e in cc)
-line_by kind names records command None None sound fits e = spelled kind names records command fits
-
-all_of_one : (P : Command → Type 0) (b : Bool) (command : Command) → (b ≡ true → P command)
-    → AllByRecursion P (cond b (command ∷ []) [])
-all_of_one P true command holds = (holds refl, tt)
-all_of_one P false command holds = tt
+-- ---- lists of commands
 
 pub all-append : (P : Command → Type 0) (xs ys : List Command) → AllByRecursion P xs → AllByRecursion P ys
     → AllByRecursion P (xs ++ ys)
 all-append P [] ys p q = q
 all-append P (x ∷ xs) ys p q = (p.0, all-append P xs ys p.1 q)
-
--- each accepted command of a legal log can be spelled
-pub accepted_have_lines : (setup : Setup) (names : List (List ℕ)) (before log : List MonitorEntry)
-    → length names ≡ setup.replicas → IsLegalAfter (answer_after setup) before log
-    → AllByRecursion (HasLine setup.kind names)
-    (accepted_in (is_some (fault_of setup.kind (records_of setup before))) log)
-accepted_have_lines setup names before [] as_many legal = tt
-accepted_have_lines setup names before (entry ∷ log) as_many legal =
-    let records : Records = records_of setup before in
-    let failed : Bool = is_some (fault_of setup.kind records) in
-    let told : Tells setup.kind setup.replicas records entry.command entry.reply =
-    subst (Tells setup.kind setup.replicas records entry.command) (sym legal.0.0)
-    (tells setup.kind setup.replicas records entry.command) in
-    let next : is_some (fault_of setup.kind (records_of setup (before ++ entry ∷ []))) ≡ (failed || is_no entry.reply) =
-    ap (λ (r : Records). is_some (fault_of setup.kind r)) (records_push setup before entry) ∙ told.failed_is in
-    let answered : entry.reply ≡ answer_of setup.kind (length names) records entry.command =
-    legal.0.0 ∙ ap (λ (n : ℕ). answer_of setup.kind n records entry.command) (sym as_many) in
-    let here = all_of_one (HasLine setup.kind names) (tells_accepted failed entry.reply) entry.command
-    (λ e. line_by setup.kind names records entry.command (fault_of setup.kind records)
-    (refusal_of setup.kind (length names) records entry.command) refl refl
-    (ap (tells_accepted failed) (sym answered) ∙ e)) in
-    let later = subst (λ (b : Bool). AllByRecursion (HasLine setup.kind names) (accepted_in b log)) next
-    (accepted_have_lines setup names (before ++ entry ∷ []) log as_many legal.1) in
-    all-append (HasLine setup.kind names) (accepted_one failed entry)
-    (accepted_in (failed || is_no entry.reply) log) here later

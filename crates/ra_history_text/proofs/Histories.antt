@@ -1,11 +1,18 @@
 -- What is kept true of a recorded history, step by step.
-use Rattle.std.proofs.Common.{◌≡◌, ℕ, zero, suc, ◌+◌, ◌-◌, ◌<◌, ◌≤◌, true, ltb, List, [], ◌∷◌, ◌++◌, length, map}
-use Rattle.std.proofs.Common.{Result, Ok, Err, Some, refl, sym, ap, ◌∙◌, arith, inl, inr}
+use Rattle.std.proofs.Common.{◌≡◌, ℕ, zero, suc, ◌+◌, ◌-◌, ◌<◌, ◌≤◌, true, ltb, List, [], ◌∷◌, ◌++◌, length, map, take}
+use Rattle.std.proofs.Common.{Result, Ok, Err, Some, refl, sym, ap, subst, ◌∙◌, arith, inl, inr}
 use Rattle.std.specs.Prelude.{◌↔◌, option_map, slice_get}
 use Rattle.std.proofs.lemmas.Bool.{cases_eq, and_parts, and_from, ltb-true, lt-ltb}
 use Rattle.std.proofs.lemmas.List.{length_push, map_push}
+use Rattle.ra_labels.specs.declared.kind.Kind.{Kind}
 use Rattle.ra_labels.specs.declared.command.Command.{Command}
-use Rattle.ra_labels.specs.Answer.{answer_of, records_after_all}
+use Rattle.ra_labels.specs.declared.reply.Reply.{Reply}
+use Rattle.ra_labels.specs.Records.{replica_count}
+use Rattle.ra_labels.specs.Fault.{fault_of}
+use Rattle.ra_labels.specs.Answer.{answer_of, refusal_of, records_after_all}
+use Rattle.ra_monitor.specs.declared.setup.Setup.{Setup}
+use Rattle.ra_history_text.proofs.AcceptedCommands.{records_push}
+use Rattle.ra_history_text.proofs.JoinedReplicas.{joined_after}
 use Rattle.ra_journal.specs.Log.{IsAboveLast, unstepped}
 use Rattle.ra_journal.specs.declared.journal.StepFault.{StepFault}
 use Rattle.ra_journal.specs.declared.journal.StepFault.TheVariants as handed
@@ -14,7 +21,8 @@ use Rattle.ra_history_text.specs.declared.history.History.TheInside.{Inside}
 use Rattle.ra_lines.specs.declared.limits.TheConstants.{MOST_COMMANDS}
 use Rattle.ra_history_text.specs.History.{History, StopsAnswering, fault_at}
 use Rattle.ra_history_text.proofs.ReplyLines.{answers_push}
-use Rattle.ra_history_text.specs.HistoryKept.{HistoryKept, are_tickets_below}
+use Rattle.ra_history_text.specs.HistoryKept.{HistoryKept, first_of, are_tickets_below}
+use Rattle.ra_history_text.specs.Output.{answers_in}
 
 -- an entry's ticket is below the number of entries
 below_at : (count i : ℕ) (log : List MonitorEntry) (ticket : ℕ) → are_tickets_below count log ≡ true
@@ -41,16 +49,50 @@ tickets_push count (first ∷ log) entry below is =
     and_from (ltb first.ticket (count + 1)) (are_tickets_below (count + 1) (log ++ entry ∷ []))
     (lt-ltb first.ticket (count + 1) here) (tickets_push count log entry parts.1 is)
 
+-- the names at first stay
+first_same : (h : Inside) (m : Monitor) → HistoryKept h → m.setup ≡ h.monitor.setup
+    → m.setup.replicas ≡ length (take m.setup.replicas h.names)
+first_same h m kept setup =
+    subst (λ (n : ℕ). n ≡ length (take n h.names)) (sym (ap (λ s. s.replicas) setup)) kept.replicas
+
+-- how many replicas there are, with the same log and with an entry more
+count_same : (h : Inside) (m : Monitor) → m.log ≡ h.monitor.log → m.setup ≡ h.monitor.setup
+    → replica_count m.setup.replicas (records_of m.setup m.log)
+    ≡ replica_count h.monitor.setup.replicas (records_of h.monitor.setup h.monitor.log)
+count_same h m log setup =
+    ap (λ (s : Setup). replica_count s.replicas (records_of s m.log)) setup
+    ∙ ap (λ (l : List MonitorEntry). replica_count h.monitor.setup.replicas (records_of h.monitor.setup l)) log
+
+count_grows : (h : Inside) (m : Monitor) (entry : MonitorEntry) → m.log ≡ h.monitor.log ++ entry ∷ []
+    → m.setup ≡ h.monitor.setup
+    → replica_count h.monitor.setup.replicas (records_of h.monitor.setup h.monitor.log)
+    ≤ replica_count m.setup.replicas (records_of m.setup m.log)
+count_grows h m entry log setup =
+    let own : Setup = h.monitor.setup in
+    omega (
+      arith,
+      ap (λ (s : Setup). replica_count s.replicas (records_of s m.log)) setup,
+      ap (λ (l : List MonitorEntry). replica_count own.replicas (records_of own l)) log,
+      ap (replica_count own.replicas) (records_push own h.monitor.log entry),
+      joined_after own.kind own.replicas (records_of own h.monitor.log) entry.command
+          (fault_of own.kind (records_of own h.monitor.log))
+          (refusal_of own.kind own.replicas (records_of own h.monitor.log) entry.command) refl refl,
+    )
+
 -- nothing changed
 pub kept_same : (h : Inside) (m : Monitor) → HistoryKept h → m.log ≡ h.monitor.log → m.setup ≡ h.monitor.setup
-    → HistoryKept (record { kind = h.kind; names = h.names; monitor = m })
+    → HistoryKept (record { format = h.format; kind = h.kind; names = h.names; monitor = m })
 kept_same h m kept log setup = record {
   kind = ap (λ s. s.kind) setup ∙ kept.kind;
-  replicas = ap (λ s. s.replicas) setup ∙ kept.replicas;
+  replicas = first_same h m kept setup;
+  few = omega (arith, kept.few, count_same h m log setup);
   limit = ap (λ s. s.limit) setup ∙ kept.limit;
   fits = rw log kept.fits;
   tickets = rw log kept.tickets;
-  answered = rw log kept.answered;
+  answered =
+      subst (λ (n : ℕ). map (λ (e : MonitorEntry). e.reply) m.log
+      ≡ answers_in h.kind (take n h.names) (commands_of m.log))
+      (sym (ap (λ s. s.replicas) setup)) (rw log kept.answered);
 }
 
 -- a command was answered and logged
@@ -59,10 +101,11 @@ pub kept_next : (h : Inside) (m : Monitor) (entry : MonitorEntry) → HistoryKep
     → entry.ticket ≡ length h.monitor.log → length h.monitor.log < 1048576
     → entry.reply ≡ answer_of h.monitor.setup.kind h.monitor.setup.replicas
     (records_of h.monitor.setup h.monitor.log) entry.command
-    → HistoryKept (record { kind = h.kind; names = h.names; monitor = m })
+    → HistoryKept (record { format = h.format; kind = h.kind; names = h.names; monitor = m })
 kept_next h m entry kept log setup ticket room reply = record {
   kind = ap (λ s. s.kind) setup ∙ kept.kind;
-  replicas = ap (λ s. s.replicas) setup ∙ kept.replicas;
+  replicas = first_same h m kept setup;
+  few = omega (arith, kept.few, count_grows h m entry log setup);
   limit = ap (λ s. s.limit) setup ∙ kept.limit;
   fits = omega (arith, ap length log, length_push h.monitor.log entry);
   tickets =
@@ -74,11 +117,21 @@ kept_next h m entry kept log setup ticket room reply = record {
       ap (map (λ (e : MonitorEntry). e.reply)) log ∙ map_push (λ (e : MonitorEntry). e.reply) h.monitor.log entry in
       let commands : commands_of m.log ≡ commands_of h.monitor.log ++ entry.command ∷ [] =
       ap commands_of log ∙ map_push (λ (e : MonitorEntry). e.command) h.monitor.log entry in
-      let answer : entry.reply ≡ answer_of h.kind (length h.names)
-      (records_after_all h.kind (length h.names) [] (commands_of h.monitor.log)) entry.command =
-      rw (kept.kind, kept.replicas) at reply in
-      rw (replies, commands, kept.answered, answer)
-      (sym (answers_push h.kind (length h.names) [] (commands_of h.monitor.log) entry.command));
+      let first : List (List ℕ) = first_of h in
+      let answer : entry.reply ≡ answer_of h.kind (length first)
+      (records_after_all h.kind (length first) [] (commands_of h.monitor.log)) entry.command =
+      reply ∙ ap (λ (k : Kind). answer_of k h.monitor.setup.replicas
+      (records_after_all k h.monitor.setup.replicas [] (commands_of h.monitor.log)) entry.command) kept.kind
+      ∙ ap (λ (n : ℕ). answer_of h.kind n (records_after_all h.kind n [] (commands_of h.monitor.log)) entry.command)
+      kept.replicas in
+      let same : map (λ (e : MonitorEntry). e.reply) m.log ≡ answers_in h.kind first (commands_of m.log) =
+      replies ∙ ap (λ (rs : List Reply). rs ++ entry.reply ∷ []) kept.answered
+      ∙ ap (λ (r : Reply). answers_in h.kind first (commands_of h.monitor.log) ++ r ∷ []) answer
+      ∙ sym (answers_push h.kind (length first) [] (commands_of h.monitor.log) entry.command)
+      ∙ ap (answers_in h.kind first) (sym commands) in
+      subst (λ (n : ℕ). map (λ (e : MonitorEntry). e.reply) m.log
+      ≡ answers_in h.kind (take n h.names) (commands_of m.log))
+      (sym (ap (λ s. s.replicas) setup)) same;
 }
 
 -- a log that is not full has room below its limit

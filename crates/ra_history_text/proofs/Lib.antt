@@ -9,5 +9,8 @@ pub mod Texts
 pub mod Prefixes
 pub mod Reports
 pub mod AcceptedCommands
+pub mod GivenAgain
+pub mod JoinedReplicas
+pub mod NewNames
 pub mod Entries
 pub mod WholeTexts

@@ -1,19 +1,20 @@
 -- What a line gives, at each place where it may stand, in one piece or in parts.
 use Rattle.std.proofs.Common.{◌≡◌, ℕ, false, true, eqb, List, [], ◌++◌, length, Option, Some, None, Ok, Err, refl, sym}
-use Rattle.std.proofs.Common.{ap, ◌∙◌, arith, ◌≢◌, inl, inr, Bool, leb, ◌-◌, ◌<◌, ◌≤◌, ◌∷◌, All, Result, IfErr, subst}
-use Rattle.std.proofs.lemmas.Bool.{eq-eqb, cases_Bool, leb-true, leb-false}
+use Rattle.std.proofs.Common.{ap, ◌∙◌, arith, ◌≢◌, inl, inr, Bool, cond, leb, ◌-◌, ◌<◌, ◌≤◌, ◌∷◌, All, Result, IfErr, subst}
+use Rattle.std.proofs.lemmas.Bool.{eq-eqb, ne_eqb, cases_Bool, leb-true, leb-false}
 use Rattle.std.specs.Prelude.{option_map, MatchOption, OnOk}
 use Rattle.ra_labels.specs.declared.kind.Kind.{Kind}
 use Rattle.ra_labels.specs.declared.command.Command.{Command}
 use Rattle.ra_labels.specs.declared.reply.Reply.{Reply}
-use Rattle.ra_lines.specs.Grammar.{ListsNames}
-use Rattle.ra_history_text.specs.History.{History, said_of, RecordsCommand}
+use Rattle.ra_lines.specs.declared.format.Format.{Format}
+use Rattle.ra_lines.specs.Grammar.{ListsNames, fields_of, joined_by}
+use Rattle.ra_history_text.specs.History.{History, said_of, TakesCommand}
 use Rattle.ra_lines.specs.Replies.{reply_line}
 use Rattle.ra_history_text.specs.Output.{replies_of}
-use Rattle.ra_lines.specs.Reading.{kind_read}
+use Rattle.ra_lines.specs.Reading.{head_read, command_read}
 use Rattle.ra_history_text.specs.Sessions.{AddsReplies, StopsExtending, StopsClosing, TakesMemory, StopsLine}
-use Rattle.ra_history_text.specs.Text.{Nothing, OfKind, OfHistory, Syntax, line_start, stop_at, line_taken_as}
-use Rattle.ra_history_text.specs.Text.{line_taken, Said, Progress, Ending, LineTooLong, next_line, taken}
+use Rattle.ra_history_text.specs.Text.{Nothing, OfKind, OfHistory, Syntax, of_head, with_command, line_start, stop_at, line_taken_as}
+use Rattle.ra_history_text.specs.Text.{line_taken, Said, Progress, Ending, LineTooLong, Full, next_line, taken}
 use Rattle.ra_lines.proofs.TheLaws.{a_line_of_names_is_read-only as names_read-listed, a_line_of_names_is_read-none as names_read-none}
 use Rattle.ra_history_text.proofs.ReplyLines.{replies_push}
 use Rattle.std.proofs.lemmas.List.{append-nil}
@@ -27,55 +28,79 @@ use Rattle.ra_history_text.proofs.TakenBytes.{taken_line, taken_part, taken_long
 
 -- ---- the first
 
-pub first_taken : (line : List ℕ) (kind : Kind) → kind_read line ≡ Some kind
-    → line_taken Nothing line ≡ Ok (line_start (OfKind kind))
-first_taken line kind e = ap (λ (o : Option Kind). line_taken_as Nothing (option_map OfKind o)) e
+pub first_taken : (line : List ℕ) (head : Format × Kind) → head_read line ≡ Some head
+    → line_taken Nothing line ≡ Ok (line_start (OfKind head.0 head.1))
+first_taken line head e = ap (λ (o : Option (Format × Kind)). line_taken_as Nothing (option_map of_head o)) e
 
-pub first_stops : (line : List ℕ) → kind_read line ≡ None → line_taken Nothing line ≡ Err (stop_at Nothing (Syntax 1))
-first_stops line e = ap (λ (o : Option Kind). line_taken_as Nothing (option_map OfKind o)) e
+pub first_stops : (line : List ℕ) → head_read line ≡ None → line_taken Nothing line ≡ Err (stop_at Nothing (Syntax 1))
+first_stops line e = ap (λ (o : Option (Format × Kind)). line_taken_as Nothing (option_map of_head o)) e
 
 -- ---- the line of names
 
-pub names_taken : (kind : Kind) (line : List ℕ) (names : List (List ℕ)) → ListsNames line names
-    → line_taken (OfKind kind) line ≡ Ok (line_start (OfHistory kind names []))
-names_taken kind line names lists =
-    ap (λ (o : Option (List (List ℕ))). line_taken_as (OfKind kind) (option_map (λ ns. OfHistory kind ns []) o))
-    (names_read-listed line names lists)
+-- what a line of names says
+abbrev begun : Format → Kind → List (List ℕ) → Said
+begun format kind names = OfHistory format kind names [] []
 
-pub names_stop : (kind : Kind) (line : List ℕ) → ((names : List (List ℕ)) → ListsNames line names → ⊥)
-    → line_taken (OfKind kind) line ≡ Err (stop_at (OfKind kind) (Syntax 2))
-names_stop kind line none =
-    ap (λ (o : Option (List (List ℕ))). line_taken_as (OfKind kind) (option_map (λ ns. OfHistory kind ns []) o))
-    (names_read-none line none)
+pub names_taken : (format : Format) (kind : Kind) (line : List ℕ) (names : List (List ℕ))
+    → ListsNames format line names
+    → line_taken (OfKind format kind) line ≡ Ok (line_start (OfHistory format kind names [] []))
+names_taken format kind line names lists =
+    ap (λ (o : Option (List (List ℕ))). line_taken_as (OfKind format kind) (option_map (begun format kind) o))
+    (names_read-listed format line names lists)
+
+pub names_stop : (format : Format) (kind : Kind) (line : List ℕ)
+    → ((names : List (List ℕ)) → ListsNames format line names → ⊥)
+    → line_taken (OfKind format kind) line ≡ Err (stop_at (OfKind format kind) (Syntax 2))
+names_stop format kind line none =
+    ap (λ (o : Option (List (List ℕ))). line_taken_as (OfKind format kind) (option_map (begun format kind) o))
+    (names_read-none format line none)
 
 -- ---- a command
 
 -- its reply line is put behind the others
-pub command_replied : (old new : History) (command : Command) (reply : Reply) (out_old out_new : List ℕ)
-    → RecordsCommand old new command reply
+pub command_replied : (old new : History) (line : List ℕ) (command : Command) (reply : Reply) (out_old out_new : List ℕ)
+    → TakesCommand old new line command reply
     → out_new ≡ out_old ++ reply_line reply → AddsReplies (said_of old) (said_of new) out_old out_new
-command_replied old new command reply out_old out_new records put = record {
+command_replied old new line command reply out_old out_new takes put = record {
   more = reply_line reply;
   replies =
-      ap (λ (h : History). replies_of (said_of h)) records.recorded
-      ∙ replies_push old.kind old.names old.commands command
-      ∙ ap (λ (r : Reply). replies_of (said_of old) ++ reply_line r) (sym records.answered);
+      ap (λ (h : History). replies_of (said_of h)) takes.taken
+      ∙ replies_push old.format old.kind old.first old.joined (joined_by reply old.joined line) old.commands command
+      ∙ ap (λ (r : Reply). replies_of (said_of old) ++ reply_line r) (sym takes.answered);
   out = put;
 }
 
+-- and the line is taken
+pub command_taken : (old new : History) (line : List ℕ) (command : Command) (reply : Reply)
+    → command_read old.format old.kind (old.first ++ old.joined) (fields_of line) ≡ Some command
+    → TakesCommand old new line command reply → line_taken (said_of old) line ≡ Ok (line_start (said_of new))
+command_taken old new line command reply read takes =
+    let grown : List Command = old.commands ++ command ∷ [] in
+    let next : Said = with_command old.format old.kind old.first old.joined old.commands line command in
+    let room = ne_eqb (length old.commands) 1048576 (λ full. absurd (omega (arith, full, takes.room))) in
+    let said : said_of new ≡ next = ap said_of takes.taken
+    ∙ ap (λ (r : Reply). OfHistory old.format old.kind old.first (joined_by r old.joined line) grown) takes.answered in
+    ap (λ (o : Option Command). line_taken_as (said_of old)
+    (option_map (with_command old.format old.kind old.first old.joined old.commands line) o)) read
+    ∙ ap (λ (b : Bool). cond b (Err (stop_at (said_of old) (Full (next_line (said_of old)))))
+    (Ok (line_start next))) room
+    ∙ ap (λ (s : Said). Ok (line_start s)) (sym said)
+
 -- ---- where the history begins
 
-pub history_begins : (kind : Kind) (line : List ℕ) (names : List (List ℕ)) (history : History) → ListsNames line names
-    → history.kind ≡ kind → history.names ≡ names
-    → history.commands ≡ [] → line_taken (OfKind kind) line ≡ Ok (line_start (said_of history))
-history_begins kind line names history lists kinds listed nothing =
-    rw (kinds, listed, nothing) (names_taken kind line names lists)
+pub history_begins : (format : Format) (kind : Kind) (line : List ℕ) (names : List (List ℕ)) (history : History)
+    → ListsNames format line names → history.format ≡ format → history.kind ≡ kind → history.first ≡ names
+    → history.joined ≡ [] → history.commands ≡ []
+    → line_taken (OfKind format kind) line ≡ Ok (line_start (said_of history))
+history_begins format kind line names history lists formats kinds listed none nothing =
+    rw (formats, kinds, listed, none, nothing) (names_taken format kind line names lists)
 
-pub names_fault : (kind : Kind) (line : List ℕ) (fault : LineFault) (at : CheckFault) → at ≡ fault_at_line fault 2
-    → (fault ≡ line_fault.Syntax → (names : List (List ℕ)) → ListsNames line names → ⊥)
-    → StopsLine (OfKind kind) line at
-names_fault kind line line_fault.Syntax at is none = rw is (names_stop kind line (none refl))
-names_fault kind line line_fault.NoMemory at is none = rw is (refl, tt)
+pub names_fault : (format : Format) (kind : Kind) (line : List ℕ) (fault : LineFault) (at : CheckFault)
+    → at ≡ fault_at_line fault 2
+    → (fault ≡ line_fault.Syntax → (names : List (List ℕ)) → ListsNames format line names → ⊥)
+    → StopsLine (OfKind format kind) line at
+names_fault format kind line line_fault.Syntax at is none = rw is (names_stop format kind line (none refl))
+names_fault format kind line line_fault.NoMemory at is none = rw is (refl, tt)
 
 -- ---- a part of a line
 

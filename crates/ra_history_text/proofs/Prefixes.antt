@@ -16,13 +16,13 @@ use Rattle.ra_history_text.specs.declared.fault.CheckFault.{CheckFault}
 use Rattle.ra_history_text.specs.declared.fault.CheckFault.TheVariants as check_fault
 use Rattle.ra_lines.specs.Grammar.{fields_of}
 use Rattle.ra_lines.specs.Replies.{reply_line, end_words, end_line}
-use Rattle.ra_history_text.specs.Output.{answers_in, records_in, replies_of, last_line_of, last_line_at, output_of}
+use Rattle.ra_history_text.specs.Output.{answers_in, replies_of, last_line_of, last_line_at, output_of}
 use Rattle.ra_lines.specs.Spelling.{BeginsWith}
 use Rattle.ra_history_text.specs.Laws.{line_feeds, IsOfReader, IsLess, GrowsByPart, GrowsByReplies, AnswersEach}
-use Rattle.ra_lines.specs.Reading.{kind_read, names_read, command_read}
+use Rattle.ra_lines.specs.Reading.{head_read, names_read, command_read}
 use Rattle.ra_history_text.specs.Run.{WritesUpTo, WritesReplies, StopsCheck}
 use Rattle.ra_history_text.specs.Text.{Said, Nothing, OfKind, OfHistory, Progress, Stop, Ending, Regular, Syntax}
-use Rattle.ra_history_text.specs.Text.{Truncated, LineTooLong, Full, next_line, with_command, said_behind, has_names}
+use Rattle.ra_history_text.specs.Text.{Truncated, LineTooLong, Full, next_line, records_in, with_command, of_head, said_behind, has_names}
 use Rattle.ra_history_text.specs.Text.{text_start, byte_taken, taken, end_of, ending_of, said_by, does_not_stop}
 use Rattle.ra_lines.proofs.TheLaws.{mapped}
 use Rattle.ra_history_text.proofs.ReplyLines.{taken_begins, output_begins}
@@ -51,9 +51,9 @@ some_end labels fault = omega (arith, length-append (end_words labels fault) (10
 
 some_last_line : (said : Said) → has_names said ≡ true → 0 < length (last_line_of said)
 some_last_line Nothing e = absurd cc
-some_last_line (OfKind kind) e = absurd cc
-some_last_line (OfHistory kind names commands) e =
-    some_end (label_count (records_in kind names commands)) (fault_of kind (records_in kind names commands))
+some_last_line (OfKind format kind) e = absurd cc
+some_last_line (OfHistory format kind first joined commands) e =
+    some_end (label_count (records_in kind first commands)) (fault_of kind (records_in kind first commands))
 
 regular_output : (text : List ℕ) → ending_of text ≡ Regular
     → output_of text ≡ replies_of (said_by text) ++ last_line_of (said_by text)
@@ -121,13 +121,13 @@ unwritten text left old new check_fault.Write regular stops =
 -- the replies of what lines say, each a line
 abbrev replies_in : Said → List Reply
 replies_in Nothing = []
-replies_in (OfKind kind) = []
-replies_in (OfHistory kind names commands) = answers_in kind names commands
+replies_in (OfKind format kind) = []
+replies_in (OfHistory format kind first joined commands) = answers_in kind first commands
 
 replies_are : (said : Said) → replies_of said ≡ flat_map reply_line (replies_in said)
 replies_are Nothing = refl
-replies_are (OfKind kind) = refl
-replies_are (OfHistory kind names commands) = refl
+replies_are (OfKind format kind) = refl
+replies_are (OfHistory format kind first joined commands) = refl
 
 pub whole_lines : (text left old new : List ℕ) → StopsCheck text (Some left) (Some old) (Some new) check_fault.NoMemory
     → GrowsByReplies old new
@@ -146,13 +146,14 @@ as_many_answers kind n records (c ∷ commands) =
 line_counted : (said next : Said) (line : List ℕ) → said_behind said line ≡ Some next
     → next_line next ≡ next_line said + 1
 line_counted Nothing next line e =
-    let m = mapped OfKind (kind_read line) next e in
+    let m = mapped of_head (head_read line) next e in
     ap next_line (sym m.2)
-line_counted (OfKind kind) next line e =
-    let m = mapped (λ ns. OfHistory kind ns []) (names_read line) next e in
+line_counted (OfKind format kind) next line e =
+    let m = mapped (λ ns. OfHistory format kind ns [] []) (names_read format line) next e in
     ap next_line (sym m.2)
-line_counted (OfHistory kind names commands) next line e =
-    let m = mapped (with_command kind names commands) (command_read kind names (fields_of line)) next e in
+line_counted (OfHistory format kind first joined commands) next line e =
+    let m = mapped (with_command format kind first joined commands line)
+    (command_read format kind (first ++ joined) (fields_of line)) next e in
     ap next_line (sym m.2) ∙ omega (arith, length_push commands m.0)
 
 feeds_cons : (byte : ℕ) (bytes : List ℕ) → line_feeds (byte ∷ bytes) ≡ cond (eqb byte 10) 1 0 + line_feeds bytes
@@ -195,9 +196,9 @@ feeds_counted (byte ∷ bytes) p q e =
 
 as_many_replies : (said : Said) (feeds : ℕ) → next_line said ≡ 1 + feeds → length (replies_in said) ≡ feeds - 2
 as_many_replies Nothing feeds e = omega (arith, e)
-as_many_replies (OfKind kind) feeds e = omega (arith, e)
-as_many_replies (OfHistory kind names commands) feeds e =
-    omega (arith, e, as_many_answers kind (length names) [] commands)
+as_many_replies (OfKind format kind) feeds e = omega (arith, e)
+as_many_replies (OfHistory format kind first joined commands) feeds e =
+    omega (arith, e, as_many_answers kind (length first) [] commands)
 
 read_is_answered : (read old new : List ℕ) → WritesReplies read (Some old) (Some new) → AnswersEach read old new
 read_is_answered read old new writes =

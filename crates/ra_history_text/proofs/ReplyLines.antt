@@ -9,12 +9,13 @@ use Rattle.ra_labels.specs.declared.command.Command.{Command}
 use Rattle.ra_labels.specs.declared.reply.Reply.{Reply}
 use Rattle.ra_labels.specs.Records.{Records}
 use Rattle.ra_labels.specs.Answer.{answer_of, answers_to, records_after, records_after_all}
-use Rattle.ra_lines.specs.Grammar.{fields_of}
+use Rattle.ra_lines.specs.declared.format.Format.{Format}
+use Rattle.ra_lines.specs.Grammar.{fields_of, names_behind}
 use Rattle.ra_lines.specs.Replies.{reply_line}
-use Rattle.ra_history_text.specs.Output.{answers_in, records_in, replies_of, last_line_at, output_of}
+use Rattle.ra_history_text.specs.Output.{answers_in, replies_of, last_line_at, output_of}
 use Rattle.ra_lines.specs.Spelling.{BeginsWith}
 use Rattle.ra_lines.specs.Reading.{command_read}
-use Rattle.ra_history_text.specs.Text.{Said, Nothing, OfKind, OfHistory, Progress, Stop, with_command, said_behind}
+use Rattle.ra_history_text.specs.Text.{Said, Nothing, OfKind, OfHistory, Progress, Stop, records_in, with_command, said_behind}
 use Rattle.ra_history_text.specs.Text.{is_full, text_start, line_taken_as, byte_taken, unless_stopped, taken, end_of}
 use Rattle.ra_lines.proofs.TheLaws.{mapped}
 use Rattle.ra_history_text.proofs.TakenBytes.{taken_then}
@@ -36,14 +37,15 @@ answers_push kind n records (first ∷ commands) command =
     (answers_push kind n (records_after kind n records first) commands command)
 
 -- its reply line stands behind the others
-pub replies_push : (kind : Kind) (names : List (List ℕ)) (commands : List Command) (command : Command)
-    → replies_of (with_command kind names commands command)
-    ≡ replies_of (OfHistory kind names commands) ++ reply_line
-    (answer_of kind (length names) (records_in kind names commands) command)
-replies_push kind names commands command =
-    let answers = answers_in kind names commands in
-    let reply = answer_of kind (length names) (records_in kind names commands) command in
-    ap (flat_map reply_line) (answers_push kind (length names) [] commands command)
+pub replies_push : (format : Format) (kind : Kind) (first joined behind : List (List ℕ)) (commands : List Command)
+    (command : Command)
+    → replies_of (OfHistory format kind first behind (commands ++ command ∷ []))
+    ≡ replies_of (OfHistory format kind first joined commands) ++ reply_line
+    (answer_of kind (length first) (records_in kind first commands) command)
+replies_push format kind first joined behind commands command =
+    let answers = answers_in kind first commands in
+    let reply = answer_of kind (length first) (records_in kind first commands) command in
+    ap (flat_map reply_line) (answers_push kind (length first) [] commands command)
     ∙ flat_map-append reply_line answers (reply ∷ [])
     ∙ ap (λ (bs : List ℕ). flat_map reply_line answers ++ bs) (append-nil (reply_line reply))
 
@@ -52,13 +54,14 @@ replies_push kind names commands command =
 line_begins : (said next : Said) (line : List ℕ) → said_behind said line ≡ Some next
     → BeginsWith (replies_of said) (replies_of next)
 line_begins Nothing next line e = (replies_of next, refl)
-line_begins (OfKind kind) next line e = (replies_of next, refl)
-line_begins (OfHistory kind names commands) next line e =
-    let m = mapped (with_command kind names commands) (command_read kind names (fields_of line)) next e in
-    subst (λ (s : Said). BeginsWith (replies_of (OfHistory kind names commands)) (replies_of s)) m.2 (
-      reply_line (answer_of kind (length names) (records_in kind names commands) m.0),
-      replies_push kind names
-          commands m.0,
+line_begins (OfKind format kind) next line e = (replies_of next, refl)
+line_begins (OfHistory format kind first joined commands) next line e =
+    let m = mapped (with_command format kind first joined commands line)
+    (command_read format kind (first ++ joined) (fields_of line)) next e in
+    let records = records_in kind first commands in
+    subst (λ (s : Said). BeginsWith (replies_of (OfHistory format kind first joined commands)) (replies_of s)) m.2 (
+      reply_line (answer_of kind (length first) records m.0),
+      replies_push format kind first joined (names_behind kind (length first) records joined line m.0) commands m.0,
     )
 
 -- what the lines up to an end say has the replies of those before

@@ -9,17 +9,21 @@ use Rattle.std.proofs.lemmas.List.{append_assoc, append-nil, length_push, nil_fr
 use Rattle.std.proofs.lemmas.List.Elements.{All-append}
 use Rattle.ra_labels.specs.declared.kind.Kind.{Kind}
 use Rattle.ra_labels.specs.declared.command.Command.{Command}
-use Rattle.ra_lines.specs.Grammar.{IsLine, bytes_of, fields_of, first_line, ListsNames, SpellEach, Says}
-use Rattle.ra_lines.specs.Reading.{kind_read, names_read, command_read}
+use Rattle.ra_labels.specs.Records.{Records}
+use Rattle.ra_labels.specs.Answer.{records_after}
+use Rattle.ra_lines.specs.declared.format.Format.{Format}
+use Rattle.ra_lines.specs.Grammar.{IsLine, bytes_of, fields_of, first_line, names_behind, ListsNames, SpellEach, Says}
+use Rattle.ra_lines.specs.Reading.{head_read, names_read, command_read}
 use Rattle.ra_history_text.specs.Text.{Said, Nothing, OfKind, OfHistory, Progress, Stop, Regular, Full, stop_at}
-use Rattle.ra_history_text.specs.Text.{next_line, with_command, said_behind, is_full, has_names, line_start, text_start}
+use Rattle.ra_history_text.specs.Text.{next_line, records_in, with_command, of_head, said_behind, is_full, has_names, line_start, text_start}
 use Rattle.ra_history_text.specs.Text.{line_taken_as, line_taken, byte_taken, unless_stopped, taken, end_of, ending_of}
 use Rattle.ra_history_text.specs.Text.{said_by}
 use Rattle.ra_lines.proofs.TheLaws.{a_line_of_a_command_is_read-found as command_found}
 use Rattle.ra_lines.proofs.TheLaws.{a_line_of_a_command_is_read-only as command_only}
-use Rattle.ra_lines.proofs.TheLaws.{a_first_line_is_read-only as kind_only, a_first_line_is_read-found as kind_found}
+use Rattle.ra_lines.proofs.TheLaws.{a_first_line_is_read-only as head_only, a_first_line_is_read-found as head_found}
 use Rattle.ra_lines.proofs.TheLaws.{a_line_of_names_is_read-found as names_read-Some}
 use Rattle.ra_lines.proofs.TheLaws.{a_line_of_names_is_read-only as names_read-listed, mapped, chosen}
+use Rattle.ra_history_text.proofs.AcceptedCommands.{records-append}
 use Rattle.ra_history_text.proofs.TakenBytes.{taken_then, taken_line, taken_part}
 
 -- ---- lines, one after another
@@ -62,49 +66,68 @@ taken_lines said last (line ∷ lines) are leads =
     (taken_whole said line are.0 ∙ line_is_taken said leads.0 line leads.1 leads.2)
     ∙ taken_lines leads.0 last lines are.1 leads.3
 
+-- the records that one command more leaves
+records_more : (kind : Kind) (first : List (List ℕ)) (before : List Command) (c : Command)
+    → records_in kind first (before ++ c ∷ []) ≡ records_after kind (length first) (records_in kind first before) c
+records_more kind first before c = records-append kind (length first) [] before (c ∷ [])
+
 -- the lines of commands
-leads_commands : (kind : Kind) (names lines : List (List ℕ)) (before commands : List Command)
-    → SpellEach kind names lines commands
+leads_commands : (format : Format) (kind : Kind) (first joined all lines : List (List ℕ)) (records : Records)
+    (before commands : List Command)
+    → records ≡ records_in kind first before
+    → SpellEach format kind first records joined lines commands all
     → length before + length commands ≤ 1048576
-    → Leads (OfHistory kind names before) lines (OfHistory kind names (before ++ commands))
-leads_commands kind names [] before [] each few = ap (OfHistory kind names) (sym (append-nil before))
-leads_commands kind names [] before (c ∷ commands) each few = absurd each
-leads_commands kind names (line ∷ lines) before [] each few = absurd each
-leads_commands kind names (line ∷ lines) before (c ∷ commands) each few =
-    let next : Said = with_command kind names before c in
-    let here = ap (option_map (with_command kind names before)) (command_only kind names (fields_of line) c each.0) in
+    → Leads (OfHistory format kind first joined before) lines (OfHistory format kind first all (before ++ commands))
+leads_commands format kind first joined all [] records before [] are each few =
+    ap (λ (names : List (List ℕ)). OfHistory format kind first names before) each
+    ∙ ap (OfHistory format kind first all) (sym (append-nil before))
+leads_commands format kind first joined all [] records before (c ∷ commands) are each few = absurd each
+leads_commands format kind first joined all (line ∷ lines) records before [] are each few = absurd each
+leads_commands format kind first joined all (line ∷ lines) records before (c ∷ commands) are each few =
+    let n : ℕ = length first in
+    let next : Said = with_command format kind first joined before line c in
+    let here = ap (option_map (with_command format kind first joined before line))
+    (command_only format kind (first ++ joined) (fields_of line) c each.0) in
     let room = ne_eqb (length before) 1048576 (λ full. absurd (omega (arith, full, few))) in
-    let later = leads_commands kind names lines (before ++ c ∷ []) commands each.1
-    (omega (arith, length_push before c, few)) in (
+    let behind = names_behind kind n records joined line c in
+    let same : behind ≡ names_behind kind n (records_in kind first before) joined line c =
+    ap (λ (rs : Records). names_behind kind n rs joined line c) are in
+    let later = leads_commands format kind first behind all lines (records_after kind n records c) (before ++ c ∷ [])
+    commands
+    (ap (λ (rs : Records). records_after kind n rs c) are ∙ sym (records_more kind first before c)) each.1
+    (omega (arith, length_push before c, few)) in
+    let named = subst (λ (names : List (List ℕ)). Leads (OfHistory format kind first names (before ++ c ∷ [])) lines
+    (OfHistory format kind first all ((before ++ c ∷ []) ++ commands))) same later in (
       next,
       here,
       room,
-      subst (λ (cs : List Command). Leads next lines (OfHistory kind names cs))
-          (append_assoc before (c ∷ []) commands) later,
+      subst (λ (cs : List Command). Leads next lines (OfHistory format kind first all cs))
+          (append_assoc before (c ∷ []) commands) named,
     )
 
-leads_text : (text : List ℕ) (kind : Kind) (names : List (List ℕ)) (commands : List Command)
-    (says : Says text kind names commands)
-    → Leads Nothing (first_line kind ∷ says.second ∷ says.lines) (OfHistory kind names commands)
-leads_text text kind names commands says = (
-  OfKind kind,
-  ap (option_map OfKind) (kind_only kind),
+leads_text : (text : List ℕ) (format : Format) (kind : Kind) (first joined : List (List ℕ)) (commands : List Command)
+    (says : Says text format kind first joined commands)
+    → Leads Nothing (first_line format kind ∷ says.second ∷ says.lines) (OfHistory format kind first joined commands)
+leads_text text format kind first joined commands says = (
+  OfKind format kind,
+  ap (option_map of_head) (head_only format kind),
   refl,
   (
-    OfHistory kind names [],
-    ap (option_map (λ ns. OfHistory kind ns [])) (names_read-listed says.second names says.lists),
+    OfHistory format kind first [] [],
+    ap (option_map (λ ns. OfHistory format kind ns [] [])) (names_read-listed format says.second first says.lists),
     refl,
-    leads_commands kind names says.lines [] commands says.spell (omega (arith, says.few)),
+    leads_commands format kind first [] joined says.lines [] [] commands refl says.spell (omega (arith, says.few)),
   ),
 )
 
-pub taken_text : (text : List ℕ) (kind : Kind) (names : List (List ℕ)) (commands : List Command)
-    → Says text kind names commands
-    → taken text_start text ≡ Ok (line_start (OfHistory kind names commands))
-taken_text text kind names commands says =
+pub taken_text : (text : List ℕ) (format : Format) (kind : Kind) (first joined : List (List ℕ))
+    (commands : List Command) → Says text format kind first joined commands
+    → taken text_start text ≡ Ok (line_start (OfHistory format kind first joined commands))
+taken_text text format kind first joined commands says =
     ap (taken text_start) says.whole
-    ∙ taken_lines Nothing (OfHistory kind names commands) (first_line kind ∷ says.second ∷ says.lines) says.are_lines
-    (leads_text text kind names commands says)
+    ∙ taken_lines Nothing (OfHistory format kind first joined commands)
+    (first_line format kind ∷ says.second ∷ says.lines) says.are_lines
+    (leads_text text format kind first joined commands says)
 
 -- ---- from bytes to lines
 
@@ -192,62 +215,94 @@ lines_found (byte ∷ bytes) p q is e =
 
 -- ---- from lines to a history
 
-commands_found : (kind other : Kind) (names others lines : List (List ℕ)) (before all : List Command)
-    → length before ≤ 1048576
-    → Leads (OfHistory kind names before) lines (OfHistory other others all)
-    → (kind ≡ other) × (names ≡ others)
-    × ((commands : List Command) × (all ≡ before ++ commands) × SpellEach kind names lines commands
-    × (length all ≤ 1048576))
-commands_found kind other names others [] before all few leads =
-    let kinds : kind ≡ other = cc in
-    let listed : names ≡ others = cc in
-    let same : before ≡ all = cc in
-    (kinds, listed, ([], sym same ∙ sym (append-nil before), tt, omega (arith, few, ap length same)))
-commands_found kind other names others (line ∷ lines) before all few leads =
-    let m = mapped (with_command kind names before) (command_read kind names (fields_of line)) leads.0 leads.1 in
+-- what lines of commands lead to
+record AreFound (format other : Format) (kind its : Kind) (first others joined all lines : List (List ℕ))
+    (records : Records) (before every : List Command) : Type 0 where
+  formats : format ≡ other
+  kinds : kind ≡ its
+  listed : first ≡ others
+  commands : List Command
+  parts : every ≡ before ++ commands
+  spell : SpellEach format kind first records joined lines commands all
+  few : length every ≤ 1048576
+
+commands_found : (format other : Format) (kind its : Kind) (first others joined all lines : List (List ℕ))
+    (records : Records) (before every : List Command)
+    → records ≡ records_in kind first before → length before ≤ 1048576
+    → Leads (OfHistory format kind first joined before) lines (OfHistory other its others all every)
+    → AreFound format other kind its first others joined all lines records before every
+commands_found format other kind its first others joined all [] records before every are few leads =
+    let same : before ≡ every = cc in
+    record {
+      formats = cc;
+      kinds = cc;
+      listed = cc;
+      commands = [];
+      parts = sym same ∙ sym (append-nil before);
+      spell = cc;
+      few = omega (arith, few, ap length same);
+    }
+commands_found format other kind its first others joined all (line ∷ lines) records before every are few leads =
+    let n : ℕ = length first in
+    let m = mapped (with_command format kind first joined before line)
+    (command_read format kind (first ++ joined) (fields_of line)) leads.0 leads.1 in
     let apart : length before ≢ 1048576 = eqb-false (length before) 1048576 leads.2 in
-    let later = subst (λ (s : Said). Leads s lines (OfHistory other others all)) (sym m.2) leads.3 in
-    let rest = commands_found kind other names others lines (before ++ m.0 ∷ []) all
-    (omega (arith, length_push before m.0, few, apart)) later in (
-      rest.0,
-      rest.1,
-      (
-        m.0 ∷ rest.2.0,
-        rest.2.1 ∙ append_assoc before (m.0 ∷ []) rest.2.0,
-        (command_found kind names (fields_of line) m.0 m.1, rest.2.2),
-        rest.2.3,
-      ),
-    )
+    let later = subst (λ (s : Said). Leads s lines (OfHistory other its others all every)) (sym m.2) leads.3 in
+    let behind = names_behind kind n records joined line m.0 in
+    let same : names_behind kind n (records_in kind first before) joined line m.0 ≡ behind =
+    ap (λ (rs : Records). names_behind kind n rs joined line m.0) (sym are) in
+    let named = subst (λ (names : List (List ℕ)). Leads (OfHistory format kind first names (before ++ m.0 ∷ [])) lines
+    (OfHistory other its others all every)) same later in
+    let rest = commands_found format other kind its first others behind all lines (records_after kind n records m.0)
+    (before ++ m.0 ∷ []) every
+    (ap (λ (rs : Records). records_after kind n rs m.0) are ∙ sym (records_more kind first before m.0))
+    (omega (arith, length_push before m.0, few, apart)) named in
+    record {
+      formats = rest.formats;
+      kinds = rest.kinds;
+      listed = rest.listed;
+      commands = m.0 ∷ rest.commands;
+      parts = rest.parts ∙ append_assoc before (m.0 ∷ []) rest.commands;
+      spell = (command_found format kind (first ++ joined) (fields_of line) m.0 m.1, rest.spell);
+      few = rest.few;
+    }
 
 -- the lines of a whole text
-says_from_lines : (text : List ℕ) (lines : List (List ℕ)) (kind : Kind) (names : List (List ℕ))
+says_from_lines : (text : List ℕ) (lines : List (List ℕ)) (format : Format) (kind : Kind) (first joined : List (List ℕ))
     (commands : List Command) → text ≡ bytes_of lines → AllByRecursion IsLine lines
-    → Leads Nothing lines (OfHistory kind names commands) → Says text kind names commands
-says_from_lines text [] kind names commands parts are leads = absurd cc
-says_from_lines text (first ∷ []) kind names commands parts are leads =
-    let m = mapped OfKind (kind_read first) leads.0 leads.1 in
-    let same : OfKind m.0 ≡ OfHistory kind names commands = m.2 ∙ leads.3 in
+    → Leads Nothing lines (OfHistory format kind first joined commands) → Says text format kind first joined commands
+says_from_lines text [] format kind first joined commands parts are leads = absurd cc
+says_from_lines text (head ∷ []) format kind first joined commands parts are leads =
+    let m = mapped of_head (head_read head) leads.0 leads.1 in
+    let same : OfKind m.0.0 m.0.1 ≡ OfHistory format kind first joined commands = m.2 ∙ leads.3 in
     absurd cc
-says_from_lines text (first ∷ second ∷ lines) kind names commands parts are leads =
-    let m = mapped OfKind (kind_read first) leads.0 leads.1 in
-    let next = subst (λ (s : Said). Leads s (second ∷ lines) (OfHistory kind names commands)) (sym m.2) leads.3 in
-    let n = mapped (λ ns. OfHistory m.0 ns []) (names_read second) next.0 next.1 in
-    let last = subst (λ (s : Said). Leads s lines (OfHistory kind names commands)) (sym n.2) next.3 in
-    let found = commands_found m.0 kind n.0 names lines [] commands (omega arith) last in
-    let head : first ≡ first_line kind = kind_found first m.0 m.1 ∙ ap first_line found.0 in
-    let listed : ListsNames second names = subst (ListsNames second) found.1 (names_read-Some second n.0 n.1) in
-    let spelled : SpellEach kind names lines commands =
-    subst (λ (k : Kind). SpellEach k names lines commands) found.0
-    (subst (λ (ns : List (List ℕ)). SpellEach m.0 ns lines commands) found.1
-    (subst (SpellEach m.0 n.0 lines) (sym found.2.1) found.2.2)) in
+says_from_lines text (head ∷ second ∷ lines) format kind first joined commands parts are leads =
+    let last : Said = OfHistory format kind first joined commands in
+    let m = mapped of_head (head_read head) leads.0 leads.1 in
+    let its : Format = m.0.0 in
+    let own : Kind = m.0.1 in
+    let next = subst (λ (s : Said). Leads s (second ∷ lines) last) (sym m.2) leads.3 in
+    let n = mapped (λ ns. OfHistory its own ns [] []) (names_read its second) next.0 next.1 in
+    let more = subst (λ (s : Said). Leads s lines last) (sym n.2) next.3 in
+    let found = commands_found its format own kind n.0 first [] joined lines [] [] commands refl (omega arith) more in
+    let is_head : head ≡ first_line format kind = head_found head its own m.1
+    ∙ ap (λ (f : Format). first_line f own) found.formats ∙ ap (first_line format) found.kinds in
+    let listed : ListsNames format second first =
+    subst (λ (f : Format). ListsNames f second first) found.formats
+    (subst (ListsNames its second) found.listed (names_read-Some its second n.0 n.1)) in
+    let spelled : SpellEach format kind first [] [] lines commands joined =
+    subst (λ (f : Format). SpellEach f kind first [] [] lines commands joined) found.formats
+    (subst (λ (k : Kind). SpellEach its k first [] [] lines commands joined) found.kinds
+    (subst (λ (ns : List (List ℕ)). SpellEach its own ns [] [] lines commands joined) found.listed
+    (subst (λ (cs : List Command). SpellEach its own n.0 [] [] lines cs joined) (sym found.parts) found.spell))) in
     record {
       second = second;
       lines = lines;
-      whole = parts ∙ ap (λ (l : List ℕ). bytes_of (l ∷ second ∷ lines)) head;
-      are_lines = subst (λ (l : List ℕ). AllByRecursion IsLine (l ∷ second ∷ lines)) head are;
+      whole = parts ∙ ap (λ (l : List ℕ). bytes_of (l ∷ second ∷ lines)) is_head;
+      are_lines = subst (λ (l : List ℕ). AllByRecursion IsLine (l ∷ second ∷ lines)) is_head are;
       lists = listed;
       spell = spelled;
-      few = found.2.3;
+      few = found.few;
     }
 
 -- ---- the regular end
@@ -302,36 +357,37 @@ pub regular_progress : (text : List ℕ) → ending_of text ≡ Regular
     → (p : Progress) × (taken text_start text ≡ Ok p) × (has_names p.said ≡ true) × (p.partial ≡ [])
 regular_progress text e = regular_found (taken text_start text) (no_regular text text_start) e
 
-pub says_found : (text : List ℕ) (kind : Kind) (names : List (List ℕ)) (commands : List Command)
-    → ending_of text ≡ Regular → said_by text ≡ OfHistory kind names commands
-    → Says text kind names commands
-says_found text kind names commands regular said =
+pub says_found : (text : List ℕ) (format : Format) (kind : Kind) (first joined : List (List ℕ))
+    (commands : List Command) → ending_of text ≡ Regular
+    → said_by text ≡ OfHistory format kind first joined commands → Says text format kind first joined commands
+says_found text format kind first joined commands regular said =
     let at = regular_progress text regular in
     let found = lines_found text text_start at.0 no_bytes at.1 in
-    let is : at.0.said ≡ OfHistory kind names commands = sym (ap (λ r. (end_of r).said) at.1) ∙ said in
-    says_from_lines text found.lines kind names commands
+    let is : at.0.said ≡ OfHistory format kind first joined commands = sym (ap (λ r. (end_of r).said) at.1) ∙ said in
+    says_from_lines text found.lines format kind first joined commands
     (found.parts ∙ ap (λ (bs : List ℕ). bytes_of found.lines ++ bs) at.3 ∙ append-nil (bytes_of found.lines))
     found.are_lines
     (subst (Leads Nothing found.lines) is found.leads)
 
-pub says_only : (text : List ℕ) (kind : Kind) (names : List (List ℕ)) (commands : List Command)
-    → Says text kind names commands
-    → (ending_of text ≡ Regular) × (said_by text ≡ OfHistory kind names commands)
-says_only text kind names commands says =
-    let is = taken_text text kind names commands says in
+pub says_only : (text : List ℕ) (format : Format) (kind : Kind) (first joined : List (List ℕ))
+    (commands : List Command) → Says text format kind first joined commands
+    → (ending_of text ≡ Regular) × (said_by text ≡ OfHistory format kind first joined commands)
+says_only text format kind first joined commands says =
+    let is = taken_text text format kind first joined commands says in
     (ap (λ r. (end_of r).ending) is, ap (λ r. (end_of r).said) is)
 
 -- what such a text says is a history
-history_of_names : (said : Said) → has_names said ≡ true → (kind : Kind) × (names : List (List ℕ))
-    × (commands : List Command) × (said ≡ OfHistory kind names commands)
+history_of_names : (said : Said) → has_names said ≡ true → (format : Format) × (kind : Kind)
+    × (first : List (List ℕ)) × (joined : List (List ℕ)) × (commands : List Command)
+    × (said ≡ OfHistory format kind first joined commands)
 history_of_names Nothing e = absurd cc
-history_of_names (OfKind kind) e = absurd cc
-history_of_names (OfHistory kind names commands) e = (kind, names, commands, refl)
+history_of_names (OfKind format kind) e = absurd cc
+history_of_names (OfHistory format kind first joined commands) e = (format, kind, first, joined, commands, refl)
 
 pub regular_history : (text : List ℕ) → ending_of text ≡ Regular
-    → (kind : Kind) × (names : List (List ℕ)) × (commands : List Command)
-    × (said_by text ≡ OfHistory kind names commands)
+    → (format : Format) × (kind : Kind) × (first : List (List ℕ)) × (joined : List (List ℕ))
+    × (commands : List Command) × (said_by text ≡ OfHistory format kind first joined commands)
 regular_history text regular =
     let at = regular_progress text regular in
     let found = history_of_names at.0.said at.2 in
-    (found.0, found.1, found.2, ap (λ r. (end_of r).said) at.1 ∙ found.3)
+    (found.0, found.1, found.2, found.3, found.4, ap (λ r. (end_of r).said) at.1 ∙ found.5)

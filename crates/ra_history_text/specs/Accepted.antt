@@ -1,5 +1,5 @@
 -- Which commands of a log were accepted.
-use Rattle.std.specs.Prelude.{Bool, true, false, not, ◌||◌, List, [], ◌∷◌, ◌++◌, if◌then◌else◌}
+use Rattle.std.specs.Prelude.{ℕ, count_by, Bool, true, false, not, ◌||◌, List, [], ◌∷◌, ◌++◌, if◌then◌else◌}
 use Rattle.ra_labels.specs.declared.command.Command.{Command}
 use Rattle.ra_labels.specs.declared.reply.Reply.{Reply}
 use Rattle.ra_labels.specs.declared.reply.Reply.TheVariants as reply
@@ -9,10 +9,19 @@ abbrev pub is_no : Reply → Bool
 is_no (reply.No label why) = true
 is_no _ = false
 
+abbrev pub is_joined : Reply → Bool
+is_joined (reply.Joined replica) = true
+is_joined _ = false
+
+-- how many replicas joined
+abbrev pub joined_in : List MonitorEntry → ℕ
+joined_in log = count_by (λ entry. is_joined entry.reply) log
+
 -- Does the reply tell that the command was accepted? After the first no none is.
 abbrev pub tells_accepted : Bool → Reply → Bool
 tells_accepted failed (reply.Ok label) = true
 tells_accepted failed (reply.Got label) = true
+tells_accepted failed (reply.Joined replica) = true
 tells_accepted failed (reply.Yes labels) = false
 tells_accepted failed (reply.No label why) = not failed
 tells_accepted failed (reply.Refused why) = false

@@ -1,14 +1,28 @@
 -- What the fields of a recorded history stand for, and what is kept true of them.
-use Rattle.std.specs.Prelude.{◌≡◌, ℕ, ◌≤◌, nat_lt, Bool, true, List, length, map}
+use Rattle.std.specs.Prelude.{◌≡◌, ℕ, ◌≤◌, nat_lt, Bool, true, List, length, map, take, drop}
 use Rattle.std.specs.List.{list_all}
-use Rattle.ra_monitor.specs.Monitor.{MonitorEntry, commands_of}
+use Rattle.ra_labels.specs.Records.{replica_count}
+use Rattle.ra_monitor.specs.Monitor.{MonitorEntry, commands_of, records_of}
 use Rattle.ra_history_text.specs.declared.history.History.TheInside.{Inside}
 use Rattle.ra_lines.specs.declared.limits.TheConstants.{MOST_COMMANDS}
 use Rattle.ra_history_text.specs.History.{History}
 use Rattle.ra_history_text.specs.Output.{answers_in}
 
+-- the names that it began with, and those that joined
+abbrev pub first_of : Inside → List (List ℕ)
+first_of h = take h.monitor.setup.replicas h.names
+
+abbrev pub joined_of : Inside → List (List ℕ)
+joined_of h = drop h.monitor.setup.replicas h.names
+
 abbrev pub history_of : Inside → History
-history_of h = record { kind = h.kind; names = h.names; commands = commands_of h.monitor.log }
+history_of h = record {
+  format = h.format;
+  kind = h.kind;
+  first = first_of h;
+  joined = joined_of h;
+  commands = commands_of h.monitor.log;
+}
 
 -- each ticket is below the number of entries
 abbrev pub are_tickets_below : ℕ → List MonitorEntry → Bool
@@ -16,8 +30,10 @@ are_tickets_below count log = list_all (λ entry. nat_lt entry.ticket count) log
 
 pub record HistoryKept (h : Inside) : Type 0 where
   pub kind : h.monitor.setup.kind ≡ h.kind
-  pub replicas : h.monitor.setup.replicas ≡ length h.names
+  pub replicas : h.monitor.setup.replicas ≡ length (first_of h)
+  -- a name that there was no memory for is missing
+  pub few : length h.names ≤ replica_count h.monitor.setup.replicas (records_of h.monitor.setup h.monitor.log)
   pub limit : h.monitor.setup.limit ≡ MOST_COMMANDS
   pub fits : length h.monitor.log ≤ MOST_COMMANDS
   pub tickets : are_tickets_below (length h.monitor.log) h.monitor.log ≡ true
-  pub answered : map (λ entry. entry.reply) h.monitor.log ≡ answers_in h.kind h.names (commands_of h.monitor.log)
+  pub answered : map (λ entry. entry.reply) h.monitor.log ≡ answers_in h.kind (first_of h) (commands_of h.monitor.log)

@@ -3,38 +3,34 @@ use Rattle.std.specs.Prelude.{◌≡◌, ℕ, ◌==◌, List, [], ◌++◌, leng
 use Rattle.ra_labels.specs.declared.kind.Kind.{Kind}
 use Rattle.ra_labels.specs.declared.command.Command.{Command}
 use Rattle.ra_labels.specs.declared.reply.Reply.{Reply}
-use Rattle.ra_labels.specs.Records.{Records, label_count}
+use Rattle.ra_labels.specs.Records.{label_count}
 use Rattle.ra_labels.specs.Fault.{fault_of}
-use Rattle.ra_labels.specs.Answer.{answers_to, records_after_all}
+use Rattle.ra_labels.specs.Answer.{answers_to}
 use Rattle.ra_monitor.specs.declared.report.Report.{Report}
 use Rattle.ra_monitor.specs.Replies.{is_refused}
 use Rattle.ra_lines.specs.Replies.{reply_line, end_line}
 use Rattle.ra_history_text.specs.declared.fault.CheckFault.{CheckFault}
 use Rattle.ra_history_text.specs.declared.outcome.Outcome.{Outcome}
-use Rattle.ra_history_text.specs.Text.{Said, Nothing, OfKind, OfHistory, Ending, Regular, Syntax, Truncated, LineTooLong, Full, ending_of, said_by}
+use Rattle.ra_history_text.specs.Text.{Said, Nothing, OfKind, OfHistory, Ending, Regular, Syntax, Truncated, LineTooLong, Full, records_in, ending_of, said_by}
 
 -- ---- all that is written
 
--- the answers to the commands of a history with these names
+-- the answers to the commands of a history that begins with these names
 abbrev pub answers_in : Kind → List (List ℕ) → List Command → List Reply
-answers_in kind names commands = answers_to kind (length names) [] commands
-
--- the records that its commands leave
-abbrev pub records_in : Kind → List (List ℕ) → List Command → Records
-records_in kind names commands = records_after_all kind (length names) [] commands
+answers_in kind first commands = answers_to kind (length first) [] commands
 
 -- the lines of the replies to what lines say
 abbrev pub replies_of : Said → List ℕ
 replies_of Nothing = []
-replies_of (OfKind kind) = []
-replies_of (OfHistory kind names commands) = flat_map reply_line (answers_in kind names commands)
+replies_of (OfKind format kind) = []
+replies_of (OfHistory format kind first joined commands) = flat_map reply_line (answers_in kind first commands)
 
 -- the last line behind them
 abbrev pub last_line_of : Said → List ℕ
 last_line_of Nothing = []
-last_line_of (OfKind kind) = []
-last_line_of (OfHistory kind names commands) =
-    let records = records_in kind names commands in end_line (label_count records) (fault_of kind records)
+last_line_of (OfKind format kind) = []
+last_line_of (OfHistory format kind first joined commands) =
+    let records = records_in kind first commands in end_line (label_count records) (fault_of kind records)
 
 -- it is written where the text has its regular end
 abbrev pub last_line_at : Ending → Said → List ℕ
@@ -49,18 +45,18 @@ abbrev pub output_of : List ℕ → List ℕ
 output_of text = replies_of (said_by text) ++ last_line_at (ending_of text) (said_by text)
 
 -- the report counts what the commands of a history amount to
-pub record IsReportOf (kind : Kind) (names : List (List ℕ)) (commands : List Command) (report : Report) : Type 0 where
+pub record IsReportOf (kind : Kind) (first : List (List ℕ)) (commands : List Command) (report : Report) : Type 0 where
   pub kind_is : report.kind ≡ kind
   pub calls : report.calls ≡ length commands
-  pub labels : report.labels ≡ label_count (records_in kind names commands)
-  pub refused : report.refused ≡ count_by is_refused (answers_in kind names commands)
-  pub fault : report.fault ≡ fault_of kind (records_in kind names commands)
+  pub labels : report.labels ≡ label_count (records_in kind first commands)
+  pub refused : report.refused ≡ count_by is_refused (answers_in kind first commands)
+  pub fault : report.fault ≡ fault_of kind (records_in kind first commands)
 
 -- what lines say is a history, and this is its report
 abbrev pub Reports : Said → Report → Type 0
 Reports Nothing report = ⊥
-Reports (OfKind kind) report = ⊥
-Reports (OfHistory kind names commands) report = IsReportOf kind names commands report
+Reports (OfKind format kind) report = ⊥
+Reports (OfHistory format kind first joined commands) report = IsReportOf kind first commands report
 
 -- ---- the exit status
 

@@ -16,7 +16,7 @@ use Rattle.ra_history_text.specs.Text.{Said, Nothing, OfKind, OfHistory, Progres
 -- what the lines that led to a stage say
 abbrev pub said_at : Stage → Said
 said_at stage.Nothing = Nothing
-said_at (stage.OfKind kind) = OfKind kind
+said_at (stage.OfKind format kind) = OfKind format kind
 said_at (stage.OfHistory history) = said_of history
 
 -- bytes grow by just the reply lines that lines give behind those of the lines before them
@@ -30,9 +30,10 @@ pub record AddsReplies (old new : Said) (out_old out_new : List ℕ) : Type 0 wh
 -- for this line memory may be asked for: it may list names, or it spells a command, or one may come that has a list
 abbrev pub TakesMemory : Said → List ℕ → Type 0
 TakesMemory Nothing line = ⊥
-TakesMemory (OfKind kind) line = ⊤
-TakesMemory (OfHistory kind names commands) line =
-    (command_read kind names (fields_of line) ≡ None → ⊥) ⊎ (may_have_list kind (fields_of line) ≡ true)
+TakesMemory (OfKind format kind) line = ⊤
+TakesMemory (OfHistory format kind first joined commands) line =
+    (command_read format kind (first ++ joined) (fields_of line) ≡ None → ⊥)
+    ⊎ (may_have_list kind (fields_of line) ≡ true)
 
 -- why a whole line is not taken
 abbrev pub StopsLine : Said → List ℕ → CheckFault → Type 0

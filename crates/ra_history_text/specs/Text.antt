@@ -2,9 +2,12 @@
 use Rattle.std.specs.Prelude.{ℕ, ◌+◌, ◌==◌, nat_lt, Bool, true, false, ◌&&◌, List, [], ◌∷◌, ◌++◌, length, Option, Some, None, option_map, Result, Ok, Err, is_ok, if◌then◌else◌}
 use Rattle.ra_labels.specs.declared.kind.Kind.{Kind}
 use Rattle.ra_labels.specs.declared.command.Command.{Command}
+use Rattle.ra_labels.specs.Records.{Records}
+use Rattle.ra_labels.specs.Answer.{records_after_all}
+use Rattle.ra_lines.specs.declared.format.Format.{Format}
 use Rattle.ra_lines.specs.declared.limits.TheConstants.{LONGEST_LINE, MOST_COMMANDS}
 use Rattle.ra_lines.specs.Grammar.{fields_of, names_behind}
-use Rattle.ra_lines.specs.Reading.{kind_read, names_read, command_read}
+use Rattle.ra_lines.specs.Reading.{head_read, names_read, command_read}
 
 -- ---- what lines say
 
@@ -12,39 +15,50 @@ use Rattle.ra_lines.specs.Reading.{kind_read, names_read, command_read}
 pub data Said : Type 0 where
   -- there is none yet
   Nothing : Said
-  -- the first line: the kind
-  OfKind : Kind → Said
-  -- the line of names too, and then commands, the oldest first
-  OfHistory : Kind → List (List ℕ) → List Command → Said
+  -- the first line: the format and the kind
+  OfKind : Format → Kind → Said
+  -- the line of names too, and then commands, the oldest first: the names at first, and those that joined
+  OfHistory : Format → Kind → List (List ℕ) → List (List ℕ) → List Command → Said
 
 -- the number of the line that comes next, from 1
 abbrev pub next_line : Said → ℕ
 next_line Nothing = 1
-next_line (OfKind kind) = 2
-next_line (OfHistory kind names commands) = length commands + 3
+next_line (OfKind format kind) = 2
+next_line (OfHistory format kind first joined commands) = length commands + 3
 
--- a history with one command more
-abbrev pub with_command : Kind → List (List ℕ) → List Command → Command → Said
-with_command kind names commands command = OfHistory kind (names_behind names command) (commands ++ command ∷ [])
+-- the records that the commands of a history leave, which begins with these names
+abbrev pub records_in : Kind → List (List ℕ) → List Command → Records
+records_in kind first commands = records_after_all kind (length first) [] commands
+
+-- a history with one command more, which this line spells
+abbrev pub with_command : Format → Kind → List (List ℕ) → List (List ℕ) → List Command → List ℕ → Command → Said
+with_command format kind first joined commands line command =
+    OfHistory format kind first
+    (names_behind kind (length first) (records_in kind first commands) joined line command) (commands ++ command ∷ [])
+
+abbrev pub of_head : Format × Kind → Said
+of_head head = OfKind head.0 head.1
 
 -- what they say with one line more; none where the line spells nothing that may stand there
 abbrev pub said_behind : Said → List ℕ → Option Said
-said_behind Nothing line = option_map OfKind (kind_read line)
-said_behind (OfKind kind) line = option_map (λ names. OfHistory kind names []) (names_read line)
-said_behind (OfHistory kind names commands) line =
-    option_map (with_command kind names commands) (command_read kind names (fields_of line))
+said_behind Nothing line = option_map of_head (head_read line)
+said_behind (OfKind format kind) line =
+    option_map (λ names. OfHistory format kind names [] []) (names_read format line)
+said_behind (OfHistory format kind first joined commands) line =
+    option_map (with_command format kind first joined commands line)
+    (command_read format kind (first ++ joined) (fields_of line))
 
 -- are as many commands there as there may be?
 abbrev pub is_full : Said → Bool
 is_full Nothing = false
-is_full (OfKind kind) = false
-is_full (OfHistory kind names commands) = length commands == MOST_COMMANDS
+is_full (OfKind format kind) = false
+is_full (OfHistory format kind first joined commands) = length commands == MOST_COMMANDS
 
 -- were both lines before the commands there?
 abbrev pub has_names : Said → Bool
 has_names Nothing = false
-has_names (OfKind kind) = false
-has_names (OfHistory kind names commands) = true
+has_names (OfKind format kind) = false
+has_names (OfHistory format kind first joined commands) = true
 
 -- ---- how a text ends
 

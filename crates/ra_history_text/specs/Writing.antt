@@ -1,11 +1,16 @@
 -- What is written of a history, and why it is not.
-use Rattle.std.specs.Prelude.{◌≡◌, ℕ, ◌<◌, List, ◌∷◌, ◌++◌, length, reverse, Option, Some, None}
+use Rattle.std.specs.Prelude.{◌≡◌, ℕ, ◌<◌, nat_lt, ◌||◌, List, ◌∷◌, ◌++◌, length, take, drop, reverse, Option, Some, None, if◌then◌else◌}
 use Rattle.std.specs.Io.KnownBytes.{Appends, Keeps}
+use Rattle.std.specs.List.{list_any}
 use Rattle.ra_labels.specs.declared.command.Command.{Command}
+use Rattle.ra_labels.specs.Laws.{is_join}
+use Rattle.ra_labels.specs.Records.{replica_count}
 use Rattle.ra_monitor.specs.Monitor.{Monitor, records_of}
 use Rattle.ra_history_text.specs.declared.fault.WriteFault.{WriteFault}
 use Rattle.ra_history_text.specs.declared.fault.WriteFault.TheVariants.{BadNames, LineTooLong, Write, NoMemory}
-use Rattle.ra_lines.specs.declared.limits.TheConstants.{LONGEST_LINE}
+use Rattle.ra_lines.specs.declared.limits.TheConstants.{LONGEST_LINE, MOST_NAMES_IN_RAH_1}
+use Rattle.ra_lines.specs.declared.format.Format.{Format}
+use Rattle.ra_lines.specs.declared.format.Format.TheVariants.{Rah1, Rah2}
 use Rattle.ra_lines.specs.Spelling.{line_of, AreShort}
 use Rattle.ra_history_text.specs.Text.{OfHistory, Regular, ending_of, said_by}
 
@@ -28,10 +33,18 @@ TellsFirstLong names commands (Some at) = IsFirstLong names commands at
 abbrev pub records_in_order : Monitor → List Command
 records_in_order monitor = reverse (records_of monitor.setup monitor.log)
 
--- this text has a regular end, and says these names and the monitor's kind and accepted commands, in order
+-- RAH 2 where a replica joined, or there are more than RAH 1 has names for
+abbrev pub format_of : Monitor → Format
+format_of monitor =
+    if list_any is_join (records_of monitor.setup monitor.log) || nat_lt MOST_NAMES_IN_RAH_1 monitor.setup.replicas
+    then Rah2 else Rah1
+
+-- this text has a regular end, and says the monitor's kind and accepted commands, in order; these names are those of
+-- the replicas that were there at first, and then of those that joined
 pub record SaysHistory (monitor : Monitor) (names : List (List ℕ)) (text : List ℕ) : Type 0 where
   pub ends : ending_of text ≡ Regular
-  pub says : said_by text ≡ OfHistory monitor.setup.kind names (records_in_order monitor)
+  pub says : said_by text ≡ OfHistory (format_of monitor) monitor.setup.kind (take monitor.setup.replicas names)
+      (drop monitor.setup.replicas names) (records_in_order monitor)
 
 -- such a text was written
 abbrev pub WritesHistory : Monitor → List (List ℕ) → Option (List ℕ) → Option (List ℕ) → Type 0
@@ -43,9 +56,10 @@ WritesPartOfHistory monitor names old new =
     (part : List ℕ) × (more : List ℕ) × SaysHistory monitor names (part ++ more)
     × (0 < length more) × Appends old new part
 
--- there are as many names as replicas
+-- there are as many names as replicas by now
 abbrev pub AreAsMany : Monitor → List (List ℕ) → Type 0
-AreAsMany monitor names = length names ≡ monitor.setup.replicas
+AreAsMany monitor names =
+    length names ≡ replica_count monitor.setup.replicas (records_of monitor.setup monitor.log)
 
 -- why a history is not written, and what of it was
 abbrev pub StopsWriting : Monitor → List (List ℕ) → Option (List ℕ) → Option (List ℕ) → WriteFault → Type 0

@@ -1,15 +1,18 @@
 //! A history that is recorded: its commands, given to the monitor.
-ghost use Rattle.std.specs.Prelude.{◌≡◌, ◌+◌, ◌^◌, ◌∷◌, [], length, IfOk, IfErr};
+ghost use Rattle.std.specs.Prelude.{◌≡◌, ◌+◌, ◌^◌, ◌∷◌, ◌++◌, [], length, IfOk, IfErr, OnOk};
 ghost use Rattle.ra_labels.specs.declared.command.Command.{Command};
-ghost use Rattle.ra_lines.specs.Grammar.{AreNames};
+ghost use Rattle.ra_lines.specs.Grammar.{AreNames, Spells};
+ghost use Rattle.ra_lines.specs.Names.{MayJoin};
+ghost use Rattle.ra_lines.specs.declared.format.Format.TheVariants.{Rah2};
 ghost use Rattle.ra_history_text.specs.Output.{IsReportOf};
-ghost use Rattle.ra_history_text.specs.History.{RecordsCommand, StopsAnswering, fault_at};
+ghost use Rattle.ra_history_text.specs.History.{RecordsCommand, TakesCommand, StopsAnswering, HasFewNames, LacksName, fault_at, with_name};
 
 use crate::fault::CheckFault;
 use crate::limits::MOST_COMMANDS;
 use ra_journal::{Journal, StepFault};
 use ra_labels::{Command, Kind, NoMemory, Reply};
-use ra_lines::Names;
+use ra_lines::command::new_name;
+use ra_lines::{Format, Names, NamesFault};
 use ra_monitor::{Monitor, Report};
 use std::alloc::Global;
 use std::marker::Model;
@@ -17,9 +20,11 @@ use std::marker::Model;
 // How many lines stand before the first command.
 const LINES_BEFORE: u32 = 2;
 
-/// A history of one kind, at replicas that have names, whose commands a monitor answers.
+/// A history of one kind, at replicas that have names, whose commands a monitor answers. Names of replicas that joined
+/// stand behind those of the first ones.
 #[derive(Drop)]
 pub struct History {
+    format: Format,
     kind: Kind,
     names: Names,
     monitor: Monitor,
@@ -39,21 +44,31 @@ impl Model for History {
 
 impl History {
     /// A history of this kind, at the replicas with these names, of which nothing is recorded.
-    pub fn new(alloc: Global, kind: Kind, names: Names) -> Result<History, NoMemory>
-        requires { AreNames names }
+    pub fn new(alloc: Global, format: Format, kind: Kind, names: Names) -> Result<History, NoMemory>
+        requires { AreNames format names }
+        ensures format { IfOk result (λ history. history.format ≡ format) }
         ensures kind { IfOk result (λ history. history.kind ≡ kind) }
-        ensures names { IfOk result (λ history. history.names ≡ names) }
+        ensures first { IfOk result (λ history. history.first ≡ names) }
+        ensures joined { IfOk result (λ history. history.joined ≡ []) }
         ensures commands { IfOk result (λ history. history.commands ≡ []) }
     {
         match Monitor::new(alloc, kind, names.count(), MOST_COMMANDS) {
             Ok(monitor) => Ok(History {
+                format,
                 kind,
                 names,
                 monitor,
             }),
-            // There are 1 to 16 names, and the limit is the greatest: memory alone can be missing.
+            // There are 1 to 64 names, and the limit is the greatest: memory alone can be missing.
             Err(_) => Err(NoMemory),
         }
+    }
+
+    /// The format of its text.
+    pub fn format(&self) -> Format
+        ensures { result ≡ self.now.format }
+    {
+        self.format
     }
 
     /// Its kind.
@@ -65,7 +80,7 @@ impl History {
 
     /// The names of its replicas.
     pub fn names(&self) -> &Names
-        ensures { result.now ≡ self.now.names }
+        ensures { result.now ≡ self.now.first ++ self.now.joined }
     {
         &self.names
     }
@@ -77,9 +92,24 @@ impl History {
         self.monitor.log().len() as u32 + LINES_BEFORE + 1
     }
 
-    /// Has the command answered, and records it. It comes from pass 0, and its ticket is the number of commands before
-    /// it. After a fault the history is of no further use.
-    pub fn answer(&mut self, command: Command) -> Result<Reply, CheckFault>
+    /// Has the command answered that this line spells, and records it; a replica that joins by it gets the line's new
+    /// name. After a fault the history is of no further use.
+    pub fn take(&mut self, line: &[u8], command: Command) -> Result<Reply, CheckFault>
+        requires { Spells self.old.format self.old.kind (self.old.first ++ self.old.joined) line.now command }
+        ensures taken { IfOk result (TakesCommand self.old self.new line.now command) }
+        ensures fault { IfErr result (StopsAnswering self.old) }
+    {
+        self.has_few_names();
+        let reply = self.answer(command)?;
+        if let Reply::Joined(_) = reply {
+            self.add_name(new_name(line))?;
+        }
+        Ok(reply)
+    }
+
+    // Has the command answered, and records it. It comes from pass 0, and its ticket is the number of commands before
+    // it.
+    fn answer(&mut self, command: Command) -> Result<Reply, CheckFault>
         ensures answered { IfOk result (λ reply. RecordsCommand self.old self.new command reply) }
         ensures full { IfErr result (StopsAnswering self.old) }
     {
@@ -91,9 +121,30 @@ impl History {
         }
     }
 
+    // What is kept of the names: there are no more than replicas.
+    fn has_few_names(&self)
+        ensures { HasFewNames self.now }
+    {
+        let _ = &self.names;
+    }
+
+    // Gives a replica that joined this name, behind the others.
+    fn add_name(&mut self, name: &[u8]) -> Result<(), NoMemory>
+        requires new { MayJoin Rah2 (self.old.first ++ self.old.joined) name.now }
+        requires lacks { LacksName self.old }
+        ensures { OnOk result (self.new ≡ with_name self.old name.now) }
+    {
+        match self.names.add(name) {
+            Ok(()) => Ok(()),
+            Err(NamesFault::NoMemory) => Err(NoMemory),
+            Err(NamesFault::BadName(_)) => unreachable!(),
+            Err(NamesFault::BadCount) => unreachable!(),
+        }
+    }
+
     /// What the history amounts to.
     pub fn report(&self) -> Report
-        ensures { IsReportOf self.now.kind self.now.names self.now.commands result }
+        ensures { IsReportOf self.now.kind self.now.first self.now.commands result }
     {
         self.monitor.report()
     }

@@ -1,9 +1,13 @@
 //! Laws above the definitions of a text, each the clause of a function that does nothing.
-ghost use Rattle.std.specs.Prelude.{◌≡◌, ◌++◌, ◌↔◌, true, false, ℕ, List, length, None, Some, reverse};
+ghost use Rattle.std.specs.Prelude.{◌≡◌, ◌++◌, [], ◌↔◌, true, false, ℕ, List, length, None, Some, reverse};
 ghost use Rattle.ra_labels.specs.declared.kind.Kind.{Kind};
 ghost use Rattle.ra_labels.specs.declared.command.Command.{Command};
 ghost use Rattle.ra_labels.specs.Records.{Records};
-ghost use Rattle.ra_labels.specs.Answer.{refusal_of};
+ghost use Rattle.ra_labels.specs.Laws.{is_join};
+ghost use Rattle.ra_labels.specs.Records.{replica_count};
+ghost use Rattle.ra_labels.specs.Answer.{refusal_of, records_after_all};
+ghost use Rattle.ra_lines.specs.declared.format.Format.{Format};
+ghost use Rattle.ra_lines.specs.declared.format.Format.TheVariants.{Rah2};
 ghost use Rattle.ra_monitor.specs.declared.setup.Setup.{Setup};
 ghost use Rattle.ra_monitor.specs.Monitor.{MonitorEntry, IsLegalLog, records_of};
 ghost use Rattle.ra_history_text.specs.Accepted.{accepted_in};
@@ -29,25 +33,35 @@ pub fn accepted_commands_are_the_records()
         accepted_in false log ≡ reverse (records_of setup log) }
 {}
 
-/// A command that the one-thread monitor does not refuse has a line, where each replica has a name.
+/// A command that the one-thread monitor does not refuse has a line; a join has one in RAH 2.
 pub fn what_is_not_refused_has_a_line()
-    ensures { (kind : Kind) (names : List (List ℕ)) (records : Records) (command : Command) →
-        refusal_of kind (length names) records command ≡ None → HasLine kind names command }
+    ensures { (format : Format) (kind : Kind) (replicas : ℕ) (records : Records) (command : Command) →
+        refusal_of kind replicas records command ≡ None → (is_join command ≡ true → format ≡ Rah2) →
+        HasLine format kind (replica_count replicas records) command }
 {}
 
-/// A text has a regular end, with this kind, these names and these commands, exactly where it is a first line, a line
-/// of names and lines that spell the commands, each of them a line, and no more commands than the most.
+/// The records that commands left are accepted again, each of them, where they are given again in their order.
+pub fn records_given_again_are_accepted_again()
+    ensures { (kind : Kind) (replicas : ℕ) (commands : List Command) (records : Records) →
+        records ≡ records_after_all kind replicas [] commands →
+        records_after_all kind replicas [] (reverse records) ≡ records }
+{}
+
+/// A text has a regular end, with this format, this kind, these names at first, these names that joined and these
+/// commands, exactly where it is a first line, a line of names and lines that spell the commands, each of them a line,
+/// and no more commands than the most.
 pub fn a_regular_text_is_lines_of_a_history()
-    ensures { (text : List ℕ) (kind : Kind) (names : List (List ℕ)) (commands : List Command) →
-        ((ending_of text ≡ Regular) × (said_by text ≡ OfHistory kind names commands))
-        ↔ Says text kind names commands }
+    ensures { (text : List ℕ) (format : Format) (kind : Kind) (first joined : List (List ℕ))
+        (commands : List Command) →
+        ((ending_of text ≡ Regular) × (said_by text ≡ OfHistory format kind first joined commands))
+        ↔ Says text format kind first joined commands }
 {}
 
 /// A text with a regular end says a history.
 pub fn a_regular_text_says_a_history()
     ensures { (text : List ℕ) → ending_of text ≡ Regular →
-        (kind : Kind) × (names : List (List ℕ)) × (commands : List Command)
-        × (said_by text ≡ OfHistory kind names commands) }
+        (format : Format) × (kind : Kind) × (first : List (List ℕ)) × (joined : List (List ℕ))
+        × (commands : List Command) × (said_by text ≡ OfHistory format kind first joined commands) }
 {}
 
 /// What is written for a front of a text that does not stop is a front of what is written for the text.

@@ -1,8 +1,9 @@
-//! The text of a history, RAH 1: how it ends, and what is written for it.
+//! The text of a history, RAH 1 or RAH 2: how it ends, and what is written for it.
 //!
-//! A text's first line names the kind, the second lists the replicas' names, and each further one is a command: what
-//! each of them spells is told by `ra_lines`, whose `Names` and `Reading` are offered here too. `specs/Text` computes
-//! from a text's bytes how it ends and what its lines say, and `specs/Output` what is written for it.
+//! A text's first line names the format and the kind, the second lists the names of the replicas at first, and each
+//! further one is a command, in RAH 2 a join too: what each of them spells is told by `ra_lines`, whose `Names` and
+//! `Reading` are offered here too. `specs/Text` computes from a text's bytes how it ends and what its lines say, and
+//! `specs/Output` what is written for it.
 //!
 //! The one contract for the layers above: what `check` writes is `output_of` the text that it reads, and it answers
 //! with the text's own ending. A `Session` does the same for a caller that has the text piece by piece. The laws above
@@ -24,7 +25,7 @@ mod writing;
 pub use fault::{CheckFault, WriteFault};
 pub use line::write_line;
 pub use outcome::{Outcome, status};
-pub use ra_lines::{Header, Item, LineFault, Names, NamesFault, Reading};
+pub use ra_lines::{Format, Header, Item, LineFault, Names, NamesFault, Reading};
 pub use report::{report_json, write_report};
 pub use run::check;
 pub use session::Session;

@@ -1,6 +1,8 @@
 //! The limits of a text and of its check.
 
-pub use ra_lines::limits::{LONGEST_LINE, LONGEST_NAME, MOST_COMMANDS, MOST_NAMES};
+pub use ra_lines::limits::{
+    LONGEST_LINE, LONGEST_NAME, MOST_COMMANDS, MOST_NAMES, MOST_NAMES_IN_RAH_1,
+};
 
 /// The most reads of one check, that which finds the end among them.
 pub const MOST_READS: u64 = 4_294_967_296;

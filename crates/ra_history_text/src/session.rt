@@ -10,11 +10,11 @@ use crate::fault::CheckFault;
 use crate::history::History;
 use crate::limits::LONGEST_LINE;
 use ra_labels::Kind;
-use ra_lines::Names;
 use ra_lines::command::command;
 use ra_lines::fields::cut_at;
-use ra_lines::kind_line::kind_of;
+use ra_lines::kind_line::head_of;
 use ra_lines::reply::{put_end, put_reply};
+use ra_lines::{Format, Names};
 use ra_monitor::Report;
 use std::alloc::Global;
 use std::marker::Model;
@@ -24,9 +24,9 @@ use std::marker::Model;
 enum Stage {
     // There was none: the first comes next.
     Nothing,
-    // The kind: the line of names comes next.
-    OfKind(Kind),
-    // The kind, the names and commands, which are answered: a command comes next.
+    // The format and the kind: the line of names comes next.
+    OfKind(Format, Kind),
+    // These, the names and commands, which are answered: a command comes next.
     OfHistory(History),
 }
 
@@ -37,7 +37,7 @@ impl Stage {
     {
         match self {
             Stage::Nothing => 1,
-            Stage::OfKind(_) => 2,
+            Stage::OfKind(_, _) => 2,
             Stage::OfHistory(history) => history.line(),
         }
     }
@@ -52,9 +52,9 @@ impl Stage {
     {
         match self {
             Stage::Nothing => self.take_first(line),
-            Stage::OfKind(kind) => {
-                let kind = *kind;
-                self.take_names(*out.allocator(), kind, line)
+            Stage::OfKind(format, kind) => {
+                let (format, kind) = (*format, *kind);
+                self.take_names(*out.allocator(), format, kind, line)
             }
             Stage::OfHistory(history) => take_command(history, line, out),
         }
@@ -74,12 +74,19 @@ impl Stage {
 
     #[cold]
     #[inline(never)]
-    fn take_names(&mut self, alloc: Global, kind: Kind, line: &[u8]) -> Result<(), CheckFault>
-        ensures taken { OnOk result (line_taken (text.OfKind kind) line.now ≡ Ok (line_start (said_at self.new))) }
+    fn take_names(
+        &mut self,
+        alloc: Global,
+        format: Format,
+        kind: Kind,
+        line: &[u8],
+    ) -> Result<(), CheckFault>
+        ensures taken { OnOk result
+            (line_taken (text.OfKind format kind) line.now ≡ Ok (line_start (said_at self.new))) }
         ensures replied { OnOk result (replies_of (said_at self.new) ≡ []) }
-        ensures fault { IfErr result (StopsLine (text.OfKind kind) line.now) }
+        ensures fault { IfErr result (StopsLine (text.OfKind format kind) line.now) }
     {
-        *self = after_names(alloc, kind, line)?;
+        *self = after_names(alloc, format, kind, line)?;
         Ok(())
     }
 }
@@ -89,22 +96,23 @@ fn after_first(line: &[u8]) -> Result<Stage, CheckFault>
     ensures replied { IfOk result (λ next. replies_of (said_at next) ≡ []) }
     ensures fault { IfErr result (StopsLine text.Nothing line.now) }
 {
-    match kind_of(line) {
-        Some(kind) => Ok(Stage::OfKind(kind)),
+    match head_of(line) {
+        Some((format, kind)) => Ok(Stage::OfKind(format, kind)),
         None => Err(CheckFault::Syntax(1)),
     }
 }
 
-fn after_names(alloc: Global, kind: Kind, line: &[u8]) -> Result<Stage, CheckFault>
-    ensures taken { IfOk result (λ next. line_taken (text.OfKind kind) line.now ≡ Ok (line_start (said_at next))) }
+fn after_names(alloc: Global, format: Format, kind: Kind, line: &[u8]) -> Result<Stage, CheckFault>
+    ensures taken { IfOk result (λ next.
+        line_taken (text.OfKind format kind) line.now ≡ Ok (line_start (said_at next))) }
     ensures replied { IfOk result (λ next. replies_of (said_at next) ≡ []) }
-    ensures fault { IfErr result (StopsLine (text.OfKind kind) line.now) }
+    ensures fault { IfErr result (StopsLine (text.OfKind format kind) line.now) }
 {
-    let names = match Names::read(alloc, line) {
+    let names = match Names::read(alloc, format, line) {
         Ok(names) => names,
         Err(fault) => return Err(CheckFault::at_line(fault, 2)),
     };
-    let history = History::new(alloc, kind, names)?;
+    let history = History::new(alloc, format, kind, names)?;
     Ok(Stage::OfHistory(history))
 }
 
@@ -116,11 +124,17 @@ fn take_command(history: &mut History, line: &[u8], out: &mut Vec<u8>) -> Result
     ensures fault { IfErr result (StopsLine (said_of history.old) line.now) }
     ensures err { OnErr result (out.new.items ≡ out.old.items) }
 {
-    let found = command(*out.allocator(), history.kind(), history.names(), line)?;
+    let found = command(
+        *out.allocator(),
+        history.format(),
+        history.kind(),
+        history.names(),
+        line,
+    )?;
     let Some(command) = found else {
         return Err(CheckFault::Syntax(history.line()));
     };
-    let answer = history.answer(command)?;
+    let answer = history.take(line, command)?;
     put_reply(out, answer)?;
     Ok(())
 }
@@ -187,7 +201,7 @@ impl Session {
                 put_end(out, report.labels, report.fault)?;
                 Ok(report)
             }
-            Stage::Nothing | Stage::OfKind(_) => Err(CheckFault::Truncated(self.stage.line())),
+            Stage::Nothing | Stage::OfKind(_, _) => Err(CheckFault::Truncated(self.stage.line())),
         }
     }
 

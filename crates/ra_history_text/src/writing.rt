@@ -1,26 +1,28 @@
 //! A monitor's history, written as a text.
-ghost use Rattle.std.specs.Prelude.{◌≡◌, ◌+◌, ◌-◌, ◌++◌, ◌∷◌, [], ◌<◌, ◌≤◌, ◌^◌, false, length, map, OnOk, IfOk, IfErr};
+ghost use Rattle.std.specs.Prelude.{◌≡◌, ◌+◌, ◌-◌, ◌++◌, ◌∷◌, [], ◌<◌, ◌≤◌, ◌^◌, false, length, map, take, OnOk, IfOk, IfErr};
 ghost use Rattle.std.specs.List.{AllByRecursion};
 ghost use Rattle.ra_history_text.specs.Accepted as accepted;
-ghost use Rattle.ra_history_text.specs.Accepted.{accepted_in, accepted_one};
+ghost use Rattle.ra_history_text.specs.Accepted.{accepted_in, accepted_one, joined_in};
 ghost use Rattle.ra_lines.specs.Grammar.{bytes_of, first_line};
 ghost use Rattle.ra_lines.specs.Spelling.{line_of, names_line, AreSmall, AreShort};
-ghost use Rattle.ra_history_text.specs.Writing.{TellsFirstLong, AreAsMany, records_in_order, WritesHistory, StopsWriting, SaysHistory};
+ghost use Rattle.ra_history_text.specs.Writing.{TellsFirstLong, AreAsMany, records_in_order, format_of, WritesHistory, StopsWriting, SaysHistory};
 
 use crate::fault::WriteFault;
-use crate::limits::LONGEST_LINE;
+use crate::limits::{LONGEST_LINE, MOST_NAMES_IN_RAH_1};
 use crate::write::write_out;
 use ra_journal::Entry;
 use ra_labels::{Command, Kind, NoMemory, Reply};
-use ra_lines::Names;
 use ra_lines::kind_line::kind_word;
 use ra_lines::size::line_size;
 use ra_lines::spelling::{put_command, put_names};
+use ra_lines::{Format, Names};
 use ra_monitor::Monitor;
 use std::alloc::Global;
 use std::io::Write;
 
-/// Writes the two lines of the kind and the names, and the accepted operations and deliveries in order, a line each.
+/// Writes the two lines of the kind and of the names at first, and the accepted operations, deliveries and joins in
+/// order, a line each. The names are those of all replicas that are there, those that joined last. It is `RAH 2` only
+/// where a replica joined, or there were more than 16 at first.
 ///
 /// `BadNames` comes just where there are not as many names as the monitor has replicas, and else `LineTooLong` just
 /// where a command's line is too long, with the place of the first such: neither takes memory, and nothing is written.
@@ -78,20 +80,62 @@ fn spelled(alloc: Global, monitor: &Monitor, names: &Names) -> Result<Vec<u8>, N
     ensures says { IfOk result (λ text. SaysHistory monitor.now names.now text.items) }
 {
     names.are_names();
+    let first = first_replicas(monitor);
+    let format = format_of(monitor, first);
     let mut text = Vec::new(alloc);
-    put_heads(&mut text, monitor.report().kind, names)?;
+    put_heads(&mut text, format, monitor.report().kind, names, first)?;
     put_entries(&mut text, names, monitor.log())?;
     Ok(text)
 }
 
-// The two lines before the commands.
-fn put_heads(text: &mut Vec<u8>, kind: Kind, names: &Names) -> Result<(), NoMemory>
-    ensures { OnOk result (text.new.items ≡ text.old.items ++ bytes_of (first_line kind ∷ names_line names.now ∷ [])) }
+// How many replicas there were at first.
+fn first_replicas(monitor: &Monitor) -> u8
+    ensures { result ≡ monitor.now.setup.replicas }
 {
-    text.extend_from_slice(b"RAH 1 ")?;
+    (monitor.replicas() as u32 - joined_in(monitor.log())) as u8
+}
+
+// How many replicas joined.
+fn joined_in(log: &[Entry<Command, Reply>]) -> u32
+    requires { length log.now < 2 ^ 32 }
+    ensures { result ≡ joined_in log.now }
+{
+    let mut count = 0;
+    for entry in log {
+        if is_joined(entry.reply) {
+            count += 1;
+        }
+    }
+    count
+}
+
+fn format_of(monitor: &Monitor, first: u8) -> Format
+    requires { first ≡ monitor.now.setup.replicas }
+    ensures { result ≡ format_of monitor.now }
+{
+    if first < monitor.replicas() || first as usize > MOST_NAMES_IN_RAH_1 {
+        Format::Rah2
+    } else {
+        Format::Rah1
+    }
+}
+
+// The two lines before the commands.
+fn put_heads(
+    text: &mut Vec<u8>,
+    format: Format,
+    kind: Kind,
+    names: &Names,
+    first: u8,
+) -> Result<(), NoMemory>
+    requires { first ≤ length names.now }
+    ensures { OnOk result (text.new.items
+        ≡ text.old.items ++ bytes_of (first_line format kind ∷ names_line (take first names.now) ∷ [])) }
+{
+    text.extend_from_slice(format.word().as_bytes())?;
     text.extend_from_slice(kind_word(kind).as_bytes())?;
     text.extend_from_slice(b"\nreplicas")?;
-    put_names(text, names)?;
+    put_names(text, names, first)?;
     Ok(text.push(b'\n')?)
 }
 
@@ -136,7 +180,7 @@ fn tells_accepted(failed: bool, reply: Reply) -> bool
     ensures { result ≡ accepted.tells_accepted failed reply }
 {
     match reply {
-        Reply::Ok(_) | Reply::Got(_) => true,
+        Reply::Ok(_) | Reply::Got(_) | Reply::Joined(_) => true,
         Reply::Yes(_) | Reply::Refused(_) => false,
         Reply::No { .. } => !failed,
     }
@@ -147,6 +191,13 @@ fn is_no(reply: Reply) -> bool
 {
     match reply {
         Reply::No { .. } => true,
-        Reply::Ok(_) | Reply::Got(_) | Reply::Yes(_) | Reply::Refused(_) => false,
+        Reply::Ok(_) | Reply::Got(_) | Reply::Joined(_) | Reply::Yes(_) | Reply::Refused(_) =>
+            false,
     }
+}
+
+fn is_joined(reply: Reply) -> bool
+    ensures { result ≡ accepted.is_joined reply }
+{
+    matches!(reply, Reply::Joined(_))
 }

@@ -18,5 +18,7 @@ no_end_line (reply.Yes n) labels fault same =
     omega (arith, ap (λ (bs : List ℕ). get_or bs 0 0) same, begins_with_e labels fault)
 no_end_line (reply.No n why) labels fault same =
     omega (arith, ap (λ (bs : List ℕ). get_or bs 0 0) same, begins_with_e labels fault)
+no_end_line (reply.Joined n) labels fault same =
+    omega (arith, ap (λ (bs : List ℕ). get_or bs 0 0) same, begins_with_e labels fault)
 no_end_line (reply.Refused why) labels fault same =
     omega (arith, ap (λ (bs : List ℕ). get_or bs 0 0) same, begins_with_e labels fault)

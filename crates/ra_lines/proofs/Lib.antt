@@ -5,6 +5,7 @@ pub mod Operations
 pub mod Commands
 pub mod Heads
 pub mod NameLists
+pub mod NewNames
 pub mod SpelledLines
 pub mod PutBytes
 pub mod Sizes

@@ -1,19 +1,21 @@
 -- Names that join others, one after another.
-use Rattle.std.proofs.Common.{◌≡◌, ℕ, ◌+◌, ◌<◌, Bool, true, false, ◌≤◌, ltb, List, [], ◌∷◌, ◌++◌, length, take, drop}
+use Rattle.std.proofs.Common.{◌≡◌, ℕ, ◌+◌, ◌<◌, Bool, true, false, ◌≤◌, ltb, List, [], ◌∷◌, ◌++◌, length, take, drop, eqb, ◌≢◌}
 use Rattle.std.proofs.Common.{get_or, zero, suc, Some, None, Result, Err, refl, sym, ap, subst, ◌∙◌, arith, inl, inr}
-use Rattle.std.specs.Prelude.{bytes_eq, codes, position, Option, unwrap_or, IfOk, ◌||◌, if◌then◌else◌}
+use Rattle.std.specs.Prelude.{bytes_eq, codes, position, Option, unwrap_or, IfOk, not, ◌||◌, if◌then◌else◌}
 use Rattle.std.specs.Borrow.{Bor}
 use Rattle.std.specs.Global as global
 use Rattle.std.specs.List.{list_all, list_any, position_or_len, IsDistinct, AllByRecursion}
-use Rattle.std.proofs.lemmas.Bool.{cases_Bool, and_parts, and_from, ltb-false}
+use Rattle.std.proofs.lemmas.Bool.{cases_Bool, and_parts, and_from, ltb-false, ne_eqb, eq-eqb}
 use Rattle.std.proofs.lemmas.Cmp.{nat_list_eq_equiv}
 use Rattle.std.proofs.lemmas.List.{append_assoc, length_push, length-append, length-map, length-take-le, map-append, take_more}
 use Rattle.std.proofs.lemmas.Slice.Eq.{bytes_eq-Decides}
 use Rattle.std.proofs.lemmas.Map.Keys.{IsDistinct-head, IsDistinct-tail, IsDistinct-push}
-use Rattle.ra_lines.specs.Grammar.{is_name, place_of, fields_of, AreNames, ListsNames}
+use Rattle.ra_lines.specs.Grammar.{is_name, place_of, fields_of, most_names, AreNames, ListsNames}
+use Rattle.ra_lines.specs.declared.format.Format.{Format}
+use Rattle.ra_lines.specs.declared.format.Format.TheVariants.{Rah1, Rah2}
 use Rattle.ra_labels.specs.declared.kind.Kind.{Kind}
 use Rattle.ra_labels.specs.declared.command.Command.{Command}
-use Rattle.ra_lines.specs.Reading.{replica_read, replica_command_read, command_read}
+use Rattle.ra_lines.specs.Reading.{replica_read, replica_command_read, join_read, is_join_word, command_read}
 use Rattle.ra_lines.specs.NamesKept.{NamesKept}
 use Rattle.ra_lines.proofs.Heads.{distinct_found, distinct_only}
 use Rattle.ra_lines.specs.declared.fault.LineFault.{LineFault}
@@ -66,16 +68,38 @@ replica_found names word replica read =
       | inr other ↦ absurd (let here = rw other at read in cc)
     ]
 
-pub replica_leads : {E : Type 0} (kind : Kind) (names : List (List ℕ)) (first word : List ℕ)
+pub replica_leads : {E : Type 0} (format : Format) (kind : Kind) (names : List (List ℕ)) (first word : List ℕ)
     (fields entry : List (List ℕ)) (replica : ℕ) (r : Result (Option Command) E)
     → entry ≡ first ∷ word ∷ fields → replica_read names first ≡ Some replica
     → IfOk r (λ c. c ≡ replica_command_read kind replica word fields)
-    → IfOk r (λ c. c ≡ command_read kind names entry)
-replica_leads kind names first word fields entry replica r parts read holds =
+    → IfOk r (λ c. c ≡ command_read format kind names entry)
+replica_leads format kind names first word fields entry replica r parts read holds =
     let found = replica_found names first replica read in
-    let same : replica_command_read kind replica word fields ≡ command_read kind names entry =
+    let same : replica_command_read kind replica word fields ≡ command_read format kind names entry =
     rw (parts, found.0) (ap (λ (n : ℕ). replica_command_read kind n word fields) (sym found.1)) in
     subst (λ (o : Option Command). IfOk r (λ c. c ≡ o)) same holds
+
+-- no replica
+no_name : (names : List (List ℕ)) (word : List ℕ) → replica_read names word ≡ None → is_name word ≡ false
+no_name names word read =
+    elim (cases_Bool (is_name word)) [
+      | inl is ↦ let some : Some (place_of names word) ≡ None = rw is at read in absurd cc
+      | inr other ↦ other
+    ]
+
+pub join_leads : (format : Format) (kind : Kind) (names : List (List ℕ)) (first word : List ℕ)
+    (fields entry : List (List ℕ))
+    → entry ≡ first ∷ word ∷ fields → replica_read names first ≡ None → is_join_word format first ≡ true
+    → join_read names word fields ≡ command_read format kind names entry
+join_leads format kind names first word fields entry parts read joins =
+    rw (parts, no_name names first read, joins) refl
+
+pub none_leads : (format : Format) (kind : Kind) (names : List (List ℕ)) (first word : List ℕ)
+    (fields entry : List (List ℕ))
+    → entry ≡ first ∷ word ∷ fields → replica_read names first ≡ None → is_join_word format first ≡ false
+    → None ≡ command_read format kind names entry
+none_leads format kind names first word fields entry parts read joins =
+    rw (parts, no_name names first read, joins) refl
 
 -- the keys of a set, by their bytes
 abbrev is_key : List ℕ → global.Vec ℕ → Bool
@@ -164,7 +188,7 @@ list_all-push p (y ∷ front) x all here =
     let parts = and_parts (p y) (list_all p front) all in
     and_from (p y) (list_all p (front ++ x ∷ [])) parts.0 (list_all-push p front x parts.1 here)
 
-pub AreNamesSoFar-push : (names : List (List ℕ)) (name : List ℕ) → AreNamesSoFar names → MayJoin names name
+pub AreNamesSoFar-push : (names : List (List ℕ)) (name : List ℕ) → AreNamesSoFar names → MayJoin Rah2 names name
     → AreNamesSoFar (names ++ name ∷ [])
 AreNamesSoFar-push names name so_far may = record {
   few = omega (arith, length_push names name, may.room);
@@ -173,17 +197,57 @@ AreNamesSoFar-push names name so_far may = record {
 }
 
 -- a name that may not join has no place in a list of names
-pub MayJoin-from_names : (names rest : List (List ℕ)) (name : List ℕ) → AreNames (names ++ name ∷ rest)
-    → MayJoin names name
-MayJoin-from_names names rest name are = record {
+pub MayJoin-from_names : (format : Format) (names rest : List (List ℕ)) (name : List ℕ)
+    → AreNames format (names ++ name ∷ rest)
+    → MayJoin format names name
+MayJoin-from_names format names rest name are = record {
   room = omega (arith, are.few, length-append names (name ∷ rest));
   form = list_all-middle is_name names rest name are.each;
   new = new_among names rest name are.distinct;
 }
 
+-- a name that may join in one format may in the other with more names
+pub in_any : (format : Format) (names : List (List ℕ)) (name : List ℕ) → MayJoin format names name
+    → MayJoin Rah2 names name
+in_any Rah1 names name may = record { room = omega (arith, may.room); form = may.form; new = may.new }
+in_any Rah2 names name may = may
+
 nothing : IsDistinct bytes_eq []
 unfolding IsDistinct
 nothing = tt
+
+pub as_many : (keys : List (global.Vec ℕ)) (names : List (List ℕ)) → bytes_of_each keys ≡ names
+    → length names ≡ length keys
+as_many keys names are = ap length (sym are) ∙ length-map keys (λ key. key.items)
+
+-- a name that is not there has no place
+is_there_not : (names : List (List ℕ)) (name : List ℕ) → list_any (bytes_eq name) names ≡ false
+    → place_of names name ≡ length names
+is_there_not [] name e = refl
+is_there_not (own ∷ names) name e =
+    elim (cases_Bool (bytes_eq name own)) [
+      | inl same ↦ let here : true ≡ false = rw same at e in absurd cc
+      | inr other ↦
+          let later : list_any (bytes_eq name) names ≡ false = rw other at e in
+          rw other (omega (arith, is_there_not names name later))
+    ]
+
+-- a word's place tells whether it is bad
+pub new_is : (keys : List (global.Vec ℕ)) (names : List (List ℕ)) (word : List ℕ) (place : ℕ)
+    → bytes_of_each keys ≡ names → place ≡ place_of (bytes_of_each keys) word
+    → is_name word ≡ true → eqb place (length keys) ≡ not (is_bad_behind names word)
+new_is keys names word place are found form =
+    let at : place ≡ place_of names word = found ∙ ap (λ (ns : List (List ℕ)). place_of ns word) are in
+    let len = as_many keys names are in
+    elim (cases_Bool (list_any (bytes_eq word) names)) [
+      | inl there ↦
+          let apart : place ≢ length keys = λ same.
+          (let no : list_any (bytes_eq word) names ≡ false = not_there names word (sym at ∙ same ∙ sym len) in
+          let both : true ≡ false = sym there ∙ no in absurd cc) in
+          ne_eqb place (length keys) apart ∙ rw (form, there) refl
+      | inr missing ↦
+          eq-eqb place (length keys) (at ∙ is_there_not names word missing ∙ len) ∙ rw (form, missing) refl
+    ]
 
 -- ---- words that are given as names
 
@@ -241,35 +305,39 @@ first_bad_at words i d there so_far bad = record {
 }
 
 -- names of which each was tested
-pub are_names : (words : List (List ℕ)) → 0 < length words → length words ≤ 16 → AreDistinctNames words → AreNames words
+pub are_names : (words : List (List ℕ)) → 0 < length words → length words ≤ 64 → AreDistinctNames words
+    → AreNames Rah2 words
 are_names words some few each = record { some = some; few = few; each = each.each; distinct = each.distinct }
 
 -- each of the names may stand behind those before it
 pub may_join_at : (words : List (Bor (List ℕ))) (i : ℕ) (d : Bor (List ℕ)) (names : List (List ℕ)) → i < length words
-    → names ≡ texts_of (take i words) → AreNames (texts_of words)
-    → MayJoin names (get_or words i d).now
+    → names ≡ texts_of (take i words) → AreNames Rah2 (texts_of words)
+    → MayJoin Rah2 names (get_or words i d).now
 may_join_at words i d names there front are =
-    subst (λ (ns : List (List ℕ)). MayJoin ns (get_or words i d).now) (sym front)
-    (MayJoin-from_names (texts_of (take i words)) (texts_of (drop (suc i) words)) (get_or words i d).now
-    (subst AreNames (words_cut words i d there) are))
+    subst (λ (ns : List (List ℕ)). MayJoin Rah2 ns (get_or words i d).now) (sym front)
+    (MayJoin-from_names Rah2 (texts_of (take i words)) (texts_of (drop (suc i) words)) (get_or words i d).now
+    (subst (AreNames Rah2) (words_cut words i d there) are))
 
 -- ---- the front of a line's names
 
-pub so_far_first : (line : List ℕ) (word : List ℕ) (fields : List (List ℕ)) → fields_of line ≡ word ∷ fields
-    → word ≡ codes "replicas" → ListsSoFar line [] fields
-so_far_first line word fields cut is =
+pub so_far_first : (format : Format) (line : List ℕ) (word : List ℕ) (fields : List (List ℕ))
+    → fields_of line ≡ word ∷ fields → word ≡ codes "replicas" → ListsSoFar format line [] fields
+so_far_first format line word fields cut is =
     record {
       parts = cut ∙ ap (λ (x : List ℕ). x ∷ fields) is;
+      few = omega arith;
       so_far =
           record { few = omega arith; each = refl; distinct = nothing };
     }
 
-pub so_far_next : (line : List ℕ) (names : List (List ℕ)) (name : List ℕ) (fields : List (List ℕ))
-    → ListsSoFar line names (name ∷ fields) → MayJoin names name → ListsSoFar line (names ++ name ∷ []) fields
-so_far_next line names name fields front may = record {
+pub so_far_next : (format : Format) (line : List ℕ) (names : List (List ℕ)) (name : List ℕ) (fields : List (List ℕ))
+    → ListsSoFar format line names (name ∷ fields) → MayJoin format names name
+    → ListsSoFar format line (names ++ name ∷ []) fields
+so_far_next format line names name fields front may = record {
   parts = front.parts
       ∙ ap (λ (xs : List (List ℕ)). codes "replicas" ∷ xs) (sym (append_assoc names (name ∷ []) fields));
-  so_far = AreNamesSoFar-push names name front.so_far may;
+  few = omega (arith, length_push names name, may.room);
+  so_far = AreNamesSoFar-push names name front.so_far (in_any format names name may);
 }
 
 -- the names that a line lists are those of its fields
@@ -277,11 +345,13 @@ listed : (line : List ℕ) (names fields others : List (List ℕ)) → fields_of
     → fields_of line ≡ codes "replicas" ∷ others → others ≡ names ++ fields
 listed line names fields others p q = let both = sym q ∙ p in cc
 
-pub so_far_refused : (line : List ℕ) (names : List (List ℕ)) (name : List ℕ) (fields others : List (List ℕ))
-    → ListsSoFar line names (name ∷ fields) → (MayJoin names name → ⊥) → ListsNames line others → ⊥
-so_far_refused line names name fields others front refused lists =
+pub so_far_refused : (format : Format) (line : List ℕ) (names : List (List ℕ)) (name : List ℕ)
+    (fields others : List (List ℕ))
+    → ListsSoFar format line names (name ∷ fields) → (MayJoin format names name → ⊥) → ListsNames format line others
+    → ⊥
+so_far_refused format line names name fields others front refused lists =
     let same = listed line names (name ∷ fields) others front.parts lists.1 in
-    refused (MayJoin-from_names names fields name (subst AreNames same lists.0))
+    refused (MayJoin-from_names format names fields name (subst (AreNames format) same lists.0))
 
 -- a fault that is passed on
 pub same_fault : {T : Type 0} (r : Result T LineFault) (x y d : LineFault) → r ≡ Err y → y ≡ d → r ≡ Err x → d ≡ x
@@ -292,20 +362,24 @@ failed fault = Err fault
 
 -- ---- keys of a set as names
 
-pub may_join : (keys : List (global.Vec ℕ)) (names : List (List ℕ)) (name : List ℕ) (place : ℕ)
-    → bytes_of_each keys ≡ names → length keys < 16 → is_name name ≡ true
-    → place ≡ place_of (bytes_of_each keys) name → place ≡ length keys → MayJoin names name
-may_join keys names name place are room form found last =
-    let len : length names ≡ length keys = ap length (sym are) ∙ length-map keys (λ key. key.items) in
-    record {
-      room = omega (arith, len, room);
-      form = form;
-      new = ap (λ (ns : List (List ℕ)). place_of ns name) (sym are)
-          ∙ sym found ∙ last ∙ sym len;
-    }
+-- a word that is not bad behind the names may join, if there is room
+pub may_join : (format : Format) (names : List (List ℕ)) (word : List ℕ) → length names < most_names format
+    → is_bad_behind names word ≡ false → MayJoin format names word
+may_join format names word room good =
+    elim (cases_Bool (is_name word)) [
+      | inl form ↦
+          let here : list_any (bytes_eq word) names ≡ false = rw form at good in
+          record { room = room; form = form; new = is_there_not names word here }
+      | inr other ↦ let bad : true ≡ false = rw other at good in absurd cc
+    ]
+
+-- and one that may join is not bad
+pub not_bad : (format : Format) (names : List (List ℕ)) (word : List ℕ) → MayJoin format names word
+    → is_bad_behind names word ≡ false
+not_bad format names word may = rw (may.form, not_there names word may.new) refl
 
 pub joins_last : (keys : List (global.Vec ℕ)) (names : List (List ℕ)) (name : List ℕ) → bytes_of_each keys ≡ names
-    → MayJoin names name → place_of (bytes_of_each keys) name ≡ length keys
+    → MayJoin Rah2 names name → place_of (bytes_of_each keys) name ≡ length keys
 joins_last keys names name are may =
     ap (λ (ns : List (List ℕ)). place_of ns name) are ∙ may.new ∙ ap length (sym are)
     ∙ length-map keys (λ key. key.items)
@@ -314,11 +388,12 @@ joins_last keys names name are may =
 
 -- one name more
 pub kept_next : (keys new : List (global.Vec ℕ)) (name : List ℕ) (names : List (List ℕ)) → NamesKept keys
-    → bytes_of_each keys ≡ names → MayJoin names name
+    → bytes_of_each keys ≡ names → MayJoin Rah2 names name
     → bytes_of_each new ≡ bytes_of_each keys ++ name ∷ [] → NamesKept new
 kept_next keys new name names kept are may grown =
-    let here : MayJoin (bytes_of_each keys) name = subst (λ (ns : List (List ℕ)). MayJoin ns name) (sym are) may in
-    let few : length (bytes_of_each keys) ≤ 16 = omega (arith, kept.few, length-map keys (λ key. key.items)) in
+    let here : MayJoin Rah2 (bytes_of_each keys) name =
+    subst (λ (ns : List (List ℕ)). MayJoin Rah2 ns name) (sym are) may in
+    let few : length (bytes_of_each keys) ≤ 64 = omega (arith, kept.few, length-map keys (λ key. key.items)) in
     let so_far : AreNamesSoFar (bytes_of_each keys) =
     record { few = few; each = kept.each; distinct = distinct_found (bytes_of_each keys) kept.distinct } in
     let next : AreNamesSoFar (bytes_of_each new) =

@@ -1,5 +1,5 @@
 -- The line that is written of a command spells it.
-use Rattle.std.proofs.Common.{◌≡◌, ◌≢◌, ◌^◌, ℕ, zero, suc, ◌<◌, ◌≤◌, true, false, eqb, ltb, leb, List, [], ◌∷◌, ◌++◌}
+use Rattle.std.proofs.Common.{◌≡◌, ◌≢◌, ◌^◌, ◌+◌, ℕ, zero, suc, ◌<◌, ◌≤◌, true, false, eqb, ltb, leb, List, [], ◌∷◌, ◌++◌}
 use Rattle.std.proofs.Common.{length, map, All, Option, Some, None, ℤ, pos, negsuc, refl, sym, ap, ◌∙◌, arith, inl, inr}
 use Rattle.std.specs.Prelude.{codes, decimal, bytes_eq, IfSome, FitsSigned, ◌&&◌}
 use Rattle.std.specs.Fmt.{signed_decimal}
@@ -7,10 +7,10 @@ use Rattle.std.specs.Int.{w32}
 use Rattle.std.specs.Char.{is_ascii_lowercase, is_ascii_digit}
 use Rattle.std.specs.List.{list_all, join_with_byte, IsDistinct, AllByRecursion}
 use Rattle.std.specs.Str.Parse.{AllDigits}
-use Rattle.std.proofs.lemmas.Bool.{and_parts, or_cases, ne_eqb, ltb-true, leb-true}
+use Rattle.std.proofs.lemmas.Bool.{cases_Bool, and_parts, or_cases, ne_eqb, ltb-true, leb-true}
 use Rattle.std.proofs.lemmas.Cmp.{nat_list_eq_equiv}
 use Rattle.std.proofs.lemmas.Fmt.{decimal_is_IsNumeral}
-use Rattle.std.proofs.lemmas.List.{append-nil}
+use Rattle.std.proofs.lemmas.List.{append-nil, length-append}
 use Rattle.std.proofs.lemmas.List.Elements.{All-from_recursion}
 use Rattle.std.proofs.lemmas.Map.Keys.{IsDistinct-head, IsDistinct-tail}
 use Rattle.std.proofs.lemmas.Slice.Eq.{bytes_eq-Decides}
@@ -21,10 +21,12 @@ use Rattle.ra_labels.specs.declared.operation.Op.{Op}
 use Rattle.ra_labels.specs.declared.operation.Op.TheVariants.{Inc, Dec, Count, Write, Last, LwwAdd, LwwRemove, LwwRead}
 use Rattle.ra_labels.specs.declared.operation.Op.TheVariants.{OrAdd, OrRemove, OrRead, After, RgaRemove, RgaRead}
 use Rattle.ra_labels.specs.declared.command.Command.{Command}
-use Rattle.ra_labels.specs.declared.command.Command.TheVariants.{Operate, Deliver, Verdict}
+use Rattle.ra_labels.specs.declared.command.Command.TheVariants.{Operate, Deliver, Join, Verdict}
 use Rattle.ra_lines.specs.Grammar.{IsSmall, is_name, has_form_of_name, may_follow, place_of, fields_of, list_word}
-use Rattle.ra_lines.specs.Grammar.{value_word, operation_fields, clock_fields, HasSmallNumbers, AreNames, Spells}
-use Rattle.ra_lines.specs.Spelling.{spaced, name_of, line_of, AreSmall, HasLine}
+use Rattle.ra_lines.specs.Grammar.{value_word, operation_fields, clock_fields, HasSmallNumbers, NamesReplica, Spells}
+use Rattle.ra_lines.specs.Names.{AreDistinctNames}
+use Rattle.ra_lines.specs.declared.format.Format.{Format}
+use Rattle.ra_lines.specs.Spelling.{spaced, name_of, line_of, AreSmall, HasLine, HasNewName}
 
 -- ---- bytes of fields
 
@@ -201,29 +203,102 @@ named_at (name ∷ names) (suc n) there each distinct =
 
 -- ---- a command
 
-pub line_spells : (kind : Kind) (names : List (List ℕ)) (command : Command) → AreNames names
-    → HasLine kind names command → AreSmall command
-    → Spells kind names (line_of names command) command
-line_spells kind names Verdict are has small = refl
-line_spells kind names (Deliver replica label) are has small =
-    let at = named_at names replica has are.each are.distinct in
+-- names in front of others
+name_of-append : (names later : List (List ℕ)) (n : ℕ) → n < length names
+    → name_of (names ++ later) n ≡ name_of names n
+name_of-append [] later n there = absurd (omega (arith, there))
+name_of-append (name ∷ names) later zero there = refl
+name_of-append (name ∷ names) later (suc n) there = name_of-append names later n (omega (arith, there))
+
+place_of-append : (names later : List (List ℕ)) (name : List ℕ) → place_of (names ++ later) name < length names
+    → place_of names name ≡ place_of (names ++ later) name
+place_of-append [] later name there = absurd (omega (arith, there))
+place_of-append (own ∷ names) later name there =
+    elim (cases_Bool (bytes_eq name own)) [
+      | inl same ↦ rw same refl
+      | inr other ↦
+          let within : place_of (names ++ later) name + 1 < length (own ∷ names) = rw other at there in
+          rw other (ap (λ (n : ℕ). n + 1) (place_of-append names later name (omega (arith, within))))
+    ]
+
+-- one that stands behind the names has no place among them
+place_of-behind : (names later : List (List ℕ)) (name : List ℕ) → length names ≤ place_of (names ++ later) name
+    → place_of names name ≡ length names
+place_of-behind [] later name behind = refl
+place_of-behind (own ∷ names) later name behind =
+    elim (cases_Bool (bytes_eq name own)) [
+      | inl same ↦ let none : length (own ∷ names) ≤ 0 = rw same at behind in absurd (omega (arith, none))
+      | inr other ↦
+          let past : length (own ∷ names) ≤ place_of (names ++ later) name + 1 = rw other at behind in
+          rw other (omega (arith, place_of-behind names later name (omega (arith, past))))
+    ]
+
+-- a replica that is there, by the names of all
+pub named_among : (names later : List (List ℕ)) (replica : ℕ) → replica < length names
+    → AreDistinctNames (names ++ later)
+    → NamesReplica names (name_of (names ++ later) replica) replica
+named_among names later replica there are =
+    let total = length-append names later in
+    let at = named_at (names ++ later) replica (omega (arith, there, total)) are.each are.distinct in
     record {
-      name = name_of names replica;
-      who = record { form = at.0; place = sym at.1 };
+      form = at.0;
+      place = sym at.1
+          ∙ sym (place_of-append names later (name_of (names ++ later) replica) (omega (arith, at.1, there)));
+    }
+
+-- and the next one
+pub named_next : (names later : List (List ℕ)) (replica : ℕ) → replica ≡ length names → 0 < length later
+    → AreDistinctNames (names ++ later) → NamesReplica names (name_of (names ++ later) replica) replica
+named_next names later replica next some are =
+    let total = length-append names later in
+    let at = named_at (names ++ later) replica (omega (arith, next, some, total)) are.each are.distinct in
+    record {
+      form = at.0;
+      place = next
+          ∙ sym (place_of-behind names later (name_of (names ++ later) replica) (omega (arith, at.1, next)));
+    }
+
+pub plain_join : (one other : List ℕ) → IsPlain one → IsPlain other → ArePlain (one ∷ other ∷ [])
+plain_join one other p q = (p, (q, tt))
+
+pub line_spells : (format : Format) (kind : Kind) (names later : List (List ℕ)) (command : Command)
+    → AreDistinctNames (names ++ later) → HasLine format kind (length names) command → HasNewName later command
+    → AreSmall command → Spells format kind names (line_of (names ++ later) command) command
+line_spells format kind names later Verdict are has new small = refl
+line_spells format kind names later (Deliver replica label) are has new small =
+    let name : List ℕ = name_of (names ++ later) replica in
+    let who = named_among names later replica has are in
+    record {
+      name = name;
+      who = who;
       small = small;
-      words = fields-spaced (name_of names replica) (codes "got" ∷ decimal label ∷ [])
-          (plain_name (name_of names replica) at.0)
+      words = fields-spaced name (codes "got" ∷ decimal label ∷ []) (plain_name name who.form)
           (plain_word (codes "got") refl, (plain_number label small, tt));
     }
-line_spells kind names (Operate replica op clock) are has small =
-    let at = named_at names replica has.0 are.each are.distinct in
+line_spells format kind names later (Operate replica op clock) are has new small =
+    let name : List ℕ = name_of (names ++ later) replica in
+    let who = named_among names later replica has.0 are in
     let body : List (List ℕ) = operation_fields op ++ clock_fields clock in
     record {
-      name = name_of names replica;
-      who = record { form = at.0; place = sym at.1 };
+      name = name;
+      who = who;
       body = body;
       is_body = record { own = has.1; small = small.0; small_clock = small.1; words = refl };
-      words = fields-spaced (name_of names replica) body (plain_name (name_of names replica) at.0)
+      words = fields-spaced name body (plain_name name who.form)
           (fields-append (operation_fields op) (clock_fields clock) (plain_operation op small.0)
           (plain_clock clock small.1));
+    }
+line_spells format kind names later (Join replica from) are has new small =
+    let name : List ℕ = name_of (names ++ later) replica in
+    let source : List ℕ = name_of (names ++ later) from in
+    let who = named_next names later replica has.1 new are in
+    let whom = named_among names later from has.2 are in
+    record {
+      joins = has.0;
+      name = name;
+      who = who;
+      source = source;
+      whom = whom;
+      words = fields-spaced (codes "join") (name ∷ source ∷ []) (plain_word (codes "join") refl)
+          (plain_join name source (plain_name name who.form) (plain_name source whom.form));
     }

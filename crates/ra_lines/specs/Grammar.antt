@@ -1,17 +1,22 @@
--- The text of a history, RAH 1: which bytes are its first two lines, and which command a further line spells.
+-- The text of a history, RAH 1 or RAH 2: which bytes are its first two lines, and which command a further line spells.
 use Rattle.std.specs.Prelude.{◌≡◌, ℕ, ◌+◌, ◌^◌, ◌<◌, ◌≤◌, ◌==◌, nat_lt, Bool, true, false, not, ◌&&◌, ◌||◌, List, [], ◌∷◌, ◌++◌, length, map, Option, Some, None, IfSome, All, ◌≢◌, codes, decimal, bytes_eq, FitsSigned, if◌then◌else◌}
 use Rattle.std.specs.Char.{is_ascii_lowercase, is_ascii_digit}
 use Rattle.std.specs.Fmt.{signed_decimal}
 use Rattle.std.specs.Int.{w32}
 use Rattle.std.specs.List.{list_all, slice_split, join_with_byte, flat_map, IsDistinct, AllByRecursion}
-use Rattle.ra_lines.specs.declared.limits.TheConstants.{LONGEST_LINE, LONGEST_NAME, MOST_COMMANDS, MOST_NAMES}
+use Rattle.ra_lines.specs.declared.limits.TheConstants.{LONGEST_LINE, LONGEST_NAME, MOST_COMMANDS, MOST_NAMES, MOST_NAMES_IN_RAH_1}
+use Rattle.ra_lines.specs.declared.format.Format.{Format}
+use Rattle.ra_lines.specs.declared.format.Format.TheVariants.{Rah1, Rah2}
 use Rattle.ra_labels.specs.declared.kind.Kind.{Kind}
 use Rattle.ra_labels.specs.declared.kind.Kind.TheVariants.{Counter, Register, LwwSet, OrSet, Rga}
 use Rattle.ra_labels.specs.declared.operation.Op.{Op}
 use Rattle.ra_labels.specs.declared.operation.Op.TheVariants.{Inc, Dec, Count, Write, Last, LwwAdd, LwwRemove, LwwRead, OrAdd, OrRemove, OrRead, After, RgaRemove, RgaRead}
 use Rattle.ra_labels.specs.declared.command.Command.{Command}
-use Rattle.ra_labels.specs.declared.command.Command.TheVariants.{Operate, Deliver, Verdict}
-use Rattle.ra_labels.specs.Answer.{is_kind}
+use Rattle.ra_labels.specs.declared.command.Command.TheVariants.{Operate, Deliver, Join, Verdict}
+use Rattle.ra_labels.specs.declared.reply.Reply.{Reply}
+use Rattle.ra_labels.specs.declared.reply.Reply.TheVariants.{Joined}
+use Rattle.ra_labels.specs.Records.{Records}
+use Rattle.ra_labels.specs.Answer.{is_kind, answer_of, records_after}
 
 -- ---- lines
 
@@ -47,10 +52,15 @@ is_reserved word = bytes_eq word (codes "verdict") || bytes_eq word (codes "join
 abbrev pub is_name : List ℕ → Bool
 is_name word = has_form_of_name word && not (is_reserved word)
 
--- the names of a history: from one to the most, each of them a name, and no two the same
-pub record AreNames (names : List (List ℕ)) : Type 0 where
+-- how many names a second line lists at most
+abbrev pub most_names : Format → ℕ
+most_names Rah1 = MOST_NAMES_IN_RAH_1
+most_names Rah2 = MOST_NAMES
+
+-- the names that a history begins with: from one to the most, each of them a name, and no two the same
+pub record AreNames (format : Format) (names : List (List ℕ)) : Type 0 where
   pub some : 0 < length names
-  pub few : length names ≤ MOST_NAMES
+  pub few : length names ≤ most_names format
   pub each : list_all is_name names ≡ true
   pub distinct : IsDistinct bytes_eq names
 
@@ -68,12 +78,17 @@ kind_word LwwSet = codes "lwwset"
 kind_word OrSet = codes "orset"
 kind_word Rga = codes "rga"
 
-abbrev pub first_line : Kind → List ℕ
-first_line kind = codes "RAH 1 " ++ kind_word kind
+-- what a first line begins with
+abbrev pub format_word : Format → List ℕ
+format_word Rah1 = codes "RAH 1 "
+format_word Rah2 = codes "RAH 2 "
+
+abbrev pub first_line : Format → Kind → List ℕ
+first_line format kind = format_word format ++ kind_word kind
 
 -- the second line holds these names
-abbrev pub ListsNames : List ℕ → List (List ℕ) → Type 0
-ListsNames line names = AreNames names × (fields_of line ≡ codes "replicas" ∷ names)
+abbrev pub ListsNames : Format → List ℕ → List (List ℕ) → Type 0
+ListsNames format line names = AreNames format names × (fields_of line ≡ codes "replicas" ∷ names)
 
 -- ---- numbers and lists
 
@@ -182,32 +197,68 @@ pub record SpellsOperation (kind : Kind) (names fields : List (List ℕ)) (repli
   pub is_body : AreFieldsOfOperation kind body op clock
   pub words : fields ≡ name ∷ body
 
+-- a line with these fields makes the replica, which begins with all that the other one had: the first name is the new
+-- one's. Only RAH 2 has such lines.
+pub record SpellsJoin (format : Format) (names fields : List (List ℕ)) (replica from : ℕ) : Type 0 where
+  pub joins : format ≡ Rah2
+  pub name : List ℕ
+  pub who : NamesReplica names name replica
+  pub source : List ℕ
+  pub whom : NamesReplica names source from
+  pub words : fields ≡ codes "join" ∷ name ∷ source ∷ []
+
 -- in a history of this kind with these names, a line with these fields is the command
-abbrev pub AreFieldsOf : Kind → List (List ℕ) → List (List ℕ) → Command → Type 0
-AreFieldsOf kind names fields Verdict = fields ≡ codes "verdict" ∷ []
-AreFieldsOf kind names fields (Deliver replica label) = SpellsDelivery names fields replica label
-AreFieldsOf kind names fields (Operate replica op clock) = SpellsOperation kind names fields replica op clock
+abbrev pub AreFieldsOf : Format → Kind → List (List ℕ) → List (List ℕ) → Command → Type 0
+AreFieldsOf format kind names fields Verdict = fields ≡ codes "verdict" ∷ []
+AreFieldsOf format kind names fields (Deliver replica label) = SpellsDelivery names fields replica label
+AreFieldsOf format kind names fields (Operate replica op clock) = SpellsOperation kind names fields replica op clock
+AreFieldsOf format kind names fields (Join replica from) = SpellsJoin format names fields replica from
 
 -- in a history of this kind with these names, the line spells the command
-abbrev pub Spells : Kind → List (List ℕ) → List ℕ → Command → Type 0
-Spells kind names line command = AreFieldsOf kind names (fields_of line) command
+abbrev pub Spells : Format → Kind → List (List ℕ) → List ℕ → Command → Type 0
+Spells format kind names line command = AreFieldsOf format kind names (fields_of line) command
 
--- the names behind a command: those before it, since no command brings a name yet
-abbrev pub names_behind : List (List ℕ) → Command → List (List ℕ)
-names_behind names command = names
+-- the second field, which is the new name of a join
+abbrev pub second_of : List (List ℕ) → List ℕ
+second_of [] = []
+second_of (word ∷ []) = []
+second_of (word ∷ name ∷ fields) = name
 
--- each of the lines spells the command in its place
-abbrev pub SpellEach : Kind → List (List ℕ) → List (List ℕ) → List Command → Type 0
-SpellEach kind names [] [] = Unit {0}
-SpellEach kind names (line ∷ lines) (command ∷ commands) =
-    Spells kind names line command × SpellEach kind (names_behind names command) lines commands
-SpellEach kind names _ _ = ⊥
+abbrev pub new_name : List ℕ → List ℕ
+new_name line = second_of (fields_of line)
 
--- the command names one of the replicas, where it names any
+-- the names that joined, behind a line with this reply
+abbrev pub joined_by : Reply → List (List ℕ) → List ℕ → List (List ℕ)
+joined_by (Joined replica) joined line = joined ++ new_name line ∷ []
+joined_by _ joined line = joined
+
+-- the names that joined, behind a line of this command, after these records of so many replicas at first
+abbrev pub names_behind : Kind → ℕ → Records → List (List ℕ) → List ℕ → Command → List (List ℕ)
+names_behind kind replicas records joined line command =
+    joined_by (answer_of kind replicas records command) joined line
+
+-- Each of the lines spells the command in its place, after these records. The lines name the replicas that were there
+-- at first, and those that joined; in the end these joined.
+abbrev pub SpellEach : Format → Kind → List (List ℕ) → Records → List (List ℕ) → List (List ℕ) → List Command
+    → List (List ℕ) → Type 0
+SpellEach format kind first records joined [] [] all = joined ≡ all
+SpellEach format kind first records joined (line ∷ lines) (command ∷ commands) all =
+    Spells format kind (first ++ joined) line command
+    × SpellEach format kind first (records_after kind (length first) records command)
+    (names_behind kind (length first) records joined line command) lines commands all
+SpellEach format kind first records joined _ _ all = ⊥
+
+-- the command is at one of the replicas, where it is at any; a join is from one of them
 abbrev pub IsAtReplica : List (List ℕ) → Command → Type 0
 IsAtReplica names Verdict = Unit {0}
 IsAtReplica names (Deliver replica label) = replica < length names
 IsAtReplica names (Operate replica op clock) = replica < length names
+IsAtReplica names (Join replica from) = from < length names
+
+-- where the command is a join, the lines give the new replica the same name
+abbrev pub NameAlike : Command → List ℕ → List ℕ → Type 0
+NameAlike (Join replica from) line other = new_name line ≡ new_name other
+NameAlike command line other = Unit {0}
 
 -- does the operation carry a list, for which a reader takes memory?
 abbrev pub has_list : Op → Bool
@@ -219,13 +270,14 @@ has_list _ = false
 
 -- ---- the text
 
--- the text is a first line, a line of names and lines of commands, no more than the most, and ends behind the last
--- one's line feed
-pub record Says (text : List ℕ) (kind : Kind) (names : List (List ℕ)) (commands : List Command) : Type 0 where
+-- The text is a first line, a line of the names at first and lines of commands, no more than the most, and ends behind
+-- the last one's line feed. These names joined.
+pub record Says (text : List ℕ) (format : Format) (kind : Kind) (first joined : List (List ℕ))
+    (commands : List Command) : Type 0 where
   pub second : List ℕ
   pub lines : List (List ℕ)
-  pub whole : text ≡ bytes_of (first_line kind ∷ second ∷ lines)
-  pub are_lines : AllByRecursion IsLine (first_line kind ∷ second ∷ lines)
-  pub lists : ListsNames second names
-  pub spell : SpellEach kind names lines commands
+  pub whole : text ≡ bytes_of (first_line format kind ∷ second ∷ lines)
+  pub are_lines : AllByRecursion IsLine (first_line format kind ∷ second ∷ lines)
+  pub lists : ListsNames format second first
+  pub spell : SpellEach format kind first [] [] lines commands joined
   pub few : length commands ≤ MOST_COMMANDS

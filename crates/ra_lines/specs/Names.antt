@@ -1,20 +1,22 @@
 -- Names, one after another.
-use Rattle.std.specs.Prelude.{◌≡◌, ℕ, ◌<◌, ◌≤◌, Bool, true, not, ◌||◌, List, ◌∷◌, ◌++◌, map, length, bytes_eq, codes}
+use Rattle.std.specs.Prelude.{◌≡◌, ℕ, ◌<◌, ◌≤◌, Bool, true, false, not, ◌||◌, List, ◌∷◌, ◌++◌, map, length, bytes_eq, codes}
 use Rattle.std.specs.Global as global
 use Rattle.std.specs.Borrow.{Bor}
 use Rattle.std.specs.List.{list_all, list_any, IsDistinct}
 use Rattle.ra_lines.specs.declared.limits.TheConstants.{MOST_NAMES}
+use Rattle.ra_lines.specs.declared.format.Format.{Format}
+use Rattle.ra_lines.specs.declared.format.Format.TheVariants.{Rah2}
 use Rattle.ra_lines.specs.declared.fault.NamesFault.{NamesFault}
 use Rattle.ra_lines.specs.declared.fault.NamesFault.TheVariants.{BadCount, BadName, NoMemory}
-use Rattle.ra_lines.specs.Grammar.{is_name, place_of, fields_of, AreNames}
+use Rattle.ra_lines.specs.Grammar.{is_name, place_of, fields_of, most_names, AreNames}
 
 -- the bytes of each of the names
 abbrev pub bytes_of_each : List (global.Vec ℕ) → List (List ℕ)
 bytes_of_each names = map (λ name. name.items) names
 
--- the name may stand behind these
-pub record MayJoin (names : List (List ℕ)) (name : List ℕ) : Type 0 where
-  pub room : length names < MOST_NAMES
+-- the name may stand behind these on a second line; behind all names of a history it may where it may in RAH 2
+pub record MayJoin (format : Format) (names : List (List ℕ)) (name : List ℕ) : Type 0 where
+  pub room : length names < most_names format
   pub form : is_name name ≡ true
   pub new : place_of names name ≡ length names
 
@@ -25,8 +27,9 @@ pub record AreNamesSoFar (names : List (List ℕ)) : Type 0 where
   pub distinct : IsDistinct bytes_eq names
 
 -- the names that a line lists begin with these, and what is left of it are these fields
-pub record ListsSoFar (line : List ℕ) (names fields : List (List ℕ)) : Type 0 where
+pub record ListsSoFar (format : Format) (line : List ℕ) (names fields : List (List ℕ)) : Type 0 where
   pub parts : fields_of line ≡ codes "replicas" ∷ (names ++ fields)
+  pub few : length names ≤ most_names format
   pub so_far : AreNamesSoFar names
 
 -- ---- words that are given as names
@@ -63,4 +66,10 @@ pub record IsFirstBad (words : List (List ℕ)) (at : ℕ) : Type 0 where
 abbrev pub IsFaultOf : List (List ℕ) → NamesFault → Type 0
 IsFaultOf words BadCount = IsCount (length words) → ⊥
 IsFaultOf words (BadName at) = IsCount (length words) × IsFirstBad words at
-IsFaultOf words NoMemory = AreNames words
+IsFaultOf words NoMemory = AreNames Rah2 words
+
+-- why the word does not stand behind these names; memory is asked for only where it may
+abbrev pub StopsAdding : List (List ℕ) → List ℕ → NamesFault → Type 0
+StopsAdding names word (BadName at) = (at ≡ 0) × (is_bad_behind names word ≡ true)
+StopsAdding names word BadCount = (is_bad_behind names word ≡ false) × (length names ≡ MOST_NAMES)
+StopsAdding names word NoMemory = MayJoin Rah2 names word

@@ -7,10 +7,12 @@ use Rattle.ra_labels.specs.declared.kind.Kind.TheVariants.{Counter, Register, Lw
 use Rattle.ra_labels.specs.declared.operation.Op.{Op}
 use Rattle.ra_labels.specs.declared.operation.Op.TheVariants.{Inc, Dec, Count, Write, Last, LwwAdd, LwwRemove, LwwRead, OrAdd, OrRemove, OrRead, After, RgaRemove, RgaRead}
 use Rattle.ra_labels.specs.declared.command.Command.{Command}
-use Rattle.ra_labels.specs.declared.command.Command.TheVariants.{Operate, Deliver, Verdict}
+use Rattle.ra_labels.specs.declared.command.Command.TheVariants.{Operate, Deliver, Join, Verdict}
 use Rattle.std.specs.List.{list_all, list_any}
-use Rattle.ra_lines.specs.declared.limits.TheConstants.{MOST_NAMES}
-use Rattle.ra_lines.specs.Grammar.{is_name, place_of, kind_word, first_line, fields_of}
+use Rattle.std.specs.Option.{option_or}
+use Rattle.ra_lines.specs.declared.format.Format.{Format}
+use Rattle.ra_lines.specs.declared.format.Format.TheVariants.{Rah1, Rah2}
+use Rattle.ra_lines.specs.Grammar.{is_name, place_of, kind_word, first_line, fields_of, most_names}
 use Rattle.ra_lines.specs.Fields.{pieces_at}
 
 -- ---- the two lines before the commands
@@ -25,9 +27,14 @@ kind_spelled spelling bytes =
     else if bytes_eq bytes (spelling Rga) then Some Rga
     else None
 
--- the kind that a first line names
-abbrev pub kind_read : List ℕ → Option Kind
-kind_read line = kind_spelled first_line line
+-- the kind that a first line of this format names
+abbrev pub kind_read : Format → List ℕ → Option Kind
+kind_read format line = kind_spelled (first_line format) line
+
+-- the format and the kind that a first line names
+abbrev pub head_read : List ℕ → Option (Format × Kind)
+head_read line = option_or (option_map (λ kind. (Rah1, kind)) (kind_read Rah1 line))
+    (option_map (λ kind. (Rah2, kind)) (kind_read Rah2 line))
 
 -- the kind whose word this is
 abbrev pub kind_named : List ℕ → Option Kind
@@ -38,19 +45,20 @@ abbrev pub are_distinct : List (List ℕ) → Bool
 are_distinct [] = true
 are_distinct (word ∷ words) = not (list_any (bytes_eq word) words) && are_distinct words
 
--- are they the names of a history?
-abbrev pub are_names : List (List ℕ) → Bool
-are_names words =
-    nat_lt 0 (length words) && nat_le (length words) MOST_NAMES && list_all is_name words && are_distinct words
+-- are they names that a history begins with?
+abbrev pub are_names : Format → List (List ℕ) → Bool
+are_names format words = nat_lt 0 (length words) && nat_le (length words) (most_names format)
+    && list_all is_name words && are_distinct words
 
 -- the names behind the word that a second line begins with
-abbrev pub names_listed : List (List ℕ) → Option (List (List ℕ))
-names_listed [] = None
-names_listed (word ∷ words) = if bytes_eq word (codes "replicas") && are_names words then Some words else None
+abbrev pub names_listed : Format → List (List ℕ) → Option (List (List ℕ))
+names_listed format [] = None
+names_listed format (word ∷ words) =
+    if bytes_eq word (codes "replicas") && are_names format words then Some words else None
 
 -- the names that a second line lists
-abbrev pub names_read : List ℕ → Option (List (List ℕ))
-names_read line = names_listed (fields_of line)
+abbrev pub names_read : Format → List ℕ → Option (List (List ℕ))
+names_read format line = names_listed format (fields_of line)
 
 -- ---- numbers and lists
 
@@ -223,12 +231,27 @@ lone_read word = if bytes_eq word (codes "verdict") then Some Verdict else None
 abbrev pub replica_read : List (List ℕ) → List ℕ → Option ℕ
 replica_read names word = if is_name word then Some (place_of names word) else None
 
+-- does a line with this first word join a replica?
+abbrev pub is_join_word : Format → List ℕ → Bool
+is_join_word Rah1 word = false
+is_join_word Rah2 word = bytes_eq word (codes "join")
+
+-- a join, by the new name and the fields behind it
+abbrev pub join_read : List (List ℕ) → List ℕ → List (List ℕ) → Option Command
+join_read names name [] = None
+join_read names name (source ∷ []) =
+    option_and_then (λ replica. option_map (λ from. Join replica from) (replica_read names source))
+    (replica_read names name)
+join_read names name (source ∷ another ∷ more) = None
+
 -- a command, by the fields of its line
-abbrev pub command_read : Kind → List (List ℕ) → List (List ℕ) → Option Command
-command_read kind names [] = None
-command_read kind names (word ∷ []) = lone_read word
-command_read kind names (name ∷ word ∷ fields) =
-    if is_name name then replica_command_read kind (place_of names name) word fields else None
+abbrev pub command_read : Format → Kind → List (List ℕ) → List (List ℕ) → Option Command
+command_read format kind names [] = None
+command_read format kind names (word ∷ []) = lone_read word
+command_read format kind names (name ∷ word ∷ fields) =
+    if is_name name then replica_command_read kind (place_of names name) word fields
+    else if is_join_word format name then join_read names word fields
+    else None
 
 -- ---- memory
 

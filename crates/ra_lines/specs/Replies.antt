@@ -27,6 +27,8 @@ refusal_words refusal.UnknownLabel = codes "unknown-label"
 refusal_words refusal.NotAnUpdate = codes "not-an-update"
 refusal_words refusal.AlreadySeen = codes "already-seen"
 refusal_words (refusal.NotCausal missing) = codes "not-causal " ++ decimal missing
+refusal_words refusal.ReplicaThere = codes "replica-there"
+refusal_words refusal.TooManyReplicas = codes "too-many-replicas"
 
 -- a label at which the order failed, and why
 abbrev pub fault_words : ℕ → Cause → List ℕ
@@ -35,6 +37,7 @@ fault_words label why = decimal label ++ (codes " " ++ cause_word why)
 abbrev pub reply_words : Reply → List ℕ
 reply_words (reply.Ok label) = codes "ok " ++ decimal label
 reply_words (reply.Got label) = codes "got " ++ decimal label
+reply_words (reply.Joined replica) = codes "joined " ++ decimal replica
 reply_words (reply.Yes labels) = codes "yes " ++ decimal labels
 reply_words (reply.No label why) = codes "no " ++ fault_words label why
 reply_words (reply.Refused why) = codes "refused " ++ refusal_words why

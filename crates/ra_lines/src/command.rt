@@ -1,40 +1,55 @@
 //! The commands that lines spell.
 ghost use Rattle.std.specs.Prelude.{◌≡◌, true, IfOk, IfSome, OnErr, Some};
 ghost use Rattle.ra_labels.specs.declared.command.Command.{Command};
-ghost use Rattle.ra_lines.specs.Grammar.{Spells, fields_of};
-ghost use Rattle.ra_lines.specs.Reading.{command_read, replica_command_read, operation_read, delivery_read, clock_read, clock_last, lone_read, asks_for_list, may_have_list};
+ghost use Rattle.ra_lines.specs.Grammar.{Spells, fields_of, new_name};
+ghost use Rattle.ra_lines.specs.Reading.{command_read, replica_command_read, operation_read, delivery_read, join_read, is_join_word, clock_read, clock_last, lone_read, asks_for_list, may_have_list};
 
 use crate::fields::Fields;
+use crate::format::Format;
 use crate::name::Names;
 use crate::number::number;
 use crate::operation::operation;
 use ra_labels::{Command, Kind, NoMemory};
 use std::alloc::Global;
 
-/// The command that the line spells in a history of this kind with these names. `None` where it spells none. Costs as
-/// much as the line is long; it takes memory for a list alone.
+/// The command that the line spells in a history of this kind with these names, those of all replicas that are there.
+/// `None` where it spells none. Costs as much as the line is long; it takes memory for a list alone.
 pub fn command(
     alloc: Global,
+    format: Format,
     kind: Kind,
     names: &Names,
     line: &[u8],
 ) -> Result<Option<Command>, NoMemory>
-    ensures read { IfOk result (λ found. found ≡ command_read kind names.now (fields_of line.now)) }
-    ensures found { IfOk result (λ found. IfSome found (λ command. Spells kind names.now line.now command)) }
-    ensures only { IfOk result (λ found. (command : Command) → Spells kind names.now line.now command →
+    ensures read { IfOk result (λ found. found ≡ command_read format kind names.now (fields_of line.now)) }
+    ensures found { IfOk result (λ found. IfSome found (λ command. Spells format kind names.now line.now command)) }
+    ensures only { IfOk result (λ found. (command : Command) → Spells format kind names.now line.now command →
         found ≡ Some command) }
     ensures memory { OnErr result (may_have_list kind (fields_of line.now) ≡ true) }
 {
-    command_in(alloc, kind, names, Fields::of(line))
+    command_in(alloc, format, kind, names, Fields::of(line))
+}
+
+/// The new name of a line that spells a join: its second field. It is empty where there is no such field.
+pub fn new_name(line: &[u8]) -> &[u8]
+    ensures { result.now ≡ new_name line.now }
+{
+    let mut fields = Fields::of(line);
+    fields.take();
+    match fields.take() {
+        Some(name) => name,
+        None => &[],
+    }
 }
 
 fn command_in(
     alloc: Global,
+    format: Format,
     kind: Kind,
     names: &Names,
     mut fields: Fields<'_>,
 ) -> Result<Option<Command>, NoMemory>
-    ensures read { IfOk result (λ command. command ≡ command_read kind names.now fields.entry) }
+    ensures read { IfOk result (λ command. command ≡ command_read format kind names.now fields.entry) }
     ensures memory { OnErr result (may_have_list kind fields.entry ≡ true) }
 {
     let Some(first) = fields.take() else {
@@ -45,8 +60,29 @@ fn command_in(
     };
     match names.replica(first) {
         Some(replica) => replica_command(alloc, kind, replica, word, fields),
+        None if is_join_word(format, first) => Ok(join(names, word, fields)),
         None => Ok(None),
     }
+}
+
+// Does a line with this first word join a replica?
+fn is_join_word(format: Format, word: &[u8]) -> bool
+    ensures { result ≡ is_join_word format word.now }
+{
+    format == Format::Rah2 && word == b"join".as_slice()
+}
+
+// A join, by the new name and the fields behind it.
+fn join(names: &Names, name: &[u8], mut fields: Fields<'_>) -> Option<Command>
+    ensures { result ≡ join_read names.now name.now fields.entry }
+{
+    let source = fields.take()?;
+    if fields.take().is_some() {
+        return None;
+    }
+    let replica = names.replica(name)?;
+    let from = names.replica(source)?;
+    Some(Command::Join { replica, from })
 }
 
 // The command of a line that has one field.

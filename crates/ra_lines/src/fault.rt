@@ -25,7 +25,7 @@ impl From<NoMemory> for LineFault {
 /// Why names are not those of a history.
 #[derive(Clone, Copy, Debug, PartialEq, Eq)]
 pub enum NamesFault {
-    /// There are none, or more than 16.
+    /// There are none, or more than 64.
     BadCount,
     /// The least place, from 0, whose name has another form than names have, is a word of the format's own, or repeats
     /// an earlier one.

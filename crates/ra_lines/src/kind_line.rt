@@ -1,31 +1,33 @@
 //! A text's first line, and the words of the kinds.
 ghost use Rattle.std.specs.Prelude.{◌≡◌, IfSome, Some};
 ghost use Rattle.ra_labels.specs.declared.kind.Kind.{Kind};
+ghost use Rattle.ra_lines.specs.declared.format.Format.{Format};
 ghost use Rattle.ra_lines.specs.Grammar as grammar;
 ghost use Rattle.ra_lines.specs.Grammar.{first_line};
-ghost use Rattle.ra_lines.specs.Reading.{kind_read, kind_named};
+ghost use Rattle.ra_lines.specs.Reading.{head_read, kind_read, kind_named};
 
+use crate::format::Format;
 use ra_labels::Kind;
 
-/// The kind that a first line names.
-pub fn kind_of(line: &[u8]) -> Option<Kind>
-    ensures read { result ≡ kind_read line.now }
-    ensures found { IfSome result (λ kind. line.now ≡ first_line kind) }
-    ensures only { (kind : Kind) → line.now ≡ first_line kind → result ≡ Some kind }
+/// The format and the kind that a first line names.
+pub fn head_of(line: &[u8]) -> Option<(Format, Kind)>
+    ensures read { result ≡ head_read line.now }
+    ensures found { IfSome result (λ head. line.now ≡ first_line head.0 head.1) }
+    ensures only { (format : Format) (kind : Kind) → line.now ≡ first_line format kind →
+        result ≡ Some (format, kind) }
 {
-    if line == b"RAH 1 counter".as_slice() {
-        Some(Kind::Counter)
-    } else if line == b"RAH 1 register".as_slice() {
-        Some(Kind::Register)
-    } else if line == b"RAH 1 lwwset".as_slice() {
-        Some(Kind::LwwSet)
-    } else if line == b"RAH 1 orset".as_slice() {
-        Some(Kind::OrSet)
-    } else if line == b"RAH 1 rga".as_slice() {
-        Some(Kind::Rga)
-    } else {
-        None
+    if let Some(kind) = kind_of(Format::Rah1, line) {
+        return Some((Format::Rah1, kind));
     }
+    let kind = kind_of(Format::Rah2, line)?;
+    Some((Format::Rah2, kind))
+}
+
+// The kind that a first line of this format names.
+fn kind_of(format: Format, line: &[u8]) -> Option<Kind>
+    ensures { result ≡ kind_read format line.now }
+{
+    kind_of_word(line.strip_prefix(format.word().as_bytes())?)
 }
 
 /// The kind whose word this is.

@@ -1,22 +1,25 @@
 //! Laws above the definitions of lines, each the clause of a function that does nothing.
-ghost use Rattle.std.specs.Prelude.{◌≡◌, ◌↔◌, ◌≤◌, ℕ, List, Option, Some, decimal, length};
+ghost use Rattle.std.specs.Prelude.{◌≡◌, ◌↔◌, ◌≤◌, ◌++◌, [], ℕ, List, Option, Some, decimal, length};
 ghost use Rattle.std.specs.List.{AllByRecursion};
 ghost use Rattle.ra_labels.specs.declared.kind.Kind.{Kind};
 ghost use Rattle.ra_labels.specs.declared.command.Command.{Command};
 ghost use Rattle.ra_labels.specs.declared.reply.Fault.{Fault};
 ghost use Rattle.ra_labels.specs.declared.reply.Reply.{Reply};
 ghost use Rattle.ra_lines.specs.Grammar.{kind_word, first_line, fields_of};
-ghost use Rattle.ra_lines.specs.Grammar.{AreNames, IsSmall, ListsNames, Spells, IsAtReplica, Says};
-ghost use Rattle.ra_lines.specs.Reading.{kind_read, kind_named, names_read, number_read, command_read};
+ghost use Rattle.ra_lines.specs.Grammar.{AreNames, IsSmall, ListsNames, Spells, IsAtReplica, NameAlike, Says};
+ghost use Rattle.ra_lines.specs.Names.{AreDistinctNames};
+ghost use Rattle.ra_lines.specs.Reading.{head_read, kind_named, names_read, number_read, command_read};
 ghost use Rattle.ra_lines.specs.Replies.{reply_line, end_line};
-ghost use Rattle.ra_lines.specs.Spelling.{AreSmall, AreShort, HasLine, line_of, text_of};
-ghost use Rattle.ra_lines.specs.declared.limits.TheConstants.{MOST_COMMANDS, LONGEST_LINE, MOST_NAMES, LONGEST_NAME};
+ghost use Rattle.ra_lines.specs.Spelling.{AreSmall, AreShort, HasLine, HasNewName, HaveLines, NameEach, line_of, text_of};
+ghost use Rattle.ra_lines.specs.declared.format.Format.{Format};
+ghost use Rattle.ra_lines.specs.declared.limits.TheConstants.{MOST_COMMANDS, LONGEST_LINE, MOST_NAMES, MOST_NAMES_IN_RAH_1, LONGEST_NAME};
 
-/// The limits in figures: bytes of a line, commands of a text, replicas, and bytes of a name.
+/// The limits in figures: bytes of a line, commands of a text, replicas, also in `RAH 1`, and bytes of a name.
 pub fn limits()
     ensures line { LONGEST_LINE ≡ 1048576 }
     ensures commands { MOST_COMMANDS ≡ 1048576 }
-    ensures names { MOST_NAMES ≡ 16 }
+    ensures names { MOST_NAMES ≡ 64 }
+    ensures older { MOST_NAMES_IN_RAH_1 ≡ 16 }
     ensures name { LONGEST_NAME ≡ 16 }
 {}
 
@@ -30,47 +33,56 @@ pub fn a_number_is_read()
     ensures { (n : ℕ) (field : List ℕ) → (number_read field ≡ Some n) ↔ ((field ≡ decimal n) × IsSmall n) }
 {}
 
-/// The kind that is read of a first line is the one whose first line it is.
+/// The format and the kind that are read of a first line are those whose first line it is.
 pub fn a_first_line_is_read()
-    ensures { (kind : Kind) (line : List ℕ) → (kind_read line ≡ Some kind) ↔ (line ≡ first_line kind) }
+    ensures { (format : Format) (kind : Kind) (line : List ℕ) →
+        (head_read line ≡ Some (format, kind)) ↔ (line ≡ first_line format kind) }
 {}
 
 /// The names that are read of a second line are those that it lists.
 pub fn a_line_of_names_is_read()
-    ensures { (names : List (List ℕ)) (line : List ℕ) → (names_read line ≡ Some names) ↔ ListsNames line names }
+    ensures { (format : Format) (names : List (List ℕ)) (line : List ℕ) →
+        (names_read format line ≡ Some names) ↔ ListsNames format line names }
 {}
 
 /// The command that is read of a further line is the one that it spells.
 pub fn a_line_of_a_command_is_read()
-    ensures { (kind : Kind) (names : List (List ℕ)) (line : List ℕ) (command : Command) →
-        (command_read kind names (fields_of line) ≡ Some command) ↔ Spells kind names line command }
+    ensures { (format : Format) (kind : Kind) (names : List (List ℕ)) (line : List ℕ) (command : Command) →
+        (command_read format kind names (fields_of line) ≡ Some command) ↔ Spells format kind names line command }
 {}
 
 /// In a history of one kind with the same names, a line spells at most one command.
 pub fn a_line_spells_one_command()
-    ensures { (kind : Kind) (names : List (List ℕ)) (line : List ℕ) (one other : Command) →
-        Spells kind names line one → Spells kind names line other → one ≡ other }
+    ensures { (format : Format) (kind : Kind) (names : List (List ℕ)) (line : List ℕ) (one other : Command) →
+        Spells format kind names line one → Spells format kind names line other → one ≡ other }
 {}
 
 /// In a history of one kind with the same names, a command at a replica that has one of the names is spelled by at most
-/// one line. (A name that is not one of them stands for a replica that is not there, as many others do.)
+/// one line; a join from such a replica by at most one for each new name. (A name that is not one of them stands for a
+/// replica that is not there, as many others do.)
 pub fn a_command_has_one_spelling()
-    ensures { (kind : Kind) (names : List (List ℕ)) (line other : List ℕ) (command : Command) →
-        IsAtReplica names command → Spells kind names line command → Spells kind names other command → line ≡ other }
+    ensures { (format : Format) (kind : Kind) (names : List (List ℕ)) (line other : List ℕ) (command : Command) →
+        IsAtReplica names command → Spells format kind names line command → Spells format kind names other command →
+        NameAlike command line other → line ≡ other }
 {}
 
-/// The line that is written of a command spells it, where its replica has a name, the kind has words for it and its
-/// numbers are of 32 bits.
+/// The line that is written of a command spells it, by the names of the replicas that are there, where its replica has
+/// one of these, the kind has words for it and its numbers are of 32 bits; and that of a join, where there is a name
+/// for a replica to come.
 pub fn a_written_line_spells_its_command()
-    ensures { (kind : Kind) (names : List (List ℕ)) (command : Command) → AreNames names → HasLine kind names command →
-        AreSmall command → Spells kind names (line_of names command) command }
+    ensures { (format : Format) (kind : Kind) (names later : List (List ℕ)) (command : Command) →
+        AreDistinctNames (names ++ later) → HasLine format kind (length names) command → HasNewName later command →
+        AreSmall command → Spells format kind names (line_of (names ++ later) command) command }
 {}
 
-/// A text that is written of a history, with lines that spell its commands and are not too long, says that history.
+/// A text that is written of a history, with lines that spell its commands and are not too long, says that history,
+/// where each replica has a name in the end, and those that join have the last ones.
 pub fn a_written_text_says_its_history()
-    ensures { (kind : Kind) (names : List (List ℕ)) (commands : List Command) (text : List ℕ) → AreNames names →
-        AllByRecursion (HasLine kind names) commands → AreShort names commands → AllByRecursion AreSmall commands →
-        length commands ≤ MOST_COMMANDS → text ≡ text_of kind names commands → Says text kind names commands }
+    ensures { (format : Format) (kind : Kind) (first joined : List (List ℕ)) (commands : List Command)
+        (text : List ℕ) → AreNames format first → AreDistinctNames (first ++ joined) →
+        NameEach kind first joined commands → HaveLines format kind (length first) [] commands →
+        AreShort (first ++ joined) commands → AllByRecursion AreSmall commands → length commands ≤ MOST_COMMANDS →
+        text ≡ text_of format kind first joined commands → Says text format kind first joined commands }
 {}
 
 /// No reply line is an `end` line.

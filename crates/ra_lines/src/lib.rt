@@ -14,6 +14,7 @@
 pub mod command;
 mod fault;
 pub mod fields;
+mod format;
 pub mod kind_line;
 pub mod laws;
 pub mod limits;
@@ -27,5 +28,6 @@ pub mod size;
 pub mod spelling;
 
 pub use fault::{LineFault, NamesFault};
+pub use format::Format;
 pub use name::Names;
 pub use reading::{Header, Item, Reading};

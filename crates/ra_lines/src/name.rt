@@ -1,14 +1,16 @@
 //! Names of replicas.
-ghost use Rattle.std.specs.Prelude.{◌≡◌, ◌≤◌, ℕ, ◌++◌, ◌∷◌, ◌||◌, [], List, IfOk, IfErr, IfSome, IsNone, OnOk, OnErr, IsErrOf, length, map, bytes_eq, option_copied, slice_get};
+ghost use Rattle.std.specs.Prelude.{◌≡◌, ◌≤◌, ℕ, ◌++◌, ◌∷◌, ◌||◌, [], List, IfOk, IfErr, IfSome, IsNone, OnOk, OnErr, IsErrOf, not, length, map, bytes_eq, option_copied, slice_get};
 ghost use Rattle.std.specs.List.{list_all, list_any};
 ghost use Rattle.ra_lines.specs.Grammar as grammar;
 ghost use Rattle.ra_lines.specs.Grammar.{has_form_of_name, is_reserved, place_of, ListsNames, AreNames};
 ghost use Rattle.ra_lines.specs.Reading.{replica_read};
-ghost use Rattle.ra_lines.specs.Names.{AreNamesSoFar, MayJoin, bytes_of_each, texts_of, is_bad_behind, AreDistinctNames, IsFirstBad, IsFaultOf};
+ghost use Rattle.ra_lines.specs.Names.{AreNamesSoFar, MayJoin, bytes_of_each, texts_of, is_bad_behind, AreDistinctNames, IsFirstBad, IsFaultOf, StopsAdding};
+ghost use Rattle.ra_lines.specs.declared.format.Format.TheVariants.{Rah2};
 ghost use Rattle.ra_lines.specs.declared.fault.LineFault.TheVariants.{Syntax};
 
 use crate::fault::{LineFault, NamesFault};
 use crate::fields::Fields;
+use crate::format::Format;
 use crate::limits::{LONGEST_NAME, MOST_NAMES};
 use indexmap::IndexSet;
 use ra_labels::NoMemory;
@@ -62,12 +64,12 @@ impl Model for Names {
 }
 
 impl Names {
-    /// These names, in this order. `BadCount` where there are none or more than 16; else `BadName` with the least place
+    /// These names, in this order. `BadCount` where there are none or more than 64; else `BadName` with the least place
     /// whose name has another form than names have, is reserved or repeats an earlier one; memory is asked for only
     /// where there is none. Costs as much as the names are long; each of them is compared with those before it.
     pub fn new(alloc: Global, names: &[&str]) -> Result<Names, NamesFault>
         ensures names { IfOk result (λ list. list ≡ texts_of names.now) }
-        ensures good { OnOk result (AreNames (texts_of names.now)) }
+        ensures good { OnOk result (AreNames Rah2 (texts_of names.now)) }
         ensures fault { IfErr result (IsFaultOf (texts_of names.now)) }
     {
         if names.is_empty() || names.len() > MOST_NAMES {
@@ -81,7 +83,7 @@ impl Names {
 
     // These words, which are names.
     fn of(alloc: Global, names: &[&str]) -> Result<Names, NoMemory>
-        requires { AreNames (texts_of names.now) }
+        requires { AreNames Rah2 (texts_of names.now) }
         ensures { IfOk result (λ list. list ≡ texts_of names.now) }
     {
         let mut list = Names::none(alloc);
@@ -91,10 +93,10 @@ impl Names {
         Ok(list)
     }
 
-    /// The names that a text's second line lists.
-    pub fn read(alloc: Global, line: &[u8]) -> Result<Names, LineFault>
-        ensures found { IfOk result (λ names. ListsNames line.now names) }
-        ensures syntax { IsErrOf result Syntax → (names : List (List ℕ)) → ListsNames line.now names → ⊥ }
+    /// The names that the second line of a text of this format lists.
+    pub fn read(alloc: Global, format: Format, line: &[u8]) -> Result<Names, LineFault>
+        ensures found { IfOk result (λ names. ListsNames format line.now names) }
+        ensures syntax { IsErrOf result Syntax → (names : List (List ℕ)) → ListsNames format line.now names → ⊥ }
     {
         let mut fields = Fields::of(line);
         match fields.take() {
@@ -103,7 +105,7 @@ impl Names {
         }
         let mut names = Names::none(alloc);
         while let Some(name) = fields.take() {
-            names.add(name)?;
+            names.list(format, name)?;
         }
         if names.count() == 0 {
             return Err(LineFault::Syntax);
@@ -158,24 +160,49 @@ impl Names {
         }
     }
 
-    // Adds a name at the end. An `Err` changes nothing.
-    fn add(&mut self, name: &[u8]) -> Result<(), LineFault>
-        ensures ok { OnOk result (self.new ≡ self.old ++ name.now ∷ []) }
-        ensures may { OnOk result (MayJoin self.old name.now) }
-        ensures syntax { IsErrOf result Syntax → MayJoin self.old name.now → ⊥ }
+    /// Adds a name at the end. `BadName` with the place 0 where it has another form than names have, is reserved or is
+    /// one of these; else `BadCount` where there are 64. Memory is asked for only where it may be added. An `Err`
+    /// changes nothing. Costs as much as the name is long.
+    pub fn add(&mut self, name: &[u8]) -> Result<(), NamesFault>
+        ensures added { OnOk result (self.new ≡ self.old ++ name.now ∷ []) }
+        ensures may { OnOk result (MayJoin Rah2 self.old name.now) }
+        ensures fault { IfErr result (StopsAdding self.old name.now) }
         ensures err { OnErr result (self.new ≡ self.old) }
     {
-        let is_full = self.set.len() == MOST_NAMES;
-        if is_full || !is_name(name) || place_in(&self.set, name) < self.set.len() {
+        if !self.is_new(name) {
+            return Err(NamesFault::BadName(0));
+        }
+        if self.set.len() == MOST_NAMES {
+            return Err(NamesFault::BadCount);
+        }
+        self.push(name)?;
+        Ok(())
+    }
+
+    // Adds a name of a second line in this format. An `Err` changes nothing.
+    fn list(&mut self, format: Format, name: &[u8]) -> Result<(), LineFault>
+        ensures ok { OnOk result (self.new ≡ self.old ++ name.now ∷ []) }
+        ensures may { OnOk result (MayJoin format self.old name.now) }
+        ensures syntax { IsErrOf result Syntax → MayJoin format self.old name.now → ⊥ }
+        ensures err { OnErr result (self.new ≡ self.old) }
+    {
+        if self.set.len() >= format.most_names() || !self.is_new(name) {
             return Err(LineFault::Syntax);
         }
         self.push(name)?;
         Ok(())
     }
 
-    // The same of a name that may stand there.
+    // Is the word a name, and none of these?
+    fn is_new(&self, word: &[u8]) -> bool
+        ensures { result ≡ not (is_bad_behind self.now word.now) }
+    {
+        is_name(word) && place_in(&self.set, word) == self.set.len()
+    }
+
+    // Adds a name that may stand at the end. An `Err` changes nothing.
     fn push(&mut self, name: &[u8]) -> Result<(), NoMemory>
-        requires { MayJoin self.old name.now }
+        requires { MayJoin Rah2 self.old name.now }
         ensures ok { OnOk result (self.new ≡ self.old ++ name.now ∷ []) }
         ensures err { OnErr result (self.new ≡ self.old) }
     {

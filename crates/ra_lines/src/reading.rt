@@ -1,17 +1,21 @@
 //! A text that is read line by line.
-ghost use Rattle.std.specs.Prelude.{◌≡◌, ℕ, List, IfOk, OnErr, IsErrOf};
-ghost use Rattle.ra_lines.specs.Lines.{Gives, SpellsItem};
+ghost use Rattle.std.specs.Prelude.{◌≡◌, true, ℕ, List, IfOk, IfErr, OnOk, OnErr, IsErrOf, string_bytes};
+ghost use Rattle.ra_lines.specs.Grammar.{is_name, new_name};
+ghost use Rattle.ra_labels.specs.Laws.{is_join};
+ghost use Rattle.ra_lines.specs.Lines.{Gives, SpellsItem, IsItemOf, HasNames, names_in, with_name};
+ghost use Rattle.ra_lines.specs.Names.{StopsAdding};
 ghost use Rattle.ra_lines.specs.declared.fault.LineFault.TheVariants.{Syntax};
 ghost use Rattle.ra_lines.specs.declared.reading.Item.{Item};
 ghost use Rattle.ra_lines.specs.declared.reading.Header.{Header};
 ghost use Rattle.ra_lines.specs.declared.reading.Header.TheVariants.{Nothing};
 
-use crate::command::command;
-use crate::fault::LineFault;
-use crate::kind_line::kind_of;
+use crate::command::{command, new_name};
+use crate::fault::{LineFault, NamesFault};
+use crate::format::Format;
+use crate::kind_line::head_of;
 use crate::limits::LONGEST_LINE;
 use crate::name::Names;
-use ra_labels::{Command, Kind};
+use ra_labels::{Command, Kind, NoMemory};
 use std::alloc::Global;
 use std::marker::Model;
 
@@ -22,8 +26,15 @@ pub enum Item {
     KindLine(Kind),
     /// The second: how many names it lists.
     NamesLine(u8),
-    /// Each further one: a command.
+    /// Each further one that joins no replica: a command.
     CommandLine(Command),
+    /// One that joins a replica: the command, and the name that it gives to the new one.
+    JoinLine {
+        /// The join.
+        command: Command,
+        /// The new name.
+        name: String,
+    },
 }
 
 /// What the lines before the commands said, as far as they were read.
@@ -31,10 +42,10 @@ pub enum Item {
 pub enum Header {
     /// Nothing yet: the first line comes next.
     Nothing,
-    /// The kind: the line of the names comes next.
-    OfKind(Kind),
-    /// The kind and the names: commands come next.
-    OfNames(Kind, Names),
+    /// The format and the kind: the line of the names comes next.
+    OfKind(Format, Kind),
+    /// These and the names: commands come next.
+    OfNames(Format, Kind, Names),
 }
 
 /// A text, of which some lines were read. Contracts see what its first lines said.
@@ -64,8 +75,9 @@ impl Reading {
     }
 
     /// Reads the next line, which comes without its line feed, and gives what it spells. `Syntax` where it spells
-    /// nothing that may stand there, or has more than 1,048,576 bytes. A fault changes nothing. Costs as much as the
-    /// line is long; it takes memory for names and for a list alone.
+    /// nothing that may stand there, or has more than 1,048,576 bytes. A fault changes nothing. A join changes nothing
+    /// either: its name is one of the names once it is added. Costs as much as the line is long; it takes memory for
+    /// names and for a list alone.
     pub fn line(&mut self, line: &[u8]) -> Result<Item, LineFault>
         ensures gives { IfOk result (λ item. Gives self.old line.now item self.new) }
         ensures syntax { IsErrOf result Syntax → (item : Item) (next : Header) → Gives self.old line.now item next → ⊥ }
@@ -75,6 +87,21 @@ impl Reading {
             return Err(LineFault::Syntax);
         }
         self.header.take_line(self.alloc, line)
+    }
+
+    /// Adds a name behind those that were read, for a join that was accepted. `BadName` with the place 0 where it has
+    /// another form than names have, is reserved or is one of them; else `BadCount` where there are 64. An `Err`
+    /// changes nothing. Costs as much as the name is long.
+    pub fn add(&mut self, name: &str) -> Result<(), NamesFault>
+        requires { HasNames self.old }
+        ensures added { OnOk result (self.new ≡ with_name self.old name.now) }
+        ensures fault { IfErr result (StopsAdding (names_in self.old) name.now) }
+        ensures err { OnErr result (self.new ≡ self.old) }
+    {
+        match &mut self.header {
+            Header::OfNames(_, _, names) => names.add(name.as_bytes()),
+            Header::Nothing | Header::OfKind(_, _) => Ok(()),
+        }
     }
 }
 
@@ -88,22 +115,49 @@ impl Header {
     {
         match self {
             Header::Nothing => {
-                let Some(kind) = kind_of(line) else {
+                let Some((format, kind)) = head_of(line) else {
                     return Err(LineFault::Syntax);
                 };
-                *self = Header::OfKind(kind);
+                *self = Header::OfKind(format, kind);
                 Ok(Item::KindLine(kind))
             }
-            Header::OfKind(kind) => {
-                let names = Names::read(alloc, line)?;
+            Header::OfKind(format, kind) => {
+                let names = Names::read(alloc, *format, line)?;
                 let count = names.count();
-                *self = Header::OfNames(*kind, names);
+                *self = Header::OfNames(*format, *kind, names);
                 Ok(Item::NamesLine(count))
             }
-            Header::OfNames(kind, names) => match command(alloc, *kind, names, line)? {
-                Some(command) => Ok(Item::CommandLine(command)),
-                None => Err(LineFault::Syntax),
-            },
+            Header::OfNames(format, kind, names) => {
+                match command(alloc, *format, *kind, names, line)? {
+                    Some(command) => Ok(item_of(alloc, command, line)?),
+                    None => Err(LineFault::Syntax),
+                }
+            }
         }
     }
+}
+
+// The item of a line that spells the command.
+fn item_of(alloc: Global, command: Command, line: &[u8]) -> Result<Item, NoMemory>
+    requires { is_join command ≡ true → is_name (new_name line.now) ≡ true }
+    ensures { IfOk result (IsItemOf command line.now) }
+{
+    match command {
+        Command::Join { .. } => {
+            let name = text_of(alloc, new_name(line))?;
+            Ok(Item::JoinLine { command, name })
+        }
+        Command::Operate { .. } | Command::Deliver { .. } | Command::Verdict => {
+            Ok(Item::CommandLine(command))
+        }
+    }
+}
+
+fn text_of(alloc: Global, name: &[u8]) -> Result<String, NoMemory>
+    requires { is_name name.now ≡ true }
+    ensures { IfOk result (λ text. string_bytes text ≡ name.now) }
+{
+    // A name is letters and digits.
+    let text = str::from_utf8(name).unwrap();
+    Ok(String::from_str(alloc, text)?)
 }

@@ -43,6 +43,7 @@ fn spell_reply(out: &mut Vec<u8>, reply: Reply) -> Result<(), NoMemory>
     match reply {
         Reply::Ok(label) => put_counted(out, b"ok ", label),
         Reply::Got(label) => put_counted(out, b"got ", label),
+        Reply::Joined(replica) => put_counted(out, b"joined ", replica as u32),
         Reply::Yes(labels) => put_counted(out, b"yes ", labels),
         Reply::No { label, cause } => put_caused(out, b"no ", label, cause),
         Reply::Refused(refusal) => put_refusal(out, refusal),
@@ -98,6 +99,8 @@ fn put_refusal(out: &mut Vec<u8>, refusal: Refusal) -> Result<(), NoMemory>
         Refusal::NotAnUpdate => put_bytes(out, b"refused not-an-update\n"),
         Refusal::AlreadySeen => put_bytes(out, b"refused already-seen\n"),
         Refusal::NotCausal(missing) => put_counted(out, b"refused not-causal ", missing),
+        Refusal::ReplicaThere => put_bytes(out, b"refused replica-there\n"),
+        Refusal::TooManyReplicas => put_bytes(out, b"refused too-many-replicas\n"),
     }
 }
 

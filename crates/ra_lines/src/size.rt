@@ -21,6 +21,10 @@ pub fn line_size(names: &Names, command: &Command) -> u128
         Command::Operate { replica, op, stamp } => {
             name_size(names, *replica) + operation_size(op) + clock_size(*stamp)
         }
+        // `join` and a space before each name
+        Command::Join { replica, from } => {
+            6 + name_size(names, *replica) + name_size(names, *from)
+        }
     }
 }
 

@@ -1,7 +1,8 @@
 //! The lines that spell commands.
-ghost use Rattle.std.specs.Prelude.{◌≡◌, ◌++◌, decimal, OnErr, OnOk, IfSome};
+ghost use Rattle.std.specs.Prelude.{◌≡◌, ◌≤◌, ◌++◌, decimal, length, take, OnErr, OnOk, IfSome};
 ghost use Rattle.std.specs.List.{AllByRecursion};
 ghost use Rattle.std.specs.Fmt.{signed_decimal};
+ghost use Rattle.ra_labels.specs.declared.command.Command.TheVariants.{Join};
 ghost use Rattle.ra_lines.specs.Grammar.{operation_fields, clock_fields, list_word, value_word, HasSmallNumbers, IsSmall};
 ghost use Rattle.ra_lines.specs.Spelling.{BeginsWith, spaced, commas, line_of, name_of, AreSmall};
 
@@ -26,18 +27,29 @@ pub fn put_command(out: &mut Vec<u8>, names: &Names, command: &Command) -> Resul
             put_operation(out, op)?;
             put_clock(out, *stamp)
         }
+        Command::Join { replica, from } => put_join(out, names, *replica, *from),
     }
 }
 
-/// Puts each name behind the bytes, with a space before it. Costs as much as the names are long.
-pub fn put_names(out: &mut Vec<u8>, names: &Names) -> Result<(), NoMemory>
-    ensures { OnOk result (out.new.items ≡ out.old.items ++ spaced names.now) }
+/// Puts each of so many first names behind the bytes, with a space before it. Costs as much as they are long.
+pub fn put_names(out: &mut Vec<u8>, names: &Names, count: u8) -> Result<(), NoMemory>
+    requires { count ≤ length names.now }
+    ensures { OnOk result (out.new.items ≡ out.old.items ++ spaced (take count names.now)) }
 {
-    for replica in 0..names.count() {
+    for replica in 0..count {
         out.push(b' ')?;
         put_name(out, names, replica)?;
     }
     Ok(())
+}
+
+fn put_join(out: &mut Vec<u8>, names: &Names, replica: u8, from: u8) -> Result<(), NoMemory>
+    ensures { OnOk result (out.new.items ≡ out.old.items ++ line_of names.now (Join replica from)) }
+{
+    out.extend_from_slice(b"join ")?;
+    put_name(out, names, replica)?;
+    out.push(b' ')?;
+    put_name(out, names, from)
 }
 
 fn put_name(out: &mut Vec<u8>, names: &Names, replica: u8) -> Result<(), NoMemory>

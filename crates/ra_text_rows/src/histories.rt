@@ -102,6 +102,93 @@ fn histories_are_written_byte_by_byte(rt: HostRuntime) {
     }
 }
 
+/// Two replicas, and one that joins. What is refused of the joins is left out, and so is what came to it that it had.
+pub const JOINED: &str = "RAH 2 counter
+replicas a b
+a inc
+join c a
+c read 1
+join c b
+join d e
+c got 0
+b read 0
+";
+
+// What is accepted of it.
+const ACCEPTED_OF_JOINED: &str = "RAH 2 counter
+replicas a b
+a inc
+join c a
+c read 1
+b read 0
+";
+
+const REPLIES_OF_JOINED: &str = "ok 0
+joined 2
+ok 1
+ok 2
+end yes 3
+";
+
+// Names are those of the first replicas, and then of those that joined.
+#[test]
+fn replicas_that_joined_are_written(rt: HostRuntime) {
+    let names = names_of(&rt, rt.alloc(), &["a", "b", "c"]);
+    let monitor = monitor_at(&rt, rt.alloc(), 2, JOINED);
+    assert_eq!(rt; monitor.replicas(), 3);
+    let mut text = Vec::new(rt.alloc());
+    let wrote = write_history(rt.alloc(), &monitor, &names, &mut text);
+    assert_eq!(rt; wrote, Ok(()));
+    assert_eq!(rt; text.as_slice(), ACCEPTED_OF_JOINED.as_bytes());
+    let (_, written) = answer_to(rt.alloc(), text.as_slice(), 4_096);
+    assert_eq!(rt; written.as_slice(), REPLIES_OF_JOINED.as_bytes());
+    let few = names_of(&rt, rt.alloc(), &["a", "b"]);
+    let wrote = write_history(rt.alloc(), &monitor, &few, &mut text);
+    assert_eq!(rt; wrote, Err(WriteFault::BadNames));
+}
+
+// A join that was refused is none, so the older text will do.
+#[test]
+fn a_refused_join_asks_for_no_newer_text(rt: HostRuntime) {
+    let names = names_of(&rt, rt.alloc(), &["a", "b"]);
+    let joined = "RAH 2 counter\nreplicas a b\njoin a b\na inc\njoin c d\n";
+    let monitor = monitor_at(&rt, rt.alloc(), 2, joined);
+    assert_eq!(rt; monitor.replicas(), 2);
+    let mut text = Vec::new(rt.alloc());
+    let wrote = write_history(rt.alloc(), &monitor, &names, &mut text);
+    assert_eq!(rt; wrote, Ok(()));
+    assert_eq!(rt;
+        text.as_slice(),
+        b"RAH 1 counter\nreplicas a b\na inc\n".as_slice()
+    );
+}
+
+const SEVENTEEN: [&str; 17] = [
+    "a", "b", "c", "d", "e", "f", "g", "h", "i", "j", "k", "l", "m", "n", "o", "p", "q",
+];
+
+// More than 16 first replicas are written in RAH 2, and 16 in RAH 1.
+#[test]
+fn sixteen_first_replicas_are_written_in_the_older_text(rt: HostRuntime) {
+    for (words, first) in [
+        (
+            SEVENTEEN.as_slice(),
+            "RAH 2 rga\nreplicas a b c d e f g h i j k l m n o p q\n",
+        ),
+        (
+            &SEVENTEEN[..16],
+            "RAH 1 rga\nreplicas a b c d e f g h i j k l m n o p\n",
+        ),
+    ] {
+        let names = names_of(&rt, rt.alloc(), words);
+        let monitor = monitor_at(&rt, rt.alloc(), names.count(), first);
+        let mut text = Vec::new(rt.alloc());
+        let wrote = write_history(rt.alloc(), &monitor, &names, &mut text);
+        assert_eq!(rt; wrote, Ok(()));
+        assert_eq!(rt; text.as_slice(), first.as_bytes());
+    }
+}
+
 // One too few, and one too many.
 #[test]
 fn names_are_as_many_as_the_replicas(rt: HostRuntime) {
@@ -172,17 +259,30 @@ fn names_of(rt: &impl Abort, alloc: Global, words: &[&str]) -> Names {
 
 // The monitor of three replicas that is told the commands of the text.
 fn monitor_of(rt: &impl Abort, alloc: Global, text: &str) -> Monitor {
+    monitor_at(rt, alloc, 3, text)
+}
+
+// The same, where so many replicas are there first. What joins is named from then on.
+fn monitor_at(rt: &impl Abort, alloc: Global, replicas: u8, text: &str) -> Monitor {
     let mut reading = Reading::new(alloc);
     let mut monitor = None;
     for line in text.as_bytes().split(|byte| *byte == b'\n') {
         match reading.line(line) {
-            Ok(Item::KindLine(kind)) => monitor = Monitor::new(alloc, kind, 3, 100).ok(),
+            Ok(Item::KindLine(kind)) => monitor = Monitor::new(alloc, kind, replicas, 100).ok(),
             Ok(Item::NamesLine(_)) => {}
             Ok(Item::CommandLine(command)) => {
                 let Some(told) = &mut monitor else {
                     panic!(rt; "a command before the kind");
                 };
                 reply_to(rt, told, command);
+            }
+            Ok(Item::JoinLine { command, name }) => {
+                let Some(told) = &mut monitor else {
+                    panic!(rt; "a join before the kind");
+                };
+                if let Reply::Joined(_) = reply_to(rt, told, command) {
+                    assert!(rt; reading.add(name.as_str()).is_ok(), "no name");
+                }
             }
             // What stands behind the last line feed is no line.
             Err(_) => assert!(rt; line.is_empty(), "not read"),

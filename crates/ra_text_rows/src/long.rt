@@ -56,6 +56,7 @@ fn reporter_of(rt: &impl Abort, alloc: Global, made: &Crossing) -> Reporter {
                 };
                 assert!(rt; told.tell(command).is_ok(), "{kind:?}: no reply");
             }
+            Ok(Item::JoinLine { .. }) => panic!(rt; "{kind:?}: a join"),
             // What stands behind the last line feed is no line.
             Err(_) => assert!(rt; line.is_empty(), "{kind:?}: not read"),
         }

@@ -1,6 +1,7 @@
 //! Calls that are refused a growth: made again, they are answered as if none had been, and a check tells whose growth
 //! it was. `tests/refused_memory` refuses each growth in its turn; where none is refused, each call is made once.
 
+use super::histories::JOINED;
 use super::{REPLIES, SETS};
 use ra_history_text::{
     CheckFault, Item, LineFault, Names, NamesFault, Reading, check, report_json,
@@ -43,6 +44,20 @@ fn report_again(rt: &impl Abort, alloc: Global, report: &Report) -> String {
     panic!(rt; "no memory")
 }
 
+// How many lines of a text join a replica.
+fn joins_again(rt: &impl Abort, alloc: Global) -> u32 {
+    let mut reading = Reading::new(alloc);
+    let mut joins = 0u32;
+    for line in JOINED.as_bytes().split(|byte| *byte == b'\n') {
+        if !line.is_empty() {
+            if let Item::JoinLine { .. } = line_again(rt, &mut reading, line) {
+                joins = joins.wrapping_add(1);
+            }
+        }
+    }
+    joins
+}
+
 #[test]
 fn calls_of_the_text_are_made_again(rt: HostRuntime) {
     let names = names_again(&rt, rt.alloc());
@@ -55,10 +70,12 @@ fn calls_of_the_text_are_made_again(rt: HostRuntime) {
                 Item::KindLine(kind) => assert_eq!(rt; kind, Kind::OrSet),
                 Item::NamesLine(count) => assert_eq!(rt; count, 3),
                 Item::CommandLine(_) => commands = commands.wrapping_add(1),
+                Item::JoinLine { .. } => panic!(rt; "a join"),
             }
         }
     }
     assert_eq!(rt; commands, 9);
+    assert_eq!(rt; joins_again(&rt, rt.alloc()), 3);
     let report = Report {
         kind: Kind::Rga,
         calls: 3,

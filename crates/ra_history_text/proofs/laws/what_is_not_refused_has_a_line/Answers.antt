@@ -1,4 +1,4 @@
-use Rattle.ra_history_text.proofs.AcceptedCommands.{spelled}
+use Rattle.ra_history_text.proofs.GivenAgain.{spelled}
 use Rattle.ra_history_text.proofs.laws.what_is_not_refused_has_a_line.Goals as goal
 
 pub returns : goal.returns

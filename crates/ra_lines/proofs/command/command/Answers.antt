@@ -8,11 +8,11 @@ use Rattle.ra_lines.proofs.command.command.Goals as goal
 pub returns-clause-found : goal.returns-clause-found
 returns-clause-found c =
     let read : IfOk c.command_in.result
-    (λ o. o ≡ command_read c.args.kind c.args.names.now (fields_of c.args.line.now)) = search rules in
-    reader_found c.args.kind c.args.names.now c.args.line.now c.command_in.result read
+    (λ o. o ≡ command_read c.args.format c.args.kind c.args.names.now (fields_of c.args.line.now)) = search rules in
+    reader_found c.args.format c.args.kind c.args.names.now c.args.line.now c.command_in.result read
 
 pub returns-clause-only : goal.returns-clause-only
 returns-clause-only c =
     let read : IfOk c.command_in.result
-    (λ o. o ≡ command_read c.args.kind c.args.names.now (fields_of c.args.line.now)) = search rules in
-    reader_only c.args.kind c.args.names.now c.args.line.now c.command_in.result read
+    (λ o. o ≡ command_read c.args.format c.args.kind c.args.names.now (fields_of c.args.line.now)) = search rules in
+    reader_only c.args.format c.args.kind c.args.names.now c.args.line.now c.command_in.result read

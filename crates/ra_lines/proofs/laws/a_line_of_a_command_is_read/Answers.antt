@@ -3,5 +3,5 @@ use Rattle.ra_lines.proofs.Commands.{command_found, command_only}
 use Rattle.ra_lines.proofs.laws.a_line_of_a_command_is_read.Goals as goal
 
 pub returns : goal.returns
-returns c = λ kind names line command.
-    (command_found kind names (fields_of line) command, command_only kind names (fields_of line) command)
+returns c = λ format kind names line command.
+    (command_found format kind names (fields_of line) command, command_only format kind names (fields_of line) command)

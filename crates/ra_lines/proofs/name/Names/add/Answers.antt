@@ -1,22 +1,40 @@
-use Rattle.std.proofs.Common.{◌≡◌, ◌<◌, true, rules, length}
-use Rattle.ra_lines.specs.Grammar.{is_name}
-use Rattle.ra_lines.proofs.NameLists.{may_join}
+use Rattle.std.proofs.Common.{◌<◌, rules, length, arith}
+use Rattle.ra_lines.specs.declared.format.Format.TheVariants.{Rah2}
+use Rattle.std.proofs.lemmas.Result.{err_from_is_err_and}
+use Rattle.ra_lines.proofs.NameLists.{as_many, may_join}
+use Rattle.ra_lines.proofs.NewNames.{good_tested, memory_alone}
 use Rattle.ra_lines.proofs.name.Names.add.Goals as goal
 
 pub push-requires : goal.push-requires
 push-requires c =
     let keys = c.self.inside.set.keys in
-    let room : length keys < 16 = search rules steps 100000 in
-    let form : is_name c.args.name.now ≡ true = search rules in
-    let last : c.place_in.result ≡ length keys = search rules in
-    may_join keys c.args.self.now c.args.name.now c.place_in.result c.self.view_is room form
-    c.place_in.ensures.place last
+    let room : length keys < 64 = search rules steps 100000 in
+    let good = good_tested c.is_new.result c.args.self.now c.args.name.now c.is_new.ensures c.if-not-is_new.false in
+    may_join Rah2 c.args.self.now c.args.name.now (omega (
+      arith,
+      room,
+      as_many keys c.args.self.now
+          c.self.view_is,
+    )) good
+
+pub returns-in_err-push-clause-fault : goal.returns-in_err-push-clause-fault
+returns-in_err-push-clause-fault c =
+    let keys = c.self.inside.set.keys in
+    let room : length keys < 64 = search rules steps 100000 in
+    let good = good_tested c.is_new.result c.args.self.now c.args.name.now c.is_new.ensures c.if-not-is_new.false in
+    memory_alone c.args.self.now c.args.name.now c.from_residual.result
+    (err_from_is_err_and c.from_residual.result c.from_residual.ensures.1)
+    (may_join Rah2 c.args.self.now c.args.name.now (omega (arith, room, as_many keys c.args.self.now c.self.view_is))
+    good)
 
 pub returns-clause-may : goal.returns-clause-may
 returns-clause-may c =
     let keys = c.self.inside.set.keys in
-    let room : length keys < 16 = search rules steps 100000 in
-    let form : is_name c.args.name.now ≡ true = search rules in
-    let last : c.place_in.result ≡ length keys = search rules in
-    may_join keys c.args.self.now c.args.name.now c.place_in.result c.self.view_is room form
-    c.place_in.ensures.place last
+    let room : length keys < 64 = search rules steps 100000 in
+    let good = good_tested c.is_new.result c.args.self.now c.args.name.now c.is_new.ensures c.if-not-is_new.false in
+    may_join Rah2 c.args.self.now c.args.name.now (omega (
+      arith,
+      room,
+      as_many keys c.args.self.now
+          c.self.view_is,
+    )) good

@@ -7,22 +7,27 @@ use Rattle.ra_lines.proofs.name.Names.read.Goals as goal
 
 pub loop-name-init : goal.loop-name-init
 loop-name-init c =
-    let front = so_far_first c.args.line.now c.in-Some.word.now c.take.new.self (search rules) (search rules) in
+    let front = so_far_first c.args.format c.args.line.now c.in-Some.word.now c.take.new.self (search rules)
+    (search rules) in
     rw c.none-names.ensures front
 
 pub loop-name-preserved : goal.loop-name-preserved
 loop-name-preserved c =
-    let front : ListsSoFar c.args.line.now c.loop-name.names (c.in-Some-take.name.now ∷ c.take-in-loop-name.new.self) =
+    let front : ListsSoFar c.args.format c.args.line.now c.loop-name.names
+    (c.in-Some-take.name.now ∷ c.take-in-loop-name.new.self) =
     rw c.in-Some-take.ensures at c.loop-name.invariant in
-    let next = so_far_next c.args.line.now c.loop-name.names c.in-Some-take.name.now c.take-in-loop-name.new.self front
-    c.in_ok-add.ensures.may in
-    rw c.in_ok-add.ensures.ok next
+    let next = so_far_next c.args.format c.args.line.now c.loop-name.names c.in-Some-take.name.now
+    c.take-in-loop-name.new.self front
+    c.in_ok-list.ensures.may in
+    rw c.in_ok-list.ensures.ok next
 
-pub returns-in_err-add-clause-syntax : goal.returns-in_err-add-clause-syntax
-returns-in_err-add-clause-syntax c is_syntax others lists =
-    let front : ListsSoFar c.args.line.now c.loop-name.names (c.in-Some-take.name.now ∷ c.take-in-loop-name.new.self) =
+pub returns-in_err-list-clause-syntax : goal.returns-in_err-list-clause-syntax
+returns-in_err-list-clause-syntax c is_syntax others lists =
+    let front : ListsSoFar c.args.format c.args.line.now c.loop-name.names
+    (c.in-Some-take.name.now ∷ c.take-in-loop-name.new.self) =
     rw c.in-Some-take.ensures at c.loop-name.invariant in
     let p = err_from_is_err_and c.from_residual.result c.from_residual.ensures.1 in
-    so_far_refused c.args.line.now c.loop-name.names c.in-Some-take.name.now c.take-in-loop-name.new.self others front
-    (c.in_err-add.ensures.syntax
-    (ap failed (same_fault c.from_residual.result Syntax p.0 c.in_err-add.field-0.0 p.1 p.2 is_syntax))) lists
+    so_far_refused c.args.format c.args.line.now c.loop-name.names c.in-Some-take.name.now
+    c.take-in-loop-name.new.self others front
+    (c.in_err-list.ensures.syntax
+    (ap failed (same_fault c.from_residual.result Syntax p.0 c.in_err-list.field-0.0 p.1 p.2 is_syntax))) lists

@@ -4,7 +4,7 @@ use Rattle.ra_lines.proofs.name.Names.read.Given as goal
 
 -- the names so far, and then the fields that are left
 abbrev pub invariant-loop-name : goal.invariant-loop-name
-invariant-loop-name l = ListsSoFar l.line l.names l.fields
+invariant-loop-name l = ListsSoFar l.format l.line l.names l.fields
 
 abbrev pub decreases-loop-name : goal.decreases-loop-name
 decreases-loop-name l = length l.fields
