@@ -1,14 +1,18 @@
 """Histories of all kinds, made by a seed: texts whose replicas are honest, but for a few lies and a few odd lines.
 
 Updates cross on their way, come late, twice, or before their cause; clocks tie, lag and are taken; answers are wrong; a
-line is broken, or the text ends inside one. What an honest replica answers is the model's.
+line is broken, or the text ends inside one. One of three is a text RAH 2, whose replicas join, or are many. What an
+honest replica answers is the model's.
 """
 import random
 
-from model import GREATEST_NUMBER, KINDS, START, Monitor, NotOfTheGrammar, command_of, named_labels, state_after
+from model import GREATEST_NUMBER, KINDS, MOST_REPLICAS, START, Monitor, NotOfTheGrammar, command_of
+from model import named_labels, state_after
 
 NAMES = ["a", "b", "c", "d", "got", "read", "inc", "replicas", "r2", "none", "abcdefghijklmnop", "z9", "verdicts", "at"]
 NAMES += ["joins", "x0"]
+# More names than replicas that there can be.
+MORE_NAMES = [*NAMES, *(f"n{it}" for it in range(MOST_REPLICAS))]
 # The clock that all replicas begin behind. Of the last one only few are left above it.
 FIRST_CLOCKS = [0, 0, 0, 0, 0, 0, 65_530, 65_530, GREATEST_NUMBER - 6]
 # In a history one of so many operations is a lie, one of so many lines is odd, and one of so many updates of a list
@@ -22,18 +26,31 @@ BROKEN_LINES += ["a read 1,,2", "a read -0", "a read --", "a write none", "a add
 BROKEN_LINES += ["a add 4 #1,2", "a remove 4 #", "a remove 4 9", "a after 1", "a after 1 2 3", "a after 1 2 #3"]
 BROKEN_LINES += ["a add 4294967296 @1", "a inc @4294967296", "join a", "1a inc", "a inc\r", "abcdefghijklmnopq inc"]
 BROKEN_LINES += ["a read 00", "a read +1", "a \x00", "a inc\xff"]
+# Joins that are none of the grammar; the first ones of RAH 1 alone.
+BROKEN_JOINS = ["join n9 a", "join n9 a", "join a a", "join n9 n9"] * 2
+BROKEN_JOINS += ["join", "join ", "join n9", "join n9 ", "join n9 a ", "join  n9 a", "join n9  a", " join n9 a"]
+BROKEN_JOINS += ["join n9 a @1", "join n9 a @", "join n9 a b", "join n9,a", "join n9 verdict", "join verdict a"]
+BROKEN_JOINS += ["join join a", "join n9 join", "join N9 a", "join 9n a", "join n9 0", "join abcdefghijklmnopq a"]
+BROKEN_JOINS += ["join n9 abcdefghijklmnopq", "join n9 a\r", "Join n9 a", "a join n9", "n9 join a", "join n9 got 0"]
+# In a history of RAH 2 one of so many lines is a join, and so many replicas are there first.
+JOIN_ONE_OF = [3, 6, 12, 40]
+FIRST_COUNTS = [1, 1, 2, 2, 3, 3, 5, 16, 17, 40, 62, 63, 64]
 # Operations that are of another kind in most histories.
 OTHERS = ["inc", "dec @0", "write 3 @4", "add 4 @9", "remove 4 @9", "add 3 #7", "remove 3 #2,1"]
-ODD_FIRST_LINES = ["RAH 1", "RAH 2 rga", "RAH 1 set", "RAH 1 rga ", "rah 1 rga", "RAH 1 rga orset", ""]
+ODD_FIRST_LINES = ["RAH 1", "RAH 3 rga", "RAH 1 set", "RAH 1 rga ", "rah 1 rga", "RAH 1 rga orset", ""]
 ODD_SECOND_LINES = ["replicas", "replicas a a", "replicas a ", "replica a", "replicas a  b", "replicas a verdict", ""]
 ODD_SECOND_LINES += ["replicas " + " ".join(f"n{it}" for it in range(count)) for count in (16, 17)]
+# Those of RAH 2 beside them.
+MORE_FIRST_LINES = ["RAH 2", "RAH 3 rga", "RAH 1 counter", "RAH 1 rga", "RAH 02 rga", "RAH 2 set", "RAH 2  orset"]
+MORE_SECOND_LINES = ["replicas a b " + " ".join(f"n{it}" for it in range(count)) for count in (15, 62, 63, 64)]
+MORE_SECOND_LINES += ["replicas a join", "replicas " + " ".join(["a", *NAMES])]
 
 
 class Chance:
     """Draws, the same ones for one seed in each version of Python."""
 
     def __init__(self, seed):
-        self.draw = random.Random(seed).random
+        self.seed, self.draw = seed, random.Random(seed).random
 
     def below(self, bound):
         return int(self.draw() * bound)
@@ -46,17 +63,26 @@ class Chance:
 
 
 class Author:
-    """Makes the lines of one history, and follows it in a monitor of the model."""
+    """Makes the lines of one history of RAH 1, and follows it in a monitor of the model."""
+
+    form, heads = "1", [(0, ODD_FIRST_LINES), (1, ODD_SECOND_LINES)]
 
     def __init__(self, chance):
         self.chance = chance
         self.kind = chance.one_of(KINDS)
-        count = chance.one_of([1, 2, 2, 3, 3, 4, 5, 16])
-        self.names = NAMES[:count] if chance.once_in(2) else sorted(NAMES, key=lambda _: chance.draw())[:count]
-        self.monitor = Monitor(self.kind, self.names)
+        self.first_names = self.some_names()
+        self.monitor = Monitor(self.kind, self.first_names)
+        self.names = self.monitor.names
         self.first_clock = chance.one_of(FIRST_CLOCKS)
         self.lies, self.oddities, self.early = map(chance.one_of, (LIES, ODDITIES, EARLY))
         self.used, self.again = set(), None
+
+    def some_names(self):
+        count, chance = self.chance.one_of([1, 2, 2, 3, 3, 4, 5, 16]), self.chance
+        return NAMES[:count] if chance.once_in(2) else sorted(NAMES, key=lambda _: chance.draw())[:count]
+
+    def any_replica(self):
+        return self.chance.below(len(self.names))
 
     # What the replicas have.
 
@@ -182,7 +208,7 @@ class Author:
         return f"read {numbers}" if self.kind in ("lwwset", "orset", "rga") else f"remove 3 #{numbers}"
 
     def line(self):
-        replica = self.chance.below(len(self.names))
+        replica = self.any_replica()
         if self.again and self.chance.once_in(2):
             line, self.again = self.again, None
             return line
@@ -207,19 +233,75 @@ class Author:
 
     def follow(self, line):
         try:
-            self.monitor.answer(command_of(self.kind, line))
+            self.monitor.answer(command_of(self.form, self.kind, line))
         except NotOfTheGrammar:
             pass
 
 
+class JoiningAuthor(Author):
+    """The same of RAH 2: replicas join, mostly to make updates soon, and there may be as many as there can be."""
+
+    form, heads = "2", [(0, MORE_FIRST_LINES), (1, ODD_SECOND_LINES + MORE_SECOND_LINES)]
+
+    def __init__(self, chance):
+        super().__init__(chance)
+        self.join_one_of = chance.one_of(JOIN_ONE_OF)
+        # So many join one after another before all else.
+        self.first_joins = chance.one_of([0, 0, 0, 1, 2, 3, MOST_REPLICAS - len(self.names)])
+
+    def some_names(self):
+        count, chance = self.chance.one_of(FIRST_COUNTS), self.chance
+        return (MORE_NAMES if chance.once_in(2) else sorted(MORE_NAMES, key=lambda _: chance.draw()))[:count]
+
+    def any_replica(self):
+        """Mostly one of the first ones or of the last ones, so that not all of many replicas do one thing each."""
+        among = min(len(self.names), 3)
+        some = [self.chance.below(among), len(self.names) - 1 - self.chance.below(among)]
+        return self.chance.one_of([*some, *some, self.chance.below(len(self.names))])
+
+    def line(self):
+        if self.first_joins:
+            self.first_joins -= 1
+            return self.join(self.any_replica())
+        if self.chance.once_in(self.join_one_of):
+            return self.odd_join() if self.chance.once_in(3) else self.join(self.any_replica())
+        return super().line()
+
+    def free_name(self):
+        return next(it for it in MORE_NAMES if it not in self.names)
+
+    def join(self, source):
+        """The new name is the first free one, also where there are too many; so one that was refused may come again."""
+        return f"join {self.free_name()} {self.names[source]}"
+
+    def odd_join(self):
+        """A join that is refused, or an operation of one that has not joined."""
+        name, other, free = self.names[self.any_replica()], self.names[self.any_replica()], self.free_name()
+        odd = [f"join {name} {other}", f"join {name} {name}", f"join {free} nobody", f"join {free} {free}"]
+        odd += [f"join nobody {free}", f"join {name} {free}", f"{free} got 0"]
+        odd += [f"{free} {self.update(self.any_replica())}"]
+        return self.chance.one_of(odd)
+
+
+def author_of(chance):
+    """One of three is of RAH 2. A draw apart says which, so that the others are as they were before there were any."""
+    return (JoiningAuthor if Chance(f"joins {chance.seed}").once_in(3) else Author)(chance)
+
+
+def broken_line(chance):
+    """One of four is a join. It is drawn apart, as above."""
+    line, beside = chance.one_of(BROKEN_LINES), Chance(f"broken {chance.seed}")
+    return beside.one_of(BROKEN_JOINS) if beside.once_in(4) else line
+
+
 def history(chance):
     """The bytes of one history."""
-    author = Author(chance)
-    lines = [f"RAH 1 {author.kind}", " ".join(["replicas", *author.names]), *author.lines()]
+    author = author_of(chance)
+    lines = [f"RAH {author.form} {author.kind}", " ".join(["replicas", *author.first_names]), *author.lines()]
     if chance.once_in(ODD_HEADS):
-        at, heads = chance.one_of([(0, ODD_FIRST_LINES), (1, ODD_SECOND_LINES)])
+        at, heads = chance.one_of(author.heads)
         lines[at] = chance.one_of(heads)
     if chance.once_in(BROKEN):
-        lines.insert(2 + chance.below(len(lines) - 1), chance.one_of(BROKEN_LINES))
+        lines.insert(2 + chance.below(len(lines) - 1), broken_line(chance))
     text = "".join(f"{it}\n" for it in lines).encode("latin-1")
     return text[: chance.below(len(text))] if chance.once_in(BROKEN) else text

@@ -21,12 +21,16 @@ UPDATES = {
 }
 
 
+# So many replicas there can be, in a text RAH 2.
+MOST_REPLICAS = 64
+
+
 class History:
     """The lines of a history as it is made, each with its reply."""
 
-    def __init__(self, kind, names="abc"):
+    def __init__(self, kind, names="abc", form=1):
         self.kind, self.labels, self.replies = kind, 0, []
-        self.lines = [f"RAH 1 {kind}", " ".join(["replicas", *names])]
+        self.lines, self.replicas = [f"RAH {form} {kind}", " ".join(["replicas", *names])], len(names)
 
     def does(self, name, body):
         """An operation, which becomes the label that this gives."""
@@ -38,6 +42,11 @@ class History:
     def gets(self, name, labels):
         self.lines += [f"{name} got {it}" for it in labels]
         self.replies += [f"got {it}" for it in labels]
+
+    def joins(self, name, source):
+        self.lines.append(f"join {name} {source}")
+        self.replies.append(f"joined {self.replicas}")
+        self.replicas += 1
 
     def text(self):
         return "".join(f"{it}\n" for it in self.lines).encode()
@@ -206,4 +215,68 @@ def waiting(is_chain, count):
     for name, missing in (("c", [*labels, first]), ("b", [first]), ("a", labels)):
         history.gets(name, missing)
         history.does(name, f"read {listed([1, *(numbers if is_chain else numbers[::-1])])}")
+    return history
+
+
+class Typing:
+    """Each element is put in behind the one before. Now and then one is taken out of sight."""
+
+    def __init__(self):
+        self.shown, self.last = {}, 0
+
+    def update(self, replica, turn, clock):
+        if turn == TURNS - 1:
+            element = self.last - TURNS // 2
+            return f"remove {element}", (element, False)
+        return f"after {self.last} {clock} @{clock}", (clock, True)
+
+    def apply(self, effect):
+        element, is_put_in = effect
+        if is_put_in:
+            self.shown[element], self.last = True, element
+        else:
+            self.shown.pop(element, None)
+
+    def read(self):
+        return listed(self.shown)
+
+
+def crowd(kind, first, count):
+    """About so many lines. So many replicas are there first, and the others join, spread over the history, until there
+    are as many as there can be; one that joins may get what is late at the one from which it joins. In turn each one
+    reads, gets what it lacks, makes an update and reads; so between its turns it lacks what the others do. At the end
+    all get all and read."""
+    names = [f"n{it}" for it in range(MOST_REPLICAS)]
+    history, data = History(kind, names[:first], 2), Typing() if kind == "rga" else TYPES[kind]()
+    # The updates, what is read after so many of the first ones, and how many of the first ones each replica has.
+    labels, reads, had = [], [data.read()], [0] * first
+
+    def reads_now(replica):
+        history.does(names[replica], f"read {reads[had[replica]]}")
+
+    def gets_all(replica):
+        history.gets(names[replica], labels[had[replica] :])
+        had[replica] = len(labels)
+
+    while len(history.lines) < count:
+        turn = len(labels)
+        if first < MOST_REPLICAS and (len(had) - first) * count <= len(history.lines) * (MOST_REPLICAS - first):
+            source = 7 * turn % len(had)
+            history.joins(names[len(had)], names[source])
+            had.append(had[source])
+            reads_now(len(had) - 1)
+        replica, has_reads = turn % len(had), kind != "rga" or turn % TURNS == 0
+        if has_reads:
+            reads_now(replica)
+        gets_all(replica)
+        body, effect = data.update(0, turn % TURNS, turn + 1)
+        labels.append(history.does(names[replica], body))
+        data.apply(effect)
+        reads.append(data.read())
+        had[replica] += 1
+        if has_reads:
+            reads_now(replica)
+    for replica in range(len(had)):
+        gets_all(replica)
+        reads_now(replica)
     return history

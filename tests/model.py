@@ -10,7 +10,9 @@ from typing import Callable, NamedTuple, Optional
 KINDS = ("counter", "register", "lwwset", "orset", "rga")
 LONGEST_LINE = 1_048_576
 MOST_COMMANDS = 1_048_576
-MOST_REPLICAS = 16
+# How many names line 2 has at most, by the form of line 1. With those that join later there are as many as RAH 2 names.
+MOST_NAMES = {"1": 16, "2": 64}
+MOST_REPLICAS = MOST_NAMES["2"]
 GREATEST_NUMBER = 4_294_967_295
 GREATEST_SIGNED = 2_147_483_647
 LOWEST_RANK = (0, 0)
@@ -174,7 +176,7 @@ class Monitor:
     """What was accepted so far: the labels, and the numbers of the updates that each replica had."""
 
     def __init__(self, kind, names):
-        self.kind, self.names = kind, names
+        self.kind, self.names = kind, list(names)
         self.labels, self.had = [], [set() for _ in names]
         self.fault, self.calls, self.refused = None, 0, 0
 
@@ -224,6 +226,25 @@ class Deliver(NamedTuple):
     def accepted(self, monitor):
         monitor.had[monitor.names.index(self.name)].add(self.number)
         return f"got {self.number}"
+
+
+class Join(NamedTuple):
+    """A replica of a new name joins, with all that the other one has."""
+
+    name: str
+    source: str
+
+    def refusal(self, monitor):
+        if self.source not in monitor.names:
+            return "unknown-replica"
+        if self.name in monitor.names:
+            return "replica-there"
+        return "too-many-replicas" if len(monitor.names) == MOST_REPLICAS else None
+
+    def accepted(self, monitor):
+        monitor.had.append(set(monitor.had[monitor.names.index(self.source)]))
+        monitor.names.append(self.name)
+        return f"joined {len(monitor.names) - 1}"
 
 
 class Operate(NamedTuple):
@@ -359,10 +380,13 @@ def operation_of(kind, fields):
     return tagged_removal_of(number, list_of(behind))
 
 
-def command_of(kind, line):
+def command_of(form, kind, line):
     if line == "verdict":
         return Verdict()
     name, *fields = line.split(" ")
+    if name == "join":
+        expect(form == "2" and len(fields) == 2)
+        return Join(*map(name_of, fields))
     expect(name_of(name) and fields)
     if fields[0] == "got":
         expect(len(fields) == 2)
@@ -372,15 +396,15 @@ def command_of(kind, line):
     return Operate(name, operation_of(kind, fields), clock)
 
 
-def kind_of(line):
+def form_and_kind_of(line):
     words = line.split(" ")
-    expect(len(words) == 3 and words[:2] == ["RAH", "1"] and words[2] in KINDS)
-    return words[2]
+    expect(len(words) == 3 and words[0] == "RAH" and words[1] in MOST_NAMES and words[2] in KINDS)
+    return words[1:]
 
 
-def names_of(line):
+def names_of(form, line):
     word, *names = line.split(" ")
-    expect(word == "replicas" and 1 <= len(names) <= MOST_REPLICAS)
+    expect(word == "replicas" and 1 <= len(names) <= MOST_NAMES[form])
     expect(all(name_of(it) for it in names) and len(set(names)) == len(names))
     return names
 
@@ -409,10 +433,10 @@ def read(numbered, reader, *more):
 def run(text, replies):
     """The monitor as the text leaves it. The replies are put in as they are made, so that they stand before a fault."""
     lines = lines_of(text)
-    kind = read(next(lines), kind_of)
-    monitor = Monitor(kind, read(next(lines), names_of))
+    form, kind = read(next(lines), form_and_kind_of)
+    monitor = Monitor(kind, read(next(lines), names_of, form))
     for number, line in lines:
-        command = read((number, line), command_of, kind)
+        command = read((number, line), command_of, form, kind)
         if monitor.calls == MOST_COMMANDS:
             raise Fault(f"line {number}: full")
         replies.append(monitor.answer(command))

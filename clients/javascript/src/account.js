@@ -4,6 +4,7 @@ import { tmpdir } from "node:os";
 import { join } from "node:path";
 import { inspect } from "node:util";
 import { MonitorGone, NotLinearizable, Refused } from "./errors.js";
+import { isOperation } from "./spelling.js";
 
 // How many of a history's last lines a message shows.
 const SHOWN_LINES = 16;
@@ -37,7 +38,7 @@ export class Account {
     this.#keys = keys;
     this.#notes = notes;
     this.commands = text.split("\n").slice(HEAD_LINES, -1);
-    this.#lineOf = this.commands.filter((it) => it.split(" ", 2)[1] !== "got");
+    this.#lineOf = this.commands.filter(isOperation);
   }
 
   /** What the command with this number says. */

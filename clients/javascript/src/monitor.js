@@ -35,7 +35,7 @@ export class Monitor {
     this.#window = Math.max(window, 1);
     this.#process = spawn(this.program, ["check", "--report"]);
     this.#end = new Promise((resolve) => this.#listen(resolve));
-    this.#lines.push(`RAH 1 ${kind}\nreplicas ${names.join(" ")}\n`);
+    this.#lines.push(`RAH 2 ${kind}\nreplicas ${names.join(" ")}\n`);
   }
 
   /**

@@ -6,7 +6,7 @@ import { CannotTell } from "./errors.js";
 const GREATEST = 4_294_967_295;
 // A first clock above that is counted as this one, so that clocks a little before it can still be told.
 const FIRST_GREAT_CLOCK = 1 << 28;
-const MOST_REPLICAS = 16;
+const MOST_REPLICAS = 64;
 const NAME = /^[a-z][a-z0-9]{0,15}$/;
 const NO_NAMES = ["verdict", "join"];
 
@@ -22,6 +22,14 @@ export class Keys {
   set(key, value) {
     if (Array.isArray(key)) this.#arrays.set(JSON.stringify(key), value);
     else this.#things.set(key, value);
+  }
+
+  /** The same keys, each with what this answers of its value. */
+  copied(copy) {
+    const made = new Keys();
+    for (const [key, value] of this.#things) made.#things.set(key, copy(value));
+    for (const [key, value] of this.#arrays) made.#arrays.set(key, copy(value));
+    return made;
   }
 }
 
@@ -74,7 +82,16 @@ export class Clocks {
   }
 }
 
-/** The replicas' names of the text, in the order in which a type breaks ties. All are there from the start. */
+const isName = (it) => typeof it === "string" && NAME.test(it) && !NO_NAMES.includes(it);
+
+function freeNames(taken) {
+  return Array.from({ length: 2 * MOST_REPLICAS }, (_, number) => `r${number}`).filter((it) => !taken.includes(it));
+}
+
+/**
+ * The replicas' names of the text, in the order in which a type breaks ties: those that are there from the start, and
+ * then those that join.
+ */
 export class Replicas {
   #places = new Keys();
 
@@ -86,10 +103,24 @@ export class Replicas {
       const told = inspect(this.given);
       throw new CannotTell(`there are 1 to ${MOST_REPLICAS} replicas with names of their own, and not ${told}`);
     }
-    const isName = (it) => typeof it === "string" && NAME.test(it) && !NO_NAMES.includes(it);
-    const taken = new Set(this.given.filter(isName));
-    const free = Array.from({ length: 2 * MOST_REPLICAS }, (_, number) => `r${number}`).filter((it) => !taken.has(it));
+    const free = freeNames(this.given);
     this.names = this.given.map((it) => (isName(it) ? it : free.shift()));
+    this.firstNames = [...this.names];
+  }
+
+  /** One more replica. */
+  join(replica) {
+    if (this.#places.get(replica) !== undefined) {
+      throw new CannotTell(`there is a replica ${inspect(replica)} already: who joins has a name of its own`);
+    }
+    if (this.given.length === MOST_REPLICAS) {
+      const told = `there are ${MOST_REPLICAS} replicas, and no more can be told`;
+      throw new CannotTell(`${inspect(replica)} cannot join: ${told}`);
+    }
+    const isFree = isName(replica) && !this.names.includes(replica);
+    this.names.push(isFree ? replica : freeNames(this.names)[0]);
+    this.#places.set(replica, this.given.length);
+    this.given.push(replica);
   }
 
   place(replica) {

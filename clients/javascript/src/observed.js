@@ -7,6 +7,11 @@ export class Observed {
     this.#elements = Array.from({ length: replicas }, makeKeys);
   }
 
+  /** One more replica has all that this one has. */
+  join(source) {
+    this.#elements.push(this.#elements[source].copied((had) => new Set(had)));
+  }
+
   /** The identifiers under which the replica has this element. */
   at(place, element) {
     return [...(this.#elements[place].get(element) ?? [])];

@@ -5,6 +5,10 @@ const SET_ELEMENTS = 3;
 const LONGEST_CUT = 25;
 // So often, at each step, a state is merged in which nothing is new.
 const OLD_STATES = 0.1;
+// So often, at each step, a replica joins that is not there yet.
+const JOINS = 0.15;
+// The steps in which a replica gets what another one has.
+export const COPIES = ["merge", "join"];
 
 /** Random numbers by a seed, which may be any text: small, and good enough to choose steps by (mulberry32). */
 class Random {
@@ -91,6 +95,12 @@ export class Reach {
     if (step.method === "remove") this.shown[replica] = this.shown[replica].filter((it) => it !== step.arguments[0]);
   }
 
+  /** The replica, which has nothing, joins with all that the source has. */
+  join(replica, source) {
+    this.#had[replica] = [...this.#had[source]];
+    this.shown[replica] = [...this.shown[source]];
+  }
+
   /** The replica merges the state of the sender. Updates were made in the order of their numbers. */
   merge(replica, sender) {
     const theirs = this.#had[sender];
@@ -100,9 +110,12 @@ export class Reach {
   }
 }
 
-/** The steps of a plan: `{ what, replica, update, method, arguments }`. */
-export function plan(kind, replicas, operations, seed, merges) {
-  return new Planner(kind, replicas, operations, seed, merges).plan();
+/**
+ * The steps of a plan: `{ what, replica, update, method, arguments }`. The `update` of a merge and of a join is the
+ * replica that it comes from. Where replicas `join`, some are there at first, and of the others some join.
+ */
+export function plan(kind, replicas, operations, seed, merges, join = false) {
+  return new Planner(kind, replicas, operations, seed, merges, join).plan();
 }
 
 class Planner {
@@ -110,20 +123,23 @@ class Planner {
   #left;
   #merges;
   #random;
+  #replicas;
   #places;
   #reach;
   #steps = [];
   #updates = 0;
   #cutUntil;
 
-  constructor(kind, replicas, operations, seed, merges) {
+  constructor(kind, replicas, operations, seed, merges, join) {
     this.#kind = kind;
     this.#left = operations;
     this.#merges = merges;
     this.#random = new Random(`${kind} ${replicas} ${operations} ${seed}`);
-    this.#places = Array.from({ length: replicas }, (_, place) => place);
+    this.#replicas = replicas;
+    const first = join ? this.#random.number(1, replicas) : replicas;
+    this.#places = Array.from({ length: first }, (_, place) => place);
     this.#reach = new Reach(kind, replicas);
-    this.#cutUntil = this.#places.map(() => 0);
+    this.#cutUntil = Array(replicas).fill(0);
   }
 
   /** Operations, deliveries and reads; at the end mostly all that is under way, and a read at each replica. */
@@ -134,6 +150,7 @@ class Planner {
       const chance = this.#random.chance();
       if (chance < reads) this.#steps.push({ what: "read", replica: this.#random.choice(this.#places) });
       else if (chance >= reads + deliveries || !this.#arrive()) this.#update();
+      if (this.#places.length < this.#replicas && this.#random.chance() < JOINS) this.#join();
       if (this.#merges && this.#random.chance() < OLD_STATES) this.#mergeAnOldState();
       if (this.#random.chance() < 0.03) {
         this.#cutUntil[this.#random.choice(this.#places)] = this.#steps.length + this.#random.number(5, LONGEST_CUT);
@@ -173,6 +190,13 @@ class Planner {
     const pairs = this.#places.flatMap((replica) => this.#places.map((update) => ({ what: "merge", replica, update })));
     const old = pairs.filter((it) => it.replica !== it.update && !this.#reach.lacks(it.replica, it.update));
     if (old.length > 0) this.#steps.push(this.#random.choice(old));
+  }
+
+  #join() {
+    const update = this.#random.choice(this.#places);
+    const replica = this.#places.push(this.#places.length) - 1;
+    this.#reach.join(replica, update);
+    this.#steps.push({ what: "join", replica, update });
   }
 
   #update() {

@@ -26,7 +26,7 @@ export function findForMany(program) {
   if (realpathSync(found) !== OWN) return found;
   // What it says is passed on, so that a first build says how far it is.
   const ran = spawnSync(found, ["check"], {
-    input: "RAH 1 counter\nreplicas a\n",
+    input: "RAH 2 counter\nreplicas a\n",
     stdio: ["pipe", "ignore", "inherit"],
   });
   if (ran.status !== 0) throw new MonitorGone(`${found} ended with status ${ran.status}, before it read anything`);

@@ -9,7 +9,7 @@ import { shrunk } from "./shrinking.js";
 
 // How long nothing is said, in milliseconds.
 const SILENCE = 2_000;
-const NAMES = "abcdefghijklmnop";
+const LETTERS = "abcdefghijklmnopqrstuvwxyz";
 
 /** Says how far it is where that takes long. */
 class Progress {
@@ -38,26 +38,33 @@ class Progress {
  *
  * An update answers the message that others receive. It has the `stamp` of a write, of an LWW set's update and of an
  * insertion, and the `identifier` or `identifiers` of an OR-Set's update, if the type tells them. A type whose states
- * are merged has `state()` and `merge(state)` for `receive`.
+ * are merged has `state()` and `merge(state)` for `receive`. Where a replica has `fork(name)`, which answers a replica
+ * of this name with all that it has, the last ones join while others run.
  *
  * The first run that is answered no rejects with `NotLinearizable`, one with a report that is refused with `Refused`,
  * and one in which a replica throws with `ReplicaRaised`, after it was made as small as can be. The message has the
  * seed and the small history, which `history` names the file of.
  */
 export async function checkRandom(makeReplica, kind, replicas = 3, operations = 30, seeds = 100, { program } = {}) {
-  const names = typeof replicas === "number" ? [...NAMES.slice(0, replicas)] : [...replicas];
+  const names = typeof replicas === "number" ? namesOf(replicas) : [...replicas];
   const setting = { makeReplica, kind, replicas: names, program: programs.findForMany(program) };
-  const merges = lookAt(setting);
+  const { merges, forks } = lookAt(setting);
   const chosen = typeof seeds === "number" ? Array.from({ length: seeds }, (_, seed) => seed) : seeds;
   const progress = new Progress(`checkRandom ${kind}`);
   let runs = 0;
   for (const seed of chosen) {
-    const failure = await failureOf(setting, plan(kind, names.length, operations, seed, merges));
+    const failure = await failureOf(setting, plan(kind, names.length, operations, seed, merges, forks));
     runs += 1;
     if (failure !== null) throw raised(setting, await small(setting, failure, progress), seed, runs, failure);
     progress.tell(`${runs} runs, all right so far`);
   }
   return runs;
+}
+
+/** So many names, each below the next one. */
+function namesOf(count) {
+  if (count <= LETTERS.length) return [...LETTERS.slice(0, count)];
+  return Array.from({ length: count }, (_, number) => `r${String(number).padStart(2, "0")}`);
 }
 
 async function small(setting, failure, progress) {
@@ -77,8 +84,7 @@ function raised(setting, found, seed, runs, failure) {
   const shown = `${found.text}\n${account.shown(found.replies)}`;
   const ran = `run ${runs}, seed ${seed}, ${made}; the history is ${kept}:\n${shown}`;
   if (found.raised !== undefined) {
-    const last = found.steps.at(-1);
-    const said = `${inspect(setting.replicas[last.replica])}: ${called(last)} threw ${found.raised.fault}`;
+    const said = `${called(setting, found.steps.at(-1))} threw ${found.raised.fault}`;
     return new ReplicaRaised(`${said}\n${ran}`, said, "", kept, { cause: found.raised.fault });
   }
   const reply = found.replies.at(-1);
@@ -88,7 +94,10 @@ function raised(setting, found, seed, runs, failure) {
 }
 
 /** The call of a replica that a step makes. */
-function called(step) {
-  if (step.what === "update") return `${step.method}(${step.arguments.map((it) => inspect(it)).join(", ")})`;
-  return { deliver: `receive(message ${step.update})`, merge: "merge", read: "read()" }[step.what];
+function called(setting, step) {
+  const name = (place) => inspect(setting.replicas[place]);
+  if (step.what === "join") return `${name(step.update)}: fork(${name(step.replica)})`;
+  const given = step.arguments?.map((it) => inspect(it)).join(", ");
+  const calls = { deliver: `receive(message ${step.update})`, merge: "merge", read: "read()" };
+  return `${name(step.replica)}: ${calls[step.what] ?? `${step.method}(${given})`}`;
 }

@@ -66,6 +66,11 @@ export class Recorder {
     return this.#step(replica, act, (place, done) => this.#merge(place, told(messages, done)));
   }
 
+  /** A new replica joins with all that the source has, which the act copies; at one clock it is the latest one. */
+  join(replica, source, { act } = {}) {
+    return this.#step(source, act, (place) => this.#join(replica, place));
+  }
+
   /** The replica's value is read: this one, or the one that this function answers. */
   read(replica, value) {
     const act = typeof value === "function" ? value : () => value;
@@ -259,6 +264,15 @@ export class Recorder {
     return seen.counts.flatMap((count, issuer) =>
       this.#updates[issuer].slice(had[issuer], count).map((label, at) => ({ label, issuer, number: had[issuer] + at })),
     );
+  }
+
+  #join(replica, source) {
+    const line = this.#speller.join(replica, source);
+    const place = this.#had.push([...this.#had[source]]) - 1;
+    for (const had of this.#had) had.push(0);
+    this.#updates.push([]);
+    this.#observed?.join(source);
+    return this.#post(line, `joined ${place}`);
   }
 
   #read(place, value) {

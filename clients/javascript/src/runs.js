@@ -1,7 +1,7 @@
 // Runs of a plan on the user's own replicas, judged by the program.
 import { CannotTell } from "./errors.js";
 import * as operations from "./operations.js";
-import { Reach } from "./plans.js";
+import { COPIES, Reach } from "./plans.js";
 import { checkText } from "./program.js";
 import { Recorder } from "./recorder.js";
 
@@ -19,7 +19,7 @@ class Transcript {
 class Run {
   taken = [];
   #kind;
-  #names = new Map();
+  #names;
   #replicas = new Map();
   #reach;
   #messages = new Map();
@@ -28,13 +28,13 @@ class Run {
 
   constructor(setting, steps) {
     this.#kind = setting.kind;
-    const places = steps.flatMap((it) => (it.what === "merge" ? [it.replica, it.update] : [it.replica]));
-    for (const place of [...new Set(places)].sort((one, other) => one - other)) {
-      this.#names.set(place, setting.replicas[place]);
-      this.#replicas.set(place, setting.makeReplica(setting.replicas[place]));
-    }
+    this.#names = setting.replicas;
+    const names = thereAtFirst(steps).map((place) => {
+      this.#replicas.set(place, setting.makeReplica(this.#names[place]));
+      return this.#names[place];
+    });
     this.#reach = new Reach(setting.kind, setting.replicas.length);
-    this.recorder = new Recorder(setting.kind, [...this.#names.values()], { monitor: this.#transcript });
+    this.recorder = new Recorder(setting.kind, names, { monitor: this.#transcript });
   }
 
   /** Takes those steps that can be taken: others need one that was left out. Ends with an error, which it answers. */
@@ -44,8 +44,10 @@ class Run {
       deliver: (it) => this.#deliver(it),
       merge: (it) => this.#merge(it),
       read: (it) => this.#read(it),
+      join: (it) => this.#join(it),
     };
     for (const step of steps) {
+      if (this.#replicas.has(step.replica) === (step.what === "join")) continue;
       try {
         if (!(await takers[step.what](step))) continue;
       } catch (fault) {
@@ -74,7 +76,7 @@ class Run {
     const message = await this.#replicas.get(step.replica)[step.method](...step.arguments);
     this.#messages.set(step.update, message);
     const operation = operationOf(this.#kind, step, message ?? {});
-    await this.recorder.update(this.#names.get(step.replica), operation, { message: step.update });
+    await this.recorder.update(this.#names[step.replica], operation, { message: step.update });
     this.#reach.update(step);
     return true;
   }
@@ -82,22 +84,50 @@ class Run {
   async #deliver(step) {
     if (!this.#reach.canDeliver(step.replica, step.update)) return false;
     await this.#replicas.get(step.replica).receive(this.#messages.get(step.update));
-    await this.recorder.deliver(this.#names.get(step.replica), step.update);
+    await this.recorder.deliver(this.#names[step.replica], step.update);
     this.#reach.deliver(step.replica, step.update);
     return true;
   }
 
   async #merge(step) {
-    if (step.replica === step.update) return false;
+    if (step.replica === step.update || !this.#replicas.has(step.update)) return false;
     await this.#replicas.get(step.replica).merge(await this.#replicas.get(step.update).state());
-    await this.recorder.merge(this.#names.get(step.replica), this.recorder.seen(this.#names.get(step.update)));
+    await this.recorder.merge(this.#names[step.replica], this.recorder.seen(this.#names[step.update]));
     this.#reach.merge(step.replica, step.update);
     return true;
   }
 
-  async #read(step) {
-    await this.recorder.read(this.#names.get(step.replica), await this.#replicas.get(step.replica).read());
+  async #join(step) {
+    if (!this.#replicas.has(step.update)) return false;
+    const name = this.#names[step.replica];
+    this.#replicas.set(step.replica, await this.#replicas.get(step.update).fork(name));
+    await this.recorder.join(name, this.#names[step.update]);
+    this.#reach.join(step.replica, step.update);
     return true;
+  }
+
+  async #read(step) {
+    await this.recorder.read(this.#names[step.replica], await this.#replicas.get(step.replica).read());
+    return true;
+  }
+}
+
+/** The replicas that are there at first, in their order. The others join, each behind all that are there. */
+function thereAtFirst(steps) {
+  const touched = new Set();
+  let joining = [];
+  for (const step of steps) {
+    const other = COPIES.includes(step.what) ? step.update : step.replica;
+    const isNew = !touched.has(step.replica) && other !== step.replica;
+    if (step.what === "join" && isNew) joining.push(step.replica);
+    touched.add(step.replica).add(other);
+  }
+  for (;;) {
+    const first = [...touched].filter((it) => !joining.includes(it)).sort((one, other) => one - other);
+    let last = first.at(-1) ?? -1;
+    const behind = joining.filter((it) => it > last && (last = it) === it);
+    if (behind.length === joining.length) return first;
+    joining = behind;
   }
 }
 
@@ -118,7 +148,7 @@ export async function failureOf(setting, steps) {
   return { cause, steps: run.taken, recorder, text: run.text(), replies, raised };
 }
 
-/** Does the user's class merge states, rather than receive messages? Throws what it lacks. */
+/** Does the user's class merge states, rather than receive messages, and do its replicas fork? Throws what it lacks. */
 export function lookAt(setting) {
   const words = operations.ofKind(setting.kind);
   const replica = setting.makeReplica(setting.replicas[0]);
@@ -126,7 +156,7 @@ export function lookAt(setting) {
   const merges = !has("receive") && has("merge");
   const wanted = [...words, "read", ...(merges ? ["state", "merge"] : ["receive"])];
   const lacking = wanted.filter((it) => !has(it));
-  if (lacking.length === 0) return merges;
+  if (lacking.length === 0) return { merges, forks: has("fork") };
   const { kind } = setting;
   throw new TypeError(`a replica of the kind ${kind} has the methods ${wanted}, and this one lacks ${lacking}`);
 }

@@ -1,4 +1,5 @@
 // Makes a failed run smaller, as long as it fails in the same way. Each try is a real run.
+import { COPIES } from "./plans.js";
 
 // So many steps are few enough to try each two of them.
 const FEW_STEPS = 16;
@@ -34,7 +35,7 @@ function* withoutAReplica(steps) {
       (it) =>
         it.replica !== replica &&
         !(it.what === "deliver" && own.includes(it.update)) &&
-        !(it.what === "merge" && it.update === replica),
+        !(COPIES.includes(it.what) && it.update === replica),
     );
   }
 }
@@ -46,7 +47,7 @@ function* folded(steps) {
     if (gone === kept) continue;
     const moved = (place) => (place === gone ? kept : place);
     yield steps.map((it) => {
-      const update = it.what === "merge" ? moved(it.update) : it.update;
+      const update = COPIES.includes(it.what) ? moved(it.update) : it.update;
       return { ...it, replica: moved(it.replica), update };
     });
   }

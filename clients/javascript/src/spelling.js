@@ -32,7 +32,7 @@ export class Speller {
 
   /** The two first lines. */
   head() {
-    return `RAH 1 ${this.kind}\nreplicas ${this.replicas.names.join(" ")}\n`;
+    return `RAH 2 ${this.kind}\nreplicas ${this.replicas.firstNames.join(" ")}\n`;
   }
 
   /** The line of an operation at the replica with this number. An OR-Set's has identifiers by number. */
@@ -42,6 +42,12 @@ export class Speller {
       throw new CannotTell(`${operation.word} is no operation of the kind ${this.kind}, which has ${has}`);
     }
     return `${this.replicas.names[place]} ${this.#bodies[operation.word](place, operation)}`;
+  }
+
+  /** The line of a replica that joins from the one with this number. */
+  join(replica, source) {
+    this.replicas.join(replica);
+    return `join ${this.replicas.names.at(-1)} ${this.replicas.names[source]}`;
   }
 
   /** The line of a delivery. */
@@ -105,8 +111,13 @@ export class Speller {
   /** What a line says; `delivered` says what a label is. */
   words(line, delivered) {
     const [name, word, ...fields] = line.split(" ");
+    if (isJoin(line)) return `${this.#nameOf(word)} joins with all that ${this.#nameOf(fields[0])} has`;
     const clock = fields.at(-1)?.startsWith("@") ? ` at clock ${this.#clocks.back(fields.pop().slice(1))}` : "";
-    return `${inspect(this.replicas.back(name))} ${this.#said(word, fields, delivered)}${clock}`;
+    return `${this.#nameOf(name)} ${this.#said(word, fields, delivered)}${clock}`;
+  }
+
+  #nameOf(name) {
+    return inspect(this.replicas.back(name));
   }
 
   #said(word, fields, delivered) {
@@ -133,6 +144,10 @@ export class Speller {
   }
 }
 
+// Does a replica join? Then the line begins with no name.
+const isJoin = (line) => line.startsWith("join ");
+/** Is the line that of an operation, which is a label? */
+export const isOperation = (line) => !isJoin(line) && line.split(" ", 2)[1] !== "got";
 const joined = (list) => list.join(",") || "-";
 const rising = (list) => [...new Set(list)].sort((one, other) => one - other);
 const numbers = (text) => (text === "-" ? [] : text.split(",").map(Number));

@@ -73,7 +73,7 @@ test("the first other reply is kept", async () => {
   for (const [number, read] of [0, 5, 6].entries()) monitor.post(`a read ${read}`, `ok ${number}`);
   await monitor.settle();
   assert.deepEqual(monitor.unexpected, { command: 1, reply: "no 1 query" });
-  assert.equal(monitor.history(2), "RAH 1 counter\nreplicas a\na read 0\na read 5\n");
+  assert.equal(monitor.history(2), "RAH 2 counter\nreplicas a\na read 0\na read 5\n");
   await monitor.close();
 });
 

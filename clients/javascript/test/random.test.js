@@ -3,11 +3,11 @@ import assert from "node:assert/strict";
 import { spawnSync } from "node:child_process";
 import { readFileSync } from "node:fs";
 import { test } from "node:test";
-import { NotLinearizable, Refused, ReplicaRaised, checkRandom } from "../index.js";
+import { CannotTell, NotLinearizable, Refused, ReplicaRaised, checkRandom } from "../index.js";
 import { plan } from "../src/plans.js";
 import { checkText, findForMany } from "../src/program.js";
 import { NEVER_SEEN, SEEN } from "./planted.js";
-import { Counter, RIGHT, Rga } from "./replicas.js";
+import { Counter, LwwSet, RIGHT, Register, Rga, forking } from "./replicas.js";
 
 // How many runs of right replicas: a thousand were tried, and the gate tries fewer.
 const RUNS = Number(process.env.YEHATU_RUNS ?? 60);
@@ -76,6 +76,40 @@ class StandingClock extends Rga {
   }
 }
 
+/** Who joins begins with nothing. */
+class ForksWithNothing extends Counter {
+  fork(name) {
+    return new ForksWithNothing(name);
+  }
+}
+
+/** Who joins has the same state, and not a copy of it. */
+class ForksShareTheirState extends LwwSet {
+  fork(name) {
+    return Object.assign(new ForksShareTheirState(name), { ...this, name });
+  }
+}
+
+/** Who joins counts its clock from 0. */
+class ForksForgetTheClock extends Register {
+  fork(name) {
+    return Object.assign(new ForksForgetTheClock(name), { ...this, name, clock: 0 });
+  }
+}
+
+/** Who joins writes under the name of its source. */
+class ForksKeepTheName extends Register {
+  fork() {
+    return Object.assign(new ForksKeepTheName(), this);
+  }
+}
+
+class ForksThrow extends Counter {
+  fork(name) {
+    throw new RangeError(name);
+  }
+}
+
 function isSmallAndFailsAgain(failed) {
   assert.ok(failed instanceof NotLinearizable, failed);
   const text = readFileSync(failed.history, "utf8");
@@ -103,6 +137,57 @@ test("a seed makes one plan", () => {
   const [one, same, other] = [5, 5, 6].map((seed) => plan("rga", 3, 30, seed, false));
   assert.deepEqual(one, same);
   assert.notDeepEqual(one, other);
+});
+
+for (const [kind, Replica] of Object.entries(RIGHT)) {
+  test(`all runs of a right ${kind} whose replicas join are right`, async () => {
+    assert.equal(await checkRandom(made(forking(Replica)), kind, 4, 30, RUNS), RUNS);
+  });
+}
+
+test("states that are merged, and replicas that join", async () => {
+  assert.equal(await checkRandom(made(forking(MergedCounter)), "counter", 4, 30, RUNS), RUNS);
+});
+
+test("many replicas", async () => {
+  assert.equal(await checkRandom(made(forking(Rga)), "rga", 64, 40, 3), 3);
+  assert.equal(await checkRandom(made(Rga), "rga", 20, 40, 3), 3);
+});
+
+test("some replicas are there at first, and others join", () => {
+  const joins = Array.from({ length: 20 }, (_, seed) =>
+    plan("rga", 4, 30, seed, false, true).filter((it) => it.what === "join"),
+  );
+  assert.ok(joins.flat().every((it) => it.update < it.replica));
+  const counts = joins.map((it) => it.length);
+  assert.deepEqual([Math.min(...counts), Math.max(...counts)], [0, 3]);
+});
+
+const FORKS = { counter: ForksWithNothing, lwwset: ForksShareTheirState, register: ForksForgetTheClock };
+for (const [kind, Bug] of Object.entries(FORKS)) {
+  test(`of replicas that join: ${Bug.name}`, async () => {
+    const failed = await checkRandom(made(Bug), kind, 3, 30, FOUND_WITHIN).catch((fault) => fault);
+    isSmallAndFailsAgain(failed);
+    assert.match(failed.message, /joins with all that/);
+  });
+}
+
+test("a bug that has nothing to do with joins is shrunk to none", async () => {
+  const Bug = forking(SEEN["children stand in rising order"].rga);
+  const failed = await checkRandom(made(Bug), "rga", 3, 30, FOUND_WITHIN).catch((fault) => fault);
+  isSmallAndFailsAgain(failed);
+  assert.doesNotMatch(failed.message, /joins with all that/);
+});
+
+test("a copy has a name of its own", async () => {
+  const wanted = (fault) => fault instanceof CannotTell && /of another replica than/.test(fault.message);
+  await assert.rejects(checkRandom(made(ForksKeepTheName), "register"), wanted);
+});
+
+test("a copy that throws is told", async () => {
+  const failed = await checkRandom(made(ForksThrow), "counter").catch((fault) => fault);
+  assert.ok(failed instanceof ReplicaRaised);
+  assert.match(failed.operation, /^'a': fork\('([bc])'\) threw RangeError: \1$/);
 });
 
 for (const [bug, kinds] of Object.entries(SEEN)) {

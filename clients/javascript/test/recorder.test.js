@@ -165,8 +165,91 @@ test("what has no words cannot be told", async () => {
   const other = new Recorder("counter", ["a"]);
   await assert.rejects(other.write("a", 5, 1), cannot(/write is no operation of the kind counter/));
   await other.stop();
-  assert.throws(() => new Recorder("counter", []), cannot(/1 to 16 replicas/));
+  assert.throws(() => new Recorder("counter", []), cannot(/1 to 64 replicas/));
   assert.throws(() => new Recorder("map", ["a"]), cannot(/no kind map/));
+});
+
+test("who joins has what its source had", async () => {
+  const recorder = new Recorder("counter", ["Ann", "bob"]);
+  await recorder.increment("Ann", { message: 1 });
+  await recorder.deliver("bob", 1);
+  await recorder.increment("Ann", { message: 2 });
+  const early = recorder.seen("bob");
+  assert.equal(await recorder.join("Carol", "bob", { act: async () => "a copy" }), "a copy");
+  await recorder.read("Carol", 1);
+  await recorder.deliver("Carol", 1);
+  await recorder.merge("Carol", early);
+  await recorder.increment("Carol", { message: 3 });
+  await recorder.merge("Ann", recorder.seen("Carol"));
+  await recorder.join(["a", "pair"], "Ann");
+  await recorder.deliver(["a", "pair"], 2);
+  await recorder.read(["a", "pair"], 3);
+  await recorder.deliver("Carol", 2);
+  await recorder.read("Carol", 3);
+  await recorder.join("dave", "Ann");
+  await recorder.join("r1", "dave");
+  assert.equal((await recorder.close()).verdict, "yes");
+  const first = ["r0 inc", "bob got 0", "r0 inc", "join r1 bob", "r1 read 1", "r1 inc", "r0 got 3"];
+  const then = ["join r2 r0", "r2 read 3", "r1 got 1", "r1 read 3", "join dave r0", "join r3 dave"];
+  assert.deepEqual(commands(recorder), [...first, ...then]);
+  assert.match(recorder.history(), /^RAH 2 counter\nreplicas r0 bob\n/);
+});
+
+test("who joins has the identifiers that its source had", async () => {
+  const recorder = new Recorder("orset", ["a"]);
+  await recorder.add("a", ["milk"]);
+  await recorder.join("b", "a");
+  await recorder.add("a", ["milk"], { message: 2 });
+  await recorder.remove("b", ["milk"], { message: 3 });
+  await recorder.deliver("a", 3);
+  await recorder.read("a", [["milk"]]);
+  await recorder.deliver("b", 2);
+  await recorder.read("b", [["milk"]]);
+  assert.equal((await recorder.close()).verdict, "yes");
+  assert.ok(commands(recorder).includes("b remove 1 #1"));
+});
+
+test("at one clock who joined is the latest", async () => {
+  const recorder = new Recorder("register", ["z"]);
+  await recorder.join("a", "z");
+  await recorder.write("a", 1, [1, "a"], { message: 1 });
+  await recorder.write("z", 2, [1, "z"]);
+  await recorder.deliver("z", 1);
+  await recorder.read("z", 1);
+  assert.equal((await recorder.close()).verdict, "yes");
+});
+
+test("as many replicas as there can be, and no more", async () => {
+  const numbers = Array.from({ length: 65 }, (_, number) => number);
+  const recorder = new Recorder("counter", numbers.slice(0, 63));
+  await recorder.increment(0);
+  await recorder.join(63, 0);
+  await recorder.read(63, 1);
+  await recorder.read(62, 0);
+  await recorder.settle();
+  await assert.rejects(recorder.join(64, 0), cannot(/64 cannot join: there are 64 replicas/));
+  await recorder.stop();
+  assert.throws(() => new Recorder("counter", numbers), cannot(/1 to 64 replicas/));
+});
+
+for (const [replica, source, said] of [["a", "b", /a replica 'a' already/], ["c", "d", /no replica 'd'/]]) {
+  test(`${replica} cannot join from ${source}`, async () => {
+    const recorder = new Recorder("counter", ["a", "b"]);
+    await assert.rejects(recorder.join(replica, source), cannot(said));
+    await recorder.stop();
+  });
+}
+
+test("a no after a join is told in the user's words", async () => {
+  const recorder = new Recorder("counter", ["Ann", "Bob"], { window: 1 });
+  await recorder.join("Carol", "Bob");
+  await recorder.increment("Ann", { message: "up" });
+  await recorder.deliver("Bob", "up");
+  const failed = await recorder.read("Carol", 1).catch((fault) => fault);
+  assert.ok(failed instanceof NotLinearizable);
+  assert.match(failed.message, /join r2 r1 +'Carol' joins with all that 'Bob' has\n/);
+  assert.ok(failed.message.includes("'Bob' gets message 'up', label 0 ('Ann' increments)"));
+  await recorder.stop();
 });
 
 for (const window of [1, 2, 4096]) {

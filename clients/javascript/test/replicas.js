@@ -183,4 +183,13 @@ export class Rga extends Clocked {
   }
 }
 
+/** The same, with replicas that join: each is a copy, under a name of its own. */
+export function forking(Right) {
+  return class Forking extends Right {
+    async fork(name) {
+      return Object.assign(new Forking(name), structuredClone({ ...this }), { name });
+    }
+  };
+}
+
 export const RIGHT = { counter: Counter, register: Register, lwwset: LwwSet, orset: OrSet, rga: Rga };

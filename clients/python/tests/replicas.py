@@ -2,6 +2,7 @@
 
 An update answers the message that other replicas receive: a dictionary with what the monitor asks for.
 """
+import copy
 from typing import Any, Callable, Dict, List, Tuple
 
 Message = Dict[str, Any]
@@ -189,6 +190,18 @@ class Rga(Clocked):
             shown.append(node.element)
         for child in node.children:
             self.walk(child, shown)
+
+
+def forking(right: Callable[[str], Any]) -> Any:
+    """The same, with replicas that join: each is a copy, under a name of its own."""
+
+    class Forking(right):  # type: ignore[misc, valid-type]
+        def fork(self, name: str) -> Any:
+            made = copy.deepcopy(self)
+            made.name = name
+            return made
+
+    return Forking
 
 
 RIGHT: Dict[str, Callable[[str], Any]] = {

@@ -58,7 +58,7 @@ class Replies(unittest.TestCase):
             monitor.post(f"a read {read}", f"ok {number}")
         monitor.settle()
         self.assertEqual(monitor.unexpected, (1, "no 1 query"))
-        self.assertEqual(monitor.history(2), "RAH 1 counter\nreplicas a\na read 0\na read 5\n")
+        self.assertEqual(monitor.history(2), "RAH 2 counter\nreplicas a\na read 0\na read 5\n")
         monitor.close()
 
     def test_what_waits_for_company_is_written_all_the_same(self) -> None:

@@ -1,5 +1,6 @@
 """Random runs: right replicas pass, and each planted bug is found and shrunk."""
 import contextlib
+import copy
 import io
 import os
 import unittest
@@ -7,7 +8,7 @@ from typing import Any, Dict, Iterator, Tuple
 from unittest import mock
 
 import planted
-from replicas import RIGHT, Counter, Message, Rga
+from replicas import RIGHT, Counter, LwwSet, Message, Register, Rga, forking
 from yehatu import CannotTell, NotLinearizable, Refused, ReplicaRaised, check_random, program, random_runs
 from yehatu.plans import Planner
 
@@ -58,6 +59,46 @@ class ForgetfulCounter(MergedCounter):
         super().merge(state)
 
 
+class ForksWithNothing(Counter):
+    """Who joins begins with nothing."""
+
+    def fork(self, name: str) -> Counter:
+        return type(self)(name)
+
+
+class ForksShareTheirState(LwwSet):
+    """Who joins has the same state, and not a copy of it."""
+
+    def fork(self, name: str) -> LwwSet:
+        made = copy.copy(self)
+        made.name = name
+        return made
+
+
+class ForksForgetTheClock(Register):
+    """Who joins counts its clock from 0."""
+
+    def fork(self, name: str) -> Register:
+        made = copy.copy(self)
+        made.name, made.clock = name, 0
+        return made
+
+
+class ForksKeepTheName(Register):
+    """Who joins writes under the name of its source."""
+
+    def fork(self, name: str) -> Register:
+        return copy.copy(self)
+
+
+class ForksRaise(Counter):
+    def fork(self, name: str) -> Counter:
+        raise KeyError(name)
+
+
+FORKING = (ForksWithNothing, "counter"), (ForksShareTheirState, "lwwset"), (ForksForgetTheClock, "register")
+
+
 class RaisingRga(Rga):
     """A third element behind one is too much."""
 
@@ -98,37 +139,82 @@ class RightReplicas(unittest.TestCase):
         self.assertNotEqual(plans[1], plans[2])
 
 
+class ReplicasThatJoin(unittest.TestCase):
+    def test_all_runs_of_each_kind_are_right(self) -> None:
+        for kind, make in RIGHT.items():
+            with self.subTest(kind=kind):
+                self.assertEqual(check_random(forking(make), kind, 4, seeds=RUNS), RUNS)
+
+    def test_states_that_are_merged(self) -> None:
+        self.assertEqual(check_random(forking(MergedCounter), "counter", 4, seeds=RUNS), RUNS)
+
+    def test_many_replicas(self) -> None:
+        self.assertEqual(check_random(forking(Rga), "rga", 64, 40, 3), 3)
+        self.assertEqual(check_random(Rga, "rga", 20, 40, 3), 3)
+
+    def test_some_are_there_at_first_and_others_join(self) -> None:
+        joins = []
+        for seed in range(20):
+            plan = Planner("rga", 4, 30, seed, False, True).plan()
+            joins.append(sum(it.what == "join" for it in plan))
+            self.assertTrue(all(it.update < it.replica for it in plan if it.what == "join"))
+        self.assertEqual((min(joins), max(joins)), (0, 3))
+
+    def test_bugs_of_a_copy_are_found_and_shrunk(self) -> None:
+        for make, kind in FORKING:
+            with self.subTest(kind=kind):
+                with self.assertRaisesRegex(NotLinearizable, "joins with all that") as caught:
+                    check_random(make, kind, seeds=FOUND_WITHIN)
+                is_small_and_fails_again(self, caught.exception)
+
+    def test_bugs_that_have_nothing_to_do_with_joins_are_shrunk_to_none(self) -> None:
+        with self.assertRaises(NotLinearizable) as caught:
+            check_random(forking(planted.SEEN["children stand in rising order"]["rga"]), "rga", seeds=FOUND_WITHIN)
+        is_small_and_fails_again(self, caught.exception)
+        self.assertNotIn("joins with all that", str(caught.exception))
+
+    def test_a_copy_has_a_name_of_its_own(self) -> None:
+        with self.assertRaisesRegex(CannotTell, "of another replica than"):
+            check_random(ForksKeepTheName, "register")
+
+    def test_a_copy_that_raises_is_told(self) -> None:
+        with self.assertRaises(ReplicaRaised) as caught:
+            check_random(ForksRaise, "counter")
+        self.assertRegex(caught.exception.operation, r"^'a': fork\('([bc])'\) raised KeyError\('\1'\)$")
+
+
+def is_small_and_fails_again(test: unittest.TestCase, failed: NotLinearizable) -> None:
+    with open(failed.history or "") as file:
+        text = file.read()
+    test.assertLessEqual(len(text.splitlines()) - 2, LONGEST_HISTORY)
+    test.assertIn(text, str(failed))
+    test.assertIn("seed ", str(failed))
+    test.assertEqual(program.check_text(program.find_for_many(), text.encode()).status, 1)
+
+
 class PlantedBugs(unittest.TestCase):
     def test_each_bug_that_shows_is_found_and_shrunk(self) -> None:
         for bug, kind, make in cases(planted.SEEN):
             with self.subTest(bug=bug, kind=kind):
                 with self.assertRaises(NotLinearizable) as caught:
                     check_random(make, kind, seeds=FOUND_WITHIN)
-                self.is_small_and_fails_again(caught.exception)
+                is_small_and_fails_again(self, caught.exception)
 
     def test_a_merge_that_counts_twice(self) -> None:
         with self.assertRaises(NotLinearizable) as caught:
             check_random(SummingCounter, "counter", seeds=FOUND_WITHIN)
-        self.is_small_and_fails_again(caught.exception)
+        is_small_and_fails_again(self, caught.exception)
 
     def test_an_old_state_that_overwrites(self) -> None:
         with self.assertRaises(NotLinearizable) as caught:
             check_random(ForgetfulCounter, "counter", seeds=FOUND_WITHIN)
-        self.is_small_and_fails_again(caught.exception)
+        is_small_and_fails_again(self, caught.exception)
         self.assertIn("merges the state of", str(caught.exception))
 
     def test_other_bugs_change_no_answer(self) -> None:
         for bug, kind, make in cases(planted.NEVER_SEEN):
             with self.subTest(bug=bug, kind=kind):
                 self.assertEqual(check_random(make, kind, seeds=RUNS // 2), RUNS // 2)
-
-    def is_small_and_fails_again(self, failed: NotLinearizable) -> None:
-        with open(failed.history or "") as file:
-            text = file.read()
-        self.assertLessEqual(len(text.splitlines()) - 2, LONGEST_HISTORY)
-        self.assertIn(text, str(failed))
-        self.assertIn("seed ", str(failed))
-        self.assertEqual(program.check_text(program.find_for_many(), text.encode()).status, 1)
 
 
 class OtherFailures(unittest.TestCase):

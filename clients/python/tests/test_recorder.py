@@ -23,7 +23,7 @@ class Names(unittest.TestCase):
             recorder.read(7, "milk")
             recorder.read(("a", "pair"), None)
         self.assertEqual(recorder.history(), (
-            "RAH 1 register\nreplicas r0 r1 r2\nr0 write 1 @1\nr1 got 0\nr1 read 1\nr2 read none\n"
+            "RAH 2 register\nreplicas r0 r1 r2\nr0 write 1 @1\nr1 got 0\nr1 read 1\nr2 read none\n"
         ))
 
     def test_good_names_stay(self) -> None:
@@ -185,6 +185,88 @@ class Steps(unittest.TestCase):
                 thread.join()
         self.assertEqual(recorder.close().verdict, "yes")
         self.assertEqual(recorder.close().refused, 0)
+
+
+class Joins(unittest.TestCase):
+    def test_who_joins_has_what_its_source_had(self) -> None:
+        with Recorder("counter", ["Ann", "bob"]) as recorder:
+            recorder.increment("Ann", message=1)
+            recorder.deliver("bob", 1)
+            recorder.increment("Ann", message=2)
+            early = recorder.seen("bob")
+            self.assertEqual(recorder.join("Carol", "bob", act=lambda: "a copy"), "a copy")
+            recorder.read("Carol", 1)
+            recorder.deliver("Carol", 1)
+            recorder.merge("Carol", early)
+            recorder.increment("Carol", message=3)
+            recorder.merge("Ann", recorder.seen("Carol"))
+            recorder.join(("a", "pair"), "Ann")
+            recorder.deliver(("a", "pair"), 2)
+            recorder.read(("a", "pair"), 3)
+            recorder.deliver("Carol", 2)
+            recorder.read("Carol", 3)
+        self.assertEqual(recorder.history(), (
+            "RAH 2 counter\nreplicas r0 bob\nr0 inc\nbob got 0\nr0 inc\njoin r1 bob\nr1 read 1\nr1 inc\nr0 got 3\n"
+            "join r2 r0\nr2 read 3\nr1 got 1\nr1 read 3\n"
+        ))
+
+    def test_a_good_name_stays_where_it_is_free(self) -> None:
+        with Recorder("counter", ["Ann"]) as recorder:
+            recorder.join("carol", "Ann")
+            recorder.join("r0", "carol")
+        self.assertEqual(lines(recorder), "join carol r0\njoin r1 carol\n")
+
+    def test_identifiers_that_the_type_does_not_tell(self) -> None:
+        with Recorder("orset", ["a"]) as recorder:
+            recorder.add("a", "milk")
+            recorder.join("b", "a")
+            recorder.add("a", "milk", message=2)
+            recorder.remove("b", "milk", message=3)
+            recorder.deliver("a", 3)
+            recorder.read("a", ["milk"])
+            recorder.deliver("b", 2)
+            recorder.read("b", ["milk"])
+        self.assertIn("b remove 1 #1\n", recorder.history())
+
+    def test_at_one_clock_who_joined_is_the_latest(self) -> None:
+        with Recorder("register", ["z"]) as recorder:
+            recorder.join("a", "z")
+            recorder.write("a", 1, (1, "a"), message=1)
+            recorder.write("z", 2, (1, "z"))
+            recorder.deliver("z", 1)
+            recorder.read("z", 1)
+
+    def test_as_many_as_there_can_be(self) -> None:
+        with Recorder("counter", range(63)) as recorder:
+            recorder.increment(0, message=1)
+            recorder.join(63, 0)
+            recorder.read(63, 1)
+            recorder.read(62, 0)
+        with self.assertRaisesRegex(CannotTell, "1 to 64 replicas"):
+            Recorder("counter", range(65))
+        recorder = Recorder("counter", range(64))
+        with self.assertRaisesRegex(CannotTell, "64 cannot join: there are 64 replicas"):
+            recorder.join(64, 0)
+        recorder.stop()
+
+    def test_what_cannot_join(self) -> None:
+        for new, source, said in [("a", "b", "a replica 'a' already"), ("c", "d", "no replica 'd'")]:
+            recorder = Recorder("counter", ["a", "b"])
+            with self.subTest(said=said), self.assertRaisesRegex(CannotTell, said):
+                recorder.join(new, source)
+            recorder.stop()
+
+    def test_a_no_after_a_join_is_told_in_the_users_words(self) -> None:
+        recorder = Recorder("counter", ["Ann", "Bob"], window=1)
+        recorder.join("Carol", "Bob")
+        recorder.increment("Ann", message="up")
+        recorder.deliver("Bob", "up")
+        with self.assertRaises(NotLinearizable) as caught:
+            recorder.read("Carol", 1)
+        self.assertEqual(caught.exception.operation, "'Carol' reads 1")
+        self.assertRegex(str(caught.exception), r"join r2 r1 +'Carol' joins with all that 'Bob' has\n")
+        self.assertIn("'Bob' gets message 'up', label 0 ('Ann' increments)", str(caught.exception))
+        recorder.stop()
 
 
 class Failures(unittest.TestCase):

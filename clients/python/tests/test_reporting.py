@@ -78,6 +78,18 @@ class Reporting(unittest.TestCase):
             recorder.merge("bob", [1, 3])
             recorder.read("bob", 3)
 
+    def test_a_participant_that_comes_later_joins(self) -> None:
+        with Recorder("rga", ["ann", "bob"]) as recorder:
+            recorder.insert_after("ann", None, "a", 1, message=1)
+            recorder.join("carol", "ann")
+            recorder.insert_after("ann", "a", "b", 2, message=2)
+            recorder.read("carol", ["a"])
+            recorder.insert_after("carol", "a", "c", 2, message=3)
+            recorder.deliver("carol", 2)
+            recorder.read("carol", ["a", "c", "b"])
+            recorder.merge("bob", [1, 2, 3])
+            recorder.read("bob", ["a", "c", "b"])
+
     def test_a_monitor_that_starts_late_is_told_what_is_there(self) -> None:
         with Recorder("counter", ["ann", "bob"]) as recorder:
             for number in range(3):

@@ -4,7 +4,7 @@ import tempfile
 from typing import Dict, Hashable, List, Optional, Sequence
 
 from .errors import MonitorGone, NotLinearizable, Refused
-from .spelling import Speller
+from .spelling import Speller, is_operation
 
 # How many of a history's last lines a message shows.
 SHOWN_LINES = 16
@@ -38,8 +38,7 @@ class Account:
         self._keys = keys
         self._notes = notes
         self.commands = text.splitlines()[HEAD_LINES:]
-        operations = (it for it in self.commands if it.split(" ", 2)[1] != "got")
-        self._line_of = dict(enumerate(operations))
+        self._line_of = dict(enumerate(filter(is_operation, self.commands)))
 
     def words(self, command: int) -> str:
         """What the command with this number says."""

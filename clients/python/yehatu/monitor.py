@@ -52,8 +52,8 @@ class _Waiter:
 class Monitor:
     """A run of the program on one history. Its calls may come from many threads, and are taken one after another.
 
-    `names` are the replicas' names of the text: a letter a to z, then up to 15 letters a to z or digits. At most
-    `window` commands are in flight, that is, have no reply yet; with a window of 1 each call waits for its reply.
+    `names` are those of the replicas that are there at first: a letter a to z, then up to 15 letters a to z or digits.
+    At most `window` commands are in flight, that is, have no reply yet; with a window of 1 each call waits for its own.
     """
 
     def __init__(
@@ -75,7 +75,7 @@ class Monitor:
         self._report: Optional[Report] = None
         self._closing = self._ended = False
         self._start()
-        self._lines.append(f"RAH 1 {kind}\nreplicas {' '.join(names)}\n")
+        self._lines.append(f"RAH 2 {kind}\nreplicas {' '.join(names)}\n")
 
     def post(self, line: str, expected: str) -> None:
         """Reports a command, and does not wait for its reply. If that differs, it is `unexpected`."""

@@ -1,5 +1,5 @@
 """Numbers of the text for what the user names, and back."""
-from typing import Any, Dict, Hashable, List, Optional, Sequence
+from typing import Any, Dict, Hashable, Iterator, List, Optional, Sequence, Set
 
 from .errors import CannotTell
 
@@ -7,7 +7,7 @@ from .errors import CannotTell
 GREATEST = 4_294_967_295
 # A first clock above that is counted as this one, so that clocks a little before it can still be told.
 FIRST_GREAT_CLOCK = 1 << 28
-MOST_REPLICAS = 16
+MOST_REPLICAS = 64
 LONGEST_NAME = 16
 NO_NAMES = ("verdict", "join")
 LETTERS, DIGITS = "abcdefghijklmnopqrstuvwxyz", "0123456789"
@@ -68,16 +68,29 @@ class Clocks:
 
 
 class Replicas:
-    """The replicas' names of the text, in the order in which a type breaks ties. All are there from the start."""
+    """The replicas' names of the text, in the order in which a type breaks ties: those that are there from the start,
+    and then those that join."""
 
     def __init__(self, replicas: Sequence[Hashable]) -> None:
         self.given = list(replicas)
         if not 1 <= len(self.given) <= MOST_REPLICAS or len(set(self.given)) != len(self.given):
             raise CannotTell(f"there are 1 to {MOST_REPLICAS} replicas with names of their own, and not {self.given!r}")
         taken = {it for it in self.given if _is_name(it)}
-        free = (it for it in (f"r{number}" for number in range(2 * MOST_REPLICAS)) if it not in taken)
+        free = _free_names(taken)
         self.names = [str(it) if it in taken else next(free) for it in self.given]
+        self.first_names = tuple(self.names)
         self._places = {it: place for place, it in enumerate(self.given)}
+
+    def join(self, replica: Hashable) -> None:
+        """One more replica."""
+        if replica in self._places:
+            raise CannotTell(f"there is a replica {replica!r} already: who joins has a name of its own")
+        if len(self.given) == MOST_REPLICAS:
+            raise CannotTell(f"{replica!r} cannot join: there are {MOST_REPLICAS} replicas, and no more can be told")
+        is_free = _is_name(replica) and replica not in self.names
+        self.names.append(str(replica) if is_free else next(_free_names(set(self.names))))
+        self._places[replica] = len(self.given)
+        self.given.append(replica)
 
     def place(self, replica: Hashable) -> int:
         """The replica's number."""
@@ -89,6 +102,10 @@ class Replicas:
     def back(self, name: str) -> Hashable:
         """The replica of this name."""
         return self.given[self.names.index(name)]
+
+
+def _free_names(taken: Set[Hashable]) -> Iterator[str]:
+    return (it for it in (f"r{number}" for number in range(2 * MOST_REPLICAS)) if it not in taken)
 
 
 def _is_name(given: Hashable) -> bool:

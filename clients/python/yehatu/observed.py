@@ -14,6 +14,10 @@ class Observed:
         self._elements: List[Dict[object, Set[int]]] = [{} for _ in range(replicas)]
         self._effects: Dict[int, Effect] = {}
 
+    def join(self, source: int) -> None:
+        """One more replica has all that this one has."""
+        self._elements.append({element: set(had) for element, had in self._elements[source].items()})
+
     def at(self, place: int, element: object) -> Tuple[int, ...]:
         """The identifiers under which the replica has this element."""
         return tuple(sorted(self._elements[place].get(element, ())))

@@ -7,16 +7,21 @@ SET_ELEMENTS = 3
 LONGEST_CUT = 25
 # So often, at each step, a state is merged in which nothing is new.
 OLD_STATES = 0.1
+# So often, at each step, a replica joins that is not there yet.
+JOINS = 0.15
+# The steps in which a replica gets what another one has.
+COPIES = ("merge", "join")
 
 
 class Step(NamedTuple):
     """One step of a plan. An update has a number of its own, by which deliveries name it."""
 
     what: str
-    """`update`, `deliver`, `merge` or `read`."""
+    """`update`, `deliver`, `merge`, `read` or `join`."""
     replica: int
     update: int = 0
-    """Of an update its number, of a delivery that of the update that arrives, of a merge the replica it comes from."""
+    """Of an update its number, of a delivery that of the update that arrives; of a merge and of a join the replica that
+    it comes from."""
     method: str = ""
     arguments: Tuple[Any, ...] = ()
 
@@ -76,6 +81,11 @@ class Reach:
         elif step.method == "remove" and step.arguments[0] in self.shown[replica]:
             self.shown[replica].remove(step.arguments[0])
 
+    def join(self, replica: int, source: int) -> None:
+        """The replica, which has nothing, joins with all that the source has."""
+        self._had[replica] = list(self._had[source])
+        self.shown[replica] = list(self.shown[source])
+
     def merge(self, replica: int, sender: int) -> None:
         """The replica merges the state of the sender. Updates were made in the order of their numbers."""
         had, theirs = self._had[replica], self._had[sender]
@@ -85,13 +95,16 @@ class Reach:
 
 
 class Planner:
-    """Makes one plan."""
+    """Makes one plan. Where replicas `join`, some are there at first, and of the others some join."""
 
-    def __init__(self, kind: str, replicas: int, operations: int, seed: int, merges: bool) -> None:
+    def __init__(
+        self, kind: str, replicas: int, operations: int, seed: int, merges: bool, join: bool = False
+    ) -> None:
         self._kind, self._left, self._merges = kind, operations, merges
         # A text as a seed, so that plans of neighbouring seeds have nothing in common.
         self._random = random.Random(f"{kind} {replicas} {operations} {seed}")
-        self._places = range(replicas)
+        self._replicas = replicas
+        self._places = range(self._random.randint(1, replicas) if join else replicas)
         self._reach = Reach(kind, replicas)
         self._steps: List[Step] = []
         self._updates = 0
@@ -106,6 +119,8 @@ class Planner:
                 self._add(Step("read", self._random.choice(self._places)))
             elif chance >= reads + deliveries or not self._arrive():
                 self._update()
+            if len(self._places) < self._replicas and self._random.random() < JOINS:
+                self._join()
             if self._merges and self._random.random() < OLD_STATES:
                 self._merge_an_old_state()
             if self._random.random() < 0.03:
@@ -150,6 +165,12 @@ class Planner:
         old = [pair for pair in pairs if not self._reach.lacks(*pair)]
         if old:
             self._add(Step("merge", *self._random.choice(old)))
+
+    def _join(self) -> None:
+        joining, source = len(self._places), self._random.choice(self._places)
+        self._places = range(joining + 1)
+        self._reach.join(joining, source)
+        self._add(Step("join", joining, source))
 
     def _update(self) -> None:
         self._left -= 1

@@ -38,7 +38,7 @@ def find_for_many(program: Program = None) -> str:
     if Path(found).resolve() != REPOSITORY / "ra_monitor":
         return found
     # Not captured, so that a first build says how far it is.
-    ran = subprocess.run([found, "check"], input=b"RAH 1 counter\nreplicas a\n", stdout=subprocess.DEVNULL)
+    ran = subprocess.run([found, "check"], input=b"RAH 2 counter\nreplicas a\n", stdout=subprocess.DEVNULL)
     if ran.returncode != 0:
         raise MonitorGone(f"{found} ended with status {ran.returncode}, before it read anything")
     return str(BUILT)

@@ -13,7 +13,7 @@ from .shrinking import shrunk
 
 # How long nothing is said, in seconds.
 SILENCE = 2.0
-NAMES = "abcdefghijklmnop"
+LETTERS = "abcdefghijklmnopqrstuvwxyz"
 
 
 class _Progress:
@@ -47,26 +47,32 @@ def check_random(
 
     An update answers the message that others receive. As its attributes or keys it has the `stamp` of a write, of an
     LWW set's update and of an insertion, and the `identifier` or `identifiers` of an OR-Set's update, if the type tells
-    them. A type whose states are merged has `state()` and `merge(state)` for `receive`.
+    them. A type whose states are merged has `state()` and `merge(state)` for `receive`. Where a replica has
+    `fork(name)`, which answers a replica of this name with all that it has, the last ones join while others run.
 
     The first run that is answered no raises `NotLinearizable`, one with a report that is refused `Refused`, and one in
     which a replica raises an exception `ReplicaRaised`, after it was made as small as can be. The message has the seed
     and the small history, which `history` names the file of.
     """
-    names: List[Hashable] = list(NAMES[:replicas]) if isinstance(replicas, int) else list(replicas)
+    names: List[Hashable] = _names(replicas) if isinstance(replicas, int) else list(replicas)
     setting = Setting(make_replica, kind, names, programs.find_for_many(program))
-    merges = look_at(setting)
+    ways = look_at(setting)
     chosen = range(seeds) if isinstance(seeds, int) else seeds
     progress = _Progress(f"check_random {kind}")
     runs = 0
     for seed in chosen:
-        steps = Planner(kind, len(names), operations, seed, merges).plan()
+        steps = Planner(kind, len(names), operations, seed, *ways).plan()
         failure = failure_of(setting, steps)
         runs += 1
         if failure is not None:
             raise _raised(setting, _shrunk(setting, failure, progress), seed, runs, failure)
         progress.tell(f"{runs} runs, all right so far")
     return runs
+
+
+def _names(count: int) -> List[Hashable]:
+    """So many names, each below the next one."""
+    return list(LETTERS[:count]) if count <= len(LETTERS) else [f"r{number:02}" for number in range(count)]
 
 
 def _shrunk(setting: Setting, failure: Failure, progress: _Progress) -> Failure:
@@ -90,8 +96,7 @@ def _raised(setting: Setting, small: Failure, seed: int, runs: int, failure: Fai
     made = f"{len(failure.steps)} steps made {len(small.steps)}"
     ran = f"run {runs}, seed {seed}, {made}; the history is {kept}:\n{shown}"
     if small.raised is not None:
-        last = small.steps[-1]
-        what = f"{setting.replicas[last.replica]!r}: {_called(last)} raised {small.raised!r}"
+        what = f"{_called(setting, small.steps[-1])} raised {small.raised!r}"
         error: ReportFailed = ReplicaRaised(f"{what}\n{ran}", what, "", kept)
         error.__cause__ = small.raised
         return error
@@ -101,8 +106,10 @@ def _raised(setting: Setting, small: Failure, seed: int, runs: int, failure: Fai
     return failed(f"{operation}: {meaning(reply, account.commands[-1])}\n{ran}", operation, reply, kept)
 
 
-def _called(step: Step) -> str:
+def _called(setting: Setting, step: Step) -> str:
     """The call of a replica that a step makes."""
-    arguments = ", ".join(repr(it) for it in step.arguments)
+    name, arguments = setting.replicas[step.replica], ", ".join(repr(it) for it in step.arguments)
+    if step.what == "join":
+        return f"{setting.replicas[step.update]!r}: fork({name!r})"
     calls = {"update": f"{step.method}({arguments})", "deliver": f"receive(message {step.update})", "read": "read()"}
-    return calls.get(step.what, step.what)
+    return f"{name!r}: {calls.get(step.what, step.what)}"

@@ -91,6 +91,13 @@ class Recorder:
         """The replica merges what has these messages in it, or what another replica had `seen`."""
         return self._step(replica, act, self._merge, messages)
 
+    def join(self, replica: Hashable, source: Hashable, *, act: Act = None) -> Any:
+        """A new replica joins with all that the source has, which the act copies; at one clock it is the latest one."""
+        def report(place: int) -> None:
+            self._join(replica, place)
+
+        return self._step(source, act, report)
+
     def read(self, replica: Hashable, value: Any) -> Any:
         """The replica's value is read: this one, or the one that this function answers."""
         if callable(value):
@@ -290,6 +297,16 @@ class Recorder:
             merged = [self._sent(it) for it in messages]
         for sent in sorted(merged):
             self._deliver(place, sent)
+
+    def _join(self, replica: Hashable, source: int) -> None:
+        line, place = self._speller.join(replica, source), len(self._had)
+        self._had.append(list(self._had[source]))
+        for had in self._had:
+            had.append(0)
+        self._updates.append([])
+        if self._observed is not None:
+            self._observed.join(source)
+        self._post(line, f"joined {place}")
 
     def _read(self, place: int, value: Any) -> None:
         line = self._speller.read(place, value)

@@ -1,11 +1,11 @@
 """Runs of a plan on the user's own replicas, judged by the program."""
 from collections.abc import Mapping
-from typing import Any, Callable, Dict, Hashable, List, NamedTuple, Optional, Sequence, Tuple
+from typing import Any, Callable, Dict, Hashable, List, NamedTuple, Optional, Sequence, Set, Tuple
 
 from . import operations, program
 from .errors import CannotTell
 from .operations import Operation
-from .plans import Reach, Step
+from .plans import COPIES, Reach, Step
 from .recorder import Recorder
 
 
@@ -48,20 +48,23 @@ class _Run:
 
     def __init__(self, setting: Setting, steps: Sequence[Step]) -> None:
         self._kind = setting.kind
-        places = sorted({it.replica for it in steps} | {it.update for it in steps if it.what == "merge"})
-        self._names = {it: setting.replicas[it] for it in places}
-        self._replicas = {it: setting.make_replica(name) for it, name in self._names.items()}
+        first = _there_at_first(steps)
+        self._names = dict(enumerate(setting.replicas))
+        self._replicas = {it: setting.make_replica(self._names[it]) for it in first}
         self._reach = Reach(setting.kind, len(setting.replicas))
         self._messages: Dict[int, Any] = {}
         self._transcript = Transcript()
         self._ends: List[int] = []
-        self.recorder = Recorder(setting.kind, [*self._names.values()], monitor=self._transcript)
+        self.recorder = Recorder(setting.kind, [self._names[it] for it in first], monitor=self._transcript)
         self.taken: List[Step] = []
 
     def take_all(self, steps: Sequence[Step]) -> Optional[Exception]:
         """Takes those steps that can be taken: others need one that was left out. Ends with an exception."""
         takers = {"update": self._update, "deliver": self._deliver, "merge": self._merge, "read": self._read}
+        takers["join"] = self._join
         for step in steps:
+            if (step.replica in self._replicas) == (step.what == "join"):
+                continue
             try:
                 is_taken = takers[step.what](step)
             except CannotTell:
@@ -101,16 +104,46 @@ class _Run:
         return True
 
     def _merge(self, step: Step) -> bool:
-        if step.replica == step.update:
+        if step.replica == step.update or step.update not in self._replicas:
             return False
         self._replicas[step.replica].merge(self._replicas[step.update].state())
         self.recorder.merge(self._names[step.replica], self.recorder.seen(self._names[step.update]))
         self._reach.merge(step.replica, step.update)
         return True
 
+    def _join(self, step: Step) -> bool:
+        if step.update not in self._replicas:
+            return False
+        name = self._names[step.replica]
+        self._replicas[step.replica] = self._replicas[step.update].fork(name)
+        self.recorder.join(name, self._names[step.update])
+        self._reach.join(step.replica, step.update)
+        return True
+
     def _read(self, step: Step) -> bool:
         self.recorder.read(self._names[step.replica], self._replicas[step.replica].read())
         return True
+
+
+def _there_at_first(steps: Sequence[Step]) -> List[int]:
+    """The replicas that are there at first, in their order. The others join, each behind all that are there."""
+    touched: Set[int] = set()
+    joining: List[int] = []
+    for step in steps:
+        others = {step.update} if step.what in COPIES else set()
+        if step.what == "join" and step.replica not in touched | others:
+            joining.append(step.replica)
+        touched |= {step.replica} | others
+    first = touched - set(joining)
+    while True:
+        last, behind = max(first, default=-1), []
+        for replica in joining:
+            if replica > last:
+                behind.append(replica)
+                last = replica
+        if len(behind) == len(joining):
+            return sorted(first)
+        first, joining = touched - set(behind), behind
 
 
 def failure_of(setting: Setting, steps: Sequence[Step]) -> Optional[Failure]:
@@ -129,8 +162,15 @@ def failure_of(setting: Setting, steps: Sequence[Step]) -> Optional[Failure]:
     return None
 
 
-def look_at(setting: Setting) -> bool:
-    """Does the user's class merge states, rather than receive messages? Raises what it lacks."""
+class Ways(NamedTuple):
+    """What the user's class offers: does it merge states, rather than receive messages, and do its replicas fork?"""
+
+    merges: bool
+    forks: bool
+
+
+def look_at(setting: Setting) -> Ways:
+    """What the user's class offers. Raises what it lacks."""
     words = operations.of_kind(setting.kind)
     replica = setting.make_replica(setting.replicas[0])
     merges = not hasattr(replica, "receive") and hasattr(replica, "merge")
@@ -138,7 +178,7 @@ def look_at(setting: Setting) -> bool:
     lacking = [it for it in wanted if not callable(getattr(replica, it, None))]
     if lacking:
         raise TypeError(f"a replica of the kind {setting.kind} has the methods {wanted}, and this one lacks {lacking}")
-    return merges
+    return Ways(merges, callable(getattr(replica, "fork", None)))
 
 
 def _operation(kind: str, step: Step, message: Any) -> Operation:

@@ -1,7 +1,7 @@
 """Makes a failed run smaller, as long as it fails in the same way. Each try is a real run."""
 from typing import Callable, Iterator, List, Optional, Sequence
 
-from .plans import Step
+from .plans import COPIES, Step
 from .runs import Failure
 
 Try = Callable[[Sequence[Step]], Optional[Failure]]
@@ -43,7 +43,7 @@ def _without_a_replica(steps: List[Step]) -> Iterator[List[Step]]:
             for it in steps
             if it.replica != replica
             and not (it.what == "deliver" and it.update in own)
-            and not (it.what == "merge" and it.update == replica)
+            and not (it.what in COPIES and it.update == replica)
         ]
 
 
@@ -52,7 +52,7 @@ def _folded(steps: List[Step]) -> Iterator[List[Step]]:
     places = sorted({it.replica for it in steps})
     for gone, kept in ((gone, kept) for gone in places for kept in places if gone != kept):
         moved = [it._replace(replica=kept) if it.replica == gone else it for it in steps]
-        yield [it._replace(update=kept) if it.what == "merge" and it.update == gone else it for it in moved]
+        yield [it._replace(update=kept) if it.what in COPIES and it.update == gone else it for it in moved]
 
 
 def _without_a_part(steps: List[Step]) -> Iterator[List[Step]]:

@@ -35,7 +35,7 @@ class Speller:
 
     def head(self) -> str:
         """The two first lines."""
-        return f"RAH 1 {self.kind}\nreplicas {' '.join(self.replicas.names)}\n"
+        return f"RAH 2 {self.kind}\nreplicas {' '.join(self.replicas.first_names)}\n"
 
     def operation(self, place: int, operation: Operation) -> str:
         """The line of an operation at the replica with this number. An OR-Set's has identifiers by number."""
@@ -44,6 +44,11 @@ class Speller:
             has = " and ".join(self._bodies)
             raise CannotTell(f"{operation.word} is no operation of the kind {self.kind}, which has {has}")
         return f"{self.replicas.names[place]} {body(place, operation)}"
+
+    def join(self, replica: Hashable, source: int) -> str:
+        """The line of a replica that joins from the one with this number."""
+        self.replicas.join(replica)
+        return f"join {self.replicas.names[-1]} {self.replicas.names[source]}"
 
     def got(self, place: int, label: int) -> str:
         """The line of a delivery."""
@@ -102,6 +107,8 @@ class Speller:
     def words(self, line: str, delivered: Callable[[int], str]) -> str:
         """What a line says; `delivered` says what a label is."""
         name, word, *fields = line.split(" ")
+        if is_join(line):
+            return f"{self.replicas.back(word)!r} joins with all that {self.replicas.back(fields[0])!r} has"
         clock = f" at clock {self._clocks.back(int(fields.pop()[1:]))}" if fields[-1:] and fields[-1][0] == "@" else ""
         said = self._said(word, fields, delivered)
         return f"{self.replicas.back(name)!r} {said}{clock}"
@@ -130,6 +137,16 @@ class Speller:
     def _identifiers_back(self, identifiers: str) -> str:
         named = (self.identifiers.back(it) for it in _numbers(identifiers))
         return ", ".join("one of its own" if it is None else repr(it) for it in named) or "none"
+
+
+def is_join(line: str) -> bool:
+    """Does a replica join? Then the line begins with no name."""
+    return line.startswith("join ")
+
+
+def is_operation(line: str) -> bool:
+    """Is the line that of an operation, which is a label?"""
+    return not is_join(line) and line.split(" ", 2)[1] != "got"
 
 
 def _joined(numbers: Iterable[int]) -> str:
