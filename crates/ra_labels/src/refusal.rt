@@ -30,7 +30,7 @@ pub enum Refusal {
     UnknownLabel,
     /// The label is a query, which is not delivered.
     NotAnUpdate,
-    /// The replica issued the label, or got it before.
+    /// The replica has the label: it issued it, got it before, or joined with it.
     AlreadySeen,
     /// The least label that the delivered one saw and the receiver has not.
     NotCausal(u32),

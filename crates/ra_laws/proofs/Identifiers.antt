@@ -1,20 +1,18 @@
 -- Whose identifier each is.
-use Rattle.std.proofs.Common.{◌≡◌, ℕ, true, false, List, [], Option, Some, None, refl, sym, ap, ◌∙◌, inl, inr, arith}
-use Rattle.std.specs.Prelude.{◌↔◌, ◌==◌, Contains}
+use Rattle.std.proofs.Common.{◌≡◌, ℕ, true, false, List, [], Option, Some, None, refl, sym, ap, ◌∙◌, arith}
+use Rattle.std.specs.Prelude.{◌↔◌, ◌==◌}
 use Rattle.std.specs.Option.{option_map_or}
 use Rattle.std.proofs.lemmas.Bool.{false≢true, eqb-true, eq-eqb}
 use Rattle.std.proofs.lemmas.Option.{none-some, same_Some}
 use Rattle.ra_labels.specs.declared.kind.Kind.{Kind}
 use Rattle.ra_labels.specs.declared.operation.Op.{Op}
 use Rattle.ra_labels.specs.declared.operation.Op.TheVariants.{OrAdd}
-use Rattle.ra_labels.specs.declared.label.Label.{Label}
 use Rattle.ra_labels.specs.declared.command.Command.{Command}
 use Rattle.ra_labels.specs.declared.command.Command.TheVariants.{Operate, Deliver, Join, Verdict}
 use Rattle.ra_labels.specs.Records.{Records, labels_of, next_label}
 use Rattle.ra_labels.specs.Answer.{identifier_of, has_identifier, is_identifier_taken, gives_taken, refusal_of, with_accepted, records_after, records_after_all}
 use Rattle.ra_labels.specs.Laws.{Gives, IsOwnIdentifier, IdentifiersAreOneLabels}
-use Rattle.ra_labels.proofs.Members.{head_or_behind}
-use Rattle.ra_laws.proofs.Stamps.{any_one, one_any, operated-exactly, kept_by_answers, kept_by_all}
+use Rattle.ra_laws.proofs.Stamps.{any_one, one_any, once_behind, operated-exactly, kept_by_answers, kept_by_all}
 
 -- what gives an identifier
 gives : (op : Op) (id : ℕ) → (identifier_of op ≡ Some id) ↔ Gives op id
@@ -57,30 +55,13 @@ gives-exactly records op = (
 once_accepted : (kind : Kind) (replicas : ℕ) (records : Records) (command : Command)
     → refusal_of kind replicas records command ≡ None → IdentifiersAreOneLabels records
     → IdentifiersAreOneLabels (with_accepted records command)
-once_accepted kind replicas records (Operate by op clock) accepted once l m id l_there m_there l_gives m_gives =
+once_accepted kind replicas records (Operate by op clock) accepted once =
     let free = ((operated-exactly kind replicas records by op clock).0 accepted).3 in
-    let next = next_label records by op clock in
-    let new : (label : Label) → next ≡ label → Gives label.op id
-    → Gives op id = λ label here is. (is.0, ap (λ (n : Label). n.op) here ∙ is.1) in
-    let never : Gives op id → (other : Label) → Contains (labels_of records) other → Gives other.op id
-    → ⊥ = λ own other there is. false≢true
-    (sym free ∙ (gives-exactly records op).1 (id, own, (other, there, is))) in
-    elim (head_or_behind next (labels_of records) l l_there) [
-      | inl l_here ↦ elim (head_or_behind next (labels_of records) m m_there) [
-        | inl m_here ↦ sym l_here ∙ m_here
-        | inr m_further ↦ absurd (never (new l l_here l_gives) m m_further m_gives)
-      ]
-      | inr l_further ↦ elim (head_or_behind next (labels_of records) m m_there) [
-        | inl m_here ↦ absurd (never (new m m_here m_gives) l l_further l_gives)
-        | inr m_further ↦ once l m id l_further m_further l_gives m_gives
-      ]
-    ]
-once_accepted kind replicas records (Deliver to n) accepted once l m id l_there m_there l_gives m_gives =
-    once l m id l_there m_there l_gives m_gives
-once_accepted kind replicas records (Join joined from) accepted once l m id l_there m_there l_gives m_gives =
-    once l m id l_there m_there l_gives m_gives
-once_accepted kind replicas records Verdict accepted once l m id l_there m_there l_gives m_gives =
-    once l m id l_there m_there l_gives m_gives
+    once_behind ℕ (λ label id. Gives label.op id) (next_label records by op clock) (labels_of records)
+    (λ id own other there is. false≢true (sym free ∙ (gives-exactly records op).1 (id, own, (other, there, is)))) once
+once_accepted kind replicas records (Deliver to n) accepted once = once
+once_accepted kind replicas records (Join joined from) accepted once = once
+once_accepted kind replicas records Verdict accepted once = once
 
 pub identifiers-once : (kind : Kind) (replicas : ℕ) (records : Records) (command : Command)
     → IdentifiersAreOneLabels records → IdentifiersAreOneLabels (records_after kind replicas records command)

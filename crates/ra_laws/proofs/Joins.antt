@@ -1,5 +1,5 @@
 -- What a replica has that joins, when a join is accepted, and that nobody had anything before it joined.
-use Rattle.std.proofs.Common.{◌≡◌, ℕ, ◌+◌, ◌<◌, Bool, true, false, List, [], ◌∷◌, length, filter, Option, None, refl, sym, ap, ◌∙◌, subst, inl, inr, arith}
+use Rattle.std.proofs.Common.{◌≡◌, ◌⊎◌, ℕ, ◌+◌, ◌<◌, ◌≤◌, Bool, true, false, List, [], ◌∷◌, length, filter, Option, Some, None, refl, sym, ap, ◌∙◌, subst, inl, inr, arith}
 use Rattle.std.specs.Prelude.{◌↔◌, ◌==◌, ◌&&◌, ◌||◌, not, nat_lt}
 use Rattle.std.proofs.lemmas.Bool.{false≢true, cases_lt, lt-ltb, ltb-true, ltb-false, le-ltb, eq-eqb, ne_eqb, or_from, and_left}
 use Rattle.std.proofs.Math.Bool.{or_comm}
@@ -65,6 +65,91 @@ joined-exactly replicas records replica from =
         le-ltb count replica (omega (arith, known.1)),
         le-ltb replica count (omega (arith, known.1)),
         lt-ltb count MOST_REPLICAS known.2,
+      )),
+    )
+
+chain-unknown : (known above there room : Bool) → chain known above there room ≡ Some UnknownReplica
+    → (known ≡ false) ⊎ (above ≡ true)
+chain-unknown false above there room is = inl refl
+chain-unknown true true there room is = inr refl
+chain-unknown true false true room is = absurd (cc (is))
+chain-unknown true false false false is = absurd (cc (is))
+chain-unknown true false false true is = absurd (cc (is))
+
+chain-above : (known there room : Bool) → chain known true there room ≡ Some UnknownReplica
+chain-above false there room = refl
+chain-above true there room = refl
+
+chain-there : (known above there room : Bool) → chain known above there room ≡ Some ReplicaThere
+    → (known ≡ true) × (there ≡ true)
+chain-there false above there room is = absurd (cc (is))
+chain-there true true there room is = absurd (cc (is))
+chain-there true false true room is = (refl, refl)
+chain-there true false false false is = absurd (cc (is))
+chain-there true false false true is = absurd (cc (is))
+
+chain-full : (known above there room : Bool) → chain known above there room ≡ Some TooManyReplicas
+    → (known ≡ true) × (above ≡ false) × (there ≡ false) × (room ≡ false)
+chain-full false above there room is = absurd (cc (is))
+chain-full true true there room is = absurd (cc (is))
+chain-full true false true room is = absurd (cc (is))
+chain-full true false false false is = (refl, refl, refl, refl)
+chain-full true false false true is = absurd (cc (is))
+
+-- what a join is refused for
+pub refused-unknown : (replicas : ℕ) (records : Records) (replica from : ℕ)
+    → (refusal_of_join replicas records replica from ≡ Some UnknownReplica)
+    ↔ ((replica_count replicas records ≤ from) ⊎ (replica_count replicas records < replica))
+refused-unknown replicas records replica from =
+    let count = replica_count replicas records in
+    let there = nat_lt replica count in
+    let room = nat_lt count MOST_REPLICAS in (
+      (λ refused. elim (chain-unknown (nat_lt from count) (nat_lt count replica) there room refused) [
+        | inl out ↦ inl (ltb-false from count out)
+        | inr above ↦ inr (ltb-true count replica above)
+      ]),
+      (λ why. elim why [
+        | inl out ↦ ap (λ known. chain known (nat_lt count replica) there room) (le-ltb from count out)
+        | inr above ↦
+            ap (λ b. chain (nat_lt from count) b there room) (lt-ltb count replica above)
+            ∙ chain-above (nat_lt from count) there room
+      ]),
+    )
+
+pub refused-there : (replicas : ℕ) (records : Records) (replica from : ℕ)
+    → (refusal_of_join replicas records replica from ≡ Some ReplicaThere)
+    ↔ ((from < replica_count replicas records) × (replica < replica_count replicas records))
+refused-there replicas records replica from =
+    let count = replica_count replicas records in (
+      (λ refused.
+          let tests = chain-there (nat_lt from count) (nat_lt count replica) (nat_lt replica count)
+          (nat_lt count MOST_REPLICAS) refused in
+          (ltb-true from count tests.0, ltb-true replica count tests.1)),
+      (λ known. rw (
+        lt-ltb from count known.0,
+        le-ltb count replica (omega (arith, known.1)),
+        lt-ltb replica count known.1,
+      )),
+    )
+
+pub refused-full : (replicas : ℕ) (records : Records) (replica from : ℕ)
+    → (refusal_of_join replicas records replica from ≡ Some TooManyReplicas)
+    ↔ ((from < replica_count replicas records) × (replica ≡ replica_count replicas records)
+    × (MOST_REPLICAS ≤ replica_count replicas records))
+refused-full replicas records replica from =
+    let count = replica_count replicas records in (
+      (λ refused.
+          let tests = chain-full (nat_lt from count) (nat_lt count replica) (nat_lt replica count)
+          (nat_lt count MOST_REPLICAS) refused in (
+            ltb-true from count tests.0,
+            omega (arith, ltb-false count replica tests.1, ltb-false replica count tests.2),
+            ltb-false count MOST_REPLICAS tests.3,
+          )),
+      (λ known. rw (
+        lt-ltb from count known.0,
+        le-ltb count replica (omega (arith, known.1)),
+        le-ltb replica count (omega (arith, known.1)),
+        le-ltb count MOST_REPLICAS known.2,
       )),
     )
 

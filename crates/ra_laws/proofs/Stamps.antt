@@ -250,6 +250,23 @@ labels-fit_all kind replicas commands =
     kept_by_all (EachLabelFits kind replicas) kind replicas (labels-fit kind replicas) [] commands
     (λ label there. absurd (omega (arith, there.1)))
 
+-- what no two labels have, no two have with a new one that has nothing that is there
+pub once_behind : (A : Type 0) (Has : Label → A → Type 0) (next : Label) (labels : List Label)
+    → ((a : A) → Has next a → (other : Label) → Contains labels other → Has other a → ⊥)
+    → ((l m : Label) (a : A) → Contains labels l → Contains labels m → Has l a → Has m a → l ≡ m)
+    → (l m : Label) (a : A) → Contains (next ∷ labels) l → Contains (next ∷ labels) m → Has l a → Has m a → l ≡ m
+once_behind A Has next labels new once l m a l_there m_there l_has m_has =
+    elim (head_or_behind next labels l l_there) [
+      | inl l_here ↦ elim (head_or_behind next labels m m_there) [
+        | inl m_here ↦ sym l_here ∙ m_here
+        | inr m_further ↦ absurd (new a (subst (λ n. Has n a) (sym l_here) l_has) m m_further m_has)
+      ]
+      | inr l_further ↦ elim (head_or_behind next labels m m_there) [
+        | inl m_here ↦ absurd (new a (subst (λ n. Has n a) (sym m_here) m_has) l l_further l_has)
+        | inr m_further ↦ once l m a l_further m_further l_has m_has
+      ]
+    ]
+
 -- no stamp is given twice
 newly_given : (records : Records) (by : ℕ) (op : Op) (clock : Option ℕ) (label : Label) (stamp : Stamp)
     → comes_with_taken records by clock ≡ false
@@ -263,27 +280,13 @@ newly_given records by op (Some at) label stamp free own there is =
 once_accepted : (kind : Kind) (replicas : ℕ) (records : Records) (command : Command)
     → refusal_of kind replicas records command ≡ None → StampsAreOneLabels records
     → StampsAreOneLabels (with_accepted records command)
-once_accepted kind replicas records (Operate by op clock) accepted once l m stamp l_there m_there l_is m_is =
+once_accepted kind replicas records (Operate by op clock) accepted once =
     let free = ((operated-exactly kind replicas records by op clock).0 accepted).2 in
-    let next = next_label records by op clock in
-    elim (head_or_behind next (labels_of records) l l_there) [
-      | inl l_here ↦ elim (head_or_behind next (labels_of records) m m_there) [
-        | inl m_here ↦ sym l_here ∙ m_here
-        | inr m_further ↦ absurd
-            (newly_given records by op clock m stamp free (ap (λ (n : Label). n.stamp) l_here ∙ l_is) m_further m_is)
-      ]
-      | inr l_further ↦ elim (head_or_behind next (labels_of records) m m_there) [
-        | inl m_here ↦ absurd
-            (newly_given records by op clock l stamp free (ap (λ (n : Label). n.stamp) m_here ∙ m_is) l_further l_is)
-        | inr m_further ↦ once l m stamp l_further m_further l_is m_is
-      ]
-    ]
-once_accepted kind replicas records (Deliver to n) accepted once l m stamp l_there m_there l_is m_is =
-    once l m stamp l_there m_there l_is m_is
-once_accepted kind replicas records (Join joined from) accepted once l m stamp l_there m_there l_is m_is =
-    once l m stamp l_there m_there l_is m_is
-once_accepted kind replicas records Verdict accepted once l m stamp l_there m_there l_is m_is =
-    once l m stamp l_there m_there l_is m_is
+    once_behind Stamp (λ label stamp. label.stamp ≡ Some stamp) (next_label records by op clock) (labels_of records)
+    (λ stamp own other there is. newly_given records by op clock other stamp free own there is) once
+once_accepted kind replicas records (Deliver to n) accepted once = once
+once_accepted kind replicas records (Join joined from) accepted once = once
+once_accepted kind replicas records Verdict accepted once = once
 
 pub stamps-once : (kind : Kind) (replicas : ℕ) (records : Records) (command : Command) → StampsAreOneLabels records
     → StampsAreOneLabels (records_after kind replicas records command)

@@ -291,6 +291,9 @@ pub use Rattle.ra_laws.proofs.Replies.{misfit_refuses as misfits_are_refused-ope
 pub use Rattle.ra_laws.proofs.MissingLabels.{not_causal-exactly as not_causal_where_a_seen_label_is_missing}
 pub use Rattle.ra_laws.proofs.MissingLabels.{delivered-exactly as delivered_where_causal}
 pub use Rattle.ra_laws.proofs.Joins.{joined-exactly as joins_are_accepted_with_the_next_number}
+pub use Rattle.ra_laws.proofs.Joins.{refused-unknown as joins_are_refused_for_one_of_three_reasons-unknown}
+pub use Rattle.ra_laws.proofs.Joins.{refused-there as joins_are_refused_for_one_of_three_reasons-there}
+pub use Rattle.ra_laws.proofs.Joins.{refused-full as joins_are_refused_for_one_of_three_reasons-full}
 pub use Rattle.ra_laws.proofs.MissingLabels.{records_after-causal as answers_keep_records_causal-one}
 
 pub a_register_has_the_last_value-none : state_after Register [] ≡ Some (Written None)

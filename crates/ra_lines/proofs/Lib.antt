@@ -3,9 +3,11 @@ pub mod Numbers
 pub mod Lists
 pub mod Operations
 pub mod Commands
+pub mod Formats
 pub mod Heads
 pub mod NameLists
 pub mod NewNames
+pub mod AddedNames
 pub mod SpelledLines
 pub mod PutBytes
 pub mod Sizes

@@ -22,13 +22,13 @@ impl From<NoMemory> for LineFault {
     }
 }
 
-/// Why names are not those of a history.
+/// Why names are not those of a history, or why no name is added to them.
 #[derive(Clone, Copy, Debug, PartialEq, Eq)]
 pub enum NamesFault {
-    /// There are none, or more than 64.
+    /// There are none, or more than 64; or one is to be added where there are 64.
     BadCount,
     /// The least place, from 0, whose name has another form than names have, is a word of the format's own, or repeats
-    /// an earlier one.
+    /// an earlier one. Of one that is to be added the place is 0.
     BadName(u32),
     /// A growth was refused for want of memory.
     NoMemory,

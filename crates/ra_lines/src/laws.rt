@@ -1,17 +1,21 @@
 //! Laws above the definitions of lines, each the clause of a function that does nothing.
-ghost use Rattle.std.specs.Prelude.{◌≡◌, ◌↔◌, ◌≤◌, ◌++◌, [], ℕ, List, Option, Some, decimal, length};
+ghost use Rattle.std.specs.Prelude.{◌≡◌, ◌↔◌, ◌≤◌, ◌++◌, true, false, [], ℕ, List, Option, Some, decimal, length};
 ghost use Rattle.std.specs.List.{AllByRecursion};
 ghost use Rattle.ra_labels.specs.declared.kind.Kind.{Kind};
 ghost use Rattle.ra_labels.specs.declared.command.Command.{Command};
 ghost use Rattle.ra_labels.specs.declared.reply.Fault.{Fault};
 ghost use Rattle.ra_labels.specs.declared.reply.Reply.{Reply};
+ghost use Rattle.ra_labels.specs.Laws.{is_join};
 ghost use Rattle.ra_lines.specs.Grammar.{kind_word, first_line, fields_of};
 ghost use Rattle.ra_lines.specs.Grammar.{AreNames, IsSmall, ListsNames, Spells, IsAtReplica, NameAlike, Says};
-ghost use Rattle.ra_lines.specs.Names.{AreDistinctNames};
+ghost use Rattle.ra_lines.specs.Names.{AreDistinctNames, MayJoin, StopsAdding};
 ghost use Rattle.ra_lines.specs.Reading.{head_read, kind_named, names_read, number_read, command_read};
 ghost use Rattle.ra_lines.specs.Replies.{reply_line, end_line};
 ghost use Rattle.ra_lines.specs.Spelling.{AreSmall, AreShort, HasLine, HasNewName, HaveLines, NameEach, line_of, text_of};
+ghost use Rattle.ra_lines.specs.declared.fault.NamesFault.{NamesFault};
+ghost use Rattle.ra_lines.specs.declared.fault.NamesFault.TheVariants.{NoMemory};
 ghost use Rattle.ra_lines.specs.declared.format.Format.{Format};
+ghost use Rattle.ra_lines.specs.declared.format.Format.TheVariants.{Rah1, Rah2};
 ghost use Rattle.ra_lines.specs.declared.limits.TheConstants.{MOST_COMMANDS, LONGEST_LINE, MOST_NAMES, MOST_NAMES_IN_RAH_1, LONGEST_NAME};
 
 /// The limits in figures: bytes of a line, commands of a text, replicas, also in `RAH 1`, and bytes of a name.
@@ -45,6 +49,15 @@ pub fn a_line_of_names_is_read()
         (names_read format line ≡ Some names) ↔ ListsNames format line names }
 {}
 
+/// Behind names, of which there are at most 64, a word may stand exactly where nothing but want of memory stops it; and
+/// what stops it is one fault.
+pub fn a_name_is_added_where_nothing_stops_it()
+    ensures added { (names : List (List ℕ)) (word : List ℕ) → length names ≤ MOST_NAMES
+        → MayJoin Rah2 names word ↔ ((fault : NamesFault) → StopsAdding names word fault → fault ≡ NoMemory) }
+    ensures one { (names : List (List ℕ)) (word : List ℕ) (fault other : NamesFault)
+        → StopsAdding names word fault → StopsAdding names word other → fault ≡ other }
+{}
+
 /// The command that is read of a further line is the one that it spells.
 pub fn a_line_of_a_command_is_read()
     ensures { (format : Format) (kind : Kind) (names : List (List ℕ)) (line : List ℕ) (command : Command) →
@@ -73,6 +86,17 @@ pub fn a_written_line_spells_its_command()
     ensures { (format : Format) (kind : Kind) (names later : List (List ℕ)) (command : Command) →
         AreDistinctNames (names ++ later) → HasLine format kind (length names) command → HasNewName later command →
         AreSmall command → Spells format kind names (line_of (names ++ later) command) command }
+{}
+
+/// In `RAH 1` the lines are those of `RAH 2` but joins, which it has not, and the names are those of `RAH 2` where
+/// these are 16 at most.
+pub fn the_first_format_is_the_second_without_joins()
+    ensures others { (kind : Kind) (names : List (List ℕ)) (line : List ℕ) (command : Command) →
+        is_join command ≡ false → Spells Rah1 kind names line command ↔ Spells Rah2 kind names line command }
+    ensures joins { (kind : Kind) (names : List (List ℕ)) (line : List ℕ) (command : Command) →
+        is_join command ≡ true → Spells Rah1 kind names line command → ⊥ }
+    ensures names { (line : List ℕ) (names : List (List ℕ)) →
+        ListsNames Rah1 line names ↔ (ListsNames Rah2 line names × (length names ≤ MOST_NAMES_IN_RAH_1)) }
 {}
 
 /// A text that is written of a history, with lines that spell its commands and are not too long, says that history,

@@ -198,13 +198,9 @@ stands_same old new past stands tracker labels witness taken places fault replic
 }
 
 -- a join takes nothing
-taken_joined : (records : Records) (joined from : ℕ) (old new : Taken) → ((stamp : Stamp) → is_stamp_in new stamp ≡ is_stamp_in old stamp)
-    → ((identifier : ℕ) → is_identifier_in new identifier ≡ is_identifier_in old identifier)
-    → IsTakenIn records old → IsTakenIn (Join joined from ∷ records) new
-taken_joined records joined from old new stamps identifiers known = record {
-  stamps = λ stamp. stamps stamp ∙ known.stamps stamp;
-  identifiers = λ identifier. identifiers identifier ∙ known.identifiers identifier;
-}
+taken_joined : (records : Records) (joined from : ℕ) (taken : Taken) → IsTakenIn records taken
+    → IsTakenIn (Join joined from ∷ records) taken
+taken_joined records joined from taken known = record { stamps = known.stamps; identifiers = known.identifiers }
 
 -- the history after a join
 pub stands_joined : (old new : History) (past : Past) (joined from : ℕ)
@@ -222,7 +218,8 @@ stands_joined old new past joined from stands none tracker witness stamps identi
   labels = labels ∙ stands.labels;
   replicas = replicas ∙ ap (λ k. k + 1) stands.replicas;
   witness = rw (none_lost past.kind (Join joined from ∷ past.records) none) witness;
-  taken = rw (none_lost past.kind (Join joined from ∷ past.records) none) (taken_joined past.records joined from old.taken new.taken stamps identifiers (taken_known old past stands none));
+  taken = rw (none_lost past.kind (Join joined from ∷ past.records) none) (taken_joined past.records joined from new.taken
+      (taken_alike past.records old.taken new.taken stamps identifiers (taken_known old past stands none)));
   places = places ∙ ap (λ k. k + 1) stands.places;
   fault = fault ∙ stands.fault;
 }

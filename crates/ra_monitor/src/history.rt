@@ -71,7 +71,8 @@ impl History {
 
     /// Takes a command and answers it as the one-thread monitor. After `NoMemory` the records are as before. The
     /// command's operation is that of a label in between, and is given back, so no list is copied.
-    /// Costs what the tracker, the order and the witness ask, and of no label but the command's own.
+    /// Costs what the tracker, the order and the witness ask, and of no label but the command's own; a join, a copy of
+    /// what is kept of the one replica.
     pub fn take(&mut self, setup: &Setup, command: &mut Command) -> Result<Reply, NoMemory>
         requires { IsOfFew self.old setup.now }
         ensures taken { (records : Records) → StandsFor self.old (past_in setup.now records) → IfOk result (λ reply.

@@ -47,7 +47,8 @@ impl Model for Monitor {
 impl Monitor {
     ghost use Rattle.ra_monitor.specs.Monitor.{records_of, records_before_fault_in, fault_in, refused_count, IsLegalLog, IsFinalFault};
 
-    /// A monitor of a history of this kind, at this many replicas first, whose log may have `limit` entries.
+    /// A monitor of a history of this kind, at this many replicas at first, whose log may have `limit` entries.
+    /// `BadReplicas` and `BadLimit` are tested in this order, before any memory is asked for.
     pub fn new(alloc: Global, kind: Kind, replicas: u8, limit: u32) -> Result<Monitor, NewFault>
         ensures log { IfOk result (λ monitor. monitor.log ≡ []) }
         ensures kind { IfOk result (λ monitor. monitor.setup.kind ≡ kind) }
@@ -205,7 +206,10 @@ impl Journal for Monitor {
     /// `Full` comes exactly where the log has as many entries as its limit allows, and is tested first;
     /// `NoMemory` where a growth was refused. After both nothing changed, and the command is handed back.
     ///
-    /// It costs what the tracker, the order and the witness ask, and looks at no label but the command's own.
+    /// It costs what the tracker, the order and the witness ask, and looks at no label but the command's own. A join
+    /// costs a copy of what is kept of the one replica: its counts, and its state, which takes 45 bytes for each
+    /// element that a list ever had, 23 for each of a set, and 40 nanoseconds (measured: bench/README.md, *Replicas
+    /// that join*).
     fn step(&mut self, pass: u8, ticket: u64, command: Command) -> Result<Reply, StepFault<Command>>
         requires { IsNextTicket self.old ticket }
 

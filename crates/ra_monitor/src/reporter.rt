@@ -35,7 +35,8 @@ impl Model for Reporter {
 impl Reporter {
     ghost use Rattle.ra_monitor.specs.Monitor.{records_of, IsLegalLog, IsRaLinearizable, IsNoAtFault, IsFinalNo};
 
-    /// A reporter with a monitor of a history of this kind, at this many replicas, whose log may have `limit` entries.
+    /// A reporter with a monitor of a history of this kind, at this many replicas at first, whose log may have `limit`
+    /// entries. `BadReplicas` and `BadLimit` are tested in this order, before any memory is asked for.
     pub fn new(alloc: Global, kind: Kind, replicas: u8, limit: u32) -> Result<Reporter, NewFault>
         ensures log { IfOk result (λ reporter. reporter.log ≡ []) }
         ensures kind { IfOk result (λ reporter. reporter.setup.kind ≡ kind) }

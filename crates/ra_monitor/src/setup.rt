@@ -5,7 +5,7 @@ use ra_labels::Kind;
 pub struct Setup {
     /// The kind of the history.
     pub kind: Kind,
-    /// The number of replicas, 1 to 16.
+    /// How many replicas there are at first, 1 to 64.
     pub replicas: u8,
     /// The most entries that the log may have, 1 to 1,048,576.
     pub limit: u32,

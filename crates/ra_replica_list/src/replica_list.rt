@@ -76,7 +76,8 @@ impl ReplicaList {
     }
 
     /// An equal list of its own: those that wait, wait there too. Costs as much as the state is large and labels wait,
-    /// and a mark for each element that came before the last one that is there.
+    /// and a mark for each element that came before the last one that is there. `NoMemory` where a growth was refused;
+    /// this list is as before.
     pub fn copy(&self) -> Result<ReplicaList, NoMemory>
         ensures { IfOk result (λ copy. copy ≡ self.now) }
     {

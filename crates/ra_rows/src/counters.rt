@@ -1,13 +1,8 @@
 //! Worked histories of counters.
 
-use crate::rows::{Row, Say, are_answered};
+use crate::rows::{NO_AT_ONE, Row, Say, are_answered};
 use ra_labels::{Cause, Fault, Kind, Refusal, Reply};
 use std::test::Fail;
-
-const NO_AT_ONE: Reply = Reply::No {
-    label: 1,
-    cause: Cause::Query,
-};
 
 const COUNTERS: [Row; 9] = [
     Row {

@@ -1,14 +1,9 @@
 //! Replicas that join: worked histories of each kind, and as many as there can be.
 
 use crate::commands::{got, increment, read, reply_to, reporter_of};
-use crate::rows::{Row, Say, are_answered};
+use crate::rows::{NO_AT_ONE, Row, Say, are_answered};
 use ra_labels::{Cause, Command, Fault, Kind, Refusal, Reply};
 use std::process::Abort;
-
-const NO_AT_ONE: Reply = Reply::No {
-    label: 1,
-    cause: Cause::Query,
-};
 
 const JOINS: [Row; 10] = [
     Row {

@@ -3,10 +3,16 @@
 use crate::commands::{
     bare, elements_of, got, increment, read, reply_behind, reporter_of, sequence_of, stamped,
 };
-use ra_labels::{Command, Fault, Kind, Op, Reply};
+use ra_labels::{Cause, Command, Fault, Kind, Op, Reply};
 use ra_monitor::{Half, PartRef, Report};
 use std::alloc::Global;
 use std::process::Abort;
+
+/// The second label is a read that nothing leads to.
+pub const NO_AT_ONE: Reply = Reply::No {
+    label: 1,
+    cause: Cause::Query,
+};
 
 /// What a replica reports in a row, or what is asked. The first number is the replica's, and the last one that of an
 /// operation with a stamp the clock that it comes with.

@@ -167,10 +167,24 @@ const SEVENTEEN: [&str; 17] = [
     "a", "b", "c", "d", "e", "f", "g", "h", "i", "j", "k", "l", "m", "n", "o", "p", "q",
 ];
 
-// More than 16 first replicas are written in RAH 2, and 16 in RAH 1.
+const SIXTY_FOUR: [&str; 64] = [
+    "n0", "n1", "n2", "n3", "n4", "n5", "n6", "n7", "n8", "n9", "n10", "n11", "n12", "n13", "n14",
+    "n15", "n16", "n17", "n18", "n19", "n20", "n21", "n22", "n23", "n24", "n25", "n26", "n27",
+    "n28", "n29", "n30", "n31", "n32", "n33", "n34", "n35", "n36", "n37", "n38", "n39", "n40",
+    "n41", "n42", "n43", "n44", "n45", "n46", "n47", "n48", "n49", "n50", "n51", "n52", "n53",
+    "n54", "n55", "n56", "n57", "n58", "n59", "n60", "n61", "n62", "n63",
+];
+
+const OF_SIXTY_FOUR: &str =
+    "RAH 2 rga\nreplicas n0 n1 n2 n3 n4 n5 n6 n7 n8 n9 n10 n11 n12 n13 n14 n15 n16 n17 n18 n19 n20 n21 \
+    n22 n23 n24 n25 n26 n27 n28 n29 n30 n31 n32 n33 n34 n35 n36 n37 n38 n39 n40 n41 n42 \
+    n43 n44 n45 n46 n47 n48 n49 n50 n51 n52 n53 n54 n55 n56 n57 n58 n59 n60 n61 n62 n63\n";
+
+// More than 16 first replicas are written in RAH 2, up to 64, and 16 in RAH 1.
 #[test]
 fn sixteen_first_replicas_are_written_in_the_older_text(rt: HostRuntime) {
     for (words, first) in [
+        (SIXTY_FOUR.as_slice(), OF_SIXTY_FOUR),
         (
             SEVENTEEN.as_slice(),
             "RAH 2 rga\nreplicas a b c d e f g h i j k l m n o p q\n",

@@ -34,8 +34,8 @@ fn reads_a_text_line_by_line(rt: HostRuntime) -> Result<(), Fail> {
     Ok(())
 }
 
-// What a line joins, and the name that it gives: the first name is the new one, and where it is a replica's it stands for
-// that.
+// What a line joins, and the name that it gives: the first name is the new one, and where it is a replica's it stands
+// for that.
 #[test]
 fn tells_the_name_of_a_join(rt: HostRuntime) {
     let mut reading = reading_of(&rt, rt.alloc());

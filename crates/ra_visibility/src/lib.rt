@@ -5,9 +5,9 @@
 //! which labels issued between two deliveries share.
 //!
 //! The one contract for the layers above: in the words of `specs/Tracked`, a `Tracker` stands for the visibility of
-//! records. `issue`, `deliver` and `join` add a record, `withdraw` takes the last one back, a delivery is refused exactly
-//! where the definitions refuse it (`ra_labels/specs/Answer`), so that records stay causal, and `sees` and `vis` answer
-//! as the definitions do (`ra_labels/specs/Visibility`). `laws` has what the words say of the records.
+//! records. `issue`, `deliver` and `join` add a record, `withdraw` takes the last one back, a delivery is refused
+//! exactly where the definitions refuse it (`ra_labels/specs/Answer`), so that records stay causal, and `sees` and
+//! `vis` answer as the definitions do (`ra_labels/specs/Visibility`). `laws` has what the words say of the records.
 //!
 //! Where labels stand in the named order of their kind is a `NamedOrder`'s to say, in the words of `specs/Order`. The
 //! orders themselves are crates of their own.

@@ -42,14 +42,11 @@ impl Replica {
     pub fn joined(&self) -> Result<Replica, NoMemory>
         ensures { IfOk result (λ replica. replica ≡ joined_from self.now) }
     {
-        let alloc = *self.counts.allocator();
-        let mut counts = Vec::with_capacity(alloc, self.counts.len())?;
-        counts.extend_from_slice(self.counts.as_slice())?;
         // The other's row lacks its own count, so it is not shared.
         let stored = None;
         Ok(Replica {
-            counts,
-            issued: Vec::new(alloc),
+            counts: self.counts.clone()?,
+            issued: Vec::new(*self.counts.allocator()),
             stored,
         })
     }

@@ -74,7 +74,7 @@ impl Tracker {
         Ok(label)
     }
 
-    /// Has the replica the label, as issued there or delivered? It takes no memory, and costs a look-up.
+    /// Has the replica the label: issued there, delivered, or joined with? It takes no memory, and costs a look-up.
     pub fn sees(&self, replica: u8, label: u32) -> bool
         requires { replica < replicas_in self.now.now }
         ensures { result ≡ had_in self.now.now replica label }

@@ -1,11 +1,11 @@
 //! The refusals and the answers.
-ghost use Rattle.std.specs.Prelude.{◌≡◌, ◌↔◌, ℕ, ◌<◌, true, false, List, [], ◌++◌, Option, Some, None};
+ghost use Rattle.std.specs.Prelude.{◌≡◌, ◌↔◌, ◌⊎◌, ℕ, ◌<◌, ◌≤◌, true, false, List, [], ◌++◌, Option, Some, None};
 ghost use Rattle.ra_labels.specs.declared.kind.Kind.{Kind};
 ghost use Rattle.ra_labels.specs.declared.operation.Op.{Op};
 ghost use Rattle.ra_labels.specs.declared.command.Command.{Command};
 ghost use Rattle.ra_labels.specs.declared.command.Command.TheVariants.{Operate, Deliver, Join, Verdict};
 ghost use Rattle.ra_labels.specs.declared.refusal.Refusal.{Refusal};
-ghost use Rattle.ra_labels.specs.declared.refusal.Refusal.TheVariants.{StampTaken, IdTaken, NotCausal};
+ghost use Rattle.ra_labels.specs.declared.refusal.Refusal.TheVariants.{StampTaken, IdTaken, NotCausal, UnknownReplica, ReplicaThere, TooManyReplicas};
 ghost use Rattle.ra_labels.specs.declared.reply.Fault.{Fault};
 ghost use Rattle.ra_labels.specs.declared.reply.Reply.TheVariants as reply;
 ghost use Rattle.ra_labels.specs.declared.limits.TheConstants.{MOST_REPLICAS};
@@ -93,6 +93,21 @@ pub fn joins_are_accepted_with_the_next_number()
         → (refusal_of_join replicas records replica from ≡ None)
         ↔ ((from < replica_count replicas records) × (replica ≡ replica_count replicas records)
         × (replica_count replicas records < MOST_REPLICAS)) }
+{}
+
+/// A join is refused for the first of three reasons that is so: the replica that it begins from is not there, or the
+/// new one's number leaves one out; the number is that of one that is there; no more may join.
+pub fn joins_are_refused_for_one_of_three_reasons()
+    ensures unknown { (replicas : ℕ) (records : Records) (replica from : ℕ)
+        → (refusal_of_join replicas records replica from ≡ Some UnknownReplica)
+        ↔ ((replica_count replicas records ≤ from) ⊎ (replica_count replicas records < replica)) }
+    ensures there { (replicas : ℕ) (records : Records) (replica from : ℕ)
+        → (refusal_of_join replicas records replica from ≡ Some ReplicaThere)
+        ↔ ((from < replica_count replicas records) × (replica < replica_count replicas records)) }
+    ensures full { (replicas : ℕ) (records : Records) (replica from : ℕ)
+        → (refusal_of_join replicas records replica from ≡ Some TooManyReplicas)
+        ↔ ((from < replica_count replicas records) × (replica ≡ replica_count replicas records)
+        × (MOST_REPLICAS ≤ replica_count replicas records)) }
 {}
 
 /// Answers keep records causal, and so the records that commands leave are, from none on.

@@ -11,29 +11,25 @@ use Rattle.ra_labels.specs.declared.reply.Reply.{Reply}
 use Rattle.ra_labels.specs.declared.reply.Reply.TheVariants.{Refused, Got, Joined}
 use Rattle.ra_labels.specs.Records.{Records, replica_count}
 use Rattle.ra_labels.specs.Fault.{fault_of}
-use Rattle.ra_labels.specs.Answer.{no_at, refusal_of, refusal_at, answer_of, answer_to_accepted, records_after}
+use Rattle.ra_labels.specs.Answer.{no_at, refusal_of, refusal_at, answer_of, answer_to_accepted, with_accepted, records_after}
 use Rattle.ra_laws.proofs.TheLaws.{joins_are_accepted_with_the_next_number}
 use Rattle.ra_monitor.specs.History.{StandsFor, refusal_left, past_in}
 use Rattle.ra_monitor.proofs.NewRecords.{taken_known}
 use Rattle.ra_monitor.proofs.history.History.take.Goals as goal
 
--- where nothing failed and nothing is refused, an operation joins the records
-answered : (kind : Kind) (replicas : ℕ) (records : Records) (command : Command) (by : ℕ) (op : Op) (clock : Option ℕ) → command ≡ Operate by op clock
-    → fault_of kind records ≡ None → refusal_of kind replicas records command ≡ None
-    → answer_to_accepted kind records (Operate by op clock) ≡ answer_of kind replicas records command
-answered kind replicas records command by op clock is none accepted = sym (
-    ap (λ o. option_map_or no_at o (option_map_or Refused (refusal_of kind replicas records command) (answer_to_accepted kind records command))) none
-    ∙ ap (λ o. option_map_or Refused o (answer_to_accepted kind records command)) accepted
-    ∙ ap (answer_to_accepted kind records) is
-    )
-
-joined : (kind : Kind) (replicas : ℕ) (records : Records) (command : Command) (by : ℕ) (op : Op) (clock : Option ℕ) → command ≡ Operate by op clock
-    → fault_of kind records ≡ None → refusal_of kind replicas records command ≡ None
-    → Operate by op clock ∷ records ≡ records_after kind replicas records command
-joined kind replicas records command by op clock is none accepted = rw (none, accepted, is) refl
-
-nothing_left : (records : Records) (command : Command) (by : ℕ) (op : Op) (clock : Option ℕ) → command ≡ Operate by op clock → refusal_left records command ≡ None
-nothing_left records command by op clock is = ap (refusal_left records) is
+-- where nothing failed and nothing is refused, an operation, a delivery or a join joins the records
+answered : (kind : Kind) (replicas : ℕ) (records : Records) (command made : Command) → command ≡ made
+    → with_accepted records made ≡ made ∷ records → fault_of kind records ≡ None
+    → refusal_of kind replicas records command ≡ None
+    → (answer_to_accepted kind records made ≡ answer_of kind replicas records command)
+    × (made ∷ records ≡ records_after kind replicas records command)
+answered kind replicas records command made is joins none accepted = (
+  sym (ap (λ o. option_map_or no_at o (option_map_or Refused (refusal_of kind replicas records command)
+      (answer_to_accepted kind records command))) none
+      ∙ ap (λ o. option_map_or Refused o (answer_to_accepted kind records command)) accepted
+      ∙ ap (answer_to_accepted kind records) is),
+  rw (none, accepted, is) (sym joins),
+)
 
 pub returns-in-Operate-clause-taken : goal.returns-in-Operate-clause-taken
 returns-in-Operate-clause-taken c = λ records stands.
@@ -44,13 +40,15 @@ returns-in-Operate-clause-taken c = λ records stands.
     let clock = c.in-Operate.stamp in
     let none : fault_of setup.kind records ≡ None = sym stands.fault ∙ c.in_default.is in
     let accepted : refusal_of setup.kind setup.replicas records command ≡ None =
-    c.in_default-refusal_of.ensures.first records (taken_known c.args.self.now (past_in setup records) stands none) stands.replicas ∙ nothing_left records command by op clock c.in-Operate.is in
+    c.in_default-refusal_of.ensures.first records (taken_known c.args.self.now (past_in setup records) stands none) stands.replicas
+    ∙ ap (refusal_left records) c.in-Operate.is in
     let taken = c.accept.ensures.taken (past_in setup records) stands none
     (ap (refusal_of setup.kind setup.replicas records) (sym c.in-Operate.is) ∙ accepted) in
-    let replied = subst (λ (r : Reply). IfOk c.accept.result (λ reply. (reply ≡ r) × StandsFor c.accept.new.self (past_in setup (Operate by op clock ∷ records))))
-    (answered setup.kind setup.replicas records command by op clock c.in-Operate.is none accepted) taken in
-    subst (λ (r : Records). IfOk c.accept.result (λ reply. (reply ≡ answer_of setup.kind setup.replicas records command) × StandsFor c.accept.new.self (past_in setup r)))
-    (joined setup.kind setup.replicas records command by op clock c.in-Operate.is none accepted) replied
+    let both = answered setup.kind setup.replicas records command (Operate by op clock) c.in-Operate.is refl none accepted in
+    let replied = subst (λ (r : Reply). IfOk c.accept.result (λ reply. (reply ≡ r)
+    × StandsFor c.accept.new.self (past_in setup (Operate by op clock ∷ records)))) both.0 taken in
+    subst (λ (r : Records). IfOk c.accept.result (λ reply. (reply ≡ answer_of setup.kind setup.replicas records command)
+    × StandsFor c.accept.new.self (past_in setup r))) both.1 replied
 
 -- what is refused leaves the records
 refused : (kind : Kind) (replicas : ℕ) (records : Records) (command : Command) (why : Refusal)
@@ -115,7 +113,7 @@ accept-requires c =
     let none : fault_of setup.kind r.records ≡ None = sym r.stands.fault ∙ c.in_default.is in
     let accepted : refusal_of setup.kind setup.replicas r.records command ≡ None =
     c.in_default-refusal_of.ensures.first r.records (taken_known c.args.self.now (past_in setup r.records) r.stands none) r.stands.replicas
-    ∙ nothing_left r.records command c.in-Operate.replica c.in-Operate.op c.in-Operate.stamp c.in-Operate.is in
+    ∙ ap (refusal_left r.records) c.in-Operate.is in
     record {
       past = past_in setup r.records;
       stands = r.stands;
@@ -133,10 +131,10 @@ returns-in-Operate-clause-joins c = λ records stands.
     let none : fault_of setup.kind records ≡ None = sym stands.fault ∙ c.in_default.is in
     let accepted : refusal_of setup.kind setup.replicas records command ≡ None =
     c.in_default-refusal_of.ensures.first records (taken_known c.args.self.now (past_in setup records) stands none) stands.replicas
-    ∙ nothing_left records command c.in-Operate.replica c.in-Operate.op c.in-Operate.stamp is in
-    on_err_any c.accept.result (
-    sym (joined setup.kind setup.replicas records command c.in-Operate.replica c.in-Operate.op c.in-Operate.stamp is none accepted)
-    ∙ ap (λ (d : Command). d ∷ records) (sym is))
+    ∙ ap (refusal_left records) is in
+    let both = answered setup.kind setup.replicas records command
+    (Operate c.in-Operate.replica c.in-Operate.op c.in-Operate.stamp) is refl none accepted in
+    on_err_any c.accept.result (sym both.1 ∙ ap (λ (d : Command). d ∷ records) (sym is))
 
 pub returns-in-Deliver-clause-joins : goal.returns-in-Deliver-clause-joins
 returns-in-Deliver-clause-joins c = λ records stands.
@@ -161,19 +159,6 @@ next_joined kind replicas records command replica from is accepted =
     is ∙ ap (λ r. Join r from)
     ((joins_are_accepted_with_the_next_number replicas records replica from).0 (ap (refusal_of kind replicas records) (sym is) ∙ accepted)).1
 
-join_answered : (kind : Kind) (replicas : ℕ) (records : Records) (command : Command) (joined from : ℕ) → command ≡ Join joined from
-    → fault_of kind records ≡ None → refusal_of kind replicas records command ≡ None
-    → (Joined joined ≡ answer_of kind replicas records command) × (Join joined from ∷ records ≡ records_after kind replicas records command)
-join_answered kind replicas records command joined from is none accepted = (
-  sym (ap (λ o. option_map_or no_at o (option_map_or Refused (refusal_of kind replicas records command) (answer_to_accepted kind records command))) none
-      ∙ ap (λ o. option_map_or Refused o (answer_to_accepted kind records command)) accepted
-      ∙ ap (answer_to_accepted kind records) is),
-  rw (none, accepted, is) refl,
-)
-
-no_join_left : (records : Records) (command : Command) (replica from : ℕ) → command ≡ Join replica from → refusal_left records command ≡ None
-no_join_left records command replica from is = ap (refusal_left records) is
-
 pub join-requires : goal.join-requires
 join-requires c =
     let r = c.requires in
@@ -182,7 +167,7 @@ join-requires c =
     let none : fault_of setup.kind r.records ≡ None = sym r.stands.fault ∙ c.in_default.is in
     let accepted : refusal_of setup.kind setup.replicas r.records command ≡ None =
     c.in_default-refusal_of.ensures.first r.records (taken_known c.args.self.now (past_in setup r.records) r.stands none) r.stands.replicas
-    ∙ no_join_left r.records command c.in-Join.replica c.in-Join.from c.in-Join.is in
+    ∙ ap (refusal_left r.records) c.in-Join.is in
     let next = next_joined setup.kind setup.replicas r.records command c.in-Join.replica c.in-Join.from c.in-Join.is accepted in
     record {
       past = past_in setup r.records;
@@ -200,9 +185,9 @@ returns-in-Join-clause-taken c = λ records stands.
     let none : fault_of setup.kind records ≡ None = sym stands.fault ∙ c.in_default.is in
     let accepted : refusal_of setup.kind setup.replicas records command ≡ None =
     c.in_default-refusal_of.ensures.first records (taken_known c.args.self.now (past_in setup records) stands none) stands.replicas
-    ∙ no_join_left records command c.in-Join.replica from c.in-Join.is in
+    ∙ ap (refusal_left records) c.in-Join.is in
     let next = next_joined setup.kind setup.replicas records command c.in-Join.replica from c.in-Join.is accepted in
-    let both = join_answered setup.kind setup.replicas records command joined from next none accepted in
+    let both = answered setup.kind setup.replicas records command (Join joined from) next refl none accepted in
     let taken = c.join.ensures.taken (past_in setup records) stands none (ap (refusal_of setup.kind setup.replicas records) (sym next) ∙ accepted) in
     let replied = subst (λ (r : Reply). IfOk c.join.result (λ reply. (reply ≡ r) × StandsFor c.join.new.self (past_in setup (Join joined from ∷ records)))) both.0 taken in
     subst (λ (r : Records). IfOk c.join.result (λ reply. (reply ≡ answer_of setup.kind setup.replicas records command) × StandsFor c.join.new.self (past_in setup r))) both.1 replied
@@ -214,6 +199,7 @@ returns-in-Join-clause-joins c = λ records stands.
     let none : fault_of setup.kind records ≡ None = sym stands.fault ∙ c.in_default.is in
     let accepted : refusal_of setup.kind setup.replicas records command ≡ None =
     c.in_default-refusal_of.ensures.first records (taken_known c.args.self.now (past_in setup records) stands none) stands.replicas
-    ∙ no_join_left records command c.in-Join.replica c.in-Join.from c.in-Join.is in
-    let both = join_answered setup.kind setup.replicas records command c.in-Join.replica c.in-Join.from c.in-Join.is none accepted in
+    ∙ ap (refusal_left records) c.in-Join.is in
+    let both = answered setup.kind setup.replicas records command (Join c.in-Join.replica c.in-Join.from) c.in-Join.is refl
+    none accepted in
     on_err_any c.join.result (sym both.1 ∙ ap (λ (d : Command). d ∷ records) (sym c.in-Join.is))
