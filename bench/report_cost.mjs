@@ -1,7 +1,7 @@
 #!/usr/bin/env node
 // What a report costs from Node, in microseconds: the fastest of fifty turns, by the clock and of this process.
 //
-//     RA_MONITOR=crates/ra_monitor_cli/out/ra_monitor_cli bench/report_cost.mjs
+//     RA_MONITOR=crates/ra_check_cli/out/ra_check_cli bench/report_cost.mjs
 import { Monitor, Recorder } from "../clients/javascript/index.js";
 
 const ROUNDS = 1_000;

@@ -1,7 +1,7 @@
 #!/usr/bin/env python3
 """What a report costs from Python, in microseconds: the fastest of fifty turns, by the clock and of this process.
 
-    RA_MONITOR=crates/ra_monitor_cli/out/ra_monitor_cli bench/report_cost.py
+    RA_MONITOR=crates/ra_check_cli/out/ra_check_cli bench/report_cost.py
 """
 import sys
 import time

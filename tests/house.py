@@ -9,17 +9,22 @@ from pathlib import Path
 from required import require
 
 TOP = Path(__file__).resolve().parent.parent
-PROGRAM = "ra_monitor_cli"
+# The program that checks, and the one that has the bench too.
+PROGRAM = "ra_check_cli"
+WHOLE = "ra_monitor_cli"
 CRATES = f"""\
 # NAME: what it stands on
 low:
 left: low
 right: low
 {PROGRAM}: left right
+bench: left
+{WHOLE}: bench right
 other: low
 """
 KIT = "kit of one name"
 ALL = ["left", "low", PROGRAM, "right"]
+OF_THE_BENCH = ["bench", WHOLE]
 # A run that has not ended by then is stuck.
 SECONDS = 60
 # A user without any rights, where the tests have all of them.
@@ -39,10 +44,11 @@ class House:
         (self.top / "crates.txt").write_text(CRATES)
         (self.top / "tools" / "seconds").write_text("low 20 # of one job\nleft 30\n")
         (self.top / ".gitignore").write_text("out/\n")
-        for name in ("low", "left", "right", "other"):
+        for name in ("low", "left", "right", "bench", "other"):
             self.write(f"crates/{name}/src/lib.rt", f"//! The crate {name}.\n")
         self.write("crates/low/proofs/Laws.antt", "a law\n")
         self.write(f"crates/{PROGRAM}/src/main.rt", "first text")
+        self.write(f"crates/{WHOLE}/src/main.rt", "whole text")
         self.git("init", "-q")
         self.commit("a house")
         self.make_kit()

@@ -1,4 +1,7 @@
-"""The built program, run thousands of times: it is started directly, on files in memory."""
+"""The built program, run thousands of times: it is started directly, on files in memory.
+
+It is the one that checks; with the word `--whole` on a script's command line the one that has the bench too.
+"""
 import os
 import signal
 import subprocess
@@ -6,7 +9,8 @@ import sys
 from pathlib import Path
 
 TOP = Path(__file__).resolve().parent.parent
-PROGRAM = TOP / "crates" / "ra_monitor_cli" / "out" / "ra_monitor_cli"
+CHECK, WHOLE = (TOP / "crates" / name / "out" / name for name in ("ra_check_cli", "ra_monitor_cli"))
+PROGRAM = WHOLE if "--whole" in sys.argv else CHECK
 # A run that has not ended by then is stuck, and is ended.
 SECONDS = 20
 

@@ -7,7 +7,7 @@ import { MonitorGone } from "./errors.js";
 
 const REPOSITORY = fileURLToPath(new URL("../../..", import.meta.url));
 const OWN = join(REPOSITORY, "ra_monitor");
-const BUILT = join(REPOSITORY, "crates", "ra_monitor_cli", "out", "ra_monitor_cli");
+const BUILT = join(REPOSITORY, "crates", "ra_check_cli", "out", "ra_check_cli");
 // The statuses of a run that read its whole input: yes, no, and yes with a refused report.
 export const WHOLE = [0, 1, 3];
 

@@ -151,11 +151,11 @@ test("the repository has a program of its own", () => {
   const top = join(folder, "repository");
   const client = join(top, "clients", "javascript");
   cpSync(fileURLToPath(new URL("..", import.meta.url)), client, { recursive: true });
-  const built = join(top, "crates", "ra_monitor_cli", "out");
+  const built = join(top, "crates", "ra_check_cli", "out");
   mkdirSync(built, { recursive: true });
-  symlinkSync(realpathSync(find()), join(built, "ra_monitor_cli"));
+  symlinkSync(realpathSync(find()), join(built, "ra_check_cli"));
   // It says so each time that it is started.
-  renameSync(script("echo started >&2", `exec "${built}/ra_monitor_cli" "$@"`), join(top, "ra_monitor"));
+  renameSync(script("echo started >&2", `exec "${built}/ra_check_cli" "$@"`), join(top, "ra_monitor"));
   const code = `
     import { Monitor, checkRandom } from ${JSON.stringify(pathToFileURL(join(client, "index.js")).href)};
     class Counter {

@@ -160,7 +160,7 @@ class Gone(unittest.TestCase):
     def test_the_repository_has_a_program_of_its_own(self) -> None:
         top = Path(self.folder.name) / "repository"
         own = shutil.copytree(Path(yehatu.__file__).parent, top / "clients" / "python" / "yehatu").parent
-        built = top / "crates" / "ra_monitor_cli" / "out" / "ra_monitor_cli"
+        built = top / "crates" / "ra_check_cli" / "out" / "ra_check_cli"
         built.parent.mkdir(parents=True)
         built.symlink_to(Path(yehatu.program.find()).resolve())
         # It says so each time that it is started.

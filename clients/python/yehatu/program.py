@@ -8,7 +8,7 @@ from typing import List, NamedTuple, Optional, Union
 from .errors import MonitorGone
 
 REPOSITORY = Path(__file__).resolve().parents[3]
-BUILT = REPOSITORY / "crates" / "ra_monitor_cli" / "out" / "ra_monitor_cli"
+BUILT = REPOSITORY / "crates" / "ra_check_cli" / "out" / "ra_check_cli"
 # The statuses of a run that read its whole input: yes, no, and yes with a refused report.
 WHOLE = (0, 1, 3)
 

@@ -1,4 +1,2 @@
-pub mod Words
 pub mod Bench
-pub mod Endings
 pub mod Program

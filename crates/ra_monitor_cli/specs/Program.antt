@@ -1,53 +1,11 @@
--- The program: what it reads and writes, and how it ends.
-use Rattle.std.specs.Prelude.{◌≡◌, ℕ, Bool, true, false, List, Option, IfSome, Result, Ok, Err, codes}
-use Rattle.std.specs.Io.KnownBytes.{IsAtEnd}
+-- A program that runs a bench: what it writes, and how it ends.
+use Rattle.std.specs.Prelude.{◌≡◌, ℕ, List, Option, Result, Ok, Err, codes}
 use Rattle.ra_labels.specs.declared.kind.Kind.{Kind}
 use Rattle.ra_bench.specs.declared.report.BenchReport.{BenchReport}
 use Rattle.ra_bench.specs.declared.fault.BenchFault.{BenchFault}
-use Rattle.ra_history_text.specs.declared.fault.CheckFault.{CheckFault}
-use Rattle.ra_history_text.specs.declared.fault.CheckFault.TheVariants.{Endless}
-use Rattle.ra_history_text.specs.declared.outcome.Outcome.{Outcome}
-use Rattle.ra_history_text.specs.declared.limits.TheConstants.{MOST_READS}
-use Rattle.ra_history_text.specs.Faults.{check_fault_words}
-use Rattle.ra_history_text.specs.Output.{status_of}
-use Rattle.ra_history_text.specs.Report.{report_line}
-use Rattle.ra_history_text.specs.Run.{WritesAnswer, StopsCheck, HasGiven}
-use Rattle.ra_monitor_cli.specs.declared.ending.Ending.{Ending}
+use Rattle.ra_program.specs.declared.ending.Ending.{Ending}
+use Rattle.ra_program.specs.Endings.{EndsTelling, EndsWithLine}
 use Rattle.ra_monitor_cli.specs.Bench.{bench_line, status_of_verdict, status_of_fault}
-use Rattle.ra_monitor_cli.specs.Endings.{ends_silently, EndsTelling, EndsWithLine, StopsProgram}
-
--- ---- a check
-
--- the status of a check that found this
-abbrev pub status_of_outcome : Outcome → ℕ
-status_of_outcome outcome = status_of (Ok outcome)
-
--- the answer is written, and the report's line behind it where it is asked for
-abbrev pub EndsAnswered : Bool → Outcome → Ending → (answered new err_old err_new : Option (List ℕ)) → Type 0
-EndsAnswered false outcome ending answered new err_old err_new =
-    (ending ≡ ends_silently (status_of_outcome outcome)) × (new ≡ answered)
-EndsAnswered true outcome ending answered new err_old err_new =
-    EndsWithLine (report_line outcome.report) (status_of_outcome outcome) ending answered new err_old err_new
-
--- A check that has this answer: all was read, and what is stated of it was written; or it stopped, and its fault is
--- told.
-abbrev pub EndsCheck : Bool → Result Outcome CheckFault → Ending →
-    (text left old new err_old err_new : Option (List ℕ)) → Type 0
-EndsCheck report (Ok outcome) ending text left old new err_old err_new =
-    IsAtEnd left × ((answered : Option (List ℕ))
-    × IfSome text (λ bytes. WritesAnswer bytes old answered outcome.report)
-    × EndsAnswered report outcome ending answered new err_old err_new)
-EndsCheck report (Err fault) ending text left old new err_old err_new =
-    StopsProgram ending err_old err_new (check_fault_words fault)
-    × IfSome text (λ bytes. StopsCheck bytes left old new fault)
-    × (fault ≡ Endless → HasGiven text left MOST_READS)
-
--- the program checks a text, and ends as that check does
-abbrev pub ChecksText : Bool → Ending → (text left old new err_old err_new : Option (List ℕ)) → Type 0
-ChecksText report ending text left old new err_old err_new =
-    (answer : Result Outcome CheckFault) × EndsCheck report answer ending text left old new err_old err_new
-
--- ---- a bench
 
 -- A bench that has this answer: its line is written; or it faulted, nothing is written, and that is told.
 abbrev pub EndsBench : Kind → (replicas rounds : ℕ) → Result BenchReport BenchFault → Ending →

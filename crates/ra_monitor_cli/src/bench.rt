@@ -3,14 +3,14 @@ ghost use Rattle.std.specs.Prelude.{◌≡◌, IfErr, IfOk, OnOk, codes, string_
 ghost use Rattle.std.specs.Io.KnownBytes.{Appends};
 ghost use Rattle.ra_history_text.specs.Written.{StopsLine};
 ghost use Rattle.ra_monitor_cli.specs.Bench as bench;
-ghost use Rattle.ra_monitor_cli.specs.Endings.{EndsTelling};
+ghost use Rattle.ra_program.specs.Endings.{EndsTelling};
 ghost use Rattle.ra_monitor_cli.specs.Program.{EndsBench};
 
-use crate::ending::{Ending, stop};
 use ra_bench::{BenchFault, BenchReport};
 use ra_history_text::{CheckFault, write_line};
 use ra_labels::{Kind, NoMemory, Reply};
 use ra_lines::kind_line::kind_word;
+use ra_program::{Ending, stop};
 use std::alloc::Global;
 use std::io::Write;
 

@@ -2,16 +2,13 @@
 #![tactic(auto)]
 
 mod bench;
-mod ending;
 mod run;
-mod words;
 
 use crate::run::run;
-use crate::words::WordsFault;
 use ra_bench::{OpenGate, run_bench};
-use std::env::Env;
+use ra_program::words_of;
+use std::io;
 use std::process::ExitCode;
-use std::{env, io};
 
 fn main(rt: HostRuntime) -> ExitCode {
     let words = words_of(&rt);
@@ -24,11 +21,4 @@ fn main(rt: HostRuntime) -> ExitCode {
         &mut rt.stderr(),
     );
     ExitCode::from(ending.status)
-}
-
-// The words of the command line behind the program's name.
-fn words_of<R: Env + AllocGlobal>(rt: &R) -> Result<Vec<String>, WordsFault> {
-    let mut words = env::args(rt)?;
-    let _program = words.next();
-    Ok(words.collect(rt.alloc())?)
 }

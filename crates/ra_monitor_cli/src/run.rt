@@ -1,17 +1,16 @@
 //! The program, over the words of its command line, a bench, a reader and two writers.
 ghost use Rattle.std.specs.Prelude.{◌≡◌, ◌≢◌, ℕ, Bool, None, Some};
 ghost use Rattle.ra_labels.specs.declared.kind.Kind.{Kind};
-ghost use Rattle.ra_history_text.specs.Report.{report_line};
-ghost use Rattle.ra_monitor_cli.specs.Words.{asked_by, stop_words};
-ghost use Rattle.ra_monitor_cli.specs.Endings.{EndsWithLine, StopsProgram};
-ghost use Rattle.ra_monitor_cli.specs.Program.{status_of_outcome, ChecksText, EndsAnswered, RunsBench};
-ghost use Rattle.ra_monitor_cli.specs.declared.words.Run.TheVariants.{Check, Bench};
+ghost use Rattle.ra_program.specs.Words.{asked_by, stop_words};
+ghost use Rattle.ra_program.specs.Endings.{StopsProgram};
+ghost use Rattle.ra_program.specs.Check.{ChecksText};
+ghost use Rattle.ra_program.specs.declared.words.Run.TheVariants.{Check, Bench};
+ghost use Rattle.ra_monitor_cli.specs.Program.{RunsBench};
 
 use crate::bench::{BenchAnswer, end_bench};
-use crate::ending::{Ending, stop, usage};
-use crate::words::{Run, WordsFault, run_of_kept};
-use ra_history_text::{CheckFault, Outcome, check, status, write_report};
+use ra_history_text::CheckFault;
 use ra_labels::Kind;
+use ra_program::{Ending, Run, WordsFault, run_check, run_of_kept, stop, usage};
 use std::alloc::Global;
 use std::io::{Read, Write};
 
@@ -89,64 +88,5 @@ fn run_asked<R: Read, W: Write, E: Write, B: FnOnce(Kind, u8, u32) -> BenchAnswe
             let answer = bench(kind, replicas, rounds);
             end_bench(alloc, kind, replicas, rounds, answer, out, err)
         }
-    }
-}
-
-fn run_check<R: Read, W: Write, E: Write>(
-    alloc: Global,
-    report: bool,
-    reader: &mut R,
-    out: &mut W,
-    err: &mut E,
-) -> Ending
-    ensures checked { ChecksText report result (R.remaining reader.old) (R.remaining reader.new)
-        (W.contents out.old) (W.contents out.new) (E.contents err.old) (E.contents err.new) }
-    ensures silent { result.status ≢ 2 → err.new ≡ err.old }
-{
-    let answer = check(alloc, reader, out);
-    let status = status(&answer);
-    match answer {
-        Ok(outcome) => end_answered(alloc, report, outcome, status, out, err),
-        Err(fault) => stop(err, fault),
-    }
-}
-
-// All was read and answered.
-fn end_answered<W: Write, E: Write>(
-    alloc: Global,
-    report: bool,
-    outcome: Outcome,
-    status: u8,
-    out: &mut W,
-    err: &mut E,
-) -> Ending
-    requires { status ≡ status_of_outcome outcome }
-    ensures ended { EndsAnswered report outcome result (W.contents out.old) (W.contents out.new)
-        (E.contents err.old) (E.contents err.new) }
-    ensures silent { result.status ≢ 2 → err.new ≡ err.old }
-{
-    if report {
-        end_with_report(alloc, outcome, status, out, err)
-    } else {
-        Ending { status, told: true }
-    }
-}
-
-// With the report's line behind the answer.
-fn end_with_report<W: Write, E: Write>(
-    alloc: Global,
-    outcome: Outcome,
-    status: u8,
-    out: &mut W,
-    err: &mut E,
-) -> Ending
-    requires { status ≡ status_of_outcome outcome }
-    ensures ended { EndsWithLine (report_line outcome.report) status result (W.contents out.old) (W.contents out.new)
-        (E.contents err.old) (E.contents err.new) }
-    ensures silent { result.status ≢ 2 → err.new ≡ err.old }
-{
-    match write_report(alloc, &outcome.report, out) {
-        Ok(()) => Ending { status, told: true },
-        Err(fault) => stop(err, fault),
     }
 }

@@ -1,15 +1,16 @@
 //! The words of the command line.
 ghost use Rattle.std.specs.Prelude.{◌≡◌, IfSome, Some, map, string_bytes};
-ghost use Rattle.ra_monitor_cli.specs.Words.{are_of_bench, asked_by_one, asked_by_two, bench_read, byte_read};
-ghost use Rattle.ra_monitor_cli.specs.Words.{run_named, texts_of, AskFor};
-ghost use Rattle.ra_monitor_cli.specs.declared.words.Run.{Run};
+ghost use Rattle.ra_program.specs.Words.{are_of_bench, asked_by_one, asked_by_two, bench_read, byte_read};
+ghost use Rattle.ra_program.specs.Words.{run_named, texts_of, AskFor};
+ghost use Rattle.ra_program.specs.declared.words.Run.{Run};
 
 use ra_labels::Kind;
 use ra_lines::kind_line::kind_of_word;
 use ra_lines::number::number;
 use std::alloc::AllocError;
-use std::io;
+use std::env::Env;
 use std::io::ErrorKind;
+use std::{env, io};
 
 /// What the program is asked for.
 #[derive(Clone, Copy, Debug, PartialEq, Eq)]
@@ -31,8 +32,8 @@ pub enum Run {
 }
 
 /// What the words behind the program's name ask for: `check`, `check --report`, or `bench --kind K --replicas N
-/// --rounds M`, where K is the word of a kind, and N and M are numbers in digits with no zero in front. `None` where
-/// they are others. It takes no memory.
+/// --rounds M`, where K is the word of a kind, and N and M are numbers in digits with no zero in front, N up to 255 and
+/// M up to 4,294,967,295. `None` where they are others. It takes no memory.
 pub fn run_of(words: &[&str]) -> Option<Run>
     ensures table { result ≡ run_named (texts_of words.now) }
     ensures found { IfSome result (AskFor (texts_of words.now)) }
@@ -150,6 +151,13 @@ pub fn run_of_kept(words: &[String]) -> Option<Run>
     }
 }
 
+/// The words of the command line behind the program's name. Costs as much as they are long.
+pub fn words_of<R: Env + AllocGlobal>(rt: &R) -> Result<Vec<String>, WordsFault> {
+    let mut words = env::args(rt)?;
+    let _program = words.next();
+    Ok(words.collect(rt.alloc())?)
+}
+
 /// Why the words of a command line are not known.
 #[derive(Clone, Copy, Debug, PartialEq, Eq)]
 pub enum WordsFault {
@@ -163,7 +171,7 @@ impl From<io::Error> for WordsFault {
     ghost use Rattle.std.specs.Prelude.{◌≡◌, ◌↔◌};
     ghost use Rattle.std.specs.IoError.{error_kind};
     ghost use Rattle.std.specs.declared.io.ErrorKind.TheVariants.{OutOfMemory};
-    ghost use Rattle.ra_monitor_cli.specs.declared.words.WordsFault.TheVariants.{NoMemory};
+    ghost use Rattle.ra_program.specs.declared.words.WordsFault.TheVariants.{NoMemory};
 
     ghost from_gives = { λ error fault. (fault ≡ NoMemory) ↔ (error_kind error ≡ OutOfMemory) };
 
@@ -177,7 +185,7 @@ impl From<io::Error> for WordsFault {
 
 impl From<AllocError> for WordsFault {
     ghost use Rattle.std.specs.Prelude.{◌≡◌};
-    ghost use Rattle.ra_monitor_cli.specs.declared.words.WordsFault.TheVariants.{NoMemory};
+    ghost use Rattle.ra_program.specs.declared.words.WordsFault.TheVariants.{NoMemory};
 
     ghost from_gives = { λ _ fault. fault ≡ NoMemory };
 

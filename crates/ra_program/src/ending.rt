@@ -1,7 +1,7 @@
 //! How the program ends.
 ghost use Rattle.std.specs.Prelude.{◌≡◌, codes};
 ghost use Rattle.ra_history_text.specs.Faults.{check_fault_words};
-ghost use Rattle.ra_monitor_cli.specs.Endings.{StopsProgram};
+ghost use Rattle.ra_program.specs.Endings.{StopsProgram};
 
 use ra_history_text::CheckFault;
 use std::io::Write;

@@ -4,10 +4,10 @@ use Rattle.std.specs.Borrow.{Bor}
 use Rattle.std.specs.Global as global
 use Rattle.ra_lines.specs.Grammar.{kind_word}
 use Rattle.ra_lines.specs.Reading.{kind_named, number_read}
-use Rattle.ra_monitor_cli.specs.declared.words.Run.{Run}
-use Rattle.ra_monitor_cli.specs.declared.words.Run.TheVariants.{Check, Bench}
-use Rattle.ra_monitor_cli.specs.declared.words.WordsFault.{WordsFault}
-use Rattle.ra_monitor_cli.specs.declared.words.WordsFault.TheVariants.{NoMemory, NotText}
+use Rattle.ra_program.specs.declared.words.Run.{Run}
+use Rattle.ra_program.specs.declared.words.Run.TheVariants.{Check, Bench}
+use Rattle.ra_program.specs.declared.words.WordsFault.{WordsFault}
+use Rattle.ra_program.specs.declared.words.WordsFault.TheVariants.{NoMemory, NotText}
 
 -- ---- a check
 

@@ -4,7 +4,7 @@ use Rattle.std.specs.Io.KnownBytes.{Appends}
 use Rattle.ra_history_text.specs.declared.fault.CheckFault.{CheckFault}
 use Rattle.ra_history_text.specs.Faults.{check_fault_words}
 use Rattle.ra_history_text.specs.Written.{StopsLine}
-use Rattle.ra_monitor_cli.specs.declared.ending.Ending.{Ending}
+use Rattle.ra_program.specs.declared.ending.Ending.{Ending}
 
 -- a status, with nothing to tell
 abbrev pub ends_silently : ℕ → Ending

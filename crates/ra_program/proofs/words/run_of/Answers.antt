@@ -1,7 +1,7 @@
 use Rattle.std.proofs.Common.{◌∙◌}
-use Rattle.ra_monitor_cli.specs.Words.{texts_of}
-use Rattle.ra_monitor_cli.proofs.AskedRuns.{asked_found, named_only}
-use Rattle.ra_monitor_cli.proofs.words.run_of.Goals as goal
+use Rattle.ra_program.specs.Words.{texts_of}
+use Rattle.ra_program.proofs.AskedRuns.{asked_found, named_only}
+use Rattle.ra_program.proofs.words.run_of.Goals as goal
 
 pub returns-clause-found : goal.returns-clause-found
 returns-clause-found c = asked_found c.named.result (texts_of c.args.words.now) c.named.ensures

@@ -7,9 +7,9 @@ use Rattle.std.proofs.lemmas.Option.{option_and_then_some, cond_some}
 use Rattle.ra_lines.specs.Grammar.{kind_word}
 use Rattle.ra_lines.specs.Reading.{kind_named, number_read}
 use Rattle.ra_lines.proofs.TheLaws.{a_word_names_a_kind-found, a_word_names_a_kind-only, a_number_is_read-found, a_number_is_read-only, mapped, chosen}
-use Rattle.ra_monitor_cli.specs.declared.words.Run.{Run}
-use Rattle.ra_monitor_cli.specs.declared.words.Run.TheVariants.{Check, Bench}
-use Rattle.ra_monitor_cli.specs.Words.{asked_by_one, asked_by_two, are_of_bench, byte_read, bench_read, run_named, words_for, HasSmallNumbers, AskFor}
+use Rattle.ra_program.specs.declared.words.Run.{Run}
+use Rattle.ra_program.specs.declared.words.Run.TheVariants.{Check, Bench}
+use Rattle.ra_program.specs.Words.{asked_by_one, asked_by_two, are_of_bench, byte_read, bench_read, run_named, words_for, HasSmallNumbers, AskFor}
 
 -- no value is none
 none_is_some : {P : Type 0} {run : Run} → ◌≡◌ {A = Option Run} None (Some run) → P
