@@ -54,12 +54,19 @@ long write(int descriptor, const void *from, count_t count) {
     return __write(descriptor, from, count);
 }
 
-// The programs end by this call, which runs nothing that was left for the end.
-void _exit(int status) {
+static void tell(void) {
     int descriptor = named("COUNTED_TO");
     if (descriptor) {
         // What it takes itself is not counted: the numbers are taken before.
         dprintf(descriptor, "%d %lu %lu %lu %lu\n", calls, bytes, yields, reads, writes);
     }
+}
+
+// Programs that may start threads end by this call, which runs nothing that was left for the end.
+void _exit(int status) {
+    tell();
     _Exit(status);
 }
+
+// The others return from main.
+__attribute__((destructor)) static void at_the_end(void) { tell(); }
