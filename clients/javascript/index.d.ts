@@ -117,7 +117,7 @@ export class Recorder {
   update<Done>(replica: Key, operation: Told<Operation, Done>, options?: Sent<Done>): Promise<Done>;
   deliver<Done>(replica: Key, message: Told<Key, Done>, options?: Act<Done>): Promise<Done>;
   merge<Done>(replica: Key, messages: Told<Seen | Iterable<Key>, Done>, options?: Act<Done>): Promise<Done>;
-  /** The new replica joins with all that the source has. */
+  /** The new replica joins with all that the source has. Who cannot join is told before the act. */
   join<Done>(replica: Key, source: Key, options?: Act<Done>): Promise<Done>;
   read<Value>(replica: Key, value: Value | (() => Value | Promise<Value>)): Promise<Value>;
   seen(replica: Key): Seen;

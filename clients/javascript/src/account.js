@@ -13,10 +13,10 @@ const MEANINGS = {
   order: "its clock is not above all that its replica had seen",
   update: "with it the updates can no longer be made one after another in the order of their clocks",
   query: "what its replica had seen does not lead to its answer",
-  "not-causal": "its replica lacks an update that the delivered one had seen",
   "stamp-taken": "its replica gave this clock to another operation before",
   "id-taken": "an addition had this identifier before",
 };
+const NOT_CAUSAL = "refused not-causal ";
 
 // A removal of an OR-Set asks which identifiers its replica has seen of the element.
 const OTHER_IDENTIFIERS =
@@ -62,6 +62,19 @@ export class Account {
     const padded = rows.map(([line, reply, words]) => [line.padEnd(widths[0]), reply.padEnd(widths[1]), words]);
     return padded.map((row) => `    ${row.filter((it) => it !== "").join("  ")}`).join("\n");
   }
+
+  /** What a reply to the last command says. */
+  meaning(reply) {
+    if (reply.startsWith(NOT_CAUSAL)) {
+      const lacking = this.#delivered(Number(reply.slice(NOT_CAUSAL.length)));
+      return `refused, its replica lacks ${lacking}, which the delivered one had seen`;
+    }
+    const word = reply.split(" ").find((it) => it in MEANINGS);
+    const verdict = reply.startsWith("no ") ? "not RA-linearizable" : "refused";
+    const isRemoval = this.commands.at(-1).includes(" remove ");
+    if (word === "query" && isRemoval) return `${verdict}, ${OTHER_IDENTIFIERS}`;
+    return word === undefined ? reply : `${verdict}, ${MEANINGS[word]}`;
+  }
 }
 
 /** The error for a history whose last command had this reply. */
@@ -75,16 +88,8 @@ export function failure(account, text, reply, path) {
   const operation = account.words(last);
   const shown = account.shown([], Math.max(0, last + 1 - SHOWN_LINES));
   const place = `line ${last + HEAD_LINES + 1} of ${kept}, answered "${reply}"`;
-  const message = `${operation}: ${meaning(reply, account.commands[last])}\n${place}; the last lines:\n${shown}`;
+  const message = `${operation}: ${account.meaning(reply)}\n${place}; the last lines:\n${shown}`;
   return new (reply.startsWith("no ") ? NotLinearizable : Refused)(message, operation, reply, kept);
-}
-
-/** What a reply to this line says. */
-export function meaning(reply, line) {
-  const word = reply.split(" ").find((it) => it in MEANINGS);
-  const verdict = reply.startsWith("no ") ? "not RA-linearizable" : "refused";
-  if (word === "query" && line.includes(" remove ")) return `${verdict}, ${OTHER_IDENTIFIERS}`;
-  return word === undefined ? reply : `${verdict}, ${MEANINGS[word]}`;
 }
 
 /** Writes the history into this file, or into a new one of the folder for temporary files. */

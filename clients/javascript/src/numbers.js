@@ -108,8 +108,8 @@ export class Replicas {
     this.firstNames = [...this.names];
   }
 
-  /** One more replica. */
-  join(replica) {
+  /** Throws what tells why it cannot join, if it cannot. */
+  lookForRoom(replica) {
     if (this.#places.get(replica) !== undefined) {
       throw new CannotTell(`there is a replica ${inspect(replica)} already: who joins has a name of its own`);
     }
@@ -117,6 +117,11 @@ export class Replicas {
       const told = `there are ${MOST_REPLICAS} replicas, and no more can be told`;
       throw new CannotTell(`${inspect(replica)} cannot join: ${told}`);
     }
+  }
+
+  /** One more replica. */
+  join(replica) {
+    this.lookForRoom(replica);
     const isFree = isName(replica) && !this.names.includes(replica);
     this.names.push(isFree ? replica : freeNames(this.names)[0]);
     this.#places.set(replica, this.given.length);

@@ -1,6 +1,6 @@
 // Random runs of the user's own replicas, and the smallest history of the first one that goes wrong.
 import { inspect } from "node:util";
-import { keptHistory, meaning } from "./account.js";
+import { keptHistory } from "./account.js";
 import { NotLinearizable, Refused, ReplicaRaised } from "./errors.js";
 import { plan } from "./plans.js";
 import * as programs from "./program.js";
@@ -90,7 +90,7 @@ function raised(setting, found, seed, runs, failure) {
   const reply = found.replies.at(-1);
   const operation = account.words(account.commands.length - 1);
   const failed = found.cause === "no" ? NotLinearizable : Refused;
-  return new failed(`${operation}: ${meaning(reply, account.commands.at(-1))}\n${ran}`, operation, reply, kept);
+  return new failed(`${operation}: ${account.meaning(reply)}\n${ran}`, operation, reply, kept);
 }
 
 /** The call of a replica that a step makes. */

@@ -66,9 +66,14 @@ export class Recorder {
     return this.#step(replica, act, (place, done) => this.#merge(place, told(messages, done)));
   }
 
-  /** A new replica joins with all that the source has, which the act copies; at one clock it is the latest one. */
+  /**
+   * A new replica joins with all that the source has, which the act copies; at one clock it is the latest one. Who
+   * cannot join, since there is one of this name or there are 64, is told before the act, and the history goes on
+   * without it.
+   */
   join(replica, source, { act } = {}) {
-    return this.#step(source, act, (place) => this.#join(replica, place));
+    const look = () => this.#speller.replicas.lookForRoom(replica);
+    return this.#step(source, act, (place) => this.#join(replica, place), look);
   }
 
   /** The replica's value is read: this one, or the one that this function answers. */
@@ -155,8 +160,9 @@ export class Recorder {
     return new Account(this.#speller, text, new Map(), this.#notes);
   }
 
-  #step(replica, act, report) {
-    const run = () => this.#run(replica, act, report);
+  // What `before` throws comes before the act.
+  #step(replica, act, report, before) {
+    const run = () => this.#run(replica, act, report, before);
     const ran = this.#last === undefined ? attempted(run) : this.#last.then(run);
     if (!(ran instanceof Promise)) return Promise.resolve(ran);
     // Steps that come meanwhile wait for this one.
@@ -167,9 +173,10 @@ export class Recorder {
     return ran;
   }
 
-  #run(replica, act, report) {
+  #run(replica, act, report, before) {
     this.#look();
     const place = this.#speller.replicas.place(replica);
+    before?.();
     const done = act?.();
     if (typeof done?.then === "function") return Promise.resolve(done).then((it) => this.#report(place, it, report));
     return this.#report(place, done, report);

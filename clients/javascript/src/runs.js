@@ -100,7 +100,11 @@ class Run {
   async #join(step) {
     if (!this.#replicas.has(step.update)) return false;
     const name = this.#names[step.replica];
-    this.#replicas.set(step.replica, await this.#replicas.get(step.update).fork(name));
+    const forked = await this.#replicas.get(step.update).fork(name);
+    if (forked === undefined || forked === null) {
+      throw new TypeError(`fork("${name}") answers ${forked}, and not the new replica`);
+    }
+    this.#replicas.set(step.replica, forked);
     await this.recorder.join(name, this.#names[step.update]);
     this.#reach.join(step.replica, step.update);
     return true;

@@ -83,6 +83,11 @@ class ForksWithNothing extends Counter {
   }
 }
 
+/** Nobody joins. */
+class ForksIntoNothing extends Counter {
+  fork() {}
+}
+
 /** Who joins has the same state, and not a copy of it. */
 class ForksShareTheirState extends LwwSet {
   fork(name) {
@@ -228,6 +233,10 @@ test("a refused report is shrunk too", async () => {
 
 test("a class that lacks methods is told", async () => {
   await assert.rejects(checkRandom(made(Counter), "register"), /lacks write/);
+});
+
+test("a fork that answers nothing is told", async () => {
+  await assert.rejects(checkRandom(made(ForksIntoNothing), "counter"), /fork\('[bc]'\) threw .*answers undefined/);
 });
 
 test("a kind that is none is told", async () => {

@@ -226,17 +226,22 @@ test("as many replicas as there can be, and no more", async () => {
   await recorder.join(63, 0);
   await recorder.read(63, 1);
   await recorder.read(62, 0);
-  await recorder.settle();
-  await assert.rejects(recorder.join(64, 0), cannot(/64 cannot join: there are 64 replicas/));
-  await recorder.stop();
+  const act = () => assert.fail("the act was run");
+  await assert.rejects(recorder.join(64, 0, { act }), cannot(/64 cannot join: there are 64 replicas/));
+  await recorder.read(63, 1);
+  assert.equal((await recorder.close()).verdict, "yes");
   assert.throws(() => new Recorder("counter", numbers), cannot(/1 to 64 replicas/));
 });
 
 for (const [replica, source, said] of [["a", "b", /a replica 'a' already/], ["c", "d", /no replica 'd'/]]) {
-  test(`${replica} cannot join from ${source}`, async () => {
+  test(`${replica} cannot join from ${source}, which is told before the act, and the history goes on`, async () => {
     const recorder = new Recorder("counter", ["a", "b"]);
-    await assert.rejects(recorder.join(replica, source), cannot(said));
-    await recorder.stop();
+    const act = () => assert.fail("the act was run");
+    await assert.rejects(recorder.join(replica, source, { act }), cannot(said));
+    await recorder.join("c", "b");
+    await recorder.read("c", 0);
+    assert.equal((await recorder.close()).verdict, "yes");
+    assert.deepEqual(commands(recorder), ["join c b", "c read 0"]);
   });
 }
 
@@ -278,7 +283,9 @@ test("an arrival before its cause is refused", async () => {
   await recorder.deliver("b", 1);
   await recorder.increment("b", { message: 2 });
   await recorder.deliver("c", 2);
-  await assert.rejects(recorder.settle(), (it) => it instanceof Refused && it.cause === "not-causal 0");
+  const failed = await recorder.settle().catch((fault) => fault);
+  assert.ok(failed instanceof Refused && failed.cause === "not-causal 0");
+  assert.match(failed.message, /its replica lacks message 1, label 0 \('a' increments\), which the delivered one had seen/);
   await recorder.stop();
 });
 

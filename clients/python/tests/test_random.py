@@ -66,6 +66,13 @@ class ForksWithNothing(Counter):
         return type(self)(name)
 
 
+class ForksIntoNone(Counter):
+    """Nobody joins."""
+
+    def fork(self, name: str) -> None:
+        type(self)(name)
+
+
 class ForksShareTheirState(LwwSet):
     """Who joins has the same state, and not a copy of it."""
 
@@ -235,6 +242,10 @@ class OtherFailures(unittest.TestCase):
     def test_a_class_that_lacks_methods_is_told(self) -> None:
         with self.assertRaisesRegex(TypeError, r"lacks \['write'\]"):
             check_random(Counter, "register")
+
+    def test_a_fork_that_answers_none_is_told(self) -> None:
+        with self.assertRaisesRegex(ReplicaRaised, r"fork\('[bc]'\) raised TypeError\(.*answers None"):
+            check_random(ForksIntoNone, "counter", seeds=FOUND_WITHIN)
 
     def test_a_kind_that_is_none_is_told(self) -> None:
         with self.assertRaisesRegex(CannotTell, "there is no kind 'list', but counter, "):

@@ -244,17 +244,19 @@ class Joins(unittest.TestCase):
             recorder.read(62, 0)
         with self.assertRaisesRegex(CannotTell, "1 to 64 replicas"):
             Recorder("counter", range(65))
-        recorder = Recorder("counter", range(64))
-        with self.assertRaisesRegex(CannotTell, "64 cannot join: there are 64 replicas"):
-            recorder.join(64, 0)
-        recorder.stop()
+        with Recorder("counter", range(64)) as recorder:
+            with self.assertRaisesRegex(CannotTell, "64 cannot join: there are 64 replicas"):
+                recorder.join(64, 0, act=self.fail)
+            recorder.read(63, 0)
 
-    def test_what_cannot_join(self) -> None:
-        for new, source, said in [("a", "b", "a replica 'a' already"), ("c", "d", "no replica 'd'")]:
-            recorder = Recorder("counter", ["a", "b"])
-            with self.subTest(said=said), self.assertRaisesRegex(CannotTell, said):
-                recorder.join(new, source)
-            recorder.stop()
+    def test_who_cannot_join_is_told_before_the_act_and_the_history_goes_on(self) -> None:
+        with Recorder("counter", ["a", "b"]) as recorder:
+            for new, source, said in [("a", "b", "a replica 'a' already"), ("c", "d", "no replica 'd'")]:
+                with self.subTest(said=said), self.assertRaisesRegex(CannotTell, said):
+                    recorder.join(new, source, act=self.fail)
+            recorder.join("c", "b")
+            recorder.read("c", 0)
+        self.assertEqual(lines(recorder), "join c b\nc read 0\n")
 
     def test_a_no_after_a_join_is_told_in_the_users_words(self) -> None:
         recorder = Recorder("counter", ["Ann", "Bob"], window=1)
@@ -303,7 +305,8 @@ class Failures(unittest.TestCase):
             recorder.deliver("c", 2)
             recorder.settle()
         self.assertEqual(caught.exception.cause, "not-causal 0")
-        self.assertIn("its replica lacks an update", str(caught.exception))
+        lacking = "its replica lacks message 1, label 0 ('a' increments), which the delivered one had seen"
+        self.assertIn(lacking, str(caught.exception))
         recorder.stop()
 
     def test_what_is_not_reported_ends_the_history(self) -> None:

@@ -13,10 +13,10 @@ MEANINGS = {
     "order": "its clock is not above all that its replica had seen",
     "update": "with it the updates can no longer be made one after another in the order of their clocks",
     "query": "what its replica had seen does not lead to its answer",
-    "not-causal": "its replica lacks an update that the delivered one had seen",
     "stamp-taken": "its replica gave this clock to another operation before",
     "id-taken": "an addition had this identifier before",
 }
+NOT_CAUSAL = "refused not-causal "
 
 # A removal of an OR-Set asks which identifiers its replica has seen of the element.
 OTHER_IDENTIFIERS = (
@@ -59,6 +59,18 @@ class Account:
         return "\n".join("    " + "  ".join(it for it in row if it) for row in padded)
 
 
+    def meaning(self, reply: str) -> str:
+        """What a reply to the last command says."""
+        if reply.startswith(NOT_CAUSAL):
+            lacking = self._delivered(int(reply[len(NOT_CAUSAL) :]))
+            return f"refused, its replica lacks {lacking}, which the delivered one had seen"
+        words = [it for it in reply.split(" ") if it in MEANINGS]
+        verdict = "not RA-linearizable" if reply.startswith("no ") else "refused"
+        if " remove " in self.commands[-1] and words == ["query"]:
+            return f"{verdict}, {OTHER_IDENTIFIERS}"
+        return f"{verdict}, {MEANINGS[words[0]]}" if words else reply
+
+
 def failure(account: Account, text: str, reply: str, path: Optional[str]) -> Exception:
     """The exception for a history whose last command had this reply."""
     last = len(account.commands) - 1
@@ -68,19 +80,10 @@ def failure(account: Account, text: str, reply: str, path: Optional[str]) -> Exc
     operation = account.words(last)
     first = max(0, last + 1 - SHOWN_LINES)
     message = (
-        f"{operation}: {meaning(reply, account.commands[last])}\n"
+        f"{operation}: {account.meaning(reply)}\n"
         f"line {last + HEAD_LINES + 1} of {kept}, answered {reply!r}; the last lines:\n{account.shown(first=first)}"
     )
     return (NotLinearizable if reply.startswith("no ") else Refused)(message, operation, reply, kept)
-
-
-def meaning(reply: str, line: str) -> str:
-    """What a reply to this line says."""
-    words = [it for it in reply.split(" ") if it in MEANINGS]
-    verdict = "not RA-linearizable" if reply.startswith("no ") else "refused"
-    if " remove " in line and words == ["query"]:
-        return f"{verdict}, {OTHER_IDENTIFIERS}"
-    return f"{verdict}, {MEANINGS[words[0]]}" if words else reply
 
 
 def kept_history(text: str, path: Optional[str]) -> str:

@@ -81,12 +81,16 @@ class Replicas:
         self.first_names = tuple(self.names)
         self._places = {it: place for place, it in enumerate(self.given)}
 
-    def join(self, replica: Hashable) -> None:
-        """One more replica."""
+    def look_for_room(self, replica: Hashable) -> None:
+        """Raises what tells why it cannot join, if it cannot."""
         if replica in self._places:
             raise CannotTell(f"there is a replica {replica!r} already: who joins has a name of its own")
         if len(self.given) == MOST_REPLICAS:
             raise CannotTell(f"{replica!r} cannot join: there are {MOST_REPLICAS} replicas, and no more can be told")
+
+    def join(self, replica: Hashable) -> None:
+        """One more replica."""
+        self.look_for_room(replica)
         is_free = _is_name(replica) and replica not in self.names
         self.names.append(str(replica) if is_free else next(_free_names(set(self.names))))
         self._places[replica] = len(self.given)

@@ -4,7 +4,7 @@ import time
 from typing import Any, Callable, Hashable, Iterable, List, Sequence, Union
 
 from . import program as programs
-from .account import kept_history, meaning
+from .account import kept_history
 from .errors import NotLinearizable, Refused, ReplicaRaised, ReportFailed
 from .plans import Planner, Step
 from .program import Program
@@ -103,7 +103,7 @@ def _raised(setting: Setting, small: Failure, seed: int, runs: int, failure: Fai
     reply = small.replies[-1]
     operation = account.words(len(account.commands) - 1)
     failed = NotLinearizable if small.cause == ("no",) else Refused
-    return failed(f"{operation}: {meaning(reply, account.commands[-1])}\n{ran}", operation, reply, kept)
+    return failed(f"{operation}: {account.meaning(reply)}\n{ran}", operation, reply, kept)
 
 
 def _called(setting: Setting, step: Step) -> str:

@@ -92,11 +92,18 @@ class Recorder:
         return self._step(replica, act, self._merge, messages)
 
     def join(self, replica: Hashable, source: Hashable, *, act: Act = None) -> Any:
-        """A new replica joins with all that the source has, which the act copies; at one clock it is the latest one."""
+        """A new replica joins with all that the source has, which the act copies; at one clock it is the latest one.
+
+        Who cannot join, since there is one of this name or there are 64, is told before the act, and the history goes
+        on without it.
+        """
         def report(place: int) -> None:
             self._join(replica, place)
 
-        return self._step(source, act, report)
+        def look() -> None:
+            self._speller.replicas.look_for_room(replica)
+
+        return self._step(source, act, report, before=look)
 
     def read(self, replica: Hashable, value: Any) -> Any:
         """The replica's value is read: this one, or the one that this function answers."""
@@ -211,12 +218,17 @@ class Recorder:
 
     # Under the lock.
 
-    def _step(self, replica: Hashable, act: Act, report: Callable[..., None], *given: Any) -> Any:
-        """Runs the act, and reports what is given, or what it answers of what the act returned."""
+    def _step(
+        self, replica: Hashable, act: Act, report: Callable[..., None], *given: Any, before: Act = None
+    ) -> Any:
+        """Runs the act, and reports what is given, or what it answers of what the act returned. What `before` raises
+        comes before the act."""
         with self._lock:
             if self._failure is not None or self._monitor.unexpected is not None:
                 self._look()
             place = self._speller.replicas.place(replica)
+            if before is not None:
+                before()
             done = None if act is None else act()
             try:
                 report(place, *[it(done) if callable(it) else it for it in given])

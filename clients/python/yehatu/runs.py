@@ -115,7 +115,10 @@ class _Run:
         if step.update not in self._replicas:
             return False
         name = self._names[step.replica]
-        self._replicas[step.replica] = self._replicas[step.update].fork(name)
+        forked = self._replicas[step.update].fork(name)
+        if forked is None:
+            raise TypeError(f"fork({name!r}) answers None, and not the new replica")
+        self._replicas[step.replica] = forked
         self.recorder.join(name, self._names[step.update])
         self._reach.join(step.replica, step.update)
         return True
