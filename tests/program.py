@@ -15,9 +15,9 @@ PROGRAM = WHOLE if "--whole" in sys.argv else CHECK
 SECONDS = 20
 
 
-def build():
-    """Has the program built, where it is missing or old."""
-    words = [TOP / "tools" / "build", PROGRAM.name]
+def build(*words):
+    """Has the program built, or what these words of tools/build name, where it is missing or old."""
+    words = [TOP / "tools" / "build", *(words or [PROGRAM.name])]
     subprocess.run(words, check=True, stdin=subprocess.DEVNULL, stdout=sys.stderr)
 
 
