@@ -3,6 +3,7 @@ ghost use Rattle.std.specs.Prelude.{◌≡◌, ℕ, ◌+◌, ◌≤◌, ◌∷�
 ghost use Rattle.std.specs.Option.{option_or, option_map_or};
 ghost use Rattle.ra_labels.specs.declared.operation.Op.{Op};
 ghost use Rattle.ra_labels.specs.Records.{Records, label_count, replica_count, next_label};
+ghost use Rattle.ra_labels.specs.Visibility.{had};
 ghost use Rattle.ra_labels.specs.NamedOrder.{named_sequence};
 ghost use Rattle.ra_labels.specs.Fault.{fault_of};
 ghost use Rattle.ra_labels.specs.Answer.{no_at, misfit_of, comes_with_taken, gives_taken, refusal_of, refusal_of_join, refusal_at, answer_of, answer_to_accepted, records_after};
@@ -58,6 +59,13 @@ impl History {
             taken: Taken::new(alloc, setup.replicas)?,
             fault: None,
         })
+    }
+
+    /// Had the replica the label by now? No where there is no such replica, or no such label.
+    pub fn had(&self, replica: u8, label: u32) -> bool
+        ensures { (past : Past) → StandsFor self.now past → result ≡ had past.records replica label }
+    {
+        replica < self.replicas && self.tracker.sees(replica, label)
     }
 
     /// All parts in the named order, of the labels before the fault. Costs a step for each label, and by

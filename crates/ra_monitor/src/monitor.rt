@@ -1,6 +1,7 @@
 //! The monitor of one thread: a log, and the history that it amounts to.
 ghost use Rattle.std.specs.Prelude.{◌≡◌, ℕ, ◌+◌, ◌-◌, ◌<◌, ◌≤◌, ◌++◌, ◌∷◌, ◌↔◌, [], length, map, min, cond, vec_len, vec_capacity, option_map, IsTrue, IfSome, IfOk, IfErr, IsOk, OnErr, OnOk, IsErrOf};
 ghost use Rattle.ra_labels.specs.Records.{label_count, replica_count};
+ghost use Rattle.ra_labels.specs.Visibility.{had};
 ghost use Rattle.ra_labels.specs.Linearization.{IsRaLinearization};
 ghost use Rattle.ra_labels.specs.NamedOrder.{named_sequence};
 ghost use Rattle.ra_labels.specs.Answer.{answer_of, records_after};
@@ -24,7 +25,6 @@ use std::alloc::Global;
 use std::marker::Model;
 
 /// A monitor of one history, for one thread.
-#[derive(Drop)]
 pub struct Monitor {
     setup: Setup,
     log: Vec<Entry<Command, Reply>>,
@@ -42,6 +42,18 @@ impl Model for Monitor {
     ghost view = { λ m. monitor_of m };
 
     ghost invariant = { λ m. MonitorKept m };
+}
+
+impl Drop for Monitor {
+    // Written out, so that whoever lets a monitor go calls this, and not what lets each of its parts go.
+    fn drop(self) {
+        let Monitor {
+            setup: _,
+            log: _,
+            history: _,
+            refused: _,
+        } = self;
+    }
 }
 
 impl Monitor {
@@ -94,6 +106,14 @@ impl Monitor {
         ensures range { AreReplicas result }
     {
         self.history.replicas
+    }
+
+    /// Had the replica the label by now: an update that it issued, got or joined with? No where there is no such
+    /// replica, or no such label. It takes no memory, and costs a look-up.
+    pub fn had(&self, replica: u8, label: u32) -> bool
+        ensures { result ≡ had (records_of self.now.setup self.now.log) replica label }
+    {
+        self.history.had(replica, label)
     }
 
     /// How many entries can be logged without a growth, as far as the limit lets them. It takes no memory.

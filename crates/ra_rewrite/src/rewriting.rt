@@ -14,7 +14,15 @@ pub fn parts(label: &Label) -> Result<Parts, NoMemory>
     ensures acts { IfOk result (λ parts. acts_in parts ≡ acts_of label.now.op) }
     ensures memory { takes_memory label.now.op ≡ false → IsOk result }
 {
-    let part = match &label.op {
+    parts_of(&label.op)
+}
+
+/// The parts of a label with this operation. It costs what `parts` does.
+pub fn parts_of(op: &Op) -> Result<Parts, NoMemory>
+    ensures acts { IfOk result (λ parts. acts_in parts ≡ acts_of op.now) }
+    ensures memory { takes_memory op.now ≡ false → IsOk result }
+{
+    let part = match op {
         Op::Inc => Part::Update(Update::Inc),
         Op::Dec => Part::Update(Update::Dec),
         Op::Count(answer) => Part::Query(Query::Count(*answer)),

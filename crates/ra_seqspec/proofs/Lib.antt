@@ -7,3 +7,4 @@ pub mod Walks
 pub mod Keys
 pub mod RisingLists
 pub mod SeveralUpdates
+pub mod AnsweredQueries

@@ -12,7 +12,18 @@ use Rattle.ra_labels.proofs.InLists.{bool_same}
 among_contains : (xs : List ℕ) (x : ℕ) → (is_among x xs ≡ true) ↔ Contains xs x
 among_contains xs x = (Contains-from_any eqb-true x xs, list_any-from_Contains nat_eq_equiv x xs)
 
--- a list that rises has the same elements as these where it is the list that has them once each
+-- a list that rises, and has the same elements as these, is the list that has them once each
+pub is_once : (list once these : List ℕ) → rises list ≡ true → rises once ≡ true
+    → ((x : ℕ) → is_among x once ≡ is_among x these) → have_same list these ≡ true → list ≡ once
+is_once list once these up also same holds =
+    let both = (lists_have_the_same_elements-elements list these).0 holds in
+    (lists_have_the_same_elements-rising list once up also).0
+    ((lists_have_the_same_elements-elements list once).1 (λ x. (
+      (λ there. (among_contains once x).0 (same x ∙ (among_contains these x).1 ((both x).0 there))),
+      (λ there. (both x).1 ((among_contains these x).0 (sym (same x) ∙ (among_contains once x).1 there))),
+    )))
+
+-- it has the same elements exactly where it is that list
 pub is_answer : (list once these : List ℕ) (r : Bool) → rises list ≡ true → rises once ≡ true
     → ((x : ℕ) → is_among x once ≡ is_among x these) → IsTrue r ↔ (list ≡ once) → r ≡ have_same list these
 is_answer list once these r up also same answer =
@@ -25,8 +36,4 @@ is_answer list once these r up also same answer =
       (λ there. (among_contains these x).0 (sym (same x) ∙ (among_contains once x).1 (both.0 there))),
       (λ there. both.1 ((among_contains once x).0 (same x ∙ (among_contains these x).1 there))),
     )))
-    (λ holds. answer.1 (equal.0 (ours.1 (λ x.
-    let both = theirs.0 holds x in (
-      (λ there. (among_contains once x).0 (same x ∙ (among_contains these x).1 (both.0 there))),
-      (λ there. both.1 ((among_contains these x).0 (sym (same x) ∙ (among_contains once x).1 there))),
-    )))))
+    (λ holds. answer.1 (is_once list once these up also same holds))

@@ -1,6 +1,7 @@
 -- What a walk along links shows.
-use Rattle.std.proofs.Common.{◌≡◌, ℕ, suc, ◌+◌, ◌-◌, ◌<◌, ◌≤◌, Bool, true, false, List, [], ◌∷◌, length, map, filter, refl, sym, ap, ◌∙◌, subst, arith}
+use Rattle.std.proofs.Common.{◌≡◌, ℕ, suc, ◌+◌, ◌-◌, ◌<◌, ◌≤◌, Bool, true, false, List, [], ◌∷◌, ◌++◌, length, map, filter, refl, sym, ap, ◌∙◌, subst, arith}
 use Rattle.std.specs.Prelude.{◌↔◌, ◌==◌, IsTrue}
+use Rattle.std.proofs.lemmas.List.{append_assoc, append-nil}
 use Rattle.std.proofs.lemmas.Bool.{cond-true, cond-false, or_left, or_right, eq-eqb, eqb-true}
 use Rattle.ra_labels.specs.Lists.{is_among, shown}
 use Rattle.ra_seqspec.specs.declared.rga.Node.{Node}
@@ -119,3 +120,23 @@ walked_end nodes first elements left step slot r past walked is =
 pub nothing_left : (left : List ℕ) → length left ≡ 0 → left ≡ []
 nothing_left [] is = refl
 nothing_left (x ∷ xs) is = absurd (omega arith)
+
+-- ---- the elements taken together, one by one
+
+-- one that is shown is taken
+pub taken_shown : (nodes : List Node) (first : ℕ) (taken left : List ℕ) (n slot : ℕ)
+    → ((rest : List ℕ) → Walked nodes first (taken ++ rest) rest (suc n) slot)
+    → (node_at nodes slot).is_shown ≡ true
+    → Walked nodes first ((taken ++ (node_at nodes slot).element ∷ []) ++ left) left n (node_at nodes slot).next
+taken_shown nodes first taken left n slot walked is =
+    let x = (node_at nodes slot).element in
+    subst (λ elements. Walked nodes first elements left n (node_at nodes slot).next)
+    (sym (append_assoc taken (x ∷ []) left))
+    (walked_shown nodes first (taken ++ x ∷ left) (x ∷ left) left n slot (walked (x ∷ left)) is refl)
+
+-- at the end all are taken
+pub taken_end : (nodes : List Node) (first : ℕ) (taken : List ℕ) (step slot : ℕ) → length nodes ≤ step
+    → ((rest : List ℕ) → Walked nodes first (taken ++ rest) rest (length nodes - step) slot)
+    → taken ≡ shown_along nodes (length nodes) first
+taken_end nodes first taken step slot past walked =
+    sym (append-nil taken) ∙ (walked_end nodes first (taken ++ []) [] step slot true past (walked []) refl).0 refl

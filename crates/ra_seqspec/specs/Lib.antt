@@ -5,3 +5,4 @@ pub mod Asked
 pub mod Rga
 pub mod Pairs
 pub mod Updates
+pub mod Answered

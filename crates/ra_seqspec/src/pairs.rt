@@ -1,9 +1,11 @@
 //! The pairs of an OR-Set, which rise by element and then by identifier.
-ghost use Rattle.std.specs.Prelude.{◌≡◌, ◌↔◌, IsTrue};
+ghost use Rattle.std.specs.Prelude.{◌≡◌, ◌↔◌, IsTrue, IfOk};
 ghost use Rattle.std.specs.BTreeSet.{IsOrdered};
 ghost use Rattle.ra_labels.specs.Lists.{pair_cmp, identifiers_of, elements_of, without_pairs};
 ghost use Rattle.ra_seqspec.specs.Pairs.{distinct_elements};
 
+use ra_labels::{Elements, NoMemory};
+use std::alloc::Global;
 use std::collections::BTreeSet;
 
 /// Takes the pairs of the element with one of the identifiers out. Costs a search for each identifier.
@@ -50,4 +52,38 @@ pub fn are_elements(pairs: &BTreeSet<(u32, u32)>, list: &[u32]) -> bool
         }
     }
     left.is_empty()
+}
+
+/// The identifiers that the element is paired with, rising. Costs a search and the identifiers.
+pub fn identifiers(
+    alloc: Global,
+    pairs: &BTreeSet<(u32, u32)>,
+    element: u32,
+) -> Result<Elements, NoMemory>
+    requires { IsOrdered pair_cmp pairs.now }
+    ensures { IfOk result (λ ids. ids ≡ identifiers_of element pairs.now.keys) }
+{
+    let mut ids = Vec::new(alloc);
+    for pair in pairs.range((element, 0)..) {
+        if pair.0 != element {
+            break;
+        }
+        ids.push(pair.1)?;
+    }
+    Ok(Elements::new(ids))
+}
+
+/// The elements that are paired, rising, each once. Costs as much as there are pairs.
+pub fn elements(alloc: Global, pairs: &BTreeSet<(u32, u32)>) -> Result<Elements, NoMemory>
+    ensures { IfOk result (λ list. list ≡ distinct_elements pairs.now.keys) }
+{
+    let mut list = Vec::new(alloc);
+    let mut last = None;
+    for pair in pairs {
+        if last != Some(pair.0) {
+            list.push(pair.0)?;
+            last = Some(pair.0);
+        }
+    }
+    Ok(Elements::new(list))
 }

@@ -5,7 +5,7 @@ ghost use Rattle.std.specs.HashMap.{get, spare};
 ghost use Rattle.ra_labels.specs.Lists.{is_among, insert_after, hide, shown};
 ghost use Rattle.ra_seqspec.specs.Rga.{may_insert, may_hide, list_step, list_after, place_behind, place_for, IsThere, first_after, nodes_after, nodes_hiding, slots_of, entries_of, RgaListKept};
 
-use ra_labels::{NoMemory, Update};
+use ra_labels::{Elements, NoMemory, Update};
 use std::alloc::Global;
 use std::collections::HashMap;
 use std::marker::Model;
@@ -127,6 +127,13 @@ impl RgaList {
         ensures { IsTrue result ↔ (elements.now ≡ shown self.now) }
     {
         are_shown(self.first, &self.nodes, elements)
+    }
+
+    /// The elements that are shown, in their order, as a list of its own. Costs as much as the list is long.
+    pub fn shown(&self, alloc: Global) -> Result<Elements, NoMemory>
+        ensures { IfOk result (λ elements. elements ≡ shown self.now) }
+    {
+        shown_elements(alloc, self.first, &self.nodes)
     }
 }
 
@@ -304,4 +311,21 @@ fn are_shown(first: usize, nodes: &[Node], elements: &[u32]) -> bool
         slot = node.next;
     }
     left.is_empty()
+}
+
+// The elements of the nodes that are shown, along the links from the first on.
+fn shown_elements(alloc: Global, first: usize, nodes: &[Node]) -> Result<Elements, NoMemory>
+    requires { (slot : ℕ) → is_among slot (slots_of first nodes.now) ≡ true → slot < length nodes.now }
+    ensures { IfOk result (λ elements. elements ≡ shown (entries_of first nodes.now)) }
+{
+    let mut elements = Vec::new(alloc);
+    let mut slot = first;
+    for _step in 0..nodes.len() {
+        let node = nodes[slot];
+        if node.is_shown {
+            elements.push(node.element)?;
+        }
+        slot = node.next;
+    }
+    Ok(Elements::new(elements))
 }

@@ -9,10 +9,11 @@ ghost use Rattle.ra_seqspec.specs.Asked.{asks_rising};
 ghost use Rattle.ra_seqspec.specs.Range.{IsInRange};
 ghost use Rattle.ra_seqspec.specs.Memory.{takes_memory, update_takes_memory};
 ghost use Rattle.ra_seqspec.specs.Updates.{after_all};
+ghost use Rattle.ra_seqspec.specs.Answered.{answered_in};
 
 use crate::pairs;
 use crate::rga::RgaList;
-use ra_labels::{Kind, NoMemory, Query, Update};
+use ra_labels::{Elements, Kind, NoMemory, Query, Update};
 use std::alloc::Global;
 use std::collections::BTreeSet;
 use std::marker::Model;
@@ -150,6 +151,42 @@ impl State {
             _ => false,
         }
     }
+
+    /// The query with the answer of this state in the place of its own, or none where it asks of another kind. That is
+    /// right, and a query that is right has it already. Where the answer is a list, it lives in `alloc`. Costs what
+    /// `admits` does.
+    pub fn answer(&self, alloc: Global, query: &Query) -> Result<Option<Query>, NoMemory>
+        ensures answer { IfOk result (λ answer. answer ≡ answered_in self.now query.now) }
+        ensures right { IfOk result (λ answer. IfSome answer (λ it. answers self.now it ≡ true)) }
+        ensures only { asks_rising query.now ≡ true → answers self.now query.now ≡ true
+            → IfOk result (λ answer. IfSome answer (λ it. query.now ≡ it)) }
+        ensures memory { takes_memory self.now ≡ false → IsOk result }
+    {
+        let answer = match (&self.form, query) {
+            (Form::Counter(number), Query::Count(_)) => Query::Count(*number),
+            (Form::Register(last), Query::Last(_)) => Query::Last(*last),
+            (Form::LwwSet(elements), Query::LwwRead(_)) => Query::LwwRead(listed(alloc, elements)?),
+            (Form::OrSet(pairs), Query::ReadIds { element, .. }) => Query::ReadIds {
+                element: *element,
+                ids: pairs::identifiers(alloc, pairs, *element)?,
+            },
+            (Form::OrSet(pairs), Query::OrRead(_)) => Query::OrRead(pairs::elements(alloc, pairs)?),
+            (Form::Rga(list), Query::RgaRead(_)) => Query::RgaRead(list.shown(alloc)?),
+            _ => return Ok(None),
+        };
+        Ok(Some(answer))
+    }
+}
+
+// The elements, rising, as a list of its own.
+fn listed(alloc: Global, elements: &BTreeSet<u32>) -> Result<Elements, NoMemory>
+    ensures { IfOk result (λ list. list ≡ elements.now.keys) }
+{
+    let mut items = Vec::new(alloc);
+    for element in elements {
+        items.push(*element)?;
+    }
+    Ok(Elements::new(items))
 }
 
 // Takes the element out, if it is in.

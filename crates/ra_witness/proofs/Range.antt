@@ -90,6 +90,12 @@ in_range kind us (Members xs) led few = tt
 in_range kind us (Pairs pairs) led few = tt
 in_range kind us (Listed list) led few = tt
 
+-- nor have the first of the updates that a replica had led further
+pub first_in_range : (kind : Kind) (records : Records) (replica : ℕ) (first later : List Update) (s : State) → label_count records ≤ 1048576
+    → updates_had kind records replica ≡ first ++ later → state_after kind first ≡ Some s → IsInRange s
+first_in_range kind records replica first later s few are led =
+    in_range kind first s led (omega (arith, few, ap length are, length-append first later, updates_few kind records replica))
+
 -- a step that leads where these updates do may be made
 can_from : (kind : Kind) (us : List Update) (s : State) (o : Option Update) → state_after kind us ≡ Some (after_step s o) → length us ≤ 1048576 → CanStep s o
 can_from kind us s None led few = tt

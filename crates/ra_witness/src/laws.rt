@@ -1,6 +1,6 @@
 //! What one more label, delivery or replica changes in what is kept, each law the clause of a function that does
 //! nothing.
-ghost use Rattle.std.specs.Prelude.{◌≡◌, ℕ, ◌+◌, ◌<◌, true, false, not, List, [], ◌∷◌, ◌++◌, length, map, flat_map, Option, Some, None, get_or, if◌then◌else◌};
+ghost use Rattle.std.specs.Prelude.{◌≡◌, ℕ, ◌+◌, ◌<◌, ◌≤◌, true, false, not, List, [], ◌∷◌, ◌++◌, length, map, flat_map, Option, Some, None, get_or, if◌then◌else◌};
 ghost use Rattle.ra_labels.specs.declared.kind.Kind.{Kind};
 ghost use Rattle.ra_labels.specs.declared.kind.Kind.TheVariants.{Counter, Register, LwwSet, OrSet, Rga};
 ghost use Rattle.ra_labels.specs.declared.operation.Op.{Op};
@@ -8,6 +8,8 @@ ghost use Rattle.ra_labels.specs.declared.operation.Update.{Update};
 ghost use Rattle.ra_labels.specs.declared.command.Command.TheVariants.{Operate, Deliver, Join};
 ghost use Rattle.ra_labels.specs.declared.reply.Cause.TheVariants as cause;
 ghost use Rattle.ra_labels.specs.Records.{Records, label_count};
+ghost use Rattle.ra_seqspec.specs.Range.{IsInRange};
+ghost use Rattle.ra_seqspec.specs.declared.TheConstants.{FARTHEST_COUNT};
 ghost use Rattle.ra_labels.specs.Visibility.{had, is_update_at, IsCausal};
 ghost use Rattle.ra_labels.specs.Rewriting.{acts_of};
 ghost use Rattle.ra_labels.specs.Specification.{State, state_after};
@@ -159,4 +161,11 @@ pub fn the_last_labels_with_a_join()
     ensures { (writes : List (Option Written)) (lasts : List (List (Option ℕ))) (past : Past) (from : ℕ)
         → AreLastOf writes lasts past.records → length lasts ≡ replicas_of past → IsJoinedFrom past from
         → AreLastOf writes (lasts ++ get_or lasts from [] ∷ []) (Join (replicas_of past) from ∷ past.records) }
+{}
+
+/// What the first of the updates that a replica had lead to is in range: there are no more of them than labels.
+pub fn what_first_updates_lead_to_is_in_range()
+    ensures { (kind : Kind) (records : Records) (replica : ℕ) (first later : List Update) (state : State)
+        → label_count records ≤ FARTHEST_COUNT → updates_had kind records replica ≡ first ++ later
+        → state_after kind first ≡ Some state → IsInRange state }
 {}
