@@ -1,8 +1,8 @@
 -- What words ask of a program that checks and has no bench.
 use Rattle.std.specs.Prelude.{Bool, Option, Some, None, option_and_then}
-use Rattle.ra_program.specs.Words.{Words, asked_by}
-use Rattle.ra_program.specs.declared.words.Run.{Run}
-use Rattle.ra_program.specs.declared.words.Run.TheVariants.{Check, Bench}
+use Rattle.ra_words.specs.Words.{Words, asked_by}
+use Rattle.ra_words.specs.declared.words.Run.{Run}
+use Rattle.ra_words.specs.declared.words.Run.TheVariants.{Check, Bench}
 
 -- is the report asked for, where a check is?
 abbrev pub report_of : Run → Option Bool

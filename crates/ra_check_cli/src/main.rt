@@ -5,7 +5,7 @@
 mod run;
 
 use crate::run::run;
-use ra_program::words_of;
+use ra_words::words_of;
 use std::io;
 use std::process::ExitCode;
 

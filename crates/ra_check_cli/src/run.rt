@@ -1,12 +1,13 @@
 //! The program, over the words of its command line, a reader and two writers.
 ghost use Rattle.std.specs.Prelude.{◌≡◌, ◌≢◌, Bool, None, Some};
-ghost use Rattle.ra_program.specs.Words.{stop_words};
+ghost use Rattle.ra_words.specs.Words.{stop_words};
 ghost use Rattle.ra_program.specs.Endings.{StopsProgram};
 ghost use Rattle.ra_program.specs.Check.{ChecksText};
 ghost use Rattle.ra_check_cli.specs.Asked.{report_asked_by};
 
 use ra_history_text::CheckFault;
-use ra_program::{Ending, Run, WordsFault, run_check, run_of_kept, stop, usage};
+use ra_program::{Ending, run_check, stop, usage};
+use ra_words::{Run, WordsFault, run_of_kept};
 use std::alloc::Global;
 use std::io::{Read, Write};
 

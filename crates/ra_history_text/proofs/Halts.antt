@@ -9,7 +9,7 @@ use Rattle.ra_monitor.specs.declared.report.Report.{Report}
 use Rattle.ra_history_text.specs.declared.fault.CheckFault.{CheckFault}
 use Rattle.ra_history_text.specs.declared.fault.CheckFault.TheVariants as check_fault
 use Rattle.ra_history_text.specs.Faults.{ending_told}
-use Rattle.ra_lines.specs.Spelling.{BeginsWith}
+use Rattle.ra_lines.specs.Fields.{BeginsWith}
 use Rattle.ra_history_text.specs.Output.{replies_of, last_line_of, last_line_at, output_of}
 use Rattle.ra_history_text.specs.Run.{WritesUpTo, WritesReplies, WritesPart, StopsCheck, HasGiven, IsRunning}
 use Rattle.ra_history_text.specs.Sessions.{AddsReplies, StopsInside, EndsText, StopsEnding}

@@ -1,18 +1,18 @@
 -- What is kept true of a recorded history, step by step.
-use Rattle.std.proofs.Common.{◌≡◌, ℕ, zero, suc, ◌+◌, ◌-◌, ◌<◌, ◌≤◌, true, ltb, List, [], ◌∷◌, ◌++◌, length, map, take}
+use Rattle.std.proofs.Common.{◌≡◌, ℕ, zero, suc, ◌+◌, ◌-◌, ◌<◌, ◌≤◌, Bool, true, false, ltb, List, [], ◌∷◌, ◌++◌, length, map, take}
 use Rattle.std.proofs.Common.{Result, Ok, Err, Some, refl, sym, ap, subst, ◌∙◌, arith, inl, inr}
-use Rattle.std.specs.Prelude.{◌↔◌, option_map, slice_get}
+use Rattle.std.specs.Prelude.{◌↔◌, ◌||◌, is_some, option_map, slice_get, if◌then◌else◌}
 use Rattle.std.proofs.lemmas.Bool.{cases_eq, and_parts, and_from, ltb-true, lt-ltb}
 use Rattle.std.proofs.lemmas.List.{length_push, map_push}
 use Rattle.ra_labels.specs.declared.kind.Kind.{Kind}
 use Rattle.ra_labels.specs.declared.command.Command.{Command}
+use Rattle.ra_labels.specs.declared.command.Command.TheVariants.{Join}
 use Rattle.ra_labels.specs.declared.reply.Reply.{Reply}
-use Rattle.ra_labels.specs.Records.{replica_count}
+use Rattle.ra_labels.specs.Records.{Records, replica_count}
 use Rattle.ra_labels.specs.Fault.{fault_of}
-use Rattle.ra_labels.specs.Answer.{answer_of, refusal_of, records_after_all}
+use Rattle.ra_labels.specs.Answer.{answer_of, refusal_of, records_after, records_after_all, with_accepted}
+use Rattle.ra_laws.proofs.TheLaws.{answers_in_turn-records}
 use Rattle.ra_monitor.specs.declared.setup.Setup.{Setup}
-use Rattle.ra_history_text.proofs.AcceptedCommands.{records_push}
-use Rattle.ra_history_text.proofs.JoinedReplicas.{joined_after}
 use Rattle.ra_journal.specs.Log.{IsAboveLast, unstepped}
 use Rattle.ra_journal.specs.declared.journal.StepFault.{StepFault}
 use Rattle.ra_journal.specs.declared.journal.StepFault.TheVariants as handed
@@ -49,6 +49,24 @@ tickets_push count (first ∷ log) entry below is =
     and_from (ltb first.ticket (count + 1)) (are_tickets_below (count + 1) (log ++ entry ∷ []))
     (lt-ltb first.ticket (count + 1) here) (tickets_push count log entry parts.1 is)
 
+-- ---- how many replicas there are
+
+-- the records that a test leaves
+chosen_count : (n : ℕ) (records : Records) (c : Command) (b : Bool)
+    → replica_count n records ≤ replica_count n (if b then records else with_accepted records c)
+chosen_count n records c true = omega arith
+chosen_count n records (Join replica from) false = omega arith
+chosen_count n records _ false = omega arith
+
+pub counts_grow : (kind : Kind) (n : ℕ) (records : Records) (commands : List Command)
+    → replica_count n records ≤ replica_count n (records_after_all kind n records commands)
+counts_grow kind n records [] = omega arith
+counts_grow kind n records (c ∷ commands) = omega (
+  arith,
+  chosen_count n records c (is_some (fault_of kind records) || is_some (refusal_of kind n records c)),
+  counts_grow kind n (records_after kind n records c) commands,
+)
+
 -- the names at first stay
 first_same : (h : Inside) (m : Monitor) → HistoryKept h → m.setup ≡ h.monitor.setup
     → m.setup.replicas ≡ length (take m.setup.replicas h.names)
@@ -69,14 +87,20 @@ count_grows : (h : Inside) (m : Monitor) (entry : MonitorEntry) → m.log ≡ h.
     ≤ replica_count m.setup.replicas (records_of m.setup m.log)
 count_grows h m entry log setup =
     let own : Setup = h.monitor.setup in
+    let n : ℕ = own.replicas in
+    let records : Records = records_of own h.monitor.log in
+    let more : replica_count n (records_of own (h.monitor.log ++ entry ∷ []))
+    ≡ replica_count n (records_after_all own.kind n records (entry.command ∷ [])) =
+    ap (λ (cs : List Command). replica_count n (records_after_all own.kind n [] cs))
+    (map_push (λ (e : MonitorEntry). e.command) h.monitor.log entry)
+    ∙ ap (replica_count n)
+    (answers_in_turn-records own.kind n [] (commands_of h.monitor.log) (entry.command ∷ [])) in
     omega (
       arith,
       ap (λ (s : Setup). replica_count s.replicas (records_of s m.log)) setup,
-      ap (λ (l : List MonitorEntry). replica_count own.replicas (records_of own l)) log,
-      ap (replica_count own.replicas) (records_push own h.monitor.log entry),
-      joined_after own.kind own.replicas (records_of own h.monitor.log) entry.command
-          (fault_of own.kind (records_of own h.monitor.log))
-          (refusal_of own.kind own.replicas (records_of own h.monitor.log) entry.command) refl refl,
+      ap (λ (l : List MonitorEntry). replica_count n (records_of own l)) log,
+      more,
+      counts_grow own.kind n records (entry.command ∷ []),
     )
 
 -- nothing changed

@@ -7,10 +7,5 @@ pub mod Runs
 pub mod Halts
 pub mod Texts
 pub mod Prefixes
-pub mod Reports
-pub mod AcceptedCommands
-pub mod GivenAgain
-pub mod JoinedReplicas
 pub mod NewNames
-pub mod Entries
-pub mod WholeTexts
+pub mod TheLaws

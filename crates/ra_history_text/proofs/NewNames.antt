@@ -11,7 +11,7 @@ use Rattle.ra_labels.specs.Records.{Records, replica_count}
 use Rattle.ra_labels.specs.Fault.{fault_of}
 use Rattle.ra_labels.specs.Answer.{answer_of, refusal_of}
 use Rattle.ra_labels.specs.Laws.{ReplySays}
-use Rattle.ra_laws.proofs.TheLaws.{what_a_reply_says, joins_are_accepted_with_the_next_number}
+use Rattle.ra_laws.proofs.TheLaws.{what_a_reply_says, joins_are_accepted_with_the_next_number, answers_in_turn-records}
 use Rattle.ra_lines.proofs.TheLaws.{place_within, not_bad}
 use Rattle.ra_lines.specs.declared.fault.NamesFault.TheVariants.{BadName}
 use Rattle.ra_lines.specs.declared.format.Format.TheVariants.{Rah2}
@@ -19,7 +19,6 @@ use Rattle.ra_lines.specs.Grammar.{fields_of, second_of, new_name, Spells, Spell
 use Rattle.ra_lines.specs.Names.{MayJoin, StopsAdding}
 use Rattle.ra_history_text.specs.History.{History, RecordsCommand, HasFewNames, LacksName}
 use Rattle.ra_history_text.specs.Text.{records_in}
-use Rattle.ra_history_text.proofs.AcceptedCommands.{records-append}
 
 -- what is answered so is not refused
 not_refused : (kind : Kind) (n : ℕ) (records : Records) (c : Command) (replica : ℕ) (fault : Option Fault)
@@ -64,7 +63,7 @@ named_behind old mid line replica from reply few spelled records is =
     omega (
       arith,
       few,
-      ap (replica_count n) (records-append old.kind n [] old.commands (c ∷ [])),
+      ap (replica_count n) (answers_in_turn-records old.kind n [] old.commands (c ∷ [])),
       ap (replica_count n) says.1,
     ) in
     subst (λ (history : History). IsNamed old history line) (sym records.recorded)

@@ -17,7 +17,7 @@ use Rattle.ra_history_text.specs.declared.fault.CheckFault.TheVariants as check_
 use Rattle.ra_lines.specs.Grammar.{fields_of}
 use Rattle.ra_lines.specs.Replies.{reply_line, end_words, end_line}
 use Rattle.ra_history_text.specs.Output.{answers_in, replies_of, last_line_of, last_line_at, output_of}
-use Rattle.ra_lines.specs.Spelling.{BeginsWith}
+use Rattle.ra_lines.specs.Fields.{BeginsWith}
 use Rattle.ra_history_text.specs.Laws.{line_feeds, IsOfReader, IsLess, GrowsByPart, GrowsByReplies, AnswersEach}
 use Rattle.ra_lines.specs.Reading.{head_read, names_read, command_read}
 use Rattle.ra_history_text.specs.Run.{WritesUpTo, WritesReplies, StopsCheck}

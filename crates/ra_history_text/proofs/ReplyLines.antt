@@ -13,7 +13,7 @@ use Rattle.ra_lines.specs.declared.format.Format.{Format}
 use Rattle.ra_lines.specs.Grammar.{fields_of, names_behind}
 use Rattle.ra_lines.specs.Replies.{reply_line}
 use Rattle.ra_history_text.specs.Output.{answers_in, replies_of, last_line_at, output_of}
-use Rattle.ra_lines.specs.Spelling.{BeginsWith}
+use Rattle.ra_lines.specs.Fields.{BeginsWith}
 use Rattle.ra_lines.specs.Reading.{command_read}
 use Rattle.ra_history_text.specs.Text.{Said, Nothing, OfKind, OfHistory, Progress, Stop, records_in, with_command, said_behind}
 use Rattle.ra_history_text.specs.Text.{is_full, text_start, line_taken_as, byte_taken, unless_stopped, taken, end_of}

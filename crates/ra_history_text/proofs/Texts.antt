@@ -23,7 +23,7 @@ use Rattle.ra_lines.proofs.TheLaws.{a_line_of_a_command_is_read-only as command_
 use Rattle.ra_lines.proofs.TheLaws.{a_first_line_is_read-only as head_only, a_first_line_is_read-found as head_found}
 use Rattle.ra_lines.proofs.TheLaws.{a_line_of_names_is_read-found as names_read-Some}
 use Rattle.ra_lines.proofs.TheLaws.{a_line_of_names_is_read-only as names_read-listed, mapped, chosen}
-use Rattle.ra_history_text.proofs.AcceptedCommands.{records-append}
+use Rattle.ra_laws.proofs.TheLaws.{answers_in_turn-records}
 use Rattle.ra_history_text.proofs.TakenBytes.{taken_then, taken_line, taken_part}
 
 -- ---- lines, one after another
@@ -69,7 +69,7 @@ taken_lines said last (line ∷ lines) are leads =
 -- the records that one command more leaves
 records_more : (kind : Kind) (first : List (List ℕ)) (before : List Command) (c : Command)
     → records_in kind first (before ++ c ∷ []) ≡ records_after kind (length first) (records_in kind first before) c
-records_more kind first before c = records-append kind (length first) [] before (c ∷ [])
+records_more kind first before c = answers_in_turn-records kind (length first) [] before (c ∷ [])
 
 -- the lines of commands
 leads_commands : (format : Format) (kind : Kind) (first joined all lines : List (List ℕ)) (records : Records)

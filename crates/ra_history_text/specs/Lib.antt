@@ -7,6 +7,3 @@ pub mod HistoryKept
 pub mod Sessions
 pub mod Run
 pub mod Laws
-pub mod Report
-pub mod Accepted
-pub mod Writing

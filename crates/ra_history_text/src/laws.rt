@@ -1,18 +1,10 @@
 //! Laws above the definitions of a text, each the clause of a function that does nothing.
-ghost use Rattle.std.specs.Prelude.{◌≡◌, ◌++◌, [], ◌↔◌, true, false, ℕ, List, length, None, Some, reverse};
+ghost use Rattle.std.specs.Prelude.{◌≡◌, ◌++◌, ◌↔◌, true, ℕ, List, Some};
 ghost use Rattle.ra_labels.specs.declared.kind.Kind.{Kind};
 ghost use Rattle.ra_labels.specs.declared.command.Command.{Command};
-ghost use Rattle.ra_labels.specs.Records.{Records};
-ghost use Rattle.ra_labels.specs.Laws.{is_join};
-ghost use Rattle.ra_labels.specs.Records.{replica_count};
-ghost use Rattle.ra_labels.specs.Answer.{refusal_of, records_after_all};
 ghost use Rattle.ra_lines.specs.declared.format.Format.{Format};
-ghost use Rattle.ra_lines.specs.declared.format.Format.TheVariants.{Rah2};
-ghost use Rattle.ra_monitor.specs.declared.setup.Setup.{Setup};
-ghost use Rattle.ra_monitor.specs.Monitor.{MonitorEntry, IsLegalLog, records_of};
-ghost use Rattle.ra_history_text.specs.Accepted.{accepted_in};
 ghost use Rattle.ra_lines.specs.Grammar.{Says};
-ghost use Rattle.ra_lines.specs.Spelling.{BeginsWith, HasLine};
+ghost use Rattle.ra_lines.specs.Fields.{BeginsWith};
 ghost use Rattle.ra_history_text.specs.Laws.{IsOfReader, GrowsByPart, GrowsByReplies, AnswersEach};
 ghost use Rattle.ra_history_text.specs.Output.{replies_of, output_of};
 ghost use Rattle.ra_history_text.specs.Run.{StopsCheck};
@@ -25,26 +17,6 @@ ghost use Rattle.ra_history_text.specs.declared.limits.TheConstants.{MOST_READS,
 pub fn limits()
     ensures reads { MOST_READS ≡ 4294967296 }
     ensures piece { PIECE ≡ 4096 }
-{}
-
-/// The accepted commands of a legal log are its records, the oldest first.
-pub fn accepted_commands_are_the_records()
-    ensures { (setup : Setup) (log : List MonitorEntry) → IsLegalLog setup log →
-        accepted_in false log ≡ reverse (records_of setup log) }
-{}
-
-/// A command that the one-thread monitor does not refuse has a line; a join has one in RAH 2.
-pub fn what_is_not_refused_has_a_line()
-    ensures { (format : Format) (kind : Kind) (replicas : ℕ) (records : Records) (command : Command) →
-        refusal_of kind replicas records command ≡ None → (is_join command ≡ true → format ≡ Rah2) →
-        HasLine format kind (replica_count replicas records) command }
-{}
-
-/// The records that commands left are accepted again, each of them, where they are given again in their order.
-pub fn records_given_again_are_accepted_again()
-    ensures { (kind : Kind) (replicas : ℕ) (commands : List Command) (records : Records) →
-        records ≡ records_after_all kind replicas [] commands →
-        records_after_all kind replicas [] (reverse records) ≡ records }
 {}
 
 /// A text has a regular end, with this format, this kind, these names at first, these names that joined and these

@@ -7,7 +7,8 @@
 //!
 //! The one contract for the layers above: what `check` writes is `output_of` the text that it reads, and it answers
 //! with the text's own ending. A `Session` does the same for a caller that has the text piece by piece. The laws above
-//! the definitions are the clauses of the functions of `laws`.
+//! the definitions are the clauses of the functions of `laws`; proofs of the crates above cite them from
+//! `proofs/TheLaws`.
 #![tactic(auto)]
 
 mod fault;
@@ -16,17 +17,14 @@ pub mod laws;
 pub mod limits;
 mod line;
 mod outcome;
-mod report;
 mod run;
 mod session;
 mod write;
-mod writing;
 
-pub use fault::{CheckFault, WriteFault};
+pub use fault::CheckFault;
 pub use line::write_line;
 pub use outcome::{Outcome, status};
 pub use ra_lines::{Format, Header, Item, LineFault, Names, NamesFault, Reading};
-pub use report::{report_json, write_report};
 pub use run::check;
 pub use session::Session;
-pub use writing::write_history;
+pub use write::{Unwritten, write_out};

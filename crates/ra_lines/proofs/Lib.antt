@@ -8,9 +8,5 @@ pub mod Heads
 pub mod NameLists
 pub mod NewNames
 pub mod AddedNames
-pub mod SpelledLines
-pub mod PutBytes
-pub mod Sizes
-pub mod WrittenLines
 pub mod EndLines
 pub mod TheLaws

@@ -9,7 +9,6 @@ pub use Rattle.ra_lines.proofs.Heads.{names_read-listed as a_line_of_names_is_re
 pub use Rattle.ra_lines.proofs.Heads.{names_read-none as a_line_of_names_is_read-none}
 pub use Rattle.ra_lines.proofs.Commands.{command_found as a_line_of_a_command_is_read-found}
 pub use Rattle.ra_lines.proofs.Commands.{command_only as a_line_of_a_command_is_read-only}
-pub use Rattle.ra_lines.proofs.WrittenLines.{written-says as a_written_text_says_its_history}
 -- what an option's value was made from, and which value a test chose
 pub use Rattle.ra_lines.proofs.Lists.{mapped}
 pub use Rattle.ra_lines.proofs.Operations.{chosen}

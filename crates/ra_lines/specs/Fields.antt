@@ -1,4 +1,4 @@
--- Bytes that are cut at a byte.
+-- Bytes that are cut at a byte, and bytes that begin with others.
 use Rattle.std.specs.Prelude.{◌≡◌, ◌≢◌, ℕ, ◌==◌, List, [], ◌∷◌, ◌++◌, All, Option, Some, None}
 use Rattle.std.specs.List.{slice_split}
 
@@ -15,3 +15,7 @@ pieces_at byte bytes = slice_split (λ b. b == byte) bytes
 abbrev pub pieces_left : ℕ → Option (List ℕ) → List (List ℕ)
 pieces_left byte None = []
 pieces_left byte (Some rest) = pieces_at byte rest
+
+-- all of it begins with this
+abbrev pub BeginsWith : List ℕ → List ℕ → Type 0
+BeginsWith front all = (more : List ℕ) × (all ≡ front ++ more)

@@ -4,5 +4,4 @@ pub mod Names
 pub mod NamesKept
 pub mod Reading
 pub mod Lines
-pub mod Spelling
 pub mod Replies

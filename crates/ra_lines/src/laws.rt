@@ -1,17 +1,15 @@
 //! Laws above the definitions of lines, each the clause of a function that does nothing.
-ghost use Rattle.std.specs.Prelude.{◌≡◌, ◌↔◌, ◌≤◌, ◌++◌, true, false, [], ℕ, List, Option, Some, decimal, length};
-ghost use Rattle.std.specs.List.{AllByRecursion};
+ghost use Rattle.std.specs.Prelude.{◌≡◌, ◌↔◌, ◌≤◌, true, false, ℕ, List, Option, Some, decimal, length};
 ghost use Rattle.ra_labels.specs.declared.kind.Kind.{Kind};
 ghost use Rattle.ra_labels.specs.declared.command.Command.{Command};
 ghost use Rattle.ra_labels.specs.declared.reply.Fault.{Fault};
 ghost use Rattle.ra_labels.specs.declared.reply.Reply.{Reply};
 ghost use Rattle.ra_labels.specs.Laws.{is_join};
 ghost use Rattle.ra_lines.specs.Grammar.{kind_word, first_line, fields_of};
-ghost use Rattle.ra_lines.specs.Grammar.{AreNames, IsSmall, ListsNames, Spells, IsAtReplica, NameAlike, Says};
-ghost use Rattle.ra_lines.specs.Names.{AreDistinctNames, MayJoin, StopsAdding};
+ghost use Rattle.ra_lines.specs.Grammar.{IsSmall, ListsNames, Spells, IsAtReplica, NameAlike};
+ghost use Rattle.ra_lines.specs.Names.{MayJoin, StopsAdding};
 ghost use Rattle.ra_lines.specs.Reading.{head_read, kind_named, names_read, number_read, command_read};
 ghost use Rattle.ra_lines.specs.Replies.{reply_line, end_line};
-ghost use Rattle.ra_lines.specs.Spelling.{AreSmall, AreShort, HasLine, HasNewName, HaveLines, NameEach, line_of, text_of};
 ghost use Rattle.ra_lines.specs.declared.fault.NamesFault.{NamesFault};
 ghost use Rattle.ra_lines.specs.declared.fault.NamesFault.TheVariants.{NoMemory};
 ghost use Rattle.ra_lines.specs.declared.format.Format.{Format};
@@ -79,15 +77,6 @@ pub fn a_command_has_one_spelling()
         NameAlike command line other → line ≡ other }
 {}
 
-/// The line that is written of a command spells it, by the names of the replicas that are there, where its replica has
-/// one of these, the kind has words for it and its numbers are of 32 bits; and that of a join, where there is a name
-/// for a replica to come.
-pub fn a_written_line_spells_its_command()
-    ensures { (format : Format) (kind : Kind) (names later : List (List ℕ)) (command : Command) →
-        AreDistinctNames (names ++ later) → HasLine format kind (length names) command → HasNewName later command →
-        AreSmall command → Spells format kind names (line_of (names ++ later) command) command }
-{}
-
 /// In `RAH 1` the lines are those of `RAH 2` but joins, which it has not, and the names are those of `RAH 2` where
 /// these are 16 at most.
 pub fn the_first_format_is_the_second_without_joins()
@@ -97,16 +86,6 @@ pub fn the_first_format_is_the_second_without_joins()
         is_join command ≡ true → Spells Rah1 kind names line command → ⊥ }
     ensures names { (line : List ℕ) (names : List (List ℕ)) →
         ListsNames Rah1 line names ↔ (ListsNames Rah2 line names × (length names ≤ MOST_NAMES_IN_RAH_1)) }
-{}
-
-/// A text that is written of a history, with lines that spell its commands and are not too long, says that history,
-/// where each replica has a name in the end, and those that join have the last ones.
-pub fn a_written_text_says_its_history()
-    ensures { (format : Format) (kind : Kind) (first joined : List (List ℕ)) (commands : List Command)
-        (text : List ℕ) → AreNames format first → AreDistinctNames (first ++ joined) →
-        NameEach kind first joined commands → HaveLines format kind (length first) [] commands →
-        AreShort (first ++ joined) commands → AllByRecursion AreSmall commands → length commands ≤ MOST_COMMANDS →
-        text ≡ text_of format kind first joined commands → Says text format kind first joined commands }
 {}
 
 /// No reply line is an `end` line.

@@ -1,6 +1,10 @@
 //! Numbers of a line, in digits with no zero in front.
-ghost use Rattle.std.specs.Prelude.{◌≡◌};
+ghost use Rattle.std.specs.Prelude.{◌≡◌, ◌++◌, decimal, OnErr, OnOk};
+ghost use Rattle.ra_lines.specs.Fields.{BeginsWith};
 ghost use Rattle.ra_lines.specs.Reading.{begins_as_number, digit_read, digits_read, number_read, signed_read, above_zero, below_zero};
+
+use itoa::Buffer;
+use ra_labels::NoMemory;
 
 /// The number that the field spells, which is at most 4,294,967,295. Each digit is looked at once.
 #[tactic(auto, unfolding(crate::specs::Reading::number_read))]
@@ -74,4 +78,22 @@ fn below_zero(size: u32) -> Option<i32>
     } else {
         0i32.checked_sub_unsigned(size)
     }
+}
+
+/// Puts the words and the number behind the bytes; a part of them where a growth is refused.
+pub fn put_numbered(out: &mut Vec<u8>, words: &[u8], number: u32) -> Result<(), NoMemory>
+    ensures put { OnOk result (out.new.items ≡ out.old.items ++ (words.now ++ decimal number)) }
+    ensures part { OnErr result (BeginsWith out.old.items out.new.items) }
+{
+    out.extend_from_slice(words)?;
+    put_number(out, number)
+}
+
+/// Puts the digits of the number behind the bytes, the first of them first; a part of them where a growth is refused.
+pub fn put_number(out: &mut Vec<u8>, number: u32) -> Result<(), NoMemory>
+    ensures put { OnOk result (out.new.items ≡ out.old.items ++ decimal number) }
+    ensures part { OnErr result (BeginsWith out.old.items out.new.items) }
+{
+    let mut buffer = Buffer::new();
+    Ok(out.extend_from_slice(buffer.format(number).as_bytes())?)
 }

@@ -1,10 +1,10 @@
 //! The lines that are written.
 ghost use Rattle.std.specs.Prelude.{◌≡◌, ◌∷◌, ◌++◌, [], OnErr, OnOk, decimal};
 ghost use Rattle.ra_lines.specs.Replies as output;
-ghost use Rattle.ra_lines.specs.Spelling.{BeginsWith};
+ghost use Rattle.ra_lines.specs.Fields.{BeginsWith};
 ghost use Rattle.ra_labels.specs.declared.reply.Reply.TheVariants.{Refused};
 
-use crate::spelling::put_numbered;
+use crate::number::put_numbered;
 use ra_labels::{Cause, Fault, NoMemory, Refusal, Reply};
 
 /// Puts the line of the reply behind the bytes, its line feed included. Where a growth is refused, they stay as they

@@ -1,16 +1,17 @@
 //! The program, over the words of its command line, a bench, a reader and two writers.
 ghost use Rattle.std.specs.Prelude.{◌≡◌, ◌≢◌, ℕ, Bool, None, Some};
 ghost use Rattle.ra_labels.specs.declared.kind.Kind.{Kind};
-ghost use Rattle.ra_program.specs.Words.{asked_by, stop_words};
+ghost use Rattle.ra_words.specs.Words.{asked_by, stop_words};
 ghost use Rattle.ra_program.specs.Endings.{StopsProgram};
 ghost use Rattle.ra_program.specs.Check.{ChecksText};
-ghost use Rattle.ra_program.specs.declared.words.Run.TheVariants.{Check, Bench};
+ghost use Rattle.ra_words.specs.declared.words.Run.TheVariants.{Check, Bench};
 ghost use Rattle.ra_monitor_cli.specs.Program.{RunsBench};
 
 use crate::bench::{BenchAnswer, end_bench};
 use ra_history_text::CheckFault;
 use ra_labels::Kind;
-use ra_program::{Ending, Run, WordsFault, run_check, run_of_kept, stop, usage};
+use ra_program::{Ending, run_check, stop, usage};
+use ra_words::{Run, WordsFault, run_of_kept};
 use std::alloc::Global;
 use std::io::{Read, Write};
 

@@ -1,11 +1,12 @@
 //! A text on the reader is checked, and the program ends by what that answers.
 ghost use Rattle.std.specs.Prelude.{◌≡◌, ◌≢◌};
-ghost use Rattle.ra_history_text.specs.Report.{report_line};
+ghost use Rattle.ra_report.specs.Report.{report_line};
 ghost use Rattle.ra_program.specs.Check.{status_of_outcome, ChecksText, EndsAnswered};
 ghost use Rattle.ra_program.specs.Endings.{EndsWithLine};
 
 use crate::ending::{Ending, stop};
-use ra_history_text::{Outcome, check, status, write_report};
+use crate::report::write_report;
+use ra_history_text::{Outcome, check, status};
 use std::alloc::Global;
 use std::io::{Read, Write};
 

@@ -3,7 +3,8 @@
 use super::SETS;
 use super::worked::{TEXTS, answer_to};
 use super::writers::Trickle;
-use ra_history_text::{Item, Names, Reading, WriteFault, check, write_history};
+use ra_history_text::{Item, Names, Reading, check};
+use ra_history_writer::{WriteFault, write_history};
 use ra_journal::Journal;
 use ra_labels::{Cause, Command, Elements, Op, Reply};
 use ra_monitor::Monitor;

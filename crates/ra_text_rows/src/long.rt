@@ -1,7 +1,8 @@
 //! Histories of 200,000 updates that are written and fed, and a text that is fed in pieces of each length.
 
 use super::crossing::Crossing;
-use ra_history_text::{Item, Names, Reading, Session, write_history};
+use ra_history_text::{Item, Names, Reading, Session};
+use ra_history_writer::write_history;
 use ra_journal::MOST_ENTRIES;
 use ra_labels::Kind;
 use ra_monitor::Reporter;

@@ -3,11 +3,10 @@
 
 use super::histories::JOINED;
 use super::{REPLIES, SETS};
-use ra_history_text::{
-    CheckFault, Item, LineFault, Names, NamesFault, Reading, check, report_json,
-};
+use ra_history_text::{CheckFault, Item, LineFault, Names, NamesFault, Reading, check};
 use ra_labels::Kind;
 use ra_monitor::Report;
+use ra_report::report_json;
 use std::alloc::Global;
 use std::io;
 use std::io::{ErrorKind, Read, Write};

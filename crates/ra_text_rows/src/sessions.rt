@@ -1,8 +1,9 @@
 //! Texts that are taken piece by piece, and their reports.
 
 use super::{REPLIES, SETS};
-use ra_history_text::{Session, report_json};
+use ra_history_text::Session;
 use ra_monitor::Report;
+use ra_report::report_json;
 use std::alloc::Global;
 use std::process::Abort;
 

@@ -1,0 +1,186 @@
+-- The lines of a log's accepted commands, one after another.
+use Rattle.std.proofs.Common.{◌≡◌, ℕ, zero, suc, ◌+◌, ◌<◌, ◌≤◌, Bool, true, false, cond, List, [], ◌∷◌, ◌++◌, length}
+use Rattle.std.proofs.Common.{map, drop, get_or, refl, sym, ap, subst, ◌∙◌, arith}
+use Rattle.std.specs.Prelude.{◌||◌}
+use Rattle.std.specs.List.{AllByRecursion}
+use Rattle.std.proofs.lemmas.List.{append_assoc, append-nil, length-append, map-append}
+use Rattle.std.proofs.lemmas.List.Concat.{flat_map-append}
+use Rattle.ra_labels.specs.declared.command.Command.{Command}
+use Rattle.ra_monitor.specs.Monitor.{MonitorEntry}
+use Rattle.ra_accepted.specs.Accepted.{is_no, tells_accepted, accepted_one, accepted_in}
+use Rattle.ra_lines.specs.Grammar.{bytes_of}
+use Rattle.ra_history_writer.specs.Spelling.{line_of, AreSmall, IsShort, AreShort}
+use Rattle.ra_history_writer.specs.Writing.{IsFirstLong}
+
+all-append : (P : Command → Type 0) (xs ys : List Command) → AllByRecursion P xs → AllByRecursion P ys
+    → AllByRecursion P (xs ++ ys)
+all-append P [] ys p q = q
+all-append P (x ∷ xs) ys p q = (p.0, all-append P xs ys p.1 q)
+
+-- ---- entries
+
+-- the lines of commands as bytes
+abbrev pub lines_of : List (List ℕ) → List Command → List ℕ
+lines_of names commands = bytes_of (map (line_of names) commands)
+
+lines-append : (names : List (List ℕ)) (xs ys : List Command)
+    → lines_of names (xs ++ ys) ≡ lines_of names xs ++ lines_of names ys
+lines-append names xs ys =
+    ap bytes_of (map-append (line_of names) xs ys)
+    ∙ flat_map-append (λ (line : List ℕ). line ++ 10 ∷ []) (map (line_of names) xs) (map (line_of names) ys)
+
+-- the accepted commands of the first entries are these, and these entries are left
+pub record IsWalkedUpTo (log rest : List MonitorEntry) (failed : Bool) (done : List Command) : Type 0 where
+  pub parts : accepted_in false log ≡ done ++ accepted_in failed rest
+  pub bounded : length done + length rest ≤ length log
+
+pub one_at_most : (entry : MonitorEntry) (b : Bool) → length (cond b (entry.command ∷ []) []) ≤ 1
+one_at_most entry true = omega arith
+one_at_most entry false = omega arith
+
+-- one entry more
+walked_next : (log rest more : List MonitorEntry) (entry : MonitorEntry) (failed next : Bool) (done : List Command)
+    → IsWalkedUpTo log rest failed done
+    → rest ≡ entry ∷ more → next ≡ (failed || is_no entry.reply)
+    → IsWalkedUpTo log more next (done ++ accepted_one failed entry)
+walked_next log rest more entry failed next done so_far is told =
+    let one : List Command = accepted_one failed entry in
+    record {
+      parts =
+          so_far.parts ∙ ap (λ (es : List MonitorEntry). done ++ accepted_in failed es) is
+          ∙ sym (append_assoc done one (accepted_in (failed || is_no entry.reply) more))
+          ∙ ap (λ (b : Bool). (done ++ one) ++ accepted_in b more) (sym told);
+      bounded = omega (
+        arith,
+        so_far.bounded,
+        ap length is,
+        one_at_most entry
+            (tells_accepted failed entry.reply),
+        length-append done one,
+      );
+    }
+
+walked_all : (log rest : List MonitorEntry) (failed : Bool) (done : List Command) → IsWalkedUpTo log rest failed done
+    → rest ≡ [] → accepted_in false log ≡ done
+walked_all log rest failed done so_far nothing =
+    so_far.parts ∙ ap (λ (es : List MonitorEntry). done ++ accepted_in failed es) nothing ∙ append-nil done
+
+-- ---- what is put
+
+-- the lines of the accepted commands of the first entries are put, and these entries are left
+pub record IsPutUpTo (names : List (List ℕ)) (log rest : List MonitorEntry) (failed : Bool)
+    (out_old out : List ℕ) : Type 0 where
+  pub done : List Command
+  pub walked : IsWalkedUpTo log rest failed done
+  pub put : out ≡ out_old ++ lines_of names done
+  pub small : AllByRecursion AreSmall done
+
+pub put_next : (names : List (List ℕ)) (log rest more : List MonitorEntry) (entry : MonitorEntry) (failed next : Bool)
+    (out_old out out_new : List ℕ)
+    → IsPutUpTo names log rest failed out_old out → rest ≡ entry ∷ more
+    → out_new ≡ out ++ lines_of names (accepted_one failed entry)
+    → AllByRecursion AreSmall (accepted_one failed entry) → next ≡ (failed || is_no entry.reply)
+    → IsPutUpTo names log more next out_old out_new
+put_next names log rest more entry failed next out_old out out_new so_far is put small told =
+    let one : List Command = accepted_one failed entry in
+    record {
+      done = so_far.done ++ one;
+      walked = walked_next log rest more entry failed next so_far.done so_far.walked is told;
+      put =
+          put ∙ ap (λ (bs : List ℕ). bs ++ lines_of names one) so_far.put
+          ∙ append_assoc out_old (lines_of names so_far.done) (lines_of names one)
+          ∙ ap (λ (bs : List ℕ). out_old ++ bs) (sym (lines-append names so_far.done one));
+      small = all-append AreSmall so_far.done one so_far.small small;
+    }
+
+-- ---- what is measured
+
+-- the lines of the accepted commands of the first entries are short enough, so many are there, and these entries are
+-- left
+pub record IsMeasuredUpTo (names : List (List ℕ)) (log rest : List MonitorEntry) (failed : Bool)
+    (place : ℕ) : Type 0 where
+  pub done : List Command
+  pub walked : IsWalkedUpTo log rest failed done
+  pub short : AreShort names done
+  pub counted : place ≡ length done
+
+measured_one : (names : List (List ℕ)) (log rest more : List MonitorEntry) (entry : MonitorEntry) (failed next : Bool)
+    (place later : ℕ) (one : List Command)
+    → accepted_one failed entry ≡ one → IsMeasuredUpTo names log rest failed place → rest ≡ entry ∷ more
+    → AreShort names one → later ≡ place + length one
+    → next ≡ (failed || is_no entry.reply) → IsMeasuredUpTo names log more next later
+measured_one names log rest more entry failed next place later one is_one so_far is short counted told = record {
+  done = so_far.done ++ one;
+  walked = subst (λ (cs : List Command). IsWalkedUpTo log more next (so_far.done ++ cs)) is_one
+      (walked_next log rest more entry failed next so_far.done so_far.walked is told);
+  short = all-append (IsShort names) so_far.done one so_far.short short;
+  counted = omega (arith, counted, so_far.counted, length-append so_far.done one);
+}
+
+-- an entry whose command was accepted
+pub measured_accepted : (names : List (List ℕ)) (log rest more : List MonitorEntry) (entry : MonitorEntry)
+    (failed next : Bool) (place : ℕ)
+    → IsMeasuredUpTo names log rest failed place → rest ≡ entry ∷ more → tells_accepted failed entry.reply ≡ true
+    → IsShort names entry.command
+    → next ≡ (failed || is_no entry.reply) → IsMeasuredUpTo names log more next (place + 1)
+measured_accepted names log rest more entry failed next place so_far is accepted short told =
+    measured_one names log rest more entry failed next place (place + 1) (entry.command ∷ [])
+    (ap (λ (b : Bool). cond b (entry.command ∷ []) []) accepted) so_far is
+    (short, tt) refl told
+
+-- an entry whose command was not
+pub measured_other : (names : List (List ℕ)) (log rest more : List MonitorEntry) (entry : MonitorEntry)
+    (failed next : Bool) (place : ℕ)
+    → IsMeasuredUpTo names log rest failed place → rest ≡ entry ∷ more → tells_accepted failed entry.reply ≡ false
+    → next ≡ (failed || is_no entry.reply) → IsMeasuredUpTo names log more next place
+measured_other names log rest more entry failed next place so_far is other told =
+    measured_one names log rest more entry failed next place place []
+    (ap (λ (b : Bool). cond b (entry.command ∷ []) []) other) so_far is tt (omega arith) told
+
+-- all of them
+pub measured_all : (names : List (List ℕ)) (log rest : List MonitorEntry) (failed : Bool) (place : ℕ)
+    → IsMeasuredUpTo names log rest failed place → rest ≡ []
+    → AreShort names (accepted_in false log)
+measured_all names log rest failed place so_far nothing =
+    subst (AreShort names) (sym (walked_all log rest failed so_far.done so_far.walked nothing)) so_far.short
+
+-- the first that is too long
+pub measured_long : (names : List (List ℕ)) (log rest more : List MonitorEntry) (entry : MonitorEntry)
+    (failed : Bool) (place : ℕ)
+    → IsMeasuredUpTo names log rest failed place → rest ≡ entry ∷ more → tells_accepted failed entry.reply ≡ true
+    → 1048576 < length (line_of names entry.command)
+    → IsFirstLong names (accepted_in false log) place
+measured_long names log rest more entry failed place so_far is accepted long =
+    let one : accepted_one failed entry ≡ entry.command ∷ [] =
+    ap (λ (b : Bool). cond b (entry.command ∷ []) []) accepted in
+    record {
+      before = so_far.done;
+      command = entry.command;
+      later = accepted_in (failed || is_no entry.reply) more;
+      parts =
+          so_far.walked.parts ∙ ap (λ (es : List MonitorEntry). so_far.done ++ accepted_in failed es) is
+          ∙ ap (λ (cs : List Command). so_far.done ++ (cs ++ accepted_in (failed || is_no entry.reply) more)) one;
+      place = so_far.counted;
+      short = so_far.short;
+      long = long;
+    }
+
+-- ---- steps of the loop
+
+cut_at : (log : List MonitorEntry) (i : ℕ) (entry : MonitorEntry) → i < length log → entry ≡ get_or log i entry
+    → drop i log ≡ entry ∷ drop (suc i) log
+cut_at [] i entry there is = absurd (omega (arith, there))
+cut_at (e ∷ log) zero entry there is = ap (λ (x : MonitorEntry). x ∷ log) (sym is)
+cut_at (e ∷ log) (suc i) entry there is = cut_at log i entry (omega (arith, there)) is
+
+pub cut_entry : (log : List MonitorEntry) (i : ℕ) (entry : MonitorEntry) → i < length log → entry ≡ get_or log i entry
+    → drop i log ≡ entry ∷ drop (i + 1) log
+cut_entry log i entry there is =
+    let next : suc i ≡ i + 1 = omega arith in
+    cut_at log i entry there is ∙ ap (λ (n : ℕ). entry ∷ drop n log) next
+
+pub told_before : (now before no_here : Bool) → before ≡ true → now ≡ true → now ≡ (before || no_here)
+told_before now before no_here failed is = is ∙ ap (λ (b : Bool). b || no_here) (sym failed)
+
+pub told_here : (now before no_here : Bool) → before ≡ false → now ≡ no_here → now ≡ (before || no_here)
+told_here now before no_here sound is = is ∙ ap (λ (b : Bool). b || no_here) (sym sound)

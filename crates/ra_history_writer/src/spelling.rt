@@ -1,0 +1,159 @@
+//! The lines that spell commands.
+ghost use Rattle.std.specs.Prelude.{◌≡◌, ◌≤◌, ◌++◌, length, take, OnOk, IfSome};
+ghost use Rattle.std.specs.List.{AllByRecursion};
+ghost use Rattle.std.specs.Fmt.{signed_decimal};
+ghost use Rattle.ra_labels.specs.declared.command.Command.TheVariants.{Join};
+ghost use Rattle.ra_lines.specs.Grammar.{operation_fields, clock_fields, list_word, value_word, HasSmallNumbers, IsSmall};
+ghost use Rattle.ra_history_writer.specs.Spelling.{spaced, commas, line_of, name_of, AreSmall};
+
+use ra_labels::{Command, Elements, NoMemory, Op};
+use ra_lines::Names;
+use ra_lines::number::{put_number, put_numbered};
+
+/// Puts the line of the command behind the bytes, with no line feed. A replica that has no name gets none. Costs as
+/// much as the line is long.
+pub fn put_command(out: &mut Vec<u8>, names: &Names, command: &Command) -> Result<(), NoMemory>
+    ensures put { OnOk result (out.new.items ≡ out.old.items ++ line_of names.now command.now) }
+    ensures small { OnOk result (AreSmall command.now) }
+{
+    match command {
+        Command::Verdict => Ok(out.extend_from_slice(b"verdict")?),
+        Command::Deliver { replica, label } => {
+            put_name(out, names, *replica)?;
+            put_numbered(out, b" got ", *label)
+        }
+        Command::Operate { replica, op, stamp } => {
+            put_name(out, names, *replica)?;
+            put_operation(out, op)?;
+            put_clock(out, *stamp)
+        }
+        Command::Join { replica, from } => put_join(out, names, *replica, *from),
+    }
+}
+
+/// Puts each of so many first names behind the bytes, with a space before it. Costs as much as they are long.
+pub fn put_names(out: &mut Vec<u8>, names: &Names, count: u8) -> Result<(), NoMemory>
+    requires { count ≤ length names.now }
+    ensures { OnOk result (out.new.items ≡ out.old.items ++ spaced (take count names.now)) }
+{
+    for replica in 0..count {
+        out.push(b' ')?;
+        put_name(out, names, replica)?;
+    }
+    Ok(())
+}
+
+fn put_join(out: &mut Vec<u8>, names: &Names, replica: u8, from: u8) -> Result<(), NoMemory>
+    ensures { OnOk result (out.new.items ≡ out.old.items ++ line_of names.now (Join replica from)) }
+{
+    out.extend_from_slice(b"join ")?;
+    put_name(out, names, replica)?;
+    out.push(b' ')?;
+    put_name(out, names, from)
+}
+
+fn put_name(out: &mut Vec<u8>, names: &Names, replica: u8) -> Result<(), NoMemory>
+    ensures { OnOk result (out.new.items ≡ out.old.items ++ name_of names.now replica) }
+{
+    match names.name(replica) {
+        Some(name) => Ok(out.extend_from_slice(name)?),
+        None => Ok(()),
+    }
+}
+
+fn put_clock(out: &mut Vec<u8>, clock: Option<u32>) -> Result<(), NoMemory>
+    ensures put { OnOk result (out.new.items ≡ out.old.items ++ spaced (clock_fields clock)) }
+    ensures small { IfSome clock IsSmall }
+{
+    match clock {
+        None => Ok(()),
+        Some(clock) => put_numbered(out, b" @", clock),
+    }
+}
+
+fn put_operation(out: &mut Vec<u8>, op: &Op) -> Result<(), NoMemory>
+    ensures put { OnOk result (out.new.items ≡ out.old.items ++ spaced (operation_fields op.now)) }
+    ensures small { OnOk result (HasSmallNumbers op.now) }
+{
+    match op {
+        Op::Inc => Ok(out.extend_from_slice(b" inc")?),
+        Op::Dec => Ok(out.extend_from_slice(b" dec")?),
+        Op::Count(value) => {
+            out.extend_from_slice(b" read ")?;
+            put_signed(out, *value)
+        }
+        Op::Last(value) => {
+            out.extend_from_slice(b" read ")?;
+            put_value(out, *value)
+        }
+        Op::LwwRead(list) | Op::OrRead(list) | Op::RgaRead(list) => {
+            out.extend_from_slice(b" read ")?;
+            put_list(out, list)
+        }
+        Op::Write(value) => put_numbered(out, b" write ", *value),
+        Op::LwwAdd(element) => put_numbered(out, b" add ", *element),
+        Op::OrAdd { element, id } => {
+            put_numbered(out, b" add ", *element)?;
+            put_numbered(out, b" #", *id)
+        }
+        Op::LwwRemove(element) | Op::RgaRemove(element) => put_numbered(out, b" remove ", *element),
+        Op::OrRemove { element, ids } => {
+            put_numbered(out, b" remove ", *element)?;
+            out.extend_from_slice(b" #")?;
+            put_list(out, ids)
+        }
+        Op::After { anchor, element } => {
+            put_numbered(out, b" after ", *anchor)?;
+            put_numbered(out, b" ", *element)
+        }
+    }
+}
+
+fn put_value(out: &mut Vec<u8>, value: Option<u32>) -> Result<(), NoMemory>
+    ensures put { OnOk result (out.new.items ≡ out.old.items ++ value_word value) }
+    ensures small { IfSome value IsSmall }
+{
+    match value {
+        None => Ok(out.extend_from_slice(b"none")?),
+        Some(value) => put_number(out, value),
+    }
+}
+
+fn put_list(out: &mut Vec<u8>, list: &Elements) -> Result<(), NoMemory>
+    ensures put { OnOk result (out.new.items ≡ out.old.items ++ list_word list.now) }
+    ensures small { AllByRecursion IsSmall list.now }
+{
+    put_numbers(out, list.as_slice())
+}
+
+fn put_numbers(out: &mut Vec<u8>, numbers: &[u32]) -> Result<(), NoMemory>
+    ensures put { OnOk result (out.new.items ≡ out.old.items ++ list_word numbers.now) }
+    ensures small { AllByRecursion IsSmall numbers.now }
+{
+    match numbers.split_first() {
+        None => Ok(out.push(b'-')?),
+        Some((first, more)) => {
+            put_number(out, *first)?;
+            put_more(out, more)
+        }
+    }
+}
+
+fn put_more(out: &mut Vec<u8>, numbers: &[u32]) -> Result<(), NoMemory>
+    ensures { OnOk result (out.new.items ≡ out.old.items ++ commas numbers.now) }
+{
+    for number in numbers {
+        out.push(b',')?;
+        put_number(out, *number)?;
+    }
+    Ok(())
+}
+
+fn put_signed(out: &mut Vec<u8>, value: i32) -> Result<(), NoMemory>
+    ensures { OnOk result (out.new.items ≡ out.old.items ++ signed_decimal value) }
+{
+    if value < 0 {
+        out.push(b'-')?;
+    }
+    put_number(out, value.unsigned_abs())
+}

@@ -1,4 +1,0 @@
-use Rattle.ra_lines.proofs.size.+number_size.Given as goal
-
-abbrev pub decreases-number_size : goal.decreases-number_size
-decreases-number_size l = l.number

@@ -1,7 +1,0 @@
-use Rattle.std.proofs.Common.{◌≡◌, ◌++◌, take}
-use Rattle.ra_lines.specs.Spelling.{commas}
-use Rattle.ra_lines.proofs.spelling.put_more.Given as goal
-
--- the numbers so far are put
-abbrev pub invariant-loop-number : goal.invariant-loop-number
-invariant-loop-number l = l.out.items ≡ l.initial.out.items ++ commas (take l.number-index l.numbers)
