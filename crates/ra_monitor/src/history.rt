@@ -63,6 +63,7 @@ impl History {
 
     /// Had the replica the label by now? No where there is no such replica, or no such label.
     pub fn had(&self, replica: u8, label: u32) -> bool
+        requires { (past : Past) × StandsFor self.now past }
         ensures { (past : Past) → StandsFor self.now past → result ≡ had past.records replica label }
     {
         replica < self.replicas && self.tracker.sees(replica, label)

@@ -227,7 +227,7 @@ impl Journal for Monitor {
     /// `NoMemory` where a growth was refused. After both nothing changed, and the command is handed back.
     ///
     /// It costs what the tracker, the order and the witness ask, and looks at no label but the command's own. A join
-    /// costs a copy of what is kept of the one replica: its counts, and its state, which takes 45 bytes for each
+    /// costs a copy of what is kept of the one replica: its counts, and its state, which takes 45 to 48 bytes for each
     /// element that a list ever had, 23 for each of a set, and 40 nanoseconds (measured: bench/README.md, *Replicas
     /// that join*).
     fn step(&mut self, pass: u8, ticket: u64, command: Command) -> Result<Reply, StepFault<Command>>

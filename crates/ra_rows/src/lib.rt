@@ -7,6 +7,8 @@ mod commands;
 #[cfg(test)]
 mod counters;
 #[cfg(test)]
+mod explained;
+#[cfg(test)]
 mod first_calls;
 #[cfg(test)]
 mod joins;

@@ -53,8 +53,8 @@ pub enum Say {
     Verdict,
 }
 
-// The command of what is said.
-fn command_of(rt: &impl Abort, alloc: Global, say: Say) -> Command {
+/// The command of what is said.
+pub fn command_of(rt: &impl Abort, alloc: Global, say: Say) -> Command {
     match say {
         Say::Inc(replica) => increment(replica),
         Say::IncAt(replica, clock) => stamped(replica, Op::Inc, clock),

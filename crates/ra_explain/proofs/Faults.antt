@@ -1,0 +1,169 @@
+-- The records of a log end with the label of its fault.
+use Rattle.std.proofs.Common.{◌≡◌, ℕ, ◌+◌, ◌<◌, ◌≤◌, Bool, true, false, List, [], ◌∷◌, inl, inr, length, Option, Some, None, refl, sym, ap, ◌∙◌, subst, arith}
+use Rattle.std.specs.Prelude.{◌==◌, ◌&&◌, ◌||◌, is_some, is_none, option_map}
+use Rattle.std.specs.Option.{option_or}
+use Rattle.std.proofs.lemmas.Bool.{cond-true, cond-false, ne_eqb, cases_Bool}
+use Rattle.std.proofs.lemmas.List.{length-map}
+use Rattle.ra_labels.specs.declared.kind.Kind.{Kind}
+use Rattle.ra_labels.specs.declared.operation.Op.{Op}
+use Rattle.ra_labels.specs.declared.command.Command.{Command}
+use Rattle.ra_labels.specs.declared.command.Command.TheVariants.{Operate, Deliver, Join, Verdict}
+use Rattle.ra_labels.specs.declared.reply.Cause.{Cause}
+use Rattle.ra_labels.specs.declared.reply.Fault.{Fault}
+use Rattle.ra_labels.specs.Records.{Records, label_count}
+use Rattle.ra_labels.specs.Visibility.{had, is_update}
+use Rattle.ra_labels.specs.Fault.{fault_of, fault_at, cause_of, records_before_fault}
+use Rattle.ra_labels.specs.Answer.{refusal_of, records_after, records_after_all, with_accepted}
+use Rattle.ra_laws.proofs.TheLaws.{records_before_fault_have_none-all}
+use Rattle.ra_seqspec.specs.declared.TheConstants.{FARTHEST_COUNT}
+use Rattle.ra_monitor.specs.Limits.{IsLimit}
+use Rattle.ra_monitor.specs.declared.setup.Setup.{Setup}
+use Rattle.ra_monitor.specs.Monitor.{MonitorEntry, records_of, commands_of}
+
+-- before the newest of the records there was no fault
+abbrev IsSoundBefore : Kind → Records → Type 0
+IsSoundBefore kind [] = Unit {0}
+IsSoundBefore kind (c ∷ before) = fault_of kind before ≡ None
+
+none_is : {A : Type 0} (o : Option A) → is_some o ≡ false → o ≡ None
+none_is None is = refl
+none_is (Some x) is = absurd (cc is)
+
+left_false : (a b : Bool) → (a || b) ≡ false → a ≡ false
+left_false false b is = refl
+left_false true b is = absurd (cc is)
+
+with_one : (kind : Kind) (records : Records) (c : Command) → IsSoundBefore kind records → fault_of kind records ≡ None
+    → IsSoundBefore kind (with_accepted records c)
+with_one kind records (Operate by op clock) sound none = none
+with_one kind records (Deliver to n) sound none = none
+with_one kind records (Join joined from) sound none = none
+with_one kind records Verdict sound none = sound
+
+after_one : (kind : Kind) (n : ℕ) (records : Records) (c : Command) → IsSoundBefore kind records
+    → IsSoundBefore kind (records_after kind n records c)
+after_one kind n records c sound =
+    let stays = is_some (fault_of kind records) || is_some (refusal_of kind n records c) in
+    elim (cases_Bool stays) [
+      | inl is ↦ subst (IsSoundBefore kind) (sym (cond-true stays records (with_accepted records c) is)) sound
+      | inr is ↦
+          let none = none_is (fault_of kind records) (left_false (is_some (fault_of kind records)) (is_some (refusal_of kind n records c)) is) in
+          subst (IsSoundBefore kind) (sym (cond-false stays records (with_accepted records c) is))
+          (with_one kind records c sound none)
+    ]
+
+after_all : (kind : Kind) (n : ℕ) (records : Records) (cs : List Command) → IsSoundBefore kind records
+    → IsSoundBefore kind (records_after_all kind n records cs)
+after_all kind n records [] sound = sound
+after_all kind n records (c ∷ cs) sound =
+    after_all kind n (records_after kind n records c) cs (after_one kind n records c sound)
+
+-- the records end with the fault's label
+pub record EndsAtFault (kind : Kind) (records : Records) (fault : Fault) (before : Records) (by : ℕ) (op : Op)
+    (clock : Option ℕ) : Type 0 where
+  pub records_are : records ≡ Operate by op clock ∷ before
+  pub label : fault.label ≡ label_count before
+  pub sound : fault_of kind before ≡ None
+  pub before_is : records_before_fault kind records ≡ before
+
+abbrev pub Ends : Kind → Records → Fault → Type 0
+Ends kind records fault =
+    (before : Records) × (by : ℕ) × (op : Op) × (clock : Option ℕ) × EndsAtFault kind records fault before by op clock
+
+label_is : (n : ℕ) (why : Option Cause) (fault : Fault) → option_map (fault_at n) why ≡ Some fault → fault.label ≡ n
+label_is n None fault is = absurd (cc is)
+label_is n (Some why) fault is = let same : fault_at n why ≡ fault = cc is in sym (ap (λ (f : Fault). f.label) same)
+
+ends : (kind : Kind) (records : Records) (fault : Fault) → IsSoundBefore kind records
+    → fault_of kind records ≡ Some fault → Ends kind records fault
+ends kind [] fault sound is = absurd (cc is)
+ends kind (Deliver to n ∷ before) fault sound is = absurd (cc (sym sound ∙ is))
+ends kind (Join joined from ∷ before) fault sound is = absurd (cc (sym sound ∙ is))
+ends kind (Verdict ∷ before) fault sound is = absurd (cc (sym sound ∙ is))
+ends kind (Operate by op clock ∷ before) fault sound is =
+    let records : Records = Operate by op clock ∷ before in
+    let newest = option_map (fault_at (label_count before)) (cause_of kind records) in
+    let led : newest ≡ Some fault = sym (ap (λ (o : Option Fault). option_or o newest) sound) ∙ is in
+    let fails : is_none (fault_of kind records) ≡ false = ap is_none is in (
+      before,
+      by,
+      op,
+      clock,
+      record {
+        records_are = refl;
+        label = label_is (label_count before) (cause_of kind records) fault led;
+        sound = sound;
+        before_is = cond-false (is_none (fault_of kind records)) records (records_before_fault kind before) fails
+            ∙ records_before_fault_have_none-all kind before sound;
+      },
+    )
+
+pub log_ends : (setup : Setup) (log : List MonitorEntry) (fault : Fault)
+    → fault_of setup.kind (records_of setup log) ≡ Some fault → Ends setup.kind (records_of setup log) fault
+log_ends setup log fault is =
+    ends setup.kind (records_of setup log) fault (after_all setup.kind setup.replicas [] (commands_of log) tt) is
+
+-- of the labels before the fault, the replica had then what it has now
+or_false : (a b c : Bool) (h : Bool) → b ≡ false → ((a && b && c) || h) ≡ h
+or_false true b c h is = ap (λ t. (t && c) || h) is
+or_false false b c h is = refl
+
+pub had_before : (setup : Setup) (log : List MonitorEntry) (replica n : ℕ) (o : Option Fault)
+    → fault_of setup.kind (records_of setup log) ≡ o
+    → n < label_count (records_before_fault setup.kind (records_of setup log))
+    → had (records_of setup log) replica n ≡ had (records_before_fault setup.kind (records_of setup log)) replica n
+had_before setup log replica n None is below =
+    ap (λ (rs : Records). had rs replica n) (sym (records_before_fault_have_none-all setup.kind (records_of setup log) is))
+had_before setup log replica n (Some fault) is below =
+    let (before, by, op, clock, at) = log_ends setup log fault is in
+    let other : n ≡ label_count before → ⊥ = λ same.
+    absurd (omega (arith, below, ap label_count at.before_is, same)) in
+    ap (λ (rs : Records). had rs replica n) at.records_are
+    ∙ or_false (by == replica) (n == label_count before) (is_update op) (had before replica n)
+    (ne_eqb n (label_count before) other)
+    ∙ ap (λ (rs : Records). had rs replica n) (sym at.before_is)
+
+-- ---- there are no more labels than entries
+
+few_one : (kind : Kind) (n : ℕ) (records : Records) (c : Command)
+    → label_count (records_after kind n records c) ≤ label_count records + 1
+few_one kind n records c =
+    let stays = is_some (fault_of kind records) || is_some (refusal_of kind n records c) in
+    elim (cases_Bool stays) [
+      | inl is ↦ subst (λ (rs : Records). label_count rs ≤ label_count records + 1)
+          (sym (cond-true stays records (with_accepted records c) is)) (omega arith)
+      | inr is ↦ subst (λ (rs : Records). label_count rs ≤ label_count records + 1)
+          (sym (cond-false stays records (with_accepted records c) is)) (few_more c)
+    ]
+  where
+    few_more : (c : Command) → label_count (with_accepted records c) ≤ label_count records + 1
+    few_more (Operate by op clock) = omega arith
+    few_more (Deliver to m) = omega arith
+    few_more (Join joined from) = omega arith
+    few_more Verdict = omega arith
+
+few_all : (kind : Kind) (n : ℕ) (records : Records) (cs : List Command)
+    → label_count (records_after_all kind n records cs) ≤ label_count records + length cs
+few_all kind n records [] = omega arith
+few_all kind n records (c ∷ cs) =
+    omega (arith, few_all kind n (records_after kind n records c) cs, few_one kind n records c)
+
+pub few_labels : (setup : Setup) (log : List MonitorEntry) → label_count (records_of setup log) ≤ length log
+few_labels setup log =
+    omega (arith, few_all setup.kind setup.replicas [] (commands_of log), length-map log (λ (e : MonitorEntry). e.command))
+
+-- nor are there more before the fault
+pub few_before : (setup : Setup) (log : List MonitorEntry) (o : Option Fault)
+    → fault_of setup.kind (records_of setup log) ≡ o
+    → label_count (records_before_fault setup.kind (records_of setup log)) ≤ label_count (records_of setup log)
+few_before setup log None is =
+    omega (arith, ap label_count (records_before_fault_have_none-all setup.kind (records_of setup log) is))
+few_before setup log (Some fault) is =
+    let (before, by, op, clock, at) = log_ends setup log fault is in
+    omega (arith, ap label_count at.before_is, ap label_count at.records_are)
+
+-- so there are few enough for a state
+pub few_enough : (setup : Setup) (log : List MonitorEntry) → length log ≤ setup.limit → IsLimit setup.limit
+    → label_count (records_before_fault setup.kind (records_of setup log)) ≤ FARTHEST_COUNT
+few_enough setup log within limit =
+    omega (arith, few_labels setup log, few_before setup log (fault_of setup.kind (records_of setup log)) refl, within, limit.1)

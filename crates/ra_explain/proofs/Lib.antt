@@ -1,0 +1,6 @@
+pub mod Commands
+pub mod Faults
+pub mod Labels
+pub mod Steps
+pub mod TheLaws
+pub mod RightAnswers

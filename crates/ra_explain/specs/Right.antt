@@ -1,0 +1,62 @@
+-- What the label at the fault had to return.
+use Rattle.std.specs.Prelude.{Bool, true, false, List, ◌∷◌, Option, Some, None, option_map, option_and_then, if◌then◌else◌}
+use Rattle.ra_labels.specs.declared.operation.Op.{Op}
+use Rattle.ra_labels.specs.declared.operation.Op.TheVariants as op
+use Rattle.ra_labels.specs.declared.operation.Query.{Query}
+use Rattle.ra_labels.specs.declared.operation.Query.TheVariants.{Count, Last, LwwRead, ReadIds, OrRead, RgaRead}
+use Rattle.ra_labels.specs.declared.command.Command.{Command}
+use Rattle.ra_labels.specs.declared.command.Command.TheVariants.{Operate}
+use Rattle.ra_labels.specs.declared.reply.Cause.{Cause}
+use Rattle.ra_labels.specs.declared.reply.Cause.TheVariants as cause
+use Rattle.ra_labels.specs.declared.reply.Fault.{Fault}
+use Rattle.ra_labels.specs.declared.kind.Kind.{Kind}
+use Rattle.ra_labels.specs.Records.{Records}
+use Rattle.ra_labels.specs.Rewriting.{acts_of}
+use Rattle.ra_labels.specs.Specification.{State, state_after}
+use Rattle.ra_labels.specs.Insertion.{updates_had}
+use Rattle.ra_monitor.specs.declared.setup.Setup.{Setup}
+use Rattle.ra_monitor.specs.Monitor.{MonitorEntry, records_of, fault_in}
+use Rattle.ra_seqspec.specs.Answered.{answered_in}
+use Rattle.ra_witness.specs.Labels.{first_of, queries_in}
+use Rattle.ra_explain.specs.Seen.{state_had}
+
+-- what the operation asks, if anything
+abbrev pub query_in : Op → Option Query
+query_in op = first_of (queries_in (acts_of op))
+
+-- the operation that asks this
+abbrev pub asking : Query → Op
+asking (Count v) = op.Count v
+asking (Last value) = op.Last value
+asking (LwwRead list) = op.LwwRead list
+asking (ReadIds x ids) = op.OrRemove x ids
+asking (OrRead list) = op.OrRead list
+asking (RgaRead list) = op.RgaRead list
+
+-- the operation, with what it had to return in this state in the place of what it returned; none where it asks nothing
+abbrev pub right_in : State → Op → Option Op
+right_in state operation = option_map asking (option_and_then (answered_in state) (query_in operation))
+
+abbrev pub is_query : Cause → Bool
+is_query cause.Query = true
+is_query why = false
+
+-- the newest label, with what it had to return after the updates that its replica had, in the named order
+abbrev pub right_at : Kind → Records → Option Op
+right_at kind (Operate by operation clock ∷ before) =
+    option_and_then (λ state. right_in state operation) (state_after kind (updates_had kind before by))
+right_at kind records = None
+
+-- the label at the fault, with what it had to return, where its query fails and what its replica had is admitted
+abbrev pub right_where : Kind → Records → Option Fault → Option Op
+right_where kind records None = None
+right_where kind records (Some fault) = if is_query fault.cause then right_at kind records else None
+
+abbrev pub right_answer_in : Setup → List MonitorEntry → Option Op
+right_answer_in setup log = right_where setup.kind (records_of setup log) (fault_in setup log)
+
+-- the command's operation, with what it had to return after the updates before the fault that its replica had
+abbrev pub right_by : Setup → List MonitorEntry → Command → Option Op
+right_by setup log (Operate by operation clock) =
+    option_and_then (λ state. right_in state operation) (state_had setup log by)
+right_by setup log command = None

@@ -1,0 +1,46 @@
+//! Laws of a log with a fault, each the clause of a function that does nothing.
+ghost use Rattle.std.specs.Prelude.{◌≡◌, ℕ, ℤ, Bool, List, ◌∷◌, Option, Some, None};
+ghost use Rattle.ra_labels.specs.declared.operation.Op.{Op};
+ghost use Rattle.ra_labels.specs.declared.operation.Op.TheVariants as op;
+ghost use Rattle.ra_labels.specs.declared.command.Command.TheVariants.{Operate};
+ghost use Rattle.ra_labels.specs.declared.reply.Fault.{Fault};
+ghost use Rattle.ra_labels.specs.Lists.{identifiers_of, shown};
+ghost use Rattle.ra_labels.specs.Records.{Records, label_count};
+ghost use Rattle.ra_labels.specs.Fault.{fault_of};
+ghost use Rattle.ra_labels.specs.Specification.{Number, Written, Members, Pairs, Listed};
+ghost use Rattle.ra_seqspec.specs.Pairs.{distinct_elements};
+ghost use Rattle.ra_monitor.specs.declared.setup.Setup.{Setup};
+ghost use Rattle.ra_monitor.specs.Monitor.{MonitorEntry, records_of, fault_in, IsLegalLog};
+ghost use Rattle.ra_explain.specs.Places.{places_in, command_at};
+ghost use Rattle.ra_explain.specs.Right.{right_in};
+
+/// The records of a log with a fault end with its label, and those before it have none: after the first no nothing is
+/// accepted.
+pub fn the_records_end_at_the_fault()
+    ensures { (setup : Setup) (log : List MonitorEntry) (fault : Fault) → fault_in setup log ≡ Some fault
+        → (before : Records) × (by : ℕ) × (operation : Op) × (clock : Option ℕ)
+        × (records_of setup log ≡ Operate by operation clock ∷ before) × (fault.label ≡ label_count before)
+        × (fault_of setup.kind before ≡ None) }
+{}
+
+/// The command of the fault's label stands at its place in the log.
+pub fn the_label_at_the_fault_is_found()
+    ensures { (setup : Setup) (log : List MonitorEntry) (fault : Fault) (before : Records) (by : ℕ) (operation : Op)
+        (clock : Option ℕ) → IsLegalLog setup log → fault_in setup log ≡ Some fault
+        → records_of setup log ≡ Operate by operation clock ∷ before
+        → command_at log (places_in log) fault.label ≡ Some (Operate by operation clock) }
+{}
+
+/// What had to be returned in a state: a counter's number, the value that was written last, the elements of a set, the
+/// identifiers that an element has, the elements of a list that are shown.
+pub fn what_had_to_be_returned()
+    ensures counter { (number told : ℤ) → right_in (Number number) (op.Count told) ≡ Some (op.Count number) }
+    ensures register { (last told : Option ℕ) → right_in (Written last) (op.Last told) ≡ Some (op.Last last) }
+    ensures lww_set { (xs told : List ℕ) → right_in (Members xs) (op.LwwRead told) ≡ Some (op.LwwRead xs) }
+    ensures identifiers { (pairs : List (ℕ × ℕ)) (x : ℕ) (told : List ℕ)
+        → right_in (Pairs pairs) (op.OrRemove x told) ≡ Some (op.OrRemove x (identifiers_of x pairs)) }
+    ensures or_set { (pairs : List (ℕ × ℕ)) (told : List ℕ)
+        → right_in (Pairs pairs) (op.OrRead told) ≡ Some (op.OrRead (distinct_elements pairs)) }
+    ensures rga { (list : List (ℕ × Bool)) (told : List ℕ)
+        → right_in (Listed list) (op.RgaRead told) ≡ Some (op.RgaRead (shown list)) }
+{}

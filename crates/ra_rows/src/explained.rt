@@ -1,0 +1,195 @@
+//! What the label at a fault had to return, in worked histories.
+
+use crate::commands::{reply_behind, reporter_of};
+use crate::rows::{Say, command_of};
+use ra_explain::right_answer;
+use ra_labels::{Command, Kind, Op};
+use ra_monitor::Monitor;
+use std::alloc::Global;
+use std::process::Abort;
+use std::test::Fail;
+
+// A history that three replicas begin, and what its last label had to be.
+struct Row {
+    name: &'static str,
+    kind: Kind,
+    says: &'static [Say],
+    right: Option<Say>,
+}
+
+const ROWS: [Row; 14] = [
+    Row {
+        name: "a counter that was read before an increment counted",
+        kind: Kind::Counter,
+        says: &[Say::Inc(0), Say::Got(1, 0), Say::Read(1, 0)],
+        right: Some(Say::Read(1, 1)),
+    },
+    Row {
+        name: "a counter that counts what did not come",
+        kind: Kind::Counter,
+        says: &[
+            Say::Inc(0),
+            Say::Dec(0),
+            Say::Inc(0),
+            Say::Got(2, 0),
+            Say::Got(2, 1),
+            Say::Read(2, 1),
+        ],
+        right: Some(Say::Read(2, 0)),
+    },
+    Row {
+        name: "a register that keeps the older write",
+        kind: Kind::Register,
+        says: &[
+            Say::Write(0, 7, 1),
+            Say::Write(1, 9, 2),
+            Say::Got(0, 1),
+            Say::Last(0, Some(7)),
+        ],
+        right: Some(Say::Last(0, Some(9))),
+    },
+    Row {
+        name: "a register that nothing was written to",
+        kind: Kind::Register,
+        says: &[Say::Write(0, 7, 1), Say::Last(1, Some(7))],
+        right: Some(Say::Last(1, None)),
+    },
+    Row {
+        name: "an LWW set that lacks an element",
+        kind: Kind::LwwSet,
+        says: &[Say::Add(0, 4, 1), Say::Add(0, 2, 2), Say::Elements(0, &[4])],
+        right: Some(Say::Elements(0, &[2, 4])),
+    },
+    Row {
+        name: "an LWW set that shows what was removed later",
+        kind: Kind::LwwSet,
+        says: &[
+            Say::Add(0, 4, 1),
+            Say::Remove(1, 4, 2),
+            Say::Got(0, 1),
+            Say::Elements(0, &[4]),
+        ],
+        right: Some(Say::Elements(0, &[])),
+    },
+    Row {
+        name: "an OR-Set that lacks an element, which is there twice",
+        kind: Kind::OrSet,
+        says: &[
+            Say::OrAdd(0, 4, 1),
+            Say::OrAdd(1, 4, 2),
+            Say::OrAdd(1, 2, 3),
+            Say::Got(0, 1),
+            Say::Got(0, 2),
+            Say::OrRead(0, &[2]),
+        ],
+        right: Some(Say::OrRead(0, &[2, 4])),
+    },
+    Row {
+        name: "a removal from an OR-Set that leaves an identifier out",
+        kind: Kind::OrSet,
+        says: &[
+            Say::OrAdd(0, 4, 2),
+            Say::OrAdd(1, 4, 1),
+            Say::OrAdd(1, 5, 3),
+            Say::Got(0, 1),
+            Say::Got(0, 2),
+            Say::OrRemove(0, 4, &[2]),
+        ],
+        right: Some(Say::OrRemove(0, 4, &[1, 2])),
+    },
+    Row {
+        name: "a list that is shown in another order",
+        kind: Kind::Rga,
+        says: &[
+            Say::After(0, 0, 1, 1),
+            Say::After(0, 1, 2, 2),
+            Say::After(0, 1, 3, 3),
+            Say::RgaRead(0, &[1, 2, 3]),
+        ],
+        right: Some(Say::RgaRead(0, &[1, 3, 2])),
+    },
+    Row {
+        name: "a list that shows what was removed",
+        kind: Kind::Rga,
+        says: &[
+            Say::After(0, 0, 1, 1),
+            Say::After(0, 1, 2, 2),
+            Say::RgaRemove(0, 1),
+            Say::RgaRead(0, &[1, 2]),
+        ],
+        right: Some(Say::RgaRead(0, &[2])),
+    },
+    Row {
+        name: "a list whose replica has not what its element stands behind, so that no answer would do",
+        kind: Kind::Rga,
+        says: &[
+            Say::After(0, 0, 1, 1),
+            Say::After(1, 1, 2, 2),
+            Say::RgaRead(1, &[2]),
+        ],
+        right: None,
+    },
+    Row {
+        name: "an update that is not admitted, which asks nothing",
+        kind: Kind::Rga,
+        says: &[Say::After(0, 5, 6, 1)],
+        right: None,
+    },
+    Row {
+        name: "a stamp below one that was seen",
+        kind: Kind::Register,
+        says: &[Say::Write(0, 7, 5), Say::Got(1, 0), Say::Write(1, 9, 3)],
+        right: None,
+    },
+    Row {
+        name: "no fault",
+        kind: Kind::Counter,
+        says: &[Say::Inc(0), Say::Got(1, 0), Say::Read(1, 1)],
+        right: None,
+    },
+];
+
+// What the label at the monitor's fault had to be, asked once more where a growth was refused.
+fn told(rt: &impl Abort, alloc: Global, monitor: &Monitor) -> Option<Op> {
+    for _attempt in 0..2 {
+        if let Ok(right) = right_answer(alloc, monitor) {
+            return right;
+        }
+    }
+    panic!(rt; "no memory")
+}
+
+// The operation that is said.
+fn operation_of(rt: &impl Abort, alloc: Global, say: Say) -> Op {
+    match command_of(rt, alloc, say) {
+        Command::Operate { op, .. } => op,
+        _ => panic!(rt; "no operation"),
+    }
+}
+
+// Is that what had to be returned, at the fault and after a further call, which the no answers again?
+fn is_told(rt: &impl Abort, alloc: Global, row: &Row) {
+    let mut reporter = reporter_of(rt, alloc, row.kind, 3, 100);
+    for say in row.says {
+        reply_behind(
+            rt,
+            &mut reporter,
+            command_of(rt, alloc, *say),
+            None,
+        );
+    }
+    for _call in 0..2 {
+        let right = told(rt, alloc, reporter.monitor());
+        let want = row.right.map(|say| operation_of(rt, alloc, say));
+        assert_eq!(rt; right, want, "{}", row.name);
+        reply_behind(rt, &mut reporter, Command::Verdict, None);
+    }
+}
+
+#[test]
+fn a_no_is_told_the_right_answer(rt: HostRuntime) -> Result<(), Fail> {
+    for row in ROWS {
+        is_told(&rt, rt.alloc(), &row);
+    }
+    Ok(())
+}
