@@ -10,6 +10,7 @@ use std::process::Abort;
 use std::test::Fail;
 
 // A history that three replicas begin, and what its last label had to be.
+#[derive(Clone, Copy)]
 struct Row {
     name: &'static str,
     kind: Kind,
