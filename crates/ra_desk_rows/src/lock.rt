@@ -3,7 +3,6 @@ ghost use Rattle.std.specs.Prelude.{◌≡◌, ◌<◌, ◌≤◌, [], All};
 ghost use Rattle.ra_ticket.specs.Passes.{IsPassOf, IsSamePass};
 
 mod gate;
-mod random;
 mod tally;
 pub mod threads;
 
@@ -11,7 +10,6 @@ use gate::{Gate, is_raised_in_time, lowered, raise, shared};
 use ra_ticket::{
     CallFault, Caller, Glance, Journal, MOST_ENTRIES, OpenFault, Pass, StepFault, TicketLock,
 };
-use random::{Played, played_by_threads};
 use std::alloc::Global;
 use std::process::Abort;
 use std::sync::Wait;
@@ -138,10 +136,10 @@ fn bad_numbers_of_passes_give_the_journal_back(rt: HostRuntime) {
     }
 }
 
-// One pass makes two thousand entries, and the most passes there may be make more together.
+// One pass makes two thousand entries, and the most passes there may be make more together, by calls or by attempts.
 #[test]
 fn passes_are_served_in_order(rt: HostRuntime) {
-    for (count, calls) in [(1, 2_000), (64, 40)] {
+    for (count, calls, waits) in [(1, 2_000, true), (64, 40, true), (64, 40, false)] {
         let tally = tally_of(&rt, rt.alloc(), 4_000);
         let (lock, passes) = opened(&rt, rt.alloc(), tally, count, 3);
         assert_eq!(rt; passes.len(), usize::from(count));
@@ -149,7 +147,7 @@ fn passes_are_served_in_order(rt: HostRuntime) {
         for pass in passes {
             let before = u32::from(pass.number()) * calls;
             assert_eq!(rt; served.len(), before as usize);
-            assert!(rt; replies(&rt, &lock, pass, calls, &mut served).is_ok());
+            assert!(rt; replies(&rt, &lock, pass, calls, waits, &mut served).is_ok());
         }
         let last = u32::from(count) * calls;
         assert_eq!(rt;
@@ -247,7 +245,7 @@ fn use_and_drop<R: Abort + Wait>(
     let outlives = last_pass(rt, &lock, &mut passes);
     let mut served = Vec::new(alloc);
     for pass in passes {
-        assert!(rt; replies(rt, &lock, pass, calls, &mut served).is_ok());
+        assert!(rt; replies(rt, &lock, pass, calls, true, &mut served).is_ok());
     }
     assert_eq!(rt; drops.load(Ordering::SeqCst), 0);
     drop(lock);
@@ -325,36 +323,4 @@ fn try_inside(
     let found = caller.try_submit(7);
     raise(go_on);
     Some(found)
-}
-
-// Sixty-three passes on eight threads make calls, try, glance and meet, and a further pass closes the lock.
-#[test]
-fn each_pass_has_its_calls_once_and_in_order(rt: HostRuntime) {
-    let tally = tally_of(&rt, rt.alloc(), 1_048_576);
-    let (lock, mut passes) = opened(&rt, rt.alloc(), tally, 64, 0);
-    let last = last_pass(&rt, &lock, &mut passes);
-    let played = match played_by_threads(&rt, rt.alloc(), &lock, passes, 8, 12_500) {
-        Ok(played) => played,
-        Err(_) => panic!(rt; "no memory"),
-    };
-    let tally = match lock.close(last) {
-        Ok(tally) => tally,
-        Err(_) => panic!(rt; "not settled"),
-    };
-    let logged = logged_of(&rt, rt.alloc(), &tally, played.as_slice());
-    assert_eq!(rt; tally.calls() as usize, logged);
-    assert!(rt; logged > 20_000, "{logged} calls");
-}
-
-// How many replies all have, where each has those of the log.
-fn logged_of(rt: &impl Abort, alloc: Global, tally: &Tally, played: &[Played]) -> usize {
-    let mut logged = 0;
-    for Played { pass, replies } in played {
-        match tally.replies_to(alloc, *pass) {
-            Ok(there) => assert_eq!(rt; replies.as_slice(), there.as_slice(), "pass {pass}"),
-            Err(_) => panic!(rt; "no memory"),
-        }
-        logged = replies.len().wrapping_add(logged);
-    }
-    logged
 }

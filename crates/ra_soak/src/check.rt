@@ -214,9 +214,13 @@ fn one_thread_answers(
     log: &[Call],
     setting: Setting,
 ) -> anyhow::Result<Option<Finding>> {
-    let Ok(mut reporter) = Reporter::new(alloc, setting.kind, REPLICAS, setting.limit) else {
-        bail!("no monitor");
-    };
+    match Reporter::new(alloc, setting.kind, REPLICAS, setting.limit) {
+        Ok(mut reporter) => answers_as(&mut reporter, log),
+        Err(_) => bail!("no monitor"),
+    }
+}
+
+fn answers_as(reporter: &mut Reporter, log: &[Call]) -> anyhow::Result<Option<Finding>> {
     for (place, call) in log.iter().enumerate() {
         match reporter.tell(call.command.clone()?) {
             Ok(reply) if reply == call.reply => {}

@@ -48,12 +48,12 @@ pub struct Closed {
 
 /// Plays the round.
 pub fn play<R: Threads + Wait + Sync>(rt: &R, alloc: Global, setting: Setting) -> Result<Closed> {
-    let Ok(monitor) = Monitor::new(alloc, setting.kind, REPLICAS, setting.limit) else {
-        bail!("no monitor");
-    };
-    match TicketLock::open(alloc, monitor, PASSES, 0) {
-        Ok((desk, passes)) => play_on(rt, alloc, desk, passes, setting),
-        Err(_) => bail!("no desk"),
+    match Monitor::new(alloc, setting.kind, REPLICAS, setting.limit) {
+        Ok(monitor) => match TicketLock::open(alloc, monitor, PASSES, 0) {
+            Ok((desk, passes)) => play_on(rt, alloc, desk, passes, setting),
+            Err(_) => bail!("no desk"),
+        },
+        Err(_) => bail!("no monitor"),
     }
 }
 

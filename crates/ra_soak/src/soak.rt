@@ -135,8 +135,11 @@ fn play_and_check<R: Threads + Wait + Sync>(
     setting: Setting,
 ) -> Result<(Sum, Option<Finding>)> {
     let closed = play(rt, alloc, setting)?;
-    let finding = finding_in(alloc, setting, &closed)?;
-    Ok((Sum::of(&closed), finding))
+    let finding = finding_in(alloc, setting, &closed);
+    let sum = Sum::of(&closed);
+    // What is closed has many parts, so it is let go by a call: the proof goes through them once.
+    drop(closed);
+    Ok((sum, finding?))
 }
 
 fn tell_round(rt: &impl Print, number: u32, kind: Kind, sum: Sum) -> Result<()> {

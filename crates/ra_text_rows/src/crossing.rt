@@ -3,9 +3,19 @@
 use ra_labels::Kind;
 use ra_monitor::Report;
 use std::alloc::{AllocError, Global};
+use std::process::Abort;
 
 // So many rounds come from one read to the next: an even number, of four at least.
 const ROUNDS_OF_A_READ: u32 = 1_000;
+
+/// All kinds.
+pub const KINDS: [Kind; 5] = [
+    Kind::Counter,
+    Kind::Register,
+    Kind::LwwSet,
+    Kind::OrSet,
+    Kind::Rga,
+];
 
 /// The text of a history that holds, as it is made, and what is written for it.
 #[derive(Drop)]
@@ -152,5 +162,13 @@ fn read_after(alloc: Global, kind: Kind, last: Update) -> Result<String, AllocEr
         }
         Kind::LwwSet | Kind::OrSet => String::from_str(alloc, "read 1,2,3,4"),
         Kind::Rga => String::from_str(alloc, "read 4,3,2,1"),
+    }
+}
+
+/// The history of so many rounds.
+pub fn made_of(rt: &impl Abort, alloc: Global, kind: Kind, rounds: u32) -> Crossing {
+    match Crossing::new(alloc, kind, rounds) {
+        Ok(made) => made,
+        Err(_) => panic!(rt; "no memory"),
     }
 }

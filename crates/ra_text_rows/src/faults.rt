@@ -1,19 +1,11 @@
-//! The words of faults that few texts bring about.
+//! The words of a fault that no text brings about.
 
-use ra_history_text::CheckFault::{Endless, Full, LineTooLong, NoMemory, Read, Write};
-use std::test::Fail;
+use ra_history_text::CheckFault;
 
 #[test]
-fn faults_have_words(rt: HostRuntime) -> Result<(), Fail> {
-    for (fault, words) in [
-        (Read, "read fault"),
-        (Write, "write fault"),
-        (LineTooLong(4_294_967_295), "line 4294967295: too long"),
-        (NoMemory, "no memory"),
-        (Endless, "endless input"),
-        (Full(1_048_579), "line 1048579: full"),
-    ] {
-        assert_eq!(rt; fault.to_string(rt.alloc())?.as_str(), words);
+fn faults_have_words(rt: HostRuntime) {
+    match CheckFault::Endless.to_string(rt.alloc()) {
+        Ok(words) => assert_eq!(rt; words.as_str(), "endless input"),
+        Err(_) => panic!(rt; "no memory"),
     }
-    Ok(())
 }

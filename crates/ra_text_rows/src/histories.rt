@@ -1,15 +1,27 @@
 //! Histories that are written as texts.
 
-use super::SETS;
-use super::worked::{TEXTS, answer_to};
+use super::crossing::{KINDS, made_of};
 use super::writers::Trickle;
+use super::{LIST, SETS};
 use ra_history_text::{Item, Names, Reading, check};
 use ra_history_writer::{WriteFault, write_history};
-use ra_journal::Journal;
-use ra_labels::{Cause, Command, Elements, Op, Reply};
-use ra_monitor::Monitor;
+use ra_journal::MOST_ENTRIES;
+use ra_labels::{Cause, Command, Elements, Kind, Op, Reply};
+use ra_monitor::{Monitor, Report, Reporter};
 use std::alloc::{AllocError, Global};
 use std::process::Abort;
+
+// What is told, and what is written of it.
+struct Row {
+    // All names in the end, and how many of them are there first.
+    names: &'static [&'static str],
+    first: u8,
+    kind: Kind,
+    told: &'static str,
+    written: &'static str,
+}
+
+const ABC: &[&str] = &["a", "b", "c"];
 
 // What is accepted of the sets: all but the delivery that comes too early.
 const ACCEPTED: &str = "RAH 1 orset
@@ -24,85 +36,6 @@ c got 2
 c read 4
 ";
 
-// A text that is written of a monitor amounts to what the monitor does, and nothing in it is refused.
-#[test]
-fn histories_are_written_and_checked_again(rt: HostRuntime) {
-    let names = names_of(&rt, rt.alloc(), &["a", "b", "c"]);
-    for row in &TEXTS {
-        let monitor = monitor_of(&rt, rt.alloc(), row.text);
-        let mut text = Vec::new(rt.alloc());
-        let wrote = write_history(rt.alloc(), &monitor, &names, &mut text);
-        assert_eq!(rt; wrote, Ok(()), "{}", row.name);
-        let mut written = Vec::new(rt.alloc());
-        let Ok(outcome) = check(rt.alloc(), &mut text.as_slice(), &mut written) else {
-            panic!(rt; "not a text: {}", row.name);
-        };
-        let report = monitor.report();
-        assert_eq!(rt; outcome.report.labels, report.labels, "{}", row.name);
-        assert_eq!(rt; outcome.report.fault, report.fault, "{}", row.name);
-        assert_eq!(rt; outcome.report.refused, 0, "{}", row.name);
-    }
-}
-
-// The replies to what is accepted.
-const ACCEPTED_REPLIES: &str = "ok 0
-got 0
-ok 1
-ok 2
-got 0
-got 1
-got 2
-ok 3
-end yes 4
-";
-
-// What is refused is left out, and so is all behind a no; and what is written is answered as it was.
-#[test]
-fn only_what_was_accepted_is_written(rt: HostRuntime) {
-    let names = names_of(&rt, rt.alloc(), &["a", "b", "c"]);
-    for (commands, wanted, replies) in [
-        (SETS, ACCEPTED, ACCEPTED_REPLIES),
-        (
-            "RAH 1 counter\nreplicas a b c\na inc\nb read 1\na inc\nverdict\n",
-            "RAH 1 counter\nreplicas a b c\na inc\nb read 1\n",
-            "ok 0\nno 1 query\nend no 1 query\n",
-        ),
-    ] {
-        let monitor = monitor_of(&rt, rt.alloc(), commands);
-        let mut text = Vec::new(rt.alloc());
-        let wrote = write_history(rt.alloc(), &monitor, &names, &mut text);
-        assert_eq!(rt; wrote, Ok(()));
-        assert_eq!(rt; text.as_slice(), wanted.as_bytes());
-        let (_, written) = answer_to(rt.alloc(), text.as_slice(), 4_096);
-        assert_eq!(rt; written.as_slice(), replies.as_bytes());
-    }
-}
-
-// A writer that fails, or takes no byte, has the bytes before, and is not asked again.
-#[test]
-fn histories_are_written_byte_by_byte(rt: HostRuntime) {
-    let names = names_of(&rt, rt.alloc(), &["a", "b", "c"]);
-    let monitor = monitor_of(&rt, rt.alloc(), SETS);
-    let whole = ACCEPTED.as_bytes();
-    for good_writes in 0..=whole.len() {
-        let wanted = if good_writes < whole.len() {
-            Err(WriteFault::Write)
-        } else {
-            Ok(())
-        };
-        for fails in [true, false] {
-            let mut writer = Trickle::new(rt.alloc(), 1, good_writes, fails);
-            let wrote = write_history(rt.alloc(), &monitor, &names, &mut writer);
-            assert_eq!(rt; wrote, wanted, "after {good_writes} writes");
-            assert_eq!(rt;
-                Some(writer.taken()),
-                whole.get(..good_writes),
-                "after {good_writes} writes"
-            );
-        }
-    }
-}
-
 /// Two replicas, and one that joins. What is refused of the joins is left out, and so is what came to it that it had.
 pub const JOINED: &str = "RAH 2 counter
 replicas a b
@@ -115,57 +48,12 @@ c got 0
 b read 0
 ";
 
-// What is accepted of it.
-const ACCEPTED_OF_JOINED: &str = "RAH 2 counter
-replicas a b
-a inc
-join c a
-c read 1
-b read 0
-";
-
-const REPLIES_OF_JOINED: &str = "ok 0
-joined 2
-ok 1
-ok 2
-end yes 3
-";
-
-// Names are those of the first replicas, and then of those that joined.
-#[test]
-fn replicas_that_joined_are_written(rt: HostRuntime) {
-    let names = names_of(&rt, rt.alloc(), &["a", "b", "c"]);
-    let monitor = monitor_at(&rt, rt.alloc(), 2, JOINED);
-    assert_eq!(rt; monitor.replicas(), 3);
-    let mut text = Vec::new(rt.alloc());
-    let wrote = write_history(rt.alloc(), &monitor, &names, &mut text);
-    assert_eq!(rt; wrote, Ok(()));
-    assert_eq!(rt; text.as_slice(), ACCEPTED_OF_JOINED.as_bytes());
-    let (_, written) = answer_to(rt.alloc(), text.as_slice(), 4_096);
-    assert_eq!(rt; written.as_slice(), REPLIES_OF_JOINED.as_bytes());
-    let few = names_of(&rt, rt.alloc(), &["a", "b"]);
-    let wrote = write_history(rt.alloc(), &monitor, &few, &mut text);
-    assert_eq!(rt; wrote, Err(WriteFault::BadNames));
-}
-
-// A join that was refused is none, so the older text will do.
-#[test]
-fn a_refused_join_asks_for_no_newer_text(rt: HostRuntime) {
-    let names = names_of(&rt, rt.alloc(), &["a", "b"]);
-    let joined = "RAH 2 counter\nreplicas a b\njoin a b\na inc\njoin c d\n";
-    let monitor = monitor_at(&rt, rt.alloc(), 2, joined);
-    assert_eq!(rt; monitor.replicas(), 2);
-    let mut text = Vec::new(rt.alloc());
-    let wrote = write_history(rt.alloc(), &monitor, &names, &mut text);
-    assert_eq!(rt; wrote, Ok(()));
-    assert_eq!(rt;
-        text.as_slice(),
-        b"RAH 1 counter\nreplicas a b\na inc\n".as_slice()
-    );
-}
-
 const SEVENTEEN: [&str; 17] = [
     "a", "b", "c", "d", "e", "f", "g", "h", "i", "j", "k", "l", "m", "n", "o", "p", "q",
+];
+
+const SIXTEEN: [&str; 16] = [
+    "a", "b", "c", "d", "e", "f", "g", "h", "i", "j", "k", "l", "m", "n", "o", "p",
 ];
 
 const SIXTY_FOUR: [&str; 64] = [
@@ -176,45 +64,235 @@ const SIXTY_FOUR: [&str; 64] = [
     "n54", "n55", "n56", "n57", "n58", "n59", "n60", "n61", "n62", "n63",
 ];
 
-const OF_SIXTY_FOUR: &str =
+/// The text of as many first replicas as there can be.
+pub const OF_SIXTY_FOUR: &str =
     "RAH 2 rga\nreplicas n0 n1 n2 n3 n4 n5 n6 n7 n8 n9 n10 n11 n12 n13 n14 n15 n16 n17 n18 n19 n20 n21 \
     n22 n23 n24 n25 n26 n27 n28 n29 n30 n31 n32 n33 n34 n35 n36 n37 n38 n39 n40 n41 n42 \
     n43 n44 n45 n46 n47 n48 n49 n50 n51 n52 n53 n54 n55 n56 n57 n58 n59 n60 n61 n62 n63\n";
 
-// More than 16 first replicas are written in RAH 2, up to 64, and 16 in RAH 1.
+// What is refused is left out, and so are verdicts, and all behind a no.
+const ROWS: [Row; 16] = [
+    Row {
+        names: ABC,
+        first: 3,
+        kind: Kind::OrSet,
+        told: SETS,
+        written: ACCEPTED,
+    },
+    Row {
+        names: ABC,
+        first: 3,
+        kind: Kind::Counter,
+        told: "RAH 1 counter\nreplicas a b c\na inc\nb read 1\na inc\nverdict\n",
+        written: "RAH 1 counter\nreplicas a b c\na inc\nb read 1\n",
+    },
+    Row {
+        names: ABC,
+        first: 3,
+        kind: Kind::Counter,
+        told: "RAH 1 counter\nreplicas a b c\na inc\nb dec\nc got 1\nverdict\nc read -1\n",
+        written: "RAH 1 counter\nreplicas a b c\na inc\nb dec\nc got 1\nc read -1\n",
+    },
+    Row {
+        names: ABC,
+        first: 3,
+        kind: Kind::Register,
+        told: "RAH 1 register\nreplicas a b c\na inc\na write 7\na read none\nb got 0\nb got 1\n\
+a write 7 @1\na got 1\na read 7\n",
+        written: "RAH 1 register\nreplicas a b c\na read none\na write 7 @1\na read 7\n",
+    },
+    Row {
+        names: ABC,
+        first: 3,
+        kind: Kind::Register,
+        told: "RAH 1 register\nreplicas a b c\na write 7 @5\na write 8 @4\na write 9 @6\n",
+        written: "RAH 1 register\nreplicas a b c\na write 7 @5\na write 8 @4\n",
+    },
+    Row {
+        names: ABC,
+        first: 3,
+        kind: Kind::LwwSet,
+        told: "RAH 1 lwwset\nreplicas a b c\na add 4 @2\nb remove 4 @1\nb remove 9 @3\n\
+c got 0\nc got 1\nc read 4\nc read -\n",
+        written: "RAH 1 lwwset\nreplicas a b c\na add 4 @2\nb remove 4 @1\nb remove 9 @3\n\
+c got 0\nc got 1\nc read 4\nc read -\n",
+    },
+    Row {
+        names: ABC,
+        first: 3,
+        kind: Kind::OrSet,
+        told: "RAH 1 orset\nreplicas a b c\na add 4 #1\nb add 5 #1\nb remove 4 #-\na read 4,4\n",
+        written: "RAH 1 orset\nreplicas a b c\na add 4 #1\nb remove 4 #-\n",
+    },
+    Row {
+        names: ABC,
+        first: 3,
+        kind: Kind::Rga,
+        told: LIST,
+        written: LIST,
+    },
+    Row {
+        names: ABC,
+        first: 3,
+        kind: Kind::Rga,
+        told: "RAH 1 rga\nreplicas a b c\na after 0 1 @1\na remove 1\nb got 0\nb after 1 2 @2\n\
+c got 0\nc got 1\nc got 2\nc read 2\n",
+        written: "RAH 1 rga\nreplicas a b c\na after 0 1 @1\na remove 1\nb got 0\nb after 1 2 @2\n\
+c got 0\nc got 1\nc got 2\nc read 2\n",
+    },
+    Row {
+        names: ABC,
+        first: 3,
+        kind: Kind::Rga,
+        told: "RAH 1 rga\nreplicas a b c\na after 3 4 @1\na remove 4\n",
+        written: "RAH 1 rga\nreplicas a b c\na after 3 4 @1\n",
+    },
+    Row {
+        names: ABC,
+        first: 3,
+        kind: Kind::Counter,
+        told: "RAH 1 counter\nreplicas a b c\n",
+        written: "RAH 1 counter\nreplicas a b c\n",
+    },
+    // Names are those of the first replicas, and then of those that joined.
+    Row {
+        names: ABC,
+        first: 2,
+        kind: Kind::Counter,
+        told: JOINED,
+        written: "RAH 2 counter\nreplicas a b\na inc\njoin c a\nc read 1\nb read 0\n",
+    },
+    // A join that was refused is none, so the older text will do.
+    Row {
+        names: &["a", "b"],
+        first: 2,
+        kind: Kind::Counter,
+        told: "RAH 2 counter\nreplicas a b\njoin a b\na inc\njoin c d\n",
+        written: "RAH 1 counter\nreplicas a b\na inc\n",
+    },
+    // More than 16 first replicas are written in RAH 2, up to 64, and 16 in RAH 1.
+    Row {
+        names: &SIXTY_FOUR,
+        first: 64,
+        kind: Kind::Rga,
+        told: OF_SIXTY_FOUR,
+        written: OF_SIXTY_FOUR,
+    },
+    Row {
+        names: &SEVENTEEN,
+        first: 17,
+        kind: Kind::Rga,
+        told: "RAH 2 rga\nreplicas a b c d e f g h i j k l m n o p q\n",
+        written: "RAH 2 rga\nreplicas a b c d e f g h i j k l m n o p q\n",
+    },
+    Row {
+        names: &SIXTEEN,
+        first: 16,
+        kind: Kind::Rga,
+        told: "RAH 2 rga\nreplicas a b c d e f g h i j k l m n o p\n",
+        written: "RAH 1 rga\nreplicas a b c d e f g h i j k l m n o p\n",
+    },
+];
+
 #[test]
-fn sixteen_first_replicas_are_written_in_the_older_text(rt: HostRuntime) {
-    for (words, first) in [
-        (SIXTY_FOUR.as_slice(), OF_SIXTY_FOUR),
-        (
-            SEVENTEEN.as_slice(),
-            "RAH 2 rga\nreplicas a b c d e f g h i j k l m n o p q\n",
-        ),
-        (
-            &SEVENTEEN[..16],
-            "RAH 1 rga\nreplicas a b c d e f g h i j k l m n o p\n",
-        ),
-    ] {
-        let names = names_of(&rt, rt.alloc(), words);
-        let monitor = monitor_at(&rt, rt.alloc(), names.count(), first);
-        let mut text = Vec::new(rt.alloc());
-        let wrote = write_history(rt.alloc(), &monitor, &names, &mut text);
-        assert_eq!(rt; wrote, Ok(()));
-        assert_eq!(rt; text.as_slice(), first.as_bytes());
+fn histories_are_written_and_checked_again(rt: HostRuntime) {
+    for row in &ROWS {
+        is_written(&rt, rt.alloc(), row);
     }
 }
 
-// One too few, and one too many.
+// What is written of a monitor amounts to what the monitor does, and nothing in it is refused.
+fn is_written(rt: &impl Abort, alloc: Global, row: &Row) {
+    let names = names_of(rt, alloc, row.names);
+    let reporter = told(rt, alloc, row.kind, row.first, row.told.as_bytes());
+    let text = written(rt, alloc, reporter.monitor(), &names);
+    assert!(rt; text.as_slice() == row.written.as_bytes());
+    amounts_to(rt, alloc, text.as_slice(), reporter.monitor().report());
+}
+
+// All that is written.
+fn written(rt: &impl Abort, alloc: Global, monitor: &Monitor, names: &Names) -> Vec<u8> {
+    let mut text = Vec::new(alloc);
+    let wrote = write_history(alloc, monitor, names, &mut text);
+    assert!(rt; wrote == Ok(()));
+    text
+}
+
+// The text has the labels and the fault of the report, and no refusal.
+fn amounts_to(rt: &impl Abort, alloc: Global, text: &[u8], report: Report) {
+    let mut text = text;
+    let mut replies = Vec::new(alloc);
+    match check(alloc, &mut text, &mut replies) {
+        Ok(outcome) => {
+            let Report {
+                labels,
+                refused,
+                fault,
+                ..
+            } = outcome.report;
+            assert!(rt; labels == report.labels && refused == 0 && fault == report.fault);
+        }
+        Err(_) => panic!(rt; "not a text"),
+    }
+}
+
+// A writer that fails, or takes no byte, has the bytes before, and is not asked again.
+#[test]
+fn histories_are_written_byte_by_byte(rt: HostRuntime) {
+    let names = names_of(&rt, rt.alloc(), ABC);
+    let reporter = told(&rt, rt.alloc(), Kind::OrSet, 3, SETS.as_bytes());
+    is_written_in_part(&rt, rt.alloc(), reporter.monitor(), &names);
+}
+
+fn is_written_in_part(rt: &impl Abort, alloc: Global, monitor: &Monitor, names: &Names) {
+    for bytes in 0..=ACCEPTED.len() {
+        for fails in [true, false] {
+            let writer = Trickle::new(alloc, 1, bytes, fails);
+            let is_part = is_written_until(alloc, monitor, names, writer, bytes);
+            assert!(rt; is_part, "after {bytes} bytes");
+        }
+    }
+}
+
+// Are so many bytes written?
+fn is_written_until(
+    alloc: Global,
+    monitor: &Monitor,
+    names: &Names,
+    mut writer: Trickle,
+    bytes: usize,
+) -> bool {
+    let wrote = write_history(alloc, monitor, names, &mut writer);
+    let wanted = if bytes < ACCEPTED.len() {
+        Err(WriteFault::Write)
+    } else {
+        Ok(())
+    };
+    wrote == wanted && Some(writer.taken()) == ACCEPTED.as_bytes().get(..bytes)
+}
+
+// One too few, and one too many; and one too few for those that joined.
 #[test]
 fn names_are_as_many_as_the_replicas(rt: HostRuntime) {
-    let monitor = monitor_of(&rt, rt.alloc(), SETS);
-    for words in [["a", "b"].as_slice(), &["a", "b", "c", "d"]] {
-        let names = names_of(&rt, rt.alloc(), words);
-        let mut text = Vec::new(rt.alloc());
-        let wrote = write_history(rt.alloc(), &monitor, &names, &mut text);
-        assert_eq!(rt; wrote, Err(WriteFault::BadNames));
-        assert!(rt; text.is_empty());
+    for (words, kind, first, text) in [
+        (["a", "b"].as_slice(), Kind::OrSet, 3, SETS),
+        (&["a", "b", "c", "d"], Kind::OrSet, 3, SETS),
+        (&["a", "b"], Kind::Counter, 2, JOINED),
+    ] {
+        has_no_names(
+            &rt,
+            rt.alloc(),
+            words,
+            told(&rt, rt.alloc(), kind, first, text.as_bytes()),
+        );
     }
+}
+
+fn has_no_names(rt: &impl Abort, alloc: Global, words: &[&str], reporter: Reporter) {
+    let names = names_of(rt, alloc, words);
+    let mut text = Vec::new(alloc);
+    let wrote = write_history(alloc, reporter.monitor(), &names, &mut text);
+    assert!(rt; wrote == Err(WriteFault::BadNames) && text.is_empty());
 }
 
 // Two of its commands are accepted, so the next one that is stands at place 2.
@@ -224,26 +302,34 @@ const SET: &str = "RAH 1 lwwset\nreplicas a b c\na add 4 @1\na add 4 @1\nverdict
 // times a comma and seven digits. The lines before have 13, 15, 11 and 8 bytes with their line feeds.
 #[test]
 fn the_longest_line_is_written(rt: HostRuntime) {
-    let names = names_of(&rt, rt.alloc(), &["a", "b", "c"]);
-    for (least, wanted, bytes, ends) in [
-        (1, Ok(()), 1_048_624, 1),
-        (11, Err(WriteFault::LineTooLong(2)), 0, 2),
+    for (least, wanted, bytes) in [
+        (1, Ok(()), 1_048_624),
+        (11, Err(WriteFault::LineTooLong(2)), 0),
     ] {
-        let monitor = with_a_read_from(&rt, rt.alloc(), least);
-        let mut text = Vec::new(rt.alloc());
-        let wrote = write_history(rt.alloc(), &monitor, &names, &mut text);
-        assert_eq!(rt; wrote, wanted);
-        assert_eq!(rt; text.len(), bytes);
-        let (ended, _) = answer_to(rt.alloc(), text.as_slice(), 4_096);
-        assert_eq!(rt; ended, ends);
+        let (wrote, length) = written_with_a_read_from(&rt, rt.alloc(), least);
+        assert!(rt; wrote == wanted && length == bytes);
     }
 }
 
-// The monitor of the set, with a wrong read of this element and more.
-fn with_a_read_from(rt: &impl Abort, alloc: Global, least: u32) -> Monitor {
-    let mut monitor = monitor_of(rt, alloc, SET);
-    let Ok(elements) = elements_from(alloc, least) else {
-        panic!(rt; "no memory");
+// What comes of writing the set with a read of this element and more, and how many bytes are written.
+fn written_with_a_read_from(
+    rt: &impl Abort,
+    alloc: Global,
+    least: u32,
+) -> (Result<(), WriteFault>, usize) {
+    let names = names_of(rt, alloc, ABC);
+    let mut reporter = told(rt, alloc, Kind::LwwSet, 3, SET.as_bytes());
+    read_from(rt, alloc, &mut reporter, least);
+    let mut text = Vec::new(alloc);
+    let wrote = write_history(alloc, reporter.monitor(), &names, &mut text);
+    (wrote, text.len())
+}
+
+// Reports a wrong read of this element and more.
+fn read_from(rt: &impl Abort, alloc: Global, reporter: &mut Reporter, least: u32) {
+    let elements = match elements_from(alloc, least) {
+        Ok(elements) => elements,
+        Err(_) => panic!(rt; "no memory"),
     };
     let command = Command::Operate {
         replica: 0,
@@ -254,8 +340,7 @@ fn with_a_read_from(rt: &impl Abort, alloc: Global, least: u32) -> Monitor {
         label: 1,
         cause: Cause::Query,
     };
-    assert_eq!(rt; reply_to(rt, &mut monitor, command), no);
-    monitor
+    assert!(rt; reply_to(rt, reporter, command) == no);
 }
 
 // This element, and 131,071 of seven digits.
@@ -265,6 +350,26 @@ fn elements_from(alloc: Global, least: u32) -> Result<Elements, AllocError> {
     Ok(Elements::new(list))
 }
 
+// With two updates a round, 200,000.
+const ROUNDS: u32 = 100_000;
+
+#[test]
+fn long_histories_are_written_as_they_were_told(rt: HostRuntime) {
+    for kind in KINDS {
+        let made = made_of(&rt, rt.alloc(), kind, ROUNDS);
+        is_written_as_told(&rt, rt.alloc(), kind, made.text());
+    }
+}
+
+// What is written of a monitor is the text that it was told, where all of that is accepted, and spelled as it is
+// written.
+fn is_written_as_told(rt: &impl Abort, alloc: Global, kind: Kind, text: &[u8]) {
+    let names = names_of(rt, alloc, &["a", "b"]);
+    let reporter = told(rt, alloc, kind, 2, text);
+    let again = written(rt, alloc, reporter.monitor(), &names);
+    assert!(rt; again.as_slice() == text, "{kind:?}");
+}
+
 fn names_of(rt: &impl Abort, alloc: Global, words: &[&str]) -> Names {
     match Names::new(alloc, words) {
         Ok(names) => names,
@@ -272,54 +377,42 @@ fn names_of(rt: &impl Abort, alloc: Global, words: &[&str]) -> Names {
     }
 }
 
-// The monitor of three replicas that is told the commands of the text.
-fn monitor_of(rt: &impl Abort, alloc: Global, text: &str) -> Monitor {
-    monitor_at(rt, alloc, 3, text)
-}
-
-// The same, where so many replicas are there first. What joins is named from then on.
-fn monitor_at(rt: &impl Abort, alloc: Global, replicas: u8, text: &str) -> Monitor {
+// The reporter of so many first replicas that is told the lines of the text.
+fn told(rt: &impl Abort, alloc: Global, kind: Kind, first: u8, text: &[u8]) -> Reporter {
     let mut reading = Reading::new(alloc);
-    let mut monitor = None;
-    for line in text.as_bytes().split(|byte| *byte == b'\n') {
-        match reading.line(line) {
-            Ok(Item::KindLine(kind)) => monitor = Monitor::new(alloc, kind, replicas, 100).ok(),
-            Ok(Item::NamesLine(_)) => {}
-            Ok(Item::CommandLine(command)) => {
-                let Some(told) = &mut monitor else {
-                    panic!(rt; "a command before the kind");
-                };
-                reply_to(rt, told, command);
-            }
-            Ok(Item::JoinLine { command, name }) => {
-                let Some(told) = &mut monitor else {
-                    panic!(rt; "a join before the kind");
-                };
-                if let Reply::Joined(_) = reply_to(rt, told, command) {
-                    assert!(rt; reading.add(name.as_str()).is_ok(), "no name");
-                }
-            }
-            // What stands behind the last line feed is no line.
-            Err(_) => assert!(rt; line.is_empty(), "not read"),
+    let mut reporter = match Reporter::new(alloc, kind, first, MOST_ENTRIES) {
+        Ok(reporter) => reporter,
+        Err(_) => panic!(rt; "no reporter"),
+    };
+    for line in text.split(|byte| *byte == b'\n') {
+        // What stands behind the last line feed is no line.
+        if !line.is_empty() {
+            tell_line(rt, &mut reading, &mut reporter, line);
         }
     }
-    match monitor {
-        Some(monitor) => monitor,
-        None => panic!(rt; "no monitor"),
+    reporter
+}
+
+// What joins is named from then on.
+fn tell_line(rt: &impl Abort, reading: &mut Reading, reporter: &mut Reporter, line: &[u8]) {
+    match reading.line(line) {
+        Ok(Item::KindLine(kind)) => assert!(rt; kind == reporter.monitor().report().kind),
+        Ok(Item::NamesLine(count)) => assert!(rt; count == reporter.monitor().replicas()),
+        Ok(Item::CommandLine(command)) => {
+            reply_to(rt, reporter, command);
+        }
+        Ok(Item::JoinLine { command, name }) => {
+            if let Reply::Joined(_) = reply_to(rt, reporter, command) {
+                assert!(rt; reading.add(name.as_str()).is_ok(), "no name");
+            }
+        }
+        Err(_) => panic!(rt; "not read"),
     }
 }
 
-// The reply to one command of pass 0, with the number of commands before it as its ticket.
-fn reply_to(rt: &impl Abort, monitor: &mut Monitor, command: Command) -> Reply {
-    let ticket = monitor.log().len() as u64;
-    let step = match monitor.last_ticket() {
-        Some(last) => {
-            assert!(rt; last < ticket);
-            monitor.step(0, ticket, command)
-        }
-        None => monitor.step(0, ticket, command),
-    };
-    match step {
+// A command that is handed back is let go here.
+fn reply_to(rt: &impl Abort, reporter: &mut Reporter, command: Command) -> Reply {
+    match reporter.tell(command) {
         Ok(reply) => reply,
         Err(_) => panic!(rt; "no reply"),
     }

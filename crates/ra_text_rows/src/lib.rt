@@ -12,15 +12,11 @@ mod histories;
 #[cfg(test)]
 mod lines;
 #[cfg(test)]
-mod long;
-#[cfg(test)]
 mod readers;
 #[cfg(test)]
 mod refused;
 #[cfg(test)]
 mod sessions;
-#[cfg(test)]
-mod worked;
 #[cfg(test)]
 mod writers;
 

@@ -1,10 +1,9 @@
 //! Texts that come from readers of all sorts.
 
 use super::{LIST, LIST_REPLIES, REPLIES, SETS, TEXT, WRITTEN};
-use ra_history_text::CheckFault::{self, Full, LineTooLong, Syntax, Truncated};
+use ra_history_text::CheckFault::{self, Truncated};
 use ra_history_text::check;
 use std::alloc::Global;
-use std::cell::Cell;
 use std::io;
 use std::io::{ErrorKind, Read, Write};
 use std::process::Abort;
@@ -146,55 +145,34 @@ fn first_lines(text: &str, lines: usize) -> &[u8] {
     first_bytes(text, end)
 }
 
-/// Gives a front, then a part again and again, and then a rest, each read at most so many bytes.
+// Gives a front, and then a part again and again, a byte a read.
 #[derive(Drop)]
-pub struct Repeats<'a> {
+struct Repeats<'a> {
     now: &'a [u8],
     part: &'a [u8],
     times: usize,
-    rest: &'a [u8],
-    most: usize,
-}
-
-impl<'a> Repeats<'a> {
-    /// Gives the text alone, each read at most so many bytes.
-    pub fn of(text: &'a [u8], most: usize) -> Repeats<'a> {
-        Repeats {
-            now: text,
-            part: b"",
-            times: 0,
-            rest: b"",
-            most,
-        }
-    }
 }
 
 impl Read for Repeats<'_> {
     fn read(&mut self, buf: &mut [u8]) -> io::Result<usize> {
-        if self.now.is_empty() {
-            if self.times == 0 {
-                self.now = self.rest;
-                self.rest = b"";
-            } else {
-                self.times -= 1;
-                self.now = self.part;
-            }
+        if self.now.is_empty() && self.times > 0 {
+            self.times -= 1;
+            self.now = self.part;
         }
-        let room = buf.len().min(self.most);
+        let room = buf.len().min(1);
         self.now.read(&mut buf[..room])
     }
 }
 
 // Counts what is written.
 #[derive(Drop)]
-struct Counting<'a> {
-    written: &'a Cell<usize>,
+struct Counting {
+    written: usize,
 }
 
-impl Write for Counting<'_> {
+impl Write for Counting {
     fn write(&mut self, buf: &[u8]) -> io::Result<usize> {
-        self.written
-            .set(self.written.get().saturating_add(buf.len()));
+        self.written = self.written.saturating_add(buf.len());
         Ok(buf.len())
     }
 
@@ -203,121 +181,16 @@ impl Write for Counting<'_> {
     }
 }
 
-const NAMES: &[u8] = b"RAH 1 counter\nreplicas a b\n";
-
-const HEAD: &[u8] = b"RAH 1 counter\nreplicas a b\na inc\n";
-
-// The longest line of a command, which is refused.
-const LONGEST: &[u8] = b"zzzzzzzzzzzzzzzz read -2147483648 @4294967295\n";
-
-const VERDICT: &[u8] = b"verdict\n";
-
-const MANY: &[u8] = &[b'a'; 4_096];
-
-// A front, a part so many times and a rest; how many bytes a read gives at most; the fault, and how much is written.
-type Long = (
-    &'static [u8],
-    &'static [u8],
-    usize,
-    &'static str,
-    usize,
-    Option<CheckFault>,
-    usize,
-);
-
-// A text of more than 2^24 bytes, a byte a read; a full log, which takes 1,048,576 commands and no more; and a line of
-// 1,048,576 bytes, the most, which is no line of the grammar, or of one more, with a line feed behind and without.
-const LONG: [Long; 14] = [
-    (NAMES, LONGEST, 364_723, "", 1, None, 24 * 364_723 + 10),
-    (
-        NAMES,
-        VERDICT,
-        1_048_576,
-        "",
-        4_096,
-        None,
-        6 * 1_048_576 + 10,
-    ),
-    (
-        NAMES,
-        VERDICT,
-        1_048_577,
-        "",
-        4_096,
-        Some(Full(1_048_579)),
-        6 * 1_048_576,
-    ),
-    (b"", MANY, 256, "", 4_096, Some(Truncated(1)), 0),
-    (b"", MANY, 256, "\n", 4_096, Some(Syntax(1)), 0),
-    (b"", MANY, 256, "a", 4_096, Some(LineTooLong(1)), 0),
-    (b"", MANY, 256, "a\n", 4_096, Some(LineTooLong(1)), 0),
-    (NAMES, MANY, 256, "", 4_096, Some(Truncated(3)), 0),
-    (NAMES, MANY, 256, "\n", 4_096, Some(Syntax(3)), 0),
-    (NAMES, MANY, 256, "a", 4_096, Some(LineTooLong(3)), 0),
-    (HEAD, MANY, 256, "", 4_096, Some(Truncated(4)), 5),
-    (HEAD, MANY, 256, "\n", 1_000, Some(Syntax(4)), 5),
-    (HEAD, MANY, 256, "a", 4_096, Some(LineTooLong(4)), 5),
-    (HEAD, MANY, 256, "a\n", 1_000, Some(LineTooLong(4)), 5),
-];
-
+// The longest line of a command, which is refused, so often that there are more than 2^24 reads.
 #[test]
-fn sizes(rt: HostRuntime) {
-    for (now, part, times, rest, most, fault, written) in LONG {
-        let count = Cell::new(0);
-        let mut reader = Repeats {
-            now,
-            part,
-            times,
-            rest: rest.as_bytes(),
-            most,
-        };
-        let mut writer = Counting { written: &count };
-        let outcome = check(rt.alloc(), &mut reader, &mut writer);
-        assert_eq!(rt; outcome.err(), fault, "{times} times");
-        assert_eq!(rt; count.get(), written, "{times} times");
-    }
-}
-
-// Gives piece after piece, each only where so many bytes were written before.
-#[derive(Drop)]
-struct Watching<'a> {
-    pieces: &'a [(&'a str, usize)],
-    written: &'a Cell<usize>,
-}
-
-impl Read for Watching<'_> {
-    fn read(&mut self, buf: &mut [u8]) -> io::Result<usize> {
-        let [(piece, wanted), more @ ..] = self.pieces else {
-            return Ok(0);
-        };
-        let bytes = piece.as_bytes();
-        if self.written.get() != *wanted || bytes.len() > buf.len() {
-            return Err(io::Error::from(ErrorKind::Other));
-        }
-        self.pieces = more;
-        buf[..bytes.len()].copy_from_slice(bytes);
-        Ok(bytes.len())
-    }
-}
-
-// The reply to each whole line is written before the next read.
-#[test]
-fn replies_at_once(rt: HostRuntime) {
-    let written = Cell::new(0);
-    let pieces = [
-        ("RAH 1 counter\nreplicas a b\na i", 0),
-        ("nc\nb got 0\nb re", 0),
-        ("ad 1\n", 11),
-        ("a inc\n", 16),
-        ("verdict\nverd", 21),
-        ("ict\n", 27),
-    ];
-    let mut reader = Watching {
-        pieces: &pieces,
-        written: &written,
+fn many_reads_of_a_byte(rt: HostRuntime) {
+    let mut reader = Repeats {
+        now: b"RAH 1 counter\nreplicas a b\n",
+        part: b"zzzzzzzzzzzzzzzz read -2147483648 @4294967295\n",
+        times: 364_723,
     };
-    let mut writer = Counting { written: &written };
+    let mut writer = Counting { written: 0 };
     let outcome = check(rt.alloc(), &mut reader, &mut writer);
-    assert!(rt; outcome.is_ok());
-    assert_eq!(rt; written.get(), 43);
+    assert_eq!(rt; outcome.err(), None);
+    assert_eq!(rt; writer.written, 24 * 364_723 + 10);
 }

@@ -1,59 +1,79 @@
-//! Texts that are taken piece by piece, and their reports.
+//! Texts that a session takes piece by piece, and reports of them.
 
+use super::crossing::{Crossing, KINDS, made_of};
 use super::{REPLIES, SETS};
 use ra_history_text::Session;
+use ra_labels::Kind;
 use ra_monitor::Report;
 use ra_report::report_json;
 use std::alloc::Global;
 use std::process::Abort;
 
-// Takes the text in two pieces, the first of so many bytes.
-fn in_two_pieces(
+// With two updates a round, 200,000.
+const ROUNDS: u32 = 100_000;
+
+// With two updates a round, 10,000.
+const ROUNDS_IN_PIECES: u32 = 5_000;
+
+// A session that is fed the text, so many bytes at a time, answers and reports what is known of it.
+fn is_answered(
     rt: &impl Abort,
     alloc: Global,
     text: &[u8],
-    first: usize,
-    out: &mut Vec<u8>,
-) -> Report {
-    let (front, behind) = text.split_at(first.min(text.len()));
+    length: usize,
+    replies: &[u8],
+    report: Report,
+) {
     let mut session = Session::new(alloc);
-    assert_eq!(rt; session.feed(front, out), Ok(()));
-    assert_eq!(rt; session.feed(behind, out), Ok(()));
-    match session.finish(out) {
-        Ok(report) => report,
-        Err(_) => panic!(rt; "not finished"),
+    let mut answer = Vec::new(alloc);
+    for piece in text.chunks(length.max(1)) {
+        let fed = session.feed(piece, &mut answer);
+        assert_eq!(rt; fed, Ok(()), "{length} bytes at a time");
     }
+    let ended = session.finish(&mut answer);
+    assert_eq!(rt; ended, Ok(report), "{length} bytes at a time");
+    assert!(rt; answer.as_slice() == replies, "{length} bytes at a time");
 }
 
+// It is cut at each of its bytes.
 #[test]
 fn takes_pieces(rt: HostRuntime) {
-    for first in 0..SETS.len() {
-        let mut out = Vec::new(rt.alloc());
-        let report = in_two_pieces(&rt, rt.alloc(), SETS.as_bytes(), first, &mut out);
-        assert_eq!(rt; report.labels, 4);
-        assert_eq!(rt; out.as_slice(), REPLIES.as_bytes());
+    let report = Report {
+        kind: Kind::OrSet,
+        calls: 9,
+        labels: 4,
+        refused: 1,
+        fault: None,
+    };
+    for length in 1..=SETS.len() {
+        let text = SETS.as_bytes();
+        is_answered(&rt, rt.alloc(), text, length, REPLIES.as_bytes(), report);
     }
 }
 
 #[test]
-fn reports(rt: HostRuntime) {
-    let no = "RAH 1 register\nreplicas a b\na write 7 @5\na write 8 @4\n";
-    for (text, object) in [
-        (
-            SETS,
-            "{\"calls\":9,\"kind\":\"orset\",\"labels\":4,\"refused\":1,\"verdict\":\"yes\"}",
-        ),
-        (
-            no,
-            "{\"calls\":2,\"cause\":\"order\",\"final\":false,\"kind\":\"register\",\"label\":1,\"labels\":2,\
-\"refused\":0,\"verdict\":\"no\"}",
-        ),
-    ] {
-        let mut out = Vec::new(rt.alloc());
-        let report = in_two_pieces(&rt, rt.alloc(), text.as_bytes(), 0, &mut out);
-        match report_json(rt.alloc(), &report) {
-            Ok(written) => assert_eq!(rt; written.as_str(), object),
-            Err(_) => panic!(rt; "no memory"),
-        }
+fn long_texts_are_fed_in_one_piece(rt: HostRuntime) {
+    for kind in KINDS {
+        let made = made_of(&rt, rt.alloc(), kind, ROUNDS);
+        is_taken(&rt, rt.alloc(), &made, made.text().len());
     }
+}
+
+#[test]
+fn texts_are_fed_in_pieces_of_each_length(rt: HostRuntime) {
+    let made = made_of(&rt, rt.alloc(), Kind::OrSet, ROUNDS_IN_PIECES);
+    for length in 1..=100 {
+        is_taken(&rt, rt.alloc(), &made, length);
+    }
+}
+
+fn is_taken(rt: &impl Abort, alloc: Global, made: &Crossing, length: usize) {
+    is_answered(
+        rt,
+        alloc,
+        made.text(),
+        length,
+        made.replies(),
+        made.report(),
+    );
 }

@@ -1,9 +1,11 @@
 //! A desk is closed when all has been reported, and its monitor tells what was.
 
+use crate::two_threads::reporters_of;
 use anyhow::{Result, bail};
 use ra_desk::DeskReporter;
-use ra_labels::{Command, Kind, Op};
+use ra_labels::{Command, Op};
 use ra_monitor::Monitor;
+use std::alloc::Global;
 
 // What a replica did, with the answer that it got.
 fn did(replica: u8, op: Op) -> Command {
@@ -16,22 +18,30 @@ fn did(replica: u8, op: Op) -> Command {
 
 /// Replica 1 reads a one that has not reached it. Prints the log and the report.
 pub fn close(rt: &HostRuntime) -> Result<()> {
-    let Ok(monitor) = Monitor::new(rt.alloc(), Kind::Counter, 2, 100) else {
-        bail!("no monitor");
-    };
-    let Ok(mut reporters) = DeskReporter::open(rt.alloc(), monitor, 2) else {
-        bail!("no desk");
-    };
-    let (Some(mut one), Some(mut two)) = (reporters.pop(), reporters.pop()) else {
-        bail!("no reporters");
-    };
-    if two.try_tell(did(0, Op::Inc)).is_err() || one.try_tell(did(1, Op::Count(1))).is_err() {
-        bail!("a report was not taken");
+    let monitor = closed(rt.alloc())?;
+    print(rt, &monitor)
+}
+
+fn closed(alloc: Global) -> Result<Monitor> {
+    let mut reporters = reporters_of(alloc, 100)?;
+    match (reporters.pop(), reporters.pop()) {
+        (Some(one), Some(two)) => close_behind(one, two),
+        _ => bail!("no reporters"),
     }
+}
+
+// Each reports once. The first one is left then, and closes the desk.
+fn close_behind(mut one: DeskReporter, mut two: DeskReporter) -> Result<Monitor> {
+    let is_taken = two.try_tell(did(0, Op::Inc)).is_ok()
+        && one.try_tell(did(1, Op::Count(1))).is_ok();
     drop(two);
-    let Ok(monitor) = one.close() else {
-        bail!("another reporter is left");
-    };
+    match one.close() {
+        Ok(monitor) if is_taken => Ok(monitor),
+        _ => bail!("a report was not taken, or another reporter is left"),
+    }
+}
+
+fn print(rt: &HostRuntime, monitor: &Monitor) -> Result<()> {
     for entry in monitor.log() {
         println!(rt;
             "pass {}, ticket {}: {:?}",

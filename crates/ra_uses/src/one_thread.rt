@@ -15,9 +15,13 @@ fn did(replica: u8, op: Op) -> Command {
 
 /// Replica 1 reads its counter twice: it has one increment both times, and answers 5 the second time.
 pub fn tell(rt: &HostRuntime) -> Result<()> {
-    let Ok(mut reporter) = Reporter::new(rt.alloc(), Kind::Counter, 2, 100) else {
-        bail!("no monitor");
-    };
+    match Reporter::new(rt.alloc(), Kind::Counter, 2, 100) {
+        Ok(mut reporter) => tell_all(rt, &mut reporter),
+        Err(_) => bail!("no monitor"),
+    }
+}
+
+fn tell_all(rt: &HostRuntime, reporter: &mut Reporter) -> Result<()> {
     let got = Command::Deliver {
         replica: 1,
         label: 0,

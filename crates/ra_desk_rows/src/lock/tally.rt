@@ -4,7 +4,7 @@ ghost use Rattle.ra_journal.specs.declared.journal.TheConstants.{MOST_ENTRIES};
 
 use super::gate::Gate;
 use ra_ticket::{Entry, Journal, MOST_ENTRIES, StepFault};
-use std::alloc::{AllocError, Global};
+use std::alloc::Global;
 use std::sync::Arc;
 use std::sync::atomic::{AtomicU64, Ordering};
 
@@ -55,17 +55,6 @@ impl Tally {
             drops,
             gate: Some(gate),
         }
-    }
-
-    /// The replies to this pass, in order.
-    pub fn replies_to(&self, alloc: Global, pass: u8) -> Result<Vec<u32>, AllocError> {
-        let mut replies = Vec::new(alloc);
-        for entry in &self.log {
-            if entry.pass == pass {
-                replies.push(entry.reply)?;
-            }
-        }
-        Ok(replies)
     }
 }
 

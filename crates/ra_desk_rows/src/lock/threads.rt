@@ -97,18 +97,36 @@ pub fn call_and_look_on<R: Threads + Wait + Sync>(
     (reply, found, Found { call, calls })
 }
 
-/// Makes calls that each add one, and puts the replies of those that were answered behind the others.
+// A call that adds one, or an attempt.
+fn call<R: Wait>(
+    rt: &R,
+    lock: &TicketLock<Tally>,
+    pass: &mut Pass<Tally>,
+    waits: bool,
+) -> Result<u32, CallFault<u32>>
+    requires { IsPassOf lock.now pass.old }
+    ensures { IsPassOf lock.now pass.new }
+{
+    if waits {
+        lock.submit(rt, pass, 1)
+    } else {
+        lock.try_submit(pass, 1)
+    }
+}
+
+/// Makes calls that each add one, or attempts, and puts the replies of those that were answered behind the others.
 pub fn replies<R: Wait>(
     rt: &R,
     lock: &TicketLock<Tally>,
     mut pass: Pass<Tally>,
     calls: u32,
+    waits: bool,
     replies: &mut Vec<u32>,
 ) -> Result<(), AllocError>
     requires { IsPassOf lock.now pass }
 {
     for _ in 0..calls {
-        if let Ok(reply) = lock.submit(rt, &mut pass, 1) {
+        if let Ok(reply) = call(rt, lock, &mut pass, waits) {
             replies.push(reply)?;
         }
     }
@@ -136,7 +154,7 @@ pub fn replies_of_threads<R: Threads + Wait + Sync>(
         {
             start_together(&started, count);
             let mut answers = Vec::new(alloc);
-            replies(rt, lock, pass, calls, &mut answers)?;
+            replies(rt, lock, pass, calls, true, &mut answers)?;
             Ok(answers)
         },
     )?;
