@@ -2,12 +2,8 @@
 #![tactic(auto)]
 
 #[cfg(test)]
-mod arrivals;
-#[cfg(test)]
 mod gates;
 #[cfg(test)]
 mod lies;
 #[cfg(test)]
 mod replicas;
-#[cfg(test)]
-mod runs;
