@@ -24,3 +24,6 @@ release-requires-clause-holds g c κs within = elim c.match-step.branch [
     (c.step.new.self, search rules, record { setup = search rules; log = search rules }),
   )
 ]
+
+pub returns-clause-logged : goal.returns-clause-logged
+returns-clause-logged g c = search rules

@@ -52,3 +52,6 @@ returns-clause-calls g c = told_calls (of_journal g.M.Journal)
     c.look_and_part-own.result.0.me.0 c.look_and_part-own.result.1 c.read-calls.result.0 c.read-calls.result.1
     (c.look_and_part-own.ensures.parted _ _ c.args.first.numbered c.args.second.numbered).0.idle
     c.look_and_part-own.ensures.told.0 c.read-calls.ensures.packed
+
+pub returns-clause-one_log : goal.returns-clause-one_log
+returns-clause-one_log g c = c.look_and_part-own.ensures.one_log
