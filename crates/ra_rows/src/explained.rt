@@ -172,12 +172,7 @@ fn operation_of(rt: &impl Abort, alloc: Global, say: Say) -> Op {
 fn is_told(rt: &impl Abort, alloc: Global, row: &Row) {
     let mut reporter = reporter_of(rt, alloc, row.kind, 3, 100);
     for say in row.says {
-        reply_behind(
-            rt,
-            &mut reporter,
-            command_of(rt, alloc, *say),
-            None,
-        );
+        reply_behind(rt, &mut reporter, command_of(rt, alloc, *say), None);
     }
     for _call in 0..2 {
         let right = told(rt, alloc, reporter.monitor());
