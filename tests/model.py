@@ -172,6 +172,39 @@ def cause_of(kind, labels):
     return None
 
 
+# Evidence: any sequence of parts, held against the three conditions alone. Nothing here knows a named order.
+
+
+def parts_of(label):
+    """The parts of a label: two halves where it asks and changes."""
+    halves = label.operation.update and label.operation.query
+    return [(label.number, half) for half in (("query", "update") if halves else ("whole",))]
+
+
+def extends_visibility(labels, parts):
+    """Does each label stand behind what it sees and what its replica made before, and each query before its update?"""
+    place = {part: at for at, part in enumerate(parts)}
+    ends = [[place[it] for it in parts_of(label)] for label in labels]
+    return all(it == sorted(it) for it in ends) and all(
+        ends[early.number][-1] < ends[late.number][0]
+        for late in labels
+        for early in labels
+        if must_precede(early, late)
+    )
+
+
+def linearizes(kind, labels, parts):
+    """Is it each part once, in an order that extends visibility, admits each update and answers each query?"""
+    if sorted(parts) != sorted(it for label in labels for it in parts_of(label)):
+        return False
+    changed = [labels[number] for number, half in parts if half != "query"]
+    return (
+        extends_visibility(labels, parts)
+        and state_after(kind, changed) is not None
+        and all(is_answered(kind, it, changed) for it in labels)
+    )
+
+
 class Monitor:
     """What was accepted so far: the labels, and the numbers of the updates that each replica had."""
 

@@ -9,7 +9,9 @@ import sys
 from pathlib import Path
 
 TOP = Path(__file__).resolve().parent.parent
-CHECK, WHOLE = (TOP / "crates" / name / "out" / name for name in ("ra_check_cli", "ra_monitor_cli"))
+CHECK, WHOLE, EXPLAIN = (
+    TOP / "crates" / name / "out" / name for name in ("ra_check_cli", "ra_monitor_cli", "ra_explain_cli")
+)
 PROGRAM = WHOLE if "--whole" in sys.argv else CHECK
 # A run that has not ended by then is stuck, and is ended.
 SECONDS = 20
@@ -31,7 +33,8 @@ def chosen():
 class Program:
     """Runs the program, one run after another, with its input and both outputs in files in memory."""
 
-    def __init__(self):
+    def __init__(self, path=PROGRAM):
+        self.path = path
         self.files = [os.memfd_create(name) for name in ("given", "wrote", "said")]
         self.ways = [(os.POSIX_SPAWN_DUP2, file, number) for number, file in enumerate(self.files)]
         self.running = 0
@@ -45,7 +48,7 @@ class Program:
             os.ftruncate(file, 0)
             os.lseek(file, 0, os.SEEK_SET)
         os.pwrite(self.files[0], given, 0)
-        self.running = os.posix_spawn(PROGRAM, [PROGRAM, *words], {}, file_actions=self.ways)
+        self.running = os.posix_spawn(self.path, [self.path, *words], {}, file_actions=self.ways)
         signal.alarm(SECONDS)
         _, status, used = os.wait4(self.running, 0)
         signal.alarm(0)

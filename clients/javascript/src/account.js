@@ -4,11 +4,14 @@ import { tmpdir } from "node:os";
 import { join } from "node:path";
 import { inspect } from "node:util";
 import { MonitorGone, NotLinearizable, Refused } from "./errors.js";
+import { explained } from "./program.js";
 import { isOperation } from "./spelling.js";
 
 // How many of a history's last lines a message shows.
 const SHOWN_LINES = 16;
 const HEAD_LINES = 2;
+// How many changes that would make it right a message tells.
+const SHOWN_CHANGES = 5;
 const MEANINGS = {
   order: "its clock is not above all that its replica had seen",
   update: "with it the updates can no longer be made one after another in the order of their clocks",
@@ -63,6 +66,30 @@ export class Account {
     return padded.map((row) => `    ${row.filter((it) => it !== "").join("  ")}`).join("\n");
   }
 
+  /**
+   * What the last command of the text says, what its reply says of it, and after a no what would have been right, where
+   * the program explains.
+   */
+  judged(text, reply, program) {
+    const operation = this.words(this.commands.length - 1);
+    const told = reply.startsWith("no ") ? explained(program, text) : null;
+    return `${operation}: ${this.meaning(reply)}${this.#right(told)}`;
+  }
+
+  #right(told) {
+    if (told === null) return "";
+    const rows = told.would_be_right.slice(0, SHOWN_CHANGES).map((it) => `it would be right ${this.#change(it)}`);
+    if (told.right !== null) rows.unshift(`right is: ${this.#speller.words(told.right, (it) => this.#delivered(it))}`);
+    return rows.map((row) => `\n${row}`).join("");
+  }
+
+  #change(change) {
+    if ("gets" in change) return `had its replica got ${this.#delivered(change.gets)} before`;
+    const [[how, line]] = Object.entries(change);
+    const words = this.words(line - HEAD_LINES - 1);
+    return how === "misses_line" ? `without this: ${words}` : `had it come before this: ${words}`;
+  }
+
   /** What a reply to the last command says. */
   meaning(reply) {
     if (reply.startsWith(NOT_CAUSAL)) {
@@ -77,8 +104,8 @@ export class Account {
   }
 }
 
-/** The error for a history whose last command had this reply. */
-export function failure(account, text, reply, path) {
+/** The error for a history whose last command had this reply, which the program explains if it can. */
+export function failure(account, text, reply, path, program) {
   const last = account.commands.length - 1;
   if (!/^(no|refused) /.test(reply)) {
     const command = JSON.stringify(account.commands[last]);
@@ -88,7 +115,7 @@ export function failure(account, text, reply, path) {
   const operation = account.words(last);
   const shown = account.shown([], Math.max(0, last + 1 - SHOWN_LINES));
   const place = `line ${last + HEAD_LINES + 1} of ${kept}, answered "${reply}"`;
-  const message = `${operation}: ${account.meaning(reply)}\n${place}; the last lines:\n${shown}`;
+  const message = `${account.judged(text, reply, program)}\n${place}; the last lines:\n${shown}`;
   return new (reply.startsWith("no ") ? NotLinearizable : Refused)(message, operation, reply, kept);
 }
 

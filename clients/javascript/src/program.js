@@ -8,6 +8,9 @@ import { MonitorGone } from "./errors.js";
 const REPOSITORY = fileURLToPath(new URL("../../..", import.meta.url));
 const OWN = join(REPOSITORY, "ra_monitor");
 const BUILT = join(REPOSITORY, "crates", "ra_check_cli", "out", "ra_check_cli");
+export const EXPLAINS = join(REPOSITORY, "crates", "ra_explain_cli", "out", "ra_explain_cli");
+// How long an explanation may take, in milliseconds.
+const PATIENCE = 60_000;
 // The statuses of a run that read its whole input: yes, no, and yes with a refused report.
 export const WHOLE = [0, 1, 3];
 
@@ -39,6 +42,31 @@ export function checkText(program, text) {
   if (ran.error) throw new MonitorGone(`${program} could not be started: ${ran.error.message}`);
   if (!WHOLE.includes(ran.status)) throw new MonitorGone(howItEnded(program, ran.status ?? ran.signal, ran.stderr));
   return { replies: ran.stdout.split("\n").slice(0, -1), status: ran.status };
+}
+
+/**
+ * What there is to say of a history that is answered no: `ra_monitor explain --json`. Null where the program does not
+ * explain: the repository's own is not built for it here, since that takes minutes.
+ */
+export function explained(program, text) {
+  if (program === undefined) return null;
+  const explains = [OWN, BUILT].includes(pathOf(program)) ? EXPLAINS : program;
+  const how = { input: text, encoding: "utf8", maxBuffer: 1 << 30, timeout: PATIENCE };
+  const ran = spawnSync(explains, ["explain", "--json"], how);
+  try {
+    const told = ran.status === 1 ? JSON.parse(ran.stdout) : null;
+    return told?.answer === "no" ? told : null;
+  } catch {
+    return null;
+  }
+}
+
+function pathOf(program) {
+  try {
+    return realpathSync(program);
+  } catch {
+    return program;
+  }
 }
 
 /** How a run ended that should not have, with what it said. */

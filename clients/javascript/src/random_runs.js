@@ -90,7 +90,7 @@ function raised(setting, found, seed, runs, failure) {
   const reply = found.replies.at(-1);
   const operation = account.words(account.commands.length - 1);
   const failed = found.cause === "no" ? NotLinearizable : Refused;
-  return new failed(`${operation}: ${account.meaning(reply)}\n${ran}`, operation, reply, kept);
+  return new failed(`${account.judged(found.text, reply, setting.program)}\n${ran}`, operation, reply, kept);
 }
 
 /** The call of a replica that a step makes. */

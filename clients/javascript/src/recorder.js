@@ -203,7 +203,7 @@ export class Recorder {
       const { command, reply } = this.#monitor.unexpected;
       const text = this.#monitor.history(command + 1);
       const account = new Account(this.#speller, text, this.#keys, this.#notes);
-      this.#failure = failure(account, text, reply, this.#path);
+      this.#failure = failure(account, text, reply, this.#path, this.#monitor.program);
     }
     if (this.#failure !== null) throw this.#failure;
   }

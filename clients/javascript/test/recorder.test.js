@@ -1,9 +1,9 @@
 // Reports in the user's own names.
 import assert from "node:assert/strict";
-import { readFileSync } from "node:fs";
+import { existsSync, readFileSync } from "node:fs";
 import { test } from "node:test";
 import { CannotTell, MonitorGone, NotLinearizable, Recorder, Refused, write } from "../index.js";
-import { checkText, find } from "../src/program.js";
+import { EXPLAINS, checkText, find } from "../src/program.js";
 
 const NOW = 1_764_076_489_000; // A clock of milliseconds since 1970.
 const commands = (recorder) => recorder.history().split("\n").slice(2, -1);
@@ -296,6 +296,18 @@ test("a merge is told by the state that came", async () => {
   await recorder.merge("Bob", recorder.seen("Ann"));
   const told = /'Bob' merges the state of 'Ann'\n.* got 0 .*label 0.*\n +'Bob' merges the state of 'Ann'\n.* read 2/;
   await assert.rejects(recorder.read("Bob", 2), told);
+  await recorder.stop();
+});
+
+test("a no is told with what would have been right", { skip: !existsSync(EXPLAINS) }, async () => {
+  const recorder = new Recorder("counter", ["Ann", "Bob"], { window: 1 });
+  await recorder.increment("Ann", { message: "up" });
+  await recorder.increment("Bob");
+  await assert.rejects(recorder.read("Bob", 2), (error) => {
+    assert.match(error.message, /\nright is: 'Bob' reads 1\n/);
+    assert.match(error.message, /had its replica got message 'up', label 0 \('Ann' increments\) before\n/);
+    return true;
+  });
   await recorder.stop();
 });
 

@@ -296,6 +296,21 @@ class Failures(unittest.TestCase):
                     again = subprocess.run([program.find(), "check"], stdin=text, stdout=subprocess.PIPE)
                 self.assertEqual((again.returncode, again.stdout[-13:]), (1, b"end no 1 query\n"[-13:]))
 
+    @unittest.skipUnless(program.EXPLAINS.is_file(), "./ra_monitor explain is not built")
+    def test_a_no_is_told_with_what_would_have_been_right(self) -> None:
+        failed = str(self.failed(1))
+        self.assertIn("\nright is: 'Bob' reads ['milk']\n", failed)
+        self.assertIn("it would be right without this: 'Bob' gets message 'm', label 0 ('Ann' adds 'milk'", failed)
+
+    @unittest.skipUnless(program.EXPLAINS.is_file(), "./ra_monitor explain is not built")
+    def test_a_delivery_that_was_not_reported_is_told(self) -> None:
+        recorder = Recorder("counter", ["Ann", "Bob"], window=1)
+        recorder.increment("Ann", message="up")
+        recorder.increment("Bob")
+        with self.assertRaisesRegex(NotLinearizable, "had its replica got message 'up', label 0 .'Ann' increments. before"):
+            recorder.read("Bob", 2)
+        recorder.stop()
+
     def test_an_arrival_before_its_cause_is_refused(self) -> None:
         recorder = Recorder("counter", ["a", "b", "c"])
         recorder.increment("a", message=1)

@@ -1,14 +1,17 @@
 """Tells a history in the user's words, and what is wrong with it."""
 import os
 import tempfile
-from typing import Dict, Hashable, List, Optional, Sequence
+from typing import Any, Dict, Hashable, List, Optional, Sequence
 
+from . import program as programs
 from .errors import MonitorGone, NotLinearizable, Refused
 from .spelling import Speller, is_operation
 
 # How many of a history's last lines a message shows.
 SHOWN_LINES = 16
 HEAD_LINES = 2
+# How many changes that would make it right a message tells.
+SHOWN_CHANGES = 5
 MEANINGS = {
     "order": "its clock is not above all that its replica had seen",
     "update": "with it the updates can no longer be made one after another in the order of their clocks",
@@ -58,6 +61,28 @@ class Account:
         padded = ((line.ljust(widths[0]), reply.ljust(widths[1]), words) for line, reply, words in rows)
         return "\n".join("    " + "  ".join(it for it in row if it) for row in padded)
 
+    def judged(self, text: str, reply: str, program: Optional[str]) -> str:
+        """What the last command of the text says, what its reply says of it, and after a no what would have been right,
+        where the program explains."""
+        operation = self.words(len(self.commands) - 1)
+        told = programs.explained(program, text) if reply.startswith("no ") else None
+        return f"{operation}: {self.meaning(reply)}{self._right(told)}"
+
+    def _right(self, told: Optional[Dict[str, Any]]) -> str:
+        if told is None:
+            return ""
+        rows = []
+        if told["right"] is not None:
+            rows.append(f"right is: {self._speller.words(told['right'], self._delivered)}")
+        rows += [f"it would be right {self._change(it)}" for it in told["would_be_right"][:SHOWN_CHANGES]]
+        return "".join(f"\n{row}" for row in rows)
+
+    def _change(self, change: Dict[str, int]) -> str:
+        if "gets" in change:
+            return f"had its replica got {self._delivered(change['gets'])} before"
+        (how, line), = change.items()
+        words = self.words(line - HEAD_LINES - 1)
+        return f"without this: {words}" if how == "misses_line" else f"had it come before this: {words}"
 
     def meaning(self, reply: str) -> str:
         """What a reply to the last command says."""
@@ -71,8 +96,8 @@ class Account:
         return f"{verdict}, {MEANINGS[words[0]]}" if words else reply
 
 
-def failure(account: Account, text: str, reply: str, path: Optional[str]) -> Exception:
-    """The exception for a history whose last command had this reply."""
+def failure(account: Account, text: str, reply: str, path: Optional[str], program: Optional[str]) -> Exception:
+    """The exception for a history whose last command had this reply, which the program explains if it can."""
     last = len(account.commands) - 1
     if reply.split(" ")[0] not in ("no", "refused"):
         return MonitorGone(f"{reply!r} is no reply to {account.commands[last]!r}: this program is no monitor")
@@ -80,7 +105,7 @@ def failure(account: Account, text: str, reply: str, path: Optional[str]) -> Exc
     operation = account.words(last)
     first = max(0, last + 1 - SHOWN_LINES)
     message = (
-        f"{operation}: {account.meaning(reply)}\n"
+        f"{account.judged(text, reply, program)}\n"
         f"line {last + HEAD_LINES + 1} of {kept}, answered {reply!r}; the last lines:\n{account.shown(first=first)}"
     )
     return (NotLinearizable if reply.startswith("no ") else Refused)(message, operation, reply, kept)

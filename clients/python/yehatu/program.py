@@ -1,14 +1,18 @@
 """Finds the program, and has it check whole histories."""
+import json
 import os
 import shutil
 import subprocess
 from pathlib import Path
-from typing import List, NamedTuple, Optional, Union
+from typing import Any, Dict, List, NamedTuple, Optional, Union
 
 from .errors import MonitorGone
 
 REPOSITORY = Path(__file__).resolve().parents[3]
 BUILT = REPOSITORY / "crates" / "ra_check_cli" / "out" / "ra_check_cli"
+EXPLAINS = REPOSITORY / "crates" / "ra_explain_cli" / "out" / "ra_explain_cli"
+# How long an explanation may take, in seconds.
+PATIENCE = 60
 # The statuses of a run that read its whole input: yes, no, and yes with a refused report.
 WHOLE = (0, 1, 3)
 
@@ -53,6 +57,22 @@ def check_text(program: str, text: bytes) -> Answer:
     if ran.returncode not in WHOLE:
         raise MonitorGone(how_it_ended(program, ran.returncode, ran.stderr))
     return Answer(ran.stdout.decode("ascii", "replace").splitlines(), ran.returncode)
+
+
+def explained(program: Optional[str], text: str) -> Optional[Dict[str, Any]]:
+    """What there is to say of a history that is answered no: `ra_monitor explain --json`. None where the program does not
+    explain: the repository's own is not built for it here, since that takes minutes."""
+    if program is None:
+        return None
+    if Path(program).resolve() in (REPOSITORY / "ra_monitor", BUILT):
+        program = str(EXPLAINS)
+    try:
+        words = [program, "explain", "--json"]
+        ran = subprocess.run(words, input=text.encode(), capture_output=True, timeout=PATIENCE)
+        told = json.loads(ran.stdout)
+    except (OSError, ValueError, subprocess.TimeoutExpired):
+        return None
+    return told if ran.returncode == 1 and isinstance(told, dict) and told.get("answer") == "no" else None
 
 
 def how_it_ended(program: str, status: Optional[int], said: bytes) -> str:

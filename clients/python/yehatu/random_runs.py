@@ -103,7 +103,7 @@ def _raised(setting: Setting, small: Failure, seed: int, runs: int, failure: Fai
     reply = small.replies[-1]
     operation = account.words(len(account.commands) - 1)
     failed = NotLinearizable if small.cause == ("no",) else Refused
-    return failed(f"{operation}: {account.meaning(reply)}\n{ran}", operation, reply, kept)
+    return failed(f"{account.judged(small.text, reply, setting.program)}\n{ran}", operation, reply, kept)
 
 
 def _called(setting: Setting, step: Step) -> str:

@@ -244,7 +244,7 @@ class Recorder:
             text = self._monitor.history(command + 1)
             keys = {sent[0]: key for key, sent in self._messages.items()}
             told = account.Account(self._speller, text, keys, self._notes)
-            self._failure = account.failure(told, text, reply, self._history)
+            self._failure = account.failure(told, text, reply, self._history, getattr(self._monitor, "program", None))
         if self._failure is not None:
             raise self._failure
 

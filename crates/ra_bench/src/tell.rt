@@ -21,9 +21,16 @@ pub fn tell<R: Wait>(
 {
     match reporter.tell(rt, command) {
         Ok(reply) => Ok(reply),
-        Err(CallFault::NoMemory(_)) => Err(RunFault::NoMemory),
-        Err(_) => Err(RunFault::Lock {
-            replica: reporter.number(),
-        }),
+        Err(fault) => Err(fault_of(fault, reporter.number())),
+    }
+}
+
+// What the reporter of this number tells of the fault. The command that it hands back is let go here, once.
+fn fault_of(fault: CallFault<Command>, replica: u8) -> RunFault
+    ensures { IsOfDesk replica result }
+{
+    match &fault {
+        CallFault::NoMemory(_) => RunFault::NoMemory,
+        _ => RunFault::Lock { replica },
     }
 }

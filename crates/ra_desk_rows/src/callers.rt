@@ -44,12 +44,16 @@ fn two_reporters(rt: &impl Abort, alloc: Global, limit: u32) -> (DeskReporter, D
     (last_reporter(rt, &mut reporters, 0), second)
 }
 
+// What a write is answered; none where it is handed back.
+fn written<R: Wait>(rt: &R, reporter: &mut DeskReporter, replica: u8, clock: u32) -> Option<Reply> {
+    reply_in(reporter.tell(rt, write(replica, clock)))
+}
+
 // How many of this replica's writes are accepted, where it makes so many, each with a later clock.
 fn accepted<R: Wait>(rt: &R, reporter: &mut DeskReporter, replica: u8, count: u32) -> u32 {
     let mut accepted = 0u32;
     for clock in 1..=count {
-        let reply = reply_in(reporter.tell(rt, write(replica, clock)));
-        if matches!(reply, Some(Reply::Ok(_))) {
+        if matches!(written(rt, reporter, replica, clock), Some(Reply::Ok(_))) {
             accepted = accepted.saturating_add(1);
         }
     }
@@ -79,13 +83,11 @@ fn a_glance_finds_each_report(rt: HostRuntime) {
     for calls in 0..3 {
         let found = Glance { calls, fault: None };
         assert_eq!(rt; (first.glance(), second.glance()), (found, found));
-        assert_eq!(rt; accepted_at(&rt, &mut first, calls), Some(Reply::Ok(calls)));
+        assert_eq!(rt;
+            written(&rt, &mut first, 0, calls + 1),
+            Some(Reply::Ok(calls))
+        );
     }
-}
-
-// What a write with this clock and one is answered.
-fn accepted_at<R: Wait>(rt: &R, reporter: &mut DeskReporter, clock: u32) -> Option<Reply> {
-    reply_in(reporter.tell(rt, write(0, clock.saturating_add(1))))
 }
 
 #[test]
@@ -136,9 +138,9 @@ fn a_refused_report_is_logged_and_no_more(rt: HostRuntime) {
 #[test]
 fn a_closed_desk_has_its_log(rt: HostRuntime) {
     let (mut first, mut second) = two_reporters(&rt, rt.alloc(), 2);
-    let wrote = reply_in(first.tell(&rt, write(0, 7)));
+    assert_eq!(rt; written(&rt, &mut first, 0, 7), Some(Reply::Ok(0)));
     let came = reply_in(second.try_tell(got_the_first(1)));
-    assert_eq!(rt; (wrote, came), (Some(Reply::Ok(0)), Some(Reply::Got(0))));
+    assert_eq!(rt; came, Some(Reply::Got(0)));
     assert!(rt; is_full(first.tell(&rt, Command::Verdict)));
     let second = match second.close() {
         Err(DeskCloseFault::Shared(second)) => second,
@@ -178,7 +180,7 @@ fn report_as<R: Abort + Wait>(
     number: u8,
 ) -> DeskReporter {
     let mut reporter = last_reporter(rt, reporters, number);
-    let reply = reply_in(reporter.tell(rt, write(0, 255 - u32::from(number))));
+    let reply = written(rt, &mut reporter, 0, 255 - u32::from(number));
     assert!(rt; matches!(reply, Some(Reply::Ok(_))));
     reporter
 }

@@ -22,7 +22,7 @@ const FIRST_TO_JOIN: u8 = 3;
 const JOINS: u32 = 61;
 
 // What a pass asks, call by call.
-#[derive(Clone, Copy, Debug, PartialEq, Eq)]
+#[derive(Clone, Copy)]
 enum Asks {
     Verdict,
     /// The replicas join, one after another.

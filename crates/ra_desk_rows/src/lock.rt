@@ -6,7 +6,7 @@ mod gate;
 mod tally;
 pub mod threads;
 
-use gate::{Gate, is_raised_in_time, lowered, raise, shared};
+use gate::{Flag, Gate, is_raised_in_time, lowered, raise, shared};
 use ra_ticket::{
     CallFault, Caller, Glance, Journal, MOST_ENTRIES, OpenFault, Pass, StepFault, TicketLock,
 };
@@ -252,15 +252,22 @@ fn use_and_drop<R: Abort + Wait>(
     drop(outlives);
 }
 
+// A tally behind a gate, and the flags of the gate.
+fn gated(rt: &impl Abort, alloc: Global) -> (Tally, Flag, Flag)
+    ensures { result.0.log.items ≡ [] }
+{
+    let inside = lowered(rt, alloc);
+    let go_on = lowered(rt, alloc);
+    let gate = Gate {
+        inside: shared(rt, &inside),
+        go_on: shared(rt, &go_on),
+    };
+    (tally_of(rt, alloc, 9).behind(gate), inside, go_on)
+}
+
 #[test]
 fn a_call_under_way_keeps_others_out_and_lets_them_glance(rt: HostRuntime) {
-    let inside = lowered(&rt, rt.alloc());
-    let go_on = lowered(&rt, rt.alloc());
-    let gate = Gate {
-        inside: shared(&rt, &inside),
-        go_on: shared(&rt, &go_on),
-    };
-    let tally = tally_of(&rt, rt.alloc(), 9).behind(gate);
+    let (tally, inside, go_on) = gated(&rt, rt.alloc());
     let (lock, mut passes) = opened(&rt, rt.alloc(), tally, 2, 10);
     let other = last_pass(&rt, &lock, &mut passes);
     let pass = last_pass(&rt, &lock, &mut passes);
@@ -281,22 +288,30 @@ fn a_call_under_way_keeps_others_out_and_lets_them_glance(rt: HostRuntime) {
     assert_eq!(rt; (reply, found, then), (Ok(5), Some(meanwhile), afterwards));
 }
 
+// The first two callers of a lock over the tally.
+fn two_callers(rt: &impl Abort, alloc: Global, tally: Tally) -> (Caller<Tally>, Caller<Tally>)
+    requires { tally.log.items ≡ [] }
+{
+    let mut callers = match Caller::open(alloc, tally, 2) {
+        Ok(callers) => callers,
+        Err(_) => panic!(rt; "no lock"),
+    };
+    let second = last_caller(rt, &mut callers);
+    (last_caller(rt, &mut callers), second)
+}
+
+fn last_caller(rt: &impl Abort, callers: &mut Vec<Caller<Tally>>) -> Caller<Tally> {
+    match callers.pop() {
+        Some(caller) => caller,
+        None => panic!(rt; "too few callers"),
+    }
+}
+
 // The same of callers, which have their lock with them.
 #[test]
 fn a_caller_finds_a_call_under_way(rt: HostRuntime) {
-    let inside = lowered(&rt, rt.alloc());
-    let go_on = lowered(&rt, rt.alloc());
-    let gate = Gate {
-        inside: shared(&rt, &inside),
-        go_on: shared(&rt, &go_on),
-    };
-    let tally = tally_of(&rt, rt.alloc(), 9).behind(gate);
-    let Ok(mut callers) = Caller::open(rt.alloc(), tally, 2) else {
-        panic!(rt; "no lock");
-    };
-    let (Some(mut other), Some(mut caller)) = (callers.pop(), callers.pop()) else {
-        panic!(rt; "too few callers");
-    };
+    let (tally, inside, go_on) = gated(&rt, rt.alloc());
+    let (mut caller, mut other) = two_callers(&rt, rt.alloc(), tally);
     let (reply, found) = thread::join(
         &rt,
         || caller.submit(&rt, 5),

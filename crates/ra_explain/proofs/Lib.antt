@@ -4,3 +4,5 @@ pub mod Labels
 pub mod Steps
 pub mod TheLaws
 pub mod RightAnswers
+pub mod Retold
+pub mod Ranges

@@ -1,3 +1,5 @@
 pub mod Places
+pub mod Sorts
+pub mod Changes
 pub mod Seen
 pub mod Right

@@ -1,5 +1,5 @@
 //! Laws of a log with a fault, each the clause of a function that does nothing.
-ghost use Rattle.std.specs.Prelude.{◌≡◌, ℕ, ℤ, Bool, List, ◌∷◌, Option, Some, None};
+ghost use Rattle.std.specs.Prelude.{◌≡◌, ℕ, ℤ, Bool, true, List, ◌∷◌, Option, Some, None};
 ghost use Rattle.ra_labels.specs.declared.operation.Op.{Op};
 ghost use Rattle.ra_labels.specs.declared.operation.Op.TheVariants as op;
 ghost use Rattle.ra_labels.specs.declared.command.Command.TheVariants.{Operate};
@@ -13,6 +13,9 @@ ghost use Rattle.ra_monitor.specs.declared.setup.Setup.{Setup};
 ghost use Rattle.ra_monitor.specs.Monitor.{MonitorEntry, records_of, fault_in, IsLegalLog};
 ghost use Rattle.ra_explain.specs.Places.{places_in, command_at};
 ghost use Rattle.ra_explain.specs.Right.{right_in};
+ghost use Rattle.ra_labels.specs.Answer.{refusal_of};
+ghost use Rattle.ra_explain.specs.declared.changes.Change.{Change};
+ghost use Rattle.ra_explain.specs.Changes.{command_holds_with, records_with};
 
 /// The records of a log with a fault end with its label, and those before it have none: after the first no nothing is
 /// accepted.
@@ -43,4 +46,13 @@ pub fn what_had_to_be_returned()
         → right_in (Pairs pairs) (op.OrRead told) ≡ Some (op.OrRead (distinct_elements pairs)) }
     ensures rga { (list : List (ℕ × Bool)) (told : List ℕ)
         → right_in (Listed list) (op.RgaRead told) ≡ Some (op.RgaRead (shown list)) }
+{}
+
+/// With a change that helps the label is accepted, and the records hold at it: none of them up to it is a fault.
+pub fn a_change_that_helps_makes_the_label_hold()
+    ensures { (setup : Setup) (before : List MonitorEntry) (change : Change) (by : ℕ) (operation : Op)
+        (clock : Option ℕ) → command_holds_with setup before change (Operate by operation clock) ≡ true
+        → let records = records_with setup change by before in
+        (refusal_of setup.kind setup.replicas records (Operate by operation clock) ≡ None)
+        × (fault_of setup.kind (Operate by operation clock ∷ records) ≡ None) }
 {}

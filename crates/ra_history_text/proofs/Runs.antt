@@ -99,6 +99,15 @@ pub read_whole : (all rest left : List ℕ) (p : Progress) (read : List ℕ) →
 read_whole all rest left p read parts consumes ends is =
     ap (taken text_start) (parts ∙ ap (λ (bs : List ℕ). read ++ bs) (consumes ∙ ends) ∙ append-nil read) ∙ is
 
+-- and so the progress is that of the text
+pub comes_as_far : (r0 r1 r2 : Option (List ℕ)) (p : Progress) → HasRead r0 r1 p → Consumes r1 r2 [] → IsAtEnd r2
+    → IfSome r0 (λ text. taken text_start text ≡ Ok p)
+comes_as_far None r1 r2 p read consumes at_end = tt
+comes_as_far (Some all) None r2 p read consumes at_end = absurd read
+comes_as_far (Some all) (Some rest) None p read consumes at_end = absurd consumes
+comes_as_far (Some all) (Some rest) (Some later) p read consumes at_end =
+    read_whole all rest later p read.0 read.1 consumes at_end read.2
+
 -- so the text ends as this progress does
 pub ends_at : (text : List ℕ) (p : Progress) → taken text_start text ≡ Ok p → ending_of text ≡ ending_at p
 ends_at text p is = ap (λ r. (end_of r).ending) is

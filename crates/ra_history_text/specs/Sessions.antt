@@ -5,6 +5,7 @@ use Rattle.ra_history_text.specs.declared.fault.CheckFault.TheVariants.{NoMemory
 use Rattle.ra_history_text.specs.declared.session.Stage.{Stage}
 use Rattle.ra_history_text.specs.declared.session.Stage.TheVariants as stage
 use Rattle.ra_monitor.specs.declared.report.Report.{Report}
+use Rattle.ra_monitor.specs.Monitor.{Monitor, commands_of}
 use Rattle.ra_history_text.specs.Faults.{ending_told}
 use Rattle.ra_lines.specs.declared.limits.TheConstants.{LONGEST_LINE}
 use Rattle.ra_lines.specs.Grammar.{fields_of}
@@ -75,6 +76,26 @@ pub record IsFedUpTo (old new : Progress) (piece rest out_old out_new : List ℕ
   pub parts : piece ≡ front ++ rest
   pub is_taken : taken old front ≡ Ok new
   pub replied : AddsReplies old.said new.said out_old out_new
+
+-- ---- what is there of the history
+
+abbrev pub SaysNoHistory : Said → Type 0
+SaysNoHistory Nothing = ⊤
+SaysNoHistory (OfKind format kind) = ⊤
+SaysNoHistory (OfHistory format kind first joined commands) = ⊥
+
+-- lines say a history, and this monitor was told its commands
+abbrev pub IsToldBy : Said → Monitor → Type 0
+IsToldBy Nothing monitor = ⊥
+IsToldBy (OfKind format kind) monitor = ⊥
+IsToldBy (OfHistory format kind first joined commands) monitor = (monitor.setup.kind ≡ kind)
+    × (monitor.setup.replicas ≡ length first) × (commands_of monitor.log ≡ commands)
+
+-- the names of the replicas by now
+abbrev pub names_said : Said → List (List ℕ)
+names_said Nothing = []
+names_said (OfKind format kind) = []
+names_said (OfHistory format kind first joined commands) = first ++ joined
 
 -- ---- the end
 

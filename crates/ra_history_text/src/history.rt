@@ -4,6 +4,7 @@ ghost use Rattle.ra_labels.specs.declared.command.Command.{Command};
 ghost use Rattle.ra_lines.specs.Grammar.{AreNames, Spells};
 ghost use Rattle.ra_lines.specs.Names.{MayJoin};
 ghost use Rattle.ra_lines.specs.declared.format.Format.TheVariants.{Rah2};
+ghost use Rattle.ra_monitor.specs.Monitor.{commands_of};
 ghost use Rattle.ra_history_text.specs.Output.{IsReportOf};
 ghost use Rattle.ra_history_text.specs.History.{RecordsCommand, TakesCommand, StopsAnswering, HasFewNames, LacksName, fault_at, with_name};
 
@@ -140,6 +141,15 @@ impl History {
             Err(NamesFault::BadName(_)) => unreachable!(),
             Err(NamesFault::BadCount) => unreachable!(),
         }
+    }
+
+    /// The monitor that answered its commands.
+    pub fn monitor(&self) -> &Monitor
+        ensures kind { result.now.setup.kind ≡ self.now.kind }
+        ensures replicas { result.now.setup.replicas ≡ length self.now.first }
+        ensures commands { commands_of result.now.log ≡ self.now.commands }
+    {
+        &self.monitor
     }
 
     /// What the history amounts to.

@@ -6,7 +6,8 @@
 //! `specs/Output` what is written for it.
 //!
 //! The one contract for the layers above: what `check` writes is `output_of` the text that it reads, and it answers
-//! with the text's own ending. A `Session` does the same for a caller that has the text piece by piece. The laws above
+//! with the text's own ending. A `Session` does the same for a caller that has the text piece by piece, and
+//! `check_session` for one that looks at its monitor afterwards. The laws above
 //! the definitions are the clauses of the functions of `laws`; proofs of the crates above cite them from
 //! `proofs/TheLaws`.
 #![tactic(auto)]
@@ -25,6 +26,6 @@ pub use fault::CheckFault;
 pub use line::write_line;
 pub use outcome::{Outcome, status};
 pub use ra_lines::{Format, Header, Item, LineFault, Names, NamesFault, Reading};
-pub use run::check;
+pub use run::{check, check_session};
 pub use session::Session;
 pub use write::{Unwritten, write_out};

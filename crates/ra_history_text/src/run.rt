@@ -1,9 +1,10 @@
 //! The check of a text, bytes in and bytes out.
-ghost use Rattle.std.specs.Prelude.{◌≡◌, ◌<◌, [], length, OnOk, IfOk, IfErr, IfSome, IsErrOf};
+ghost use Rattle.std.specs.Prelude.{◌≡◌, ◌<◌, [], length, Ok, OnOk, IfOk, IfErr, IfSome, IsErrOf};
 ghost use Rattle.std.specs.Io.KnownBytes.{IsAtEnd};
 ghost use Rattle.ra_history_text.specs.declared.fault.CheckFault.TheVariants.{Endless};
 ghost use Rattle.ra_history_text.specs.declared.limits.TheConstants.{MOST_READS};
-ghost use Rattle.ra_history_text.specs.Text.{text_start};
+ghost use Rattle.ra_history_text.specs.Text.{text_start, taken};
+ghost use Rattle.ra_history_text.specs.Output.{Reports};
 ghost use Rattle.ra_history_text.specs.Run.{WritesAnswer, StopsCheck, HasGiven};
 
 use crate::fault::CheckFault;
@@ -44,12 +45,33 @@ pub fn check<R: Read, W: Write>(
     ensures endless { IsErrOf result Endless → HasGiven (R.remaining reader.old) (R.remaining reader.new) MOST_READS }
 {
     let mut session = Session::new(alloc);
-    let mut out = Vec::new(alloc);
-    let mut piece = [0u8; PIECE];
-    let answer = check_by_pieces(reader, writer, &mut session, &mut out, &mut piece);
+    let answer = check_session(alloc, &mut session, reader, writer);
     // A session has many parts, so it is let go by a call: the proof goes through them once, and not at each return.
     drop(session);
     answer
+}
+
+/// Checks as `check` does, by a session to which nothing was fed, for a caller that looks at it afterwards: where the
+/// text has its regular end, the session has come as far as it.
+pub fn check_session<R: Read, W: Write>(
+    alloc: Global,
+    session: &mut Session,
+    reader: &mut R,
+    writer: &mut W,
+) -> Result<Outcome, CheckFault>
+    requires { session.old ≡ text_start }
+    ensures end { OnOk result (IsAtEnd (R.remaining reader.new)) }
+    ensures answered { IfOk result (λ outcome. IfSome (R.remaining reader.old) (λ text.
+        WritesAnswer text (W.contents writer.old) (W.contents writer.new) outcome.report)) }
+    ensures taken { OnOk result (IfSome (R.remaining reader.old) (λ text. taken text_start text ≡ Ok session.new)) }
+    ensures reported { IfOk result (λ outcome. Reports session.new.said outcome.report) }
+    ensures stopped { IfErr result (λ fault. IfSome (R.remaining reader.old) (λ text.
+        StopsCheck text (R.remaining reader.new) (W.contents writer.old) (W.contents writer.new) fault)) }
+    ensures endless { IsErrOf result Endless → HasGiven (R.remaining reader.old) (R.remaining reader.new) MOST_READS }
+{
+    let mut out = Vec::new(alloc);
+    let mut piece = [0u8; PIECE];
+    check_by_pieces(reader, writer, session, &mut out, &mut piece)
 }
 
 // The same by a session at the start of a text, with room for the replies to a piece and for the piece.
@@ -66,6 +88,8 @@ fn check_by_pieces<R: Read, W: Write>(
     ensures end { OnOk result (IsAtEnd (R.remaining reader.new)) }
     ensures answered { IfOk result (λ outcome. IfSome (R.remaining reader.old) (λ text.
         WritesAnswer text (W.contents writer.old) (W.contents writer.new) outcome.report)) }
+    ensures taken { OnOk result (IfSome (R.remaining reader.old) (λ text. taken text_start text ≡ Ok session.new)) }
+    ensures reported { IfOk result (λ outcome. Reports session.new.said outcome.report) }
     ensures stopped { IfErr result (λ fault. IfSome (R.remaining reader.old) (λ text.
         StopsCheck text (R.remaining reader.new) (W.contents writer.old) (W.contents writer.new) fault)) }
     ensures endless { IsErrOf result Endless → HasGiven (R.remaining reader.old) (R.remaining reader.new) MOST_READS }

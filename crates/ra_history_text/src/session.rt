@@ -1,8 +1,8 @@
 //! A text that is taken in piece by piece.
-ghost use Rattle.std.specs.Prelude.{◌≡◌, ◌≢◌, ◌++◌, ◌∷◌, [], All, Ok, IfErr, IfOk, OnErr, OnOk};
+ghost use Rattle.std.specs.Prelude.{◌≡◌, ◌≢◌, ◌++◌, ◌∷◌, [], All, Ok, IfErr, IfOk, MatchOption, OnErr, OnOk};
 ghost use Rattle.ra_history_text.specs.History.{said_of};
 ghost use Rattle.ra_history_text.specs.Output.{replies_of};
-ghost use Rattle.ra_history_text.specs.Sessions.{said_at, AddsReplies, StopsLine, StopsExtending, StopsClosing, StopsInside, EndsText, StopsEnding};
+ghost use Rattle.ra_history_text.specs.Sessions.{said_at, AddsReplies, StopsLine, StopsExtending, StopsClosing, StopsInside, EndsText, StopsEnding, SaysNoHistory, IsToldBy, names_said};
 ghost use Rattle.ra_history_text.specs.Text as text;
 ghost use Rattle.ra_history_text.specs.Text.{text_start, line_start, next_line, line_taken, taken};
 
@@ -15,7 +15,7 @@ use ra_lines::fields::cut_at;
 use ra_lines::kind_line::head_of;
 use ra_lines::reply::{put_end, put_reply};
 use ra_lines::{Format, Names};
-use ra_monitor::Report;
+use ra_monitor::{Monitor, Report};
 use std::alloc::Global;
 use std::marker::Model;
 
@@ -202,6 +202,27 @@ impl Session {
                 Ok(report)
             }
             Stage::Nothing | Stage::OfKind(_, _) => Err(CheckFault::Truncated(self.stage.line())),
+        }
+    }
+
+    /// The monitor that answered the lines so far, once the first two are there: entry k of its log, from 0, is what
+    /// line k + 3 says.
+    pub fn monitor(&self) -> Option<&Monitor>
+        ensures { MatchOption result (SaysNoHistory self.now.said) (λ monitor. IsToldBy self.now.said monitor.now) }
+    {
+        match &self.stage {
+            Stage::OfHistory(history) => Some(history.monitor()),
+            Stage::Nothing | Stage::OfKind(_, _) => None,
+        }
+    }
+
+    /// The names of the replicas so far, by their numbers, once the first two lines are there.
+    pub fn names(&self) -> Option<&Names>
+        ensures { MatchOption result (SaysNoHistory self.now.said) (λ names. names.now ≡ names_said self.now.said) }
+    {
+        match &self.stage {
+            Stage::OfHistory(history) => Some(history.names()),
+            Stage::Nothing | Stage::OfKind(_, _) => None,
         }
     }
 

@@ -3,7 +3,6 @@ pub mod WrittenLines
 pub mod PutBytes
 pub mod Sizes
 pub mod GivenAgain
-pub mod JoinedReplicas
 pub mod Entries
 pub mod WholeTexts
 pub mod TheLaws

@@ -2,7 +2,6 @@
 ghost use Rattle.std.specs.Prelude.{◌≡◌, ◌+◌, ◌-◌, ◌++◌, ◌∷◌, [], ◌<◌, ◌≤◌, ◌^◌, false, length, map, take, OnOk, IfOk, IfErr};
 ghost use Rattle.std.specs.List.{AllByRecursion};
 ghost use Rattle.ra_accepted.specs.Accepted.{accepted_in, accepted_one};
-ghost use Rattle.ra_history_writer.specs.Joined as joined;
 ghost use Rattle.ra_lines.specs.Grammar.{bytes_of, first_line};
 ghost use Rattle.ra_history_writer.specs.Spelling.{line_of, names_line, AreSmall, AreShort};
 ghost use Rattle.ra_history_writer.specs.Writing.{TellsFirstLong, AreAsMany, records_in_order, format_of, WritesHistory, StopsWriting, SaysHistory};
@@ -81,33 +80,12 @@ fn spelled(alloc: Global, monitor: &Monitor, names: &Names) -> Result<Vec<u8>, N
     ensures says { IfOk result (λ text. SaysHistory monitor.now names.now text.items) }
 {
     names.are_names();
-    let first = first_replicas(monitor);
+    let first = monitor.setup().replicas;
     let format = format_of(monitor, first);
     let mut text = Vec::new(alloc);
     put_heads(&mut text, format, monitor.report().kind, names, first)?;
     put_entries(&mut text, names, monitor.log())?;
     Ok(text)
-}
-
-// How many replicas there were at first.
-fn first_replicas(monitor: &Monitor) -> u8
-    ensures { result ≡ monitor.now.setup.replicas }
-{
-    (monitor.replicas() as u32 - joined_in(monitor.log())) as u8
-}
-
-// How many replicas joined.
-fn joined_in(log: &[Entry<Command, Reply>]) -> u32
-    requires { length log.now < 2 ^ 32 }
-    ensures { result ≡ joined.joined_in log.now }
-{
-    let mut count = 0;
-    for entry in log {
-        if is_joined(entry.reply) {
-            count += 1;
-        }
-    }
-    count
 }
 
 fn format_of(monitor: &Monitor, first: u8) -> Format
@@ -174,10 +152,4 @@ fn put_entry(
     }
     put_command(text, names, &entry.command)?;
     Ok(text.push(b'\n')?)
-}
-
-fn is_joined(reply: Reply) -> bool
-    ensures { result ≡ joined.is_joined reply }
-{
-    matches!(reply, Reply::Joined(_))
 }

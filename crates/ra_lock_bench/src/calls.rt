@@ -29,15 +29,26 @@ pub fn by_lock<R: Threads + Wait + Clock + Sync>(
     threads: u8,
     calls: u32,
 ) -> Result<Duration> {
+    // The lock is let go at one place: a proof goes through its parts at each.
     let (lock, passes) = opened(alloc, threads)?;
-    let shared = &lock;
+    time_of(rt, &lock, passes, calls)
+}
+
+fn time_of<R: Threads + Wait + Clock + Sync>(
+    rt: &R,
+    lock: &TicketLock<Log>,
+    passes: Vec<Pass<Log>>,
+    calls: u32,
+) -> Result<Duration>
+    requires { All (IsPassOf lock.now) passes.items }
+{
     let start = Instant::now(rt)?;
     let answered = thread::map_vec(
         rt,
         passes,
         &|pass: Pass<Log>| -> u32
-            requires { IsPassOf shared.now pass }
-        { submit_all(rt, shared, pass, calls) },
+            requires { IsPassOf lock.now pass }
+        { submit_all(rt, lock, pass, calls) },
     )?;
     let time = start.elapsed(rt)?;
     if answered.iter().any(|count| *count != calls) {

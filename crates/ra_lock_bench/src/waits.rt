@@ -29,7 +29,7 @@ fn start_together(started: &AtomicUsize, count: usize) {
 }
 
 /// What a thread asks the lock for.
-#[derive(Clone, Copy, Debug, PartialEq, Eq)]
+#[derive(Clone, Copy)]
 pub enum Way {
     /// A call, for whose turn it waits.
     Submit,

@@ -91,6 +91,14 @@ impl Monitor {
         }
     }
 
+    /// What the monitor was made with.
+    pub fn setup(&self) -> Setup
+        ensures setup { result ≡ self.now.setup }
+        ensures range { AreReplicas result.replicas × IsLimit result.limit }
+    {
+        self.setup
+    }
+
     /// The log, the oldest entry first.
     pub fn log(&self) -> &[Entry<Command, Reply>]
         ensures entries { result.now ≡ self.now.log }
@@ -129,16 +137,20 @@ impl Monitor {
     /// Makes room for this many entries, or for as many as the limit lets come. With room left, a call that leaves the
     /// records as they are (`step`, clause `settled`) is never answered `NoMemory`. An entry takes 72 bytes.
     ///
-    /// `NoMemory` where the growth was refused. Log and records are as before in each case.
-    /// It may move the log, a step for each of its entries.
+    /// `NoMemory` where the growth was refused; none is asked for where the room is there. Log and records are as
+    /// before in each case. It may move the log, a step for each of its entries.
     pub fn reserve(&mut self, entries: u32) -> Result<(), NoMemory>
         ensures room { OnOk result (min entries (self.old.setup.limit - length self.old.log) ≤ self.new.room) }
+        ensures there { min entries (self.old.setup.limit - length self.old.log) ≤ self.old.room → IsOk result }
         ensures kept_room { self.old.room ≤ self.new.room }
         ensures log { self.new.log ≡ self.old.log }
         ensures same_setup { self.new.setup ≡ self.old.setup }
     {
         let left = self.setup.limit as usize - self.log.len();
-        self.log.reserve(left.min(entries as usize))?;
+        let more = left.min(entries as usize);
+        if self.log.capacity() - self.log.len() < more {
+            self.log.reserve(more)?;
+        }
         Ok(())
     }
 

@@ -93,6 +93,7 @@ impl Reporter {
     /// Makes room for this many entries, as `Monitor::reserve` does, at the same cost.
     pub fn reserve(&mut self, entries: u32) -> Result<(), NoMemory>
         ensures room { OnOk result (min entries (self.old.setup.limit - length self.old.log) ≤ self.new.room) }
+        ensures there { min entries (self.old.setup.limit - length self.old.log) ≤ self.old.room → IsOk result }
         ensures kept_room { self.old.room ≤ self.new.room }
         ensures log { self.new.log ≡ self.old.log }
         ensures same_setup { self.new.setup ≡ self.old.setup }

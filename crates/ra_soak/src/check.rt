@@ -222,11 +222,16 @@ fn one_thread_answers(
 
 fn answers_as(reporter: &mut Reporter, log: &[Call]) -> anyhow::Result<Option<Finding>> {
     for (place, call) in log.iter().enumerate() {
-        match reporter.tell(call.command.clone()?) {
-            Ok(reply) if reply == call.reply => {}
-            Ok(_) => return Ok(Some(Finding::OneThread { place })),
-            Err(_) => bail!("no memory"),
+        match replied(reporter, call.command.clone()?) {
+            Some(reply) if reply == call.reply => {}
+            Some(_) => return Ok(Some(Finding::OneThread { place })),
+            None => bail!("no memory"),
         }
     }
     Ok(None)
+}
+
+// The reply. What is handed back in place of it is let go here, once.
+fn replied(reporter: &mut Reporter, command: Command) -> Option<Reply> {
+    reporter.tell(command).ok()
 }

@@ -2,7 +2,7 @@
 use thiserror::Error;
 
 /// What a round shows that no desk may do.
-#[derive(Clone, Copy, Debug, PartialEq, Eq, Error)]
+#[derive(Clone, Copy, Debug, Error)]
 pub enum Finding {
     /// An entry's ticket is not above the one before it.
     #[error("the ticket of entry {place} is not above the one before it")]

@@ -1,5 +1,5 @@
 //! Two passes that share a thread, and what is left of all of them.
-ghost use Rattle.std.specs.Prelude.{All, IfOk, IfSome};
+ghost use Rattle.std.specs.Prelude.{◌≡◌, ◌+◌, ◌≤◌, length, All, IfOk, IfSome};
 ghost use Rattle.ra_ticket.specs.Passes.{IsPassOf};
 
 use crate::chance::Chance;
@@ -47,37 +47,36 @@ pub fn pair_up(
     let mut chance = chance;
     let mut pairs = Vec::new(alloc);
     for _ in 0..PASSES / 2 {
-        if let Some(pair) = draw_pair(desk, &mut players, &mut chance) {
-            pairs.push(pair)?;
+        if players.len() >= 2 {
+            pairs.push(draw_pair(desk, &mut players, &mut chance))?;
         }
     }
     Ok(pairs)
 }
 
 // Any two of the players leave the others.
-fn draw_pair(desk: &Desk, players: &mut Vec<Player>, chance: &mut Chance) -> Option<Pair>
-    requires { All (λ p. IfSome p.pass (IsPassOf desk.now)) players.old.items }
+fn draw_pair(desk: &Desk, players: &mut Vec<Player>, chance: &mut Chance) -> Pair
+    requires two { 2 ≤ length players.old.items }
+    requires passes { All (λ p. IfSome p.pass (IsPassOf desk.now)) players.old.items }
     ensures others { All (λ p. IfSome p.pass (IsPassOf desk.now)) players.new.items }
-    ensures drawn { IfSome result (λ p. IfSome p.one.pass (IsPassOf desk.now)
-        × IfSome p.other.pass (IsPassOf desk.now)) }
+    ensures one { IfSome result.one.pass (IsPassOf desk.now) }
+    ensures other { IfSome result.other.pass (IsPassOf desk.now) }
 {
-    let one = draw(desk, players, chance)?;
-    let other = draw(desk, players, chance)?;
-    Some(Pair { one, other })
+    let one = draw(desk, players, chance);
+    let other = draw(desk, players, chance);
+    Pair { one, other }
 }
 
 // Any of the players leaves the others.
-fn draw(desk: &Desk, players: &mut Vec<Player>, chance: &mut Chance) -> Option<Player>
-    requires { All (λ p. IfSome p.pass (IsPassOf desk.now)) players.old.items }
+fn draw(desk: &Desk, players: &mut Vec<Player>, chance: &mut Chance) -> Player
+    requires one { 1 ≤ length players.old.items }
+    requires passes { All (λ p. IfSome p.pass (IsPassOf desk.now)) players.old.items }
+    ensures fewer { length players.new.items + 1 ≡ length players.old.items }
     ensures others { All (λ p. IfSome p.pass (IsPassOf desk.now)) players.new.items }
-    ensures drawn { IfSome result (λ p. IfSome p.pass (IsPassOf desk.now)) }
+    ensures drawn { IfSome result.pass (IsPassOf desk.now) }
 {
-    let at = chance.below(u32::from(PASSES)) as usize;
-    if at < players.len() {
-        Some(players.swap_remove(at))
-    } else {
-        players.pop()
-    }
+    let at = chance.below(u32::from(PASSES)) as usize % players.len();
+    players.swap_remove(at)
 }
 
 /// What is left of the pairs.

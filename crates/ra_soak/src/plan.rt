@@ -166,19 +166,23 @@ impl Plan {
 
     /// The command was answered.
     pub fn answered(&mut self, command: &Command, reply: Reply) -> Result<(), NoMemory> {
-        match (command, reply) {
-            (Command::Operate { op, .. }, Reply::Ok(_)) => self.held.take(op)?,
-            (Command::Deliver { label, .. }, Reply::Got(_))
-            | (
-                Command::Deliver { label, .. },
-                Reply::Refused(Refusal::NotAnUpdate | Refusal::AlreadySeen),
-            ) if *label == self.delivered => {
+        match command {
+            Command::Operate { op, .. } if matches!(reply, Reply::Ok(_)) => self.held.take(op)?,
+            Command::Deliver { label, .. } if *label == self.delivered && needs_no_more(reply) => {
                 self.delivered = self.delivered.saturating_add(1);
             }
             _ => {}
         }
         Ok(())
     }
+}
+
+// Is the label there, or none that is delivered?
+fn needs_no_more(reply: Reply) -> bool {
+    matches!(
+        reply,
+        Reply::Got(_) | Reply::Refused(Refusal::NotAnUpdate | Refusal::AlreadySeen)
+    )
 }
 
 fn operation(replica: u8, op: Op, stamp: Option<u32>) -> Command {

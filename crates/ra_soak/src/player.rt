@@ -116,10 +116,13 @@ fn answer_to<R: Wait>(
 fn heed(player: &mut Player, command: Command, answer: Answer) -> Result<(), NoMemory>
     ensures { player.new.pass ≡ player.old.pass }
 {
-    if let Ok(reply) = &answer {
-        player.plan.answered(&command, *reply)?;
+    match player.record.reply_in(answer) {
+        Some(reply) => {
+            player.plan.answered(&command, reply)?;
+            player.record.answered(command, reply)
+        }
+        None => Ok(()),
     }
-    player.record.answered(command, answer)
 }
 
 fn glance(desk: &Desk, player: &mut Player) -> Result<(), NoMemory>
@@ -144,18 +147,31 @@ fn meet(desk: &Desk, player: &mut Player, other: &mut Player) -> Result<(), NoMe
     ensures player { IfSome player.new.pass (IsPassOf desk.now) }
     ensures other { IfSome other.new.pass (IsPassOf desk.now) }
 {
-    match (player.pass.take(), other.pass.take()) {
+    let (one, two, calls) = met(desk, player.pass.take(), other.pass.take());
+    player.pass = one;
+    other.pass = two;
+    if let Some(calls) = calls {
+        player.record.looked(Event::Met(calls))?;
+        other.record.looked(Event::Met(calls))?;
+    }
+    Ok(())
+}
+
+// Both come back, with how many calls there are where both were there.
+fn met(
+    desk: &Desk,
+    one: Option<Pass<Monitor>>,
+    two: Option<Pass<Monitor>>,
+) -> (Option<Pass<Monitor>>, Option<Pass<Monitor>>, Option<u32>)
+    requires { IfSome one (IsPassOf desk.now) × IfSome two (IsPassOf desk.now) }
+    ensures one { IfSome result.0 (IsPassOf desk.now) }
+    ensures two { IfSome result.1 (IsPassOf desk.now) }
+{
+    match (one, two) {
         (Some(one), Some(two)) => {
             let (one, two, calls) = desk.meet(one, two);
-            player.pass = Some(one);
-            other.pass = Some(two);
-            player.record.looked(Event::Met(calls))?;
-            other.record.looked(Event::Met(calls))
+            (Some(one), Some(two), Some(calls))
         }
-        (one, two) => {
-            player.pass = one;
-            other.pass = two;
-            Ok(())
-        }
+        (one, two) => (one, two, None),
     }
 }

@@ -50,17 +50,29 @@ impl Record {
         }
     }
 
-    /// The command was answered, or handed back, which is counted.
-    pub fn answered(&mut self, command: Command, answer: Answer) -> Result<(), NoMemory> {
-        match answer {
-            Ok(reply) => {
-                self.events.push(Event::Told { command, reply })?;
-                self.told = self.told.wrapping_add(1);
+    /// The reply. Where the command was handed back there is none, which is counted. The answer is let go here, once.
+    pub fn reply_in(&mut self, answer: Answer) -> Option<Reply> {
+        match &answer {
+            Ok(reply) => Some(*reply),
+            Err(fault) => {
+                self.count(fault);
+                None
             }
-            Err(CallFault::Busy { .. }) => self.busy = self.busy.wrapping_add(1),
-            Err(CallFault::Full(_)) => self.full = self.full.wrapping_add(1),
-            Err(CallFault::Worn(_) | CallFault::NoMemory(_)) => self.is_short = true,
         }
+    }
+
+    fn count(&mut self, fault: &CallFault<Command>) {
+        match fault {
+            CallFault::Busy { .. } => self.busy = self.busy.wrapping_add(1),
+            CallFault::Full(_) => self.full = self.full.wrapping_add(1),
+            CallFault::Worn(_) | CallFault::NoMemory(_) => self.is_short = true,
+        }
+    }
+
+    /// The command was answered.
+    pub fn answered(&mut self, command: Command, reply: Reply) -> Result<(), NoMemory> {
+        self.events.push(Event::Told { command, reply })?;
+        self.told = self.told.wrapping_add(1);
         Ok(())
     }
 

@@ -49,7 +49,7 @@ pub fn is_raised_in_time(flag: &AtomicU64) -> bool {
 }
 
 /// It is open once `go_on` is raised.
-#[derive(Debug, Drop)]
+#[derive(Drop)]
 pub struct Gate {
     pub inside: Flag,
     pub go_on: Flag,

@@ -9,7 +9,6 @@ use std::sync::Arc;
 use std::sync::atomic::{AtomicU64, Ordering};
 
 /// Its setup is its limit.
-#[derive(Debug)]
 pub struct Tally {
     limit: u32,
     total: u32,

@@ -1,7 +1,7 @@
 use Rattle.std.proofs.Common.{rules, ℕ, List, take, arith, subst}
 use Rattle.std.proofs.lemmas.Result.{err_from_is_err_and}
 use Rattle.std.specs.Io.KnownBytes.{Appends}
-use Rattle.ra_history_text.proofs.Runs.{read_none_left, run_first, run_next, run_last}
+use Rattle.ra_history_text.proofs.Runs.{read_none_left, comes_as_far, run_first, run_next, run_last}
 use Rattle.ra_history_text.specs.Written.{HasWritten}
 use Rattle.ra_history_text.proofs.Halts.{halts_reading, halts_endless, halts_ending, halts_writing_end, halts_writing}
 use Rattle.ra_history_text.proofs.Halts.{halts_feeding, passed_on, given_none, given_more, given_less}
@@ -35,6 +35,17 @@ returns-then-count-eq0-clause-answered g c =
     run_last (g.R.Read.remaining c.args.reader.now) r1 r2 (g.W.Write.contents c.args.writer.now) w1 w2 c.loop.session
     c.loop.out.items c.finish.new.out.items c.in_ok-report.report c.loop.invariant.0 ended.0 ended.1
     c.in_ok-report.ensures.ended appends
+
+pub returns-then-count-eq0-clause-taken : goal.returns-then-count-eq0-clause-taken
+returns-then-count-eq0-clause-taken g c =
+    let r1 = g.R.Read.remaining c.loop.reader in
+    let r2 = g.R.Read.remaining c.read.new.self in
+    let ended = read_none_left r1 r2 c.in-Ok.count c.read.new.buf c.if-count-eq0.true
+    (omega arith) c.in-Ok.ensures.bytes in
+    comes_as_far (g.R.Read.remaining c.args.reader.now) r1 r2 c.loop.session c.loop.invariant.0.read ended.0 ended.1
+
+pub returns-then-count-eq0-clause-reported : goal.returns-then-count-eq0-clause-reported
+returns-then-count-eq0-clause-reported g c = c.in_ok-report.ensures.ended.reported
 
 pub loop-preserved : goal.loop-preserved
 loop-preserved g c =

@@ -2,6 +2,7 @@ use Rattle.std.proofs.Common.{◌≡◌, ◌≤◌, false, ℕ, List, [], ◌∷
 use Rattle.std.specs.List.{AllByRecursion}
 use Rattle.ra_labels.specs.declared.kind.Kind.{Kind}
 use Rattle.ra_lines.specs.declared.format.Format.{Format}
+use Rattle.ra_monitor.specs.declared.setup.Setup.{Setup}
 use Rattle.ra_monitor.specs.Monitor.{MonitorEntry, records_of}
 use Rattle.ra_accepted.specs.Accepted.{accepted_in}
 use Rattle.ra_history_writer.specs.Writing.{format_of}
@@ -17,7 +18,7 @@ put_heads-requires c =
     let setup = c.args.monitor.now.setup in
     omega (
       arith,
-      c.first_replicas-first.ensures,
+      ap (λ (s : Setup). s.replicas) c.setup-first.ensures.setup,
       c.requires.as_many,
       count_first setup.replicas (records_of setup c.args.monitor.now.log),
     )
@@ -29,13 +30,14 @@ returns c =
     let heads : List ℕ = c.put_heads.new.text.items in
     let lines = λ (f : Format) (k : Kind) (n : ℕ). bytes_of (first_line f k ∷ names_line (take n names) ∷ []) in
     let n : ℕ = monitor.setup.replicas in
+    let told : ℕ = c.setup-first.result.replicas in
     let first : heads ≡ lines (format_of monitor) monitor.setup.kind n =
     c.in_ok-put_heads.ensures
-    ∙ ap (λ (bs : List ℕ). bs ++ lines c.format_of-format.result c.report.result.kind c.first_replicas-first.result)
+    ∙ ap (λ (bs : List ℕ). bs ++ lines c.format_of-format.result c.report.result.kind told)
     c.new-text.ensures.items
-    ∙ ap (λ (f : Format). lines f c.report.result.kind c.first_replicas-first.result) c.format_of-format.ensures
-    ∙ ap (λ (k : Kind). lines (format_of monitor) k c.first_replicas-first.result) c.report.ensures.kind
-    ∙ ap (lines (format_of monitor) monitor.setup.kind) c.first_replicas-first.ensures in
+    ∙ ap (λ (f : Format). lines f c.report.result.kind told) c.format_of-format.ensures
+    ∙ ap (λ (k : Kind). lines (format_of monitor) k told) c.report.ensures.kind
+    ∙ ap (λ (s : Setup). lines (format_of monitor) monitor.setup.kind s.replicas) c.setup-first.ensures.setup in
     let last : c.put_entries.new.text.items ≡ heads ++ lines_of names (accepted_in false monitor.log) =
     c.in_ok-put_entries.ensures.put
     ∙ ap (λ (log : List MonitorEntry). heads ++ lines_of names (accepted_in false log)) c.log.ensures.entries in

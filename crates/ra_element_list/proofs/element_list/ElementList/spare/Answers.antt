@@ -1,4 +1,4 @@
-use Rattle.std.proofs.Common.{◌≡◌, length, map, sym, ap, ◌∙◌, subst, arith}
+use Rattle.std.proofs.Common.{◌≡◌, length, map, sym, ap, ◌∙◌, subst, arith, rules}
 use Rattle.std.specs.Prelude.{nat_eq}
 use Rattle.std.specs.HashMap.{get}
 use Rattle.std.proofs.lemmas.List.{take_at}
@@ -73,3 +73,6 @@ returns-clause-arrivals c =
     ap (map arrival_of) (take_at new _ c.reserve-2.new.self.len long)
     ∙ arrivals_same old new but
     ∙ ap (λ (l : ElementList). l.arrivals) c.self.view_is
+
+pub returns-clause-room : goal.returns-clause-room
+returns-clause-room c = search rules

@@ -1,0 +1,51 @@
+//! What the words ask for.
+ghost use Rattle.std.specs.Prelude.{◌≡◌, map, string_bytes};
+ghost use Rattle.ra_explain_cli.specs.Asked as asked;
+ghost use Rattle.ra_explain_cli.specs.Asked.{form_named};
+
+/// How a history is explained.
+#[derive(Clone, Copy, Debug, PartialEq, Eq)]
+pub enum Form {
+    /// In words.
+    Page,
+    /// As one JSON object.
+    Json,
+    /// By the sequence alone that linearizes it.
+    Sequence,
+}
+
+/// The form that the words behind the program's name ask for: `explain`, `explain --json` or `explain --sequence`.
+/// `None` where they are others.
+pub fn form_of(words: &[String]) -> Option<Form>
+    ensures { result ≡ form_named (map string_bytes words.now) }
+{
+    match words {
+        [word] => asked_by_one(word.as_str()),
+        [word, option] => asked_by_two(word.as_str(), option.as_str()),
+        _ => None,
+    }
+}
+
+fn asked_by_one(word: &str) -> Option<Form>
+    ensures { result ≡ asked.asked_by_one word.now }
+{
+    if word == "explain" {
+        Some(Form::Page)
+    } else {
+        None
+    }
+}
+
+fn asked_by_two(word: &str, option: &str) -> Option<Form>
+    ensures { result ≡ asked.asked_by_two word.now option.now }
+{
+    if word != "explain" {
+        None
+    } else if option == "--json" {
+        Some(Form::Json)
+    } else if option == "--sequence" {
+        Some(Form::Sequence)
+    } else {
+        None
+    }
+}

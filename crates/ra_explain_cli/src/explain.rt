@@ -1,0 +1,102 @@
+//! A text on the reader is checked, and what that answers is explained.
+ghost use Rattle.std.specs.Prelude.{◌≡◌, ◌≢◌, IfOk, Ok};
+ghost use Rattle.ra_history_text.specs.Output.{Reports};
+ghost use Rattle.ra_program.specs.Check.{status_of_outcome};
+ghost use Rattle.ra_explain_cli.specs.Explained.{ExplainsText, EndsExplained, IsPage};
+
+use crate::asked::Form;
+use ra_history_text::{CheckFault, Outcome, Session, check_session, status, write_out};
+use ra_labels::NoMemory;
+use ra_lines::reply::put_end;
+use ra_monitor::Report;
+use ra_pages::{Case, put_json, put_page, put_sequence};
+use ra_program::{Ending, stop};
+use std::alloc::Global;
+use std::io;
+use std::io::{Read, Write};
+
+/// Has the text that the reader gives explained on `out`, and a fault's line told on `err`. The status is that of a
+/// check of the text, and 2 where the page could not be made or written. A page in words begins with the check's own
+/// last line.
+pub fn explain<R: Read, W: Write, E: Write>(
+    alloc: Global,
+    form: Form,
+    reader: &mut R,
+    out: &mut W,
+    err: &mut E,
+) -> Ending
+    ensures explained { ExplainsText form result (R.remaining reader.old) (R.remaining reader.new)
+        (W.contents out.old) (W.contents out.new) (E.contents err.old) (E.contents err.new) }
+    ensures silent { result.status ≢ 2 → err.new ≡ err.old }
+{
+    let mut session = Session::new(alloc);
+    let answer = check_session(alloc, &mut session, reader, &mut io::sink());
+    let ending = match answer {
+        Ok(outcome) => end_explained(alloc, form, &session, outcome, out, err),
+        Err(fault) => stop(err, fault),
+    };
+    // A session has many parts, so it is let go by a call: the proof goes through them once, and not at each return.
+    drop(session);
+    ending
+}
+
+// All was read and answered.
+fn end_explained<W: Write, E: Write>(
+    alloc: Global,
+    form: Form,
+    session: &Session,
+    outcome: Outcome,
+    out: &mut W,
+    err: &mut E,
+) -> Ending
+    ensures explained { EndsExplained form outcome result (W.contents out.old) (W.contents out.new)
+        (E.contents err.old) (E.contents err.new) }
+    ensures silent { result.status ≢ 2 → err.new ≡ err.old }
+{
+    let Ok(page) = page_of(alloc, form, session, &outcome.report) else {
+        return stop(err, CheckFault::NoMemory);
+    };
+    match write_out(out, &page) {
+        Ok(()) => Ending {
+            status: status(&Ok(outcome)),
+            told: true,
+        },
+        Err(_) => stop(err, CheckFault::Write),
+    }
+}
+
+fn page_of(
+    alloc: Global,
+    form: Form,
+    session: &Session,
+    report: &Report,
+) -> Result<Vec<u8>, NoMemory>
+    ensures { IfOk result (λ page. IsPage form report.now page.items) }
+{
+    let mut page = Vec::new(alloc);
+    if form == Form::Page {
+        put_end(&mut page, report.labels, report.fault)?;
+    }
+    let body = body_of(alloc, form, session, report)?;
+    page.extend_from_slice(&body)?;
+    Ok(page)
+}
+
+fn body_of(
+    alloc: Global,
+    form: Form,
+    session: &Session,
+    report: &Report,
+) -> Result<Vec<u8>, NoMemory> {
+    let mut body = Vec::new(alloc);
+    let (Some(monitor), Some(names)) = (session.monitor(), session.names()) else {
+        return Ok(body);
+    };
+    let case = Case::of(alloc, monitor, names)?;
+    match form {
+        Form::Page => put_page(&mut body, &case, report)?,
+        Form::Json => put_json(&mut body, &case, report)?,
+        Form::Sequence => put_sequence(&mut body, &case)?,
+    }
+    Ok(body)
+}

@@ -1,0 +1,108 @@
+//! A clock that stands against what was seen, and an update that does not fit.
+use crate::case::Case;
+use crate::put::{put, put_head, put_label, put_line, put_name};
+use ra_explain::{LabelsThat, labels_that};
+use ra_labels::{Command, NoMemory, Op, Reply, Stamp};
+use ra_lines::number::put_number;
+
+/// Puts the latest label that this one sees and whose clock is above its own, and how it came to be seen.
+pub fn put_order(
+    out: &mut Vec<u8>,
+    case: &Case<'_>,
+    label: u32,
+    replica: u8,
+    clock: Option<u32>,
+) -> Result<(), NoMemory> {
+    let Some(clock) = clock else {
+        return Ok(());
+    };
+    let sort = LabelsThat::StandAbove(replica, Stamp { clock, replica });
+    let above = labels_that(*out.allocator(), case.monitor, sort)?;
+    for other in above {
+        if other != label {
+            put_above(out, case, replica, other)?;
+        }
+    }
+    Ok(())
+}
+
+fn put_above(out: &mut Vec<u8>, case: &Case<'_>, replica: u8, other: u32) -> Result<(), NoMemory> {
+    put_head(out, "but sees")?;
+    put_label(out, case, other)?;
+    put(out, ", ")?;
+    match delivery_of(case, replica, other) {
+        Some(place) => {
+            put(out, "which ")?;
+            put_name(out, case, replica)?;
+            put(out, " got in ")?;
+            put_line(out, place)?;
+        }
+        None => put(out, "which its replica made, or joined with")?,
+    }
+    put(out, "\n")
+}
+
+// The place at which the label reached the replica.
+fn delivery_of(case: &Case<'_>, replica: u8, wanted: u32) -> Option<u32> {
+    let mut place: u32 = 0;
+    for entry in case.log {
+        if let Command::Deliver { replica: to, label } = &entry.command {
+            if *to == replica && *label == wanted && entry.reply == Reply::Got(wanted) {
+                return Some(place);
+            }
+        }
+        place = place.saturating_add(1);
+    }
+    None
+}
+
+/// Puts what stands in the update's way: another label that put its element in, or an anchor or element that no label
+/// put in before it.
+pub fn put_update(out: &mut Vec<u8>, case: &Case<'_>, label: u32, op: &Op) -> Result<(), NoMemory> {
+    match op {
+        Op::After { anchor, element } => {
+            if !put_insertions(out, case, label, *element, "but also")? {
+                put_needed(out, case, label, *anchor)?;
+            }
+            Ok(())
+        }
+        Op::RgaRemove(element) => put_needed(out, case, label, *element),
+        _ => Ok(()),
+    }
+}
+
+fn put_needed(
+    out: &mut Vec<u8>,
+    case: &Case<'_>,
+    label: u32,
+    element: u32,
+) -> Result<(), NoMemory> {
+    if put_insertions(out, case, label, element, "too late")? {
+        return Ok(());
+    }
+    put_head(out, "lacks")?;
+    put(out, "the element ")?;
+    put_number(out, element)?;
+    put(out, ", which no label puts in\n")
+}
+
+// The other labels that put in the element, each on a line that begins with these words. Are there any?
+fn put_insertions(
+    out: &mut Vec<u8>,
+    case: &Case<'_>,
+    label: u32,
+    element: u32,
+    words: &str,
+) -> Result<bool, NoMemory> {
+    let found = labels_that(*out.allocator(), case.monitor, LabelsThat::PutIn(element))?;
+    let mut any = false;
+    for other in found {
+        if other != label {
+            put_head(out, words)?;
+            put_label(out, case, other)?;
+            put(out, "\n")?;
+            any = true;
+        }
+    }
+    Ok(any)
+}

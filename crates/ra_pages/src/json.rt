@@ -1,0 +1,175 @@
+//! The page as one JSON object. Names and lines of commands are letters, digits, spaces and signs that need no escape.
+use crate::case::Case;
+use crate::help::help_for;
+use crate::put::{put, put_line_number, put_name, put_size};
+use ra_explain::{Change, LabelsThat, labels_that, right_answer};
+use ra_history_writer::spelling::put_command;
+use ra_labels::{Command, Fault, NoMemory, Reply};
+use ra_lines::number::put_number;
+use ra_lines::reply::cause_word;
+use ra_monitor::Report;
+
+/// The most refused lines that are told.
+const MOST_LINES: u32 = 10;
+
+/// Puts the object, and a line feed.
+pub fn put_json(out: &mut Vec<u8>, case: &Case<'_>, report: &Report) -> Result<(), NoMemory> {
+    match report.fault {
+        Some(fault) => put_no(out, case, fault)?,
+        None => {
+            put(out, "{\"answer\":\"yes\",\"labels\":")?;
+            put_number(out, report.labels)?;
+        }
+    }
+    put(out, ",\"refused\":")?;
+    put_refused(out, case, report.refused)?;
+    put(out, ",\"lacks\":")?;
+    put_lacking(out, case)?;
+    put(out, "}\n")
+}
+
+fn put_no(out: &mut Vec<u8>, case: &Case<'_>, fault: Fault) -> Result<(), NoMemory> {
+    put(out, "{\"answer\":\"no\",\"label\":")?;
+    put_number(out, fault.label)?;
+    put(out, ",\"cause\":\"")?;
+    put(out, cause_word(fault.cause))?;
+    put(out, "\"")?;
+    let Some(place) = case.places.at(fault.label) else {
+        return Ok(());
+    };
+    let Some(entry) = case.entry(place) else {
+        return Ok(());
+    };
+    let Command::Operate { replica, .. } = &entry.command else {
+        return Ok(());
+    };
+    put_told(out, case, place, *replica, &entry.command)?;
+    put_right(out, case, *replica)?;
+    put(out, ",\"would_be_right\":")?;
+    put_changes(out, case, place, *replica)
+}
+
+fn put_told(
+    out: &mut Vec<u8>,
+    case: &Case<'_>,
+    place: u32,
+    replica: u8,
+    command: &Command,
+) -> Result<(), NoMemory> {
+    put(out, ",\"line\":")?;
+    put_line_number(out, place)?;
+    put(out, ",\"replica\":\"")?;
+    put_name(out, case, replica)?;
+    put(out, "\",\"told\":\"")?;
+    put_command(out, case.names, command)?;
+    put(out, "\"")
+}
+
+fn put_right(out: &mut Vec<u8>, case: &Case<'_>, replica: u8) -> Result<(), NoMemory> {
+    put(out, ",\"right\":")?;
+    match right_answer(*out.allocator(), case.monitor)? {
+        Some(op) => {
+            let command = Command::Operate {
+                replica,
+                op,
+                stamp: None,
+            };
+            put(out, "\"")?;
+            put_command(out, case.names, &command)?;
+            put(out, "\"")
+        }
+        None => put(out, "null"),
+    }
+}
+
+fn put_changes(
+    out: &mut Vec<u8>,
+    case: &Case<'_>,
+    place: u32,
+    replica: u8,
+) -> Result<(), NoMemory> {
+    let help = help_for(*out.allocator(), case, place, replica)?;
+    let mut before = "[";
+    for change in &help.found {
+        put(out, before)?;
+        put_change(out, *change)?;
+        before = ",";
+    }
+    if help.found.is_empty() {
+        put(out, before)?;
+    }
+    put(out, "],\"tried\":")?;
+    put_size(out, help.tried)
+}
+
+fn put_change(out: &mut Vec<u8>, change: Change) -> Result<(), NoMemory> {
+    match change {
+        Change::Gets(label) => {
+            put(out, "{\"gets\":")?;
+            put_number(out, label)?;
+        }
+        Change::Misses(at) => {
+            put(out, "{\"misses_line\":")?;
+            put_line_number(out, at)?;
+        }
+        Change::ComesBefore(at) => {
+            put(out, "{\"comes_before_line\":")?;
+            put_line_number(out, at)?;
+        }
+    }
+    put(out, "}")
+}
+
+// How many lines were refused, and the numbers of the first ten.
+fn put_refused(out: &mut Vec<u8>, case: &Case<'_>, refused: u32) -> Result<(), NoMemory> {
+    put_number(out, refused)?;
+    put(out, ",\"refused_lines\":[")?;
+    let mut left = MOST_LINES;
+    let mut place: u32 = 0;
+    for entry in case.log {
+        if let Reply::Refused(_) = entry.reply {
+            if left > 0 {
+                put(out, if left == MOST_LINES { "" } else { "," })?;
+                put_line_number(out, place)?;
+                left -= 1;
+            }
+        }
+        place = place.saturating_add(1);
+    }
+    put(out, "]")
+}
+
+// Of each replica that lacks updates by now, how many, and the oldest of their labels.
+fn put_lacking(out: &mut Vec<u8>, case: &Case<'_>) -> Result<(), NoMemory> {
+    put(out, "{")?;
+    let mut is_first = true;
+    for replica in 0..case.monitor.replicas() {
+        is_first = put_lacking_of(out, case, replica, is_first)?;
+    }
+    put(out, "}")
+}
+
+// That of the replica, if it lacks any. Is the next one still the first?
+fn put_lacking_of(
+    out: &mut Vec<u8>,
+    case: &Case<'_>,
+    replica: u8,
+    is_first: bool,
+) -> Result<bool, NoMemory> {
+    let lacking = labels_that(
+        *out.allocator(),
+        case.monitor,
+        LabelsThat::AreLackedBy(replica),
+    )?;
+    let Some(oldest) = lacking.first() else {
+        return Ok(is_first);
+    };
+    put(out, if is_first { "\"" } else { ",\"" })?;
+    put_name(out, case, replica)?;
+    put(out, "\":{\"updates\":")?;
+    put_size(out, lacking.len())?;
+    put(out, ",\"oldest\":")?;
+    put_number(out, *oldest)?;
+    put(out, "}")?;
+    Ok(false)
+}

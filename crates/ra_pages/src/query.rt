@@ -1,0 +1,101 @@
+//! An answer that is wrong, and the right one.
+use crate::act::{elements_of, put_elements};
+use crate::case::Case;
+use crate::put::{put, put_act, put_head, put_size};
+use ra_explain::right_answer;
+use ra_labels::{Command, NoMemory, Op};
+use ra_lines::number::put_number;
+
+/// Puts the right answer, and the first difference between the two.
+pub fn put_query(
+    out: &mut Vec<u8>,
+    case: &Case<'_>,
+    told: &Op,
+    replica: u8,
+) -> Result<(), NoMemory> {
+    let Some(right) = right_answer(*out.allocator(), case.monitor)? else {
+        put_head(out, "right")?;
+        return put(
+            out,
+            "no answer: a list that it sees lacks what one of its updates needs\n",
+        );
+    };
+    let mut difference = Vec::new(*out.allocator());
+    put_difference(&mut difference, told, &right)?;
+    put_head(out, "right")?;
+    let command = Command::Operate {
+        replica,
+        op: right,
+        stamp: None,
+    };
+    put_act(out, case, &command)?;
+    put(out, "\n")?;
+    Ok(out.extend_from_slice(&difference)?)
+}
+
+// Lists are told by what differs first: two lists of a set by what is missing and what is too much.
+fn put_difference(out: &mut Vec<u8>, told: &Op, right: &Op) -> Result<(), NoMemory> {
+    match (told, right) {
+        (Op::RgaRead(told), Op::RgaRead(right)) => {
+            put_first(out, told.as_slice(), right.as_slice())
+        }
+        _ => put_missing(out, elements_of(told), elements_of(right)),
+    }
+}
+
+// The first place at which the two lists differ, counted from 1.
+fn put_first(out: &mut Vec<u8>, told: &[u32], right: &[u32]) -> Result<(), NoMemory> {
+    let mut place: usize = 0;
+    for element in right {
+        if told.get(place) != Some(element) {
+            break;
+        }
+        place = place.saturating_add(1);
+    }
+    put_head(out, "differs")?;
+    put(out, "at element ")?;
+    put_size(out, place.saturating_add(1))?;
+    put(out, ": ")?;
+    put_at(out, told.get(place).copied(), " was told")?;
+    put(out, ", ")?;
+    put_at(out, right.get(place).copied(), " is right")?;
+    put(out, "\n")
+}
+
+fn put_at(out: &mut Vec<u8>, element: Option<u32>, words: &str) -> Result<(), NoMemory> {
+    match element {
+        Some(element) => put_number(out, element)?,
+        None => put(out, "the end")?,
+    }
+    put(out, words)
+}
+
+// What is missing, and what is too much, of two rising lists.
+fn put_missing(out: &mut Vec<u8>, told: &[u32], right: &[u32]) -> Result<(), NoMemory> {
+    let alloc = *out.allocator();
+    let mut missing = Vec::new(alloc);
+    let mut more = Vec::new(alloc);
+    add_others(&mut missing, right, told)?;
+    add_others(&mut more, told, right)?;
+    put_list(out, "missing", &missing)?;
+    put_list(out, "too much", &more)
+}
+
+// Those of the first rising list that are not in the second one.
+fn add_others(found: &mut Vec<u32>, list: &[u32], others: &[u32]) -> Result<(), NoMemory> {
+    for element in list {
+        if others.binary_search(element).is_err() {
+            found.push(*element)?;
+        }
+    }
+    Ok(())
+}
+
+fn put_list(out: &mut Vec<u8>, words: &str, elements: &[u32]) -> Result<(), NoMemory> {
+    if elements.is_empty() {
+        return Ok(());
+    }
+    put_head(out, words)?;
+    put_elements(out, elements)?;
+    put(out, "\n")
+}

@@ -1,0 +1,29 @@
+//! The evidence itself: the sequence that linearizes the history.
+use crate::case::Case;
+use crate::put::{put, put_line_number};
+use ra_labels::NoMemory;
+use ra_lines::number::put_number;
+use ra_monitor::Half;
+
+/// Puts a line for each part of the named sequence: the label, `whole`, `query` or `update`, and the number of the line
+/// of the text that says it.
+pub fn put_sequence(out: &mut Vec<u8>, case: &Case<'_>) -> Result<(), NoMemory> {
+    let parts = case.monitor.sequence()?;
+    for part in &parts {
+        put_number(out, part.label)?;
+        put(out, word(part.half))?;
+        if let Some(place) = case.places.at(part.label) {
+            put_line_number(out, place)?;
+        }
+        put(out, "\n")?;
+    }
+    Ok(())
+}
+
+fn word(half: Half) -> &'static str {
+    match half {
+        Half::Whole => " whole ",
+        Half::QueryHalf => " query ",
+        Half::UpdateHalf => " update ",
+    }
+}
