@@ -9,9 +9,10 @@ from pathlib import Path
 from required import require
 
 TOP = Path(__file__).resolve().parent.parent
-# The program that checks, and the one that has the bench too.
+# The program that checks, the one that has the bench too, and the one that explains.
 PROGRAM = "ra_check_cli"
 WHOLE = "ra_monitor_cli"
+EXPLAINS = "ra_explain_cli"
 CRATES = f"""\
 # NAME: what it stands on
 low:
@@ -20,6 +21,7 @@ right: low
 {PROGRAM}: left right
 bench: left
 {WHOLE}: bench right
+{EXPLAINS}: left right
 other: low
 """
 KIT = "kit of one name"
@@ -49,6 +51,7 @@ class House:
         self.write("crates/low/proofs/Laws.antt", "a law\n")
         self.write(f"crates/{PROGRAM}/src/main.rt", "first text")
         self.write(f"crates/{WHOLE}/src/main.rt", "whole text")
+        self.write(f"crates/{EXPLAINS}/src/main.rt", "explaining text")
         self.git("init", "-q")
         self.commit("a house")
         self.make_kit()

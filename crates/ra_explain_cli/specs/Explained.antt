@@ -1,26 +1,29 @@
 -- A program that explains a text: what it reads and writes, and how it ends.
 use Rattle.std.specs.Prelude.{◌≡◌, ◌⊎◌, ℕ, List, ◌++◌, Option, IfSome, Result, Ok, Err, ⊤}
-use Rattle.std.specs.Io.KnownBytes.{IsAtEnd}
+use Rattle.std.specs.Io.KnownBytes.{IsAtEnd, Appends}
 use Rattle.ra_lines.specs.Replies.{end_line}
 use Rattle.ra_monitor.specs.declared.report.Report.{Report}
 use Rattle.ra_history_text.specs.declared.fault.CheckFault.{CheckFault}
-use Rattle.ra_history_text.specs.declared.fault.CheckFault.TheVariants.{Endless, NoMemory}
+use Rattle.ra_history_text.specs.declared.fault.CheckFault.TheVariants.{Endless, NoMemory, Write}
 use Rattle.ra_history_text.specs.declared.outcome.Outcome.{Outcome}
 use Rattle.ra_history_text.specs.declared.limits.TheConstants.{MOST_READS}
 use Rattle.ra_history_text.specs.Faults.{check_fault_words}
 use Rattle.ra_history_text.specs.Output.{Reports}
 use Rattle.ra_history_text.specs.Run.{StopsCheck, HasGiven}
+use Rattle.ra_history_text.specs.Written.{StopsLine}
 use Rattle.ra_history_text.specs.Text.{Regular, ending_of, said_by}
 use Rattle.ra_program.specs.declared.ending.Ending.{Ending}
 use Rattle.ra_program.specs.Check.{status_of_outcome}
 use Rattle.ra_program.specs.Endings.{EndsWithLine, StopsProgram}
 use Rattle.ra_explain_cli.specs.declared.asked.Form.{Form}
-use Rattle.ra_explain_cli.specs.declared.asked.Form.TheVariants.{Page, Json, Sequence}
+use Rattle.ra_explain_cli.specs.declared.asked.Form.TheVariants.{Page, Json, Svg, Html, Sequence}
 
 -- A page in words for a history with this report begins with the last line that its check writes.
 abbrev pub IsPage : Form → Report → List ℕ → Type 0
 IsPage Page report page = (body : List ℕ) × (page ≡ end_line report.labels report.fault ++ body)
 IsPage Json report page = ⊤
+IsPage Svg report page = ⊤
+IsPage Html report page = ⊤
 IsPage Sequence report page = ⊤
 
 -- There was no memory for the page: nothing is written, and that is told. Or it is written, and the status is that of
@@ -31,6 +34,12 @@ EndsExplained form outcome ending old new err_old err_new =
     ⊎ ((page : List ℕ) × IsPage form outcome.report page
     × EndsWithLine page (status_of_outcome outcome) ending old new err_old err_new)
 
+-- The fault is told, and words on it are written; or a part of these is, and that is told.
+abbrev pub EndsStopped : CheckFault → Ending → (old new err_old err_new : Option (List ℕ)) → Type 0
+EndsStopped fault ending old new err_old err_new = (words : List ℕ)
+    × ((Appends old new words × StopsProgram ending err_old err_new (check_fault_words fault))
+    ⊎ (StopsLine words old new Write × StopsProgram ending err_old err_new (check_fault_words Write)))
+
 -- the text has its regular end, and this is the report of what it says
 abbrev pub IsAnswered : List ℕ → Outcome → Type 0
 IsAnswered text outcome = (ending_of text ≡ Regular) × Reports (said_by text) outcome.report
@@ -39,16 +48,14 @@ IsAnswered text outcome = (ending_of text ≡ Regular) × Reports (said_by text)
 abbrev pub Stops : List ℕ → Option (List ℕ) → CheckFault → Type 0
 Stops text left fault = (old : Option (List ℕ)) × (new : Option (List ℕ)) × StopsCheck text left old new fault
 
--- A check has this answer: all was read, and what it found is explained; or it stopped, and its fault is told, and
--- nothing is written.
+-- A check has this answer: all was read, and what it found is explained; or it stopped, and its fault is told.
 abbrev pub EndsExplanation : Form → Result Outcome CheckFault → Ending →
     (text left old new err_old err_new : Option (List ℕ)) → Type 0
 EndsExplanation form (Ok outcome) ending text left old new err_old err_new =
     IsAtEnd left × IfSome text (λ bytes. IsAnswered bytes outcome)
     × EndsExplained form outcome ending old new err_old err_new
 EndsExplanation form (Err fault) ending text left old new err_old err_new =
-    StopsProgram ending err_old err_new (check_fault_words fault) × (new ≡ old)
-    × IfSome text (λ bytes. Stops bytes left fault) × (fault ≡ Endless → HasGiven text left MOST_READS)
+    EndsStopped fault ending old new err_old err_new × IfSome text (λ bytes. Stops bytes left fault) × (fault ≡ Endless → HasGiven text left MOST_READS)
 
 -- the program explains a text
 abbrev pub ExplainsText : Form → Ending → (text left old new err_old err_new : Option (List ℕ)) → Type 0

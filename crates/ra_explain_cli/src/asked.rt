@@ -10,12 +10,16 @@ pub enum Form {
     Page,
     /// As one JSON object.
     Json,
+    /// As a drawing: SVG.
+    Svg,
+    /// As a document with words and drawing: HTML.
+    Html,
     /// By the sequence alone that linearizes it.
     Sequence,
 }
 
-/// The form that the words behind the program's name ask for: `explain`, `explain --json` or `explain --sequence`.
-/// `None` where they are others.
+/// The form that the words behind the program's name ask for: `explain` alone, or with `--json`, `--svg`, `--html` or
+/// `--sequence`. `None` where they are others.
 pub fn form_of(words: &[String]) -> Option<Form>
     ensures { result ≡ form_named (map string_bytes words.now) }
 {
@@ -41,8 +45,20 @@ fn asked_by_two(word: &str, option: &str) -> Option<Form>
 {
     if word != "explain" {
         None
-    } else if option == "--json" {
+    } else {
+        form_of_option(option)
+    }
+}
+
+fn form_of_option(option: &str) -> Option<Form>
+    ensures { result ≡ asked.form_of_option option.now }
+{
+    if option == "--json" {
         Some(Form::Json)
+    } else if option == "--svg" {
+        Some(Form::Svg)
+    } else if option == "--html" {
+        Some(Form::Html)
     } else if option == "--sequence" {
         Some(Form::Sequence)
     } else {

@@ -2,14 +2,14 @@
 ghost use Rattle.std.specs.Prelude.{◌≡◌, ◌≢◌, IfOk, Ok};
 ghost use Rattle.ra_history_text.specs.Output.{Reports};
 ghost use Rattle.ra_program.specs.Check.{status_of_outcome};
-ghost use Rattle.ra_explain_cli.specs.Explained.{ExplainsText, EndsExplained, IsPage};
+ghost use Rattle.ra_explain_cli.specs.Explained.{ExplainsText, EndsExplained, EndsStopped, IsPage};
 
 use crate::asked::Form;
 use ra_history_text::{CheckFault, Outcome, Session, check_session, status, write_out};
 use ra_labels::NoMemory;
 use ra_lines::reply::put_end;
 use ra_monitor::Report;
-use ra_pages::{Case, put_json, put_page, put_sequence};
+use ra_pages::{Case, No, Stop, put_html, put_json, put_page, put_sequence, put_svg};
 use ra_program::{Ending, stop};
 use std::alloc::Global;
 use std::io;
@@ -17,7 +17,7 @@ use std::io::{Read, Write};
 
 /// Has the text that the reader gives explained on `out`, and a fault's line told on `err`. The status is that of a
 /// check of the text, and 2 where the page could not be made or written. A page in words begins with the check's own
-/// last line.
+/// last line. Of a text with a fault, words, object and document tell the line and the field.
 pub fn explain<R: Read, W: Write, E: Write>(
     alloc: Global,
     form: Form,
@@ -33,7 +33,7 @@ pub fn explain<R: Read, W: Write, E: Write>(
     let answer = check_session(alloc, &mut session, reader, &mut io::sink());
     let ending = match answer {
         Ok(outcome) => end_explained(alloc, form, &session, outcome, out, err),
-        Err(fault) => stop(err, fault),
+        Err(fault) => end_stopped(alloc, form, &session, fault, out, err),
     };
     // A session has many parts, so it is let go by a call: the proof goes through them once, and not at each return.
     drop(session);
@@ -65,6 +65,49 @@ fn end_explained<W: Write, E: Write>(
     }
 }
 
+// The text has a fault; or the reader failed, or memory.
+fn end_stopped<W: Write, E: Write>(
+    alloc: Global,
+    form: Form,
+    session: &Session,
+    fault: CheckFault,
+    out: &mut W,
+    err: &mut E,
+) -> Ending
+    ensures explained { EndsStopped fault result (W.contents out.old) (W.contents out.new)
+        (E.contents err.old) (E.contents err.new) }
+    ensures status { result.status ≡ 2 }
+{
+    let words = match words_on(alloc, form, session, fault) {
+        Ok(words) => words,
+        Err(_) => Vec::new(alloc),
+    };
+    match write_out(out, &words) {
+        Ok(()) => stop(err, fault),
+        Err(_) => stop(err, CheckFault::Write),
+    }
+}
+
+// Words on the fault, if it is one of the text.
+fn words_on(
+    alloc: Global,
+    form: Form,
+    session: &Session,
+    fault: CheckFault,
+) -> Result<Vec<u8>, NoMemory> {
+    let mut words = Vec::new(alloc);
+    let Some(stop) = Stop::of(alloc, session, fault)? else {
+        return Ok(words);
+    };
+    match form {
+        Form::Page => stop.put_page(&mut words)?,
+        Form::Json => stop.put_json(&mut words)?,
+        Form::Html => stop.put_html(&mut words)?,
+        Form::Svg | Form::Sequence => {}
+    }
+    Ok(words)
+}
+
 fn page_of(
     alloc: Global,
     form: Form,
@@ -93,10 +136,26 @@ fn body_of(
         return Ok(body);
     };
     let case = Case::of(alloc, monitor, names)?;
-    match form {
-        Form::Page => put_page(&mut body, &case, report)?,
-        Form::Json => put_json(&mut body, &case, report)?,
-        Form::Sequence => put_sequence(&mut body, &case)?,
-    }
+    let no = match form {
+        Form::Sequence => None,
+        Form::Page | Form::Json | Form::Svg | Form::Html => No::of(alloc, &case, report)?,
+    };
+    put_body(&mut body, form, &case, report, no.as_ref())?;
     Ok(body)
+}
+
+fn put_body(
+    body: &mut Vec<u8>,
+    form: Form,
+    case: &Case<'_>,
+    report: &Report,
+    no: Option<&No<'_>>,
+) -> Result<(), NoMemory> {
+    match form {
+        Form::Page => put_page(body, case, report, no),
+        Form::Json => put_json(body, case, report, no),
+        Form::Svg => put_svg(body, case, report, no),
+        Form::Html => put_html(body, case, report, no),
+        Form::Sequence => put_sequence(body, case),
+    }
 }

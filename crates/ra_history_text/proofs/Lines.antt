@@ -135,13 +135,13 @@ whole_line p q last same nothing none short =
     ∙ ap (λ (bs : List ℕ). line_taken p.said (bs ++ last)) nothing
 
 pub close_whole : {T E : Type 0} (r : Result T E) (p q : Progress) (said : Said) (items last : List ℕ) → p ≡ q
-    → p.partial ≡ [] → items ≡ [] → All (λ b. b ≢ 10) last → length last ≤ 1048576
+    → p.partial ≡ [] → OnOk r (items ≡ p.partial) → All (λ b. b ≢ 10) last → length last ≤ 1048576
     → OnOk r (line_taken p.said last ≡ Ok (line_start said))
     → OnOk r (taken q (last ++ 10 ∷ []) ≡ Ok (record { said = said; partial = items }))
-close_whole (Err e) p q said items last same nothing cleared none short is = tt
-close_whole (Ok x) p q said items last same nothing cleared none short is =
+close_whole (Err e) p q said items last same nothing same_partial none short is = tt
+close_whole (Ok x) p q said items last same nothing same_partial none short is =
     whole_line p q last same nothing none short ∙ is
-    ∙ ap (λ (bs : List ℕ). Ok (record { said = said; partial = bs })) (sym cleared)
+    ∙ ap (λ (bs : List ℕ). Ok (record { said = said; partial = bs })) (sym (same_partial ∙ nothing))
 
 stops_whole : (p q : Progress) (last : List ℕ) (fault : CheckFault) (o : Option Ending) → p ≡ q
     → taken q (last ++ 10 ∷ []) ≡ line_taken p.said last

@@ -1,5 +1,5 @@
 -- What one call of a session does.
-use Rattle.std.specs.Prelude.{◌≡◌, ◌⊎◌, ℕ, true, None, ◌+◌, ◌≤◌, List, [], ◌∷◌, ◌++◌, length, Ok, Err, MatchOption, ⊤}
+use Rattle.std.specs.Prelude.{◌≡◌, ◌⊎◌, ℕ, true, Option, None, Some, ◌+◌, ◌≤◌, List, [], ◌∷◌, ◌++◌, length, Ok, Err, MatchOption, ⊤}
 use Rattle.ra_history_text.specs.declared.fault.CheckFault.{CheckFault}
 use Rattle.ra_history_text.specs.declared.fault.CheckFault.TheVariants.{NoMemory}
 use Rattle.ra_history_text.specs.declared.session.Stage.{Stage}
@@ -7,6 +7,7 @@ use Rattle.ra_history_text.specs.declared.session.Stage.TheVariants as stage
 use Rattle.ra_monitor.specs.declared.report.Report.{Report}
 use Rattle.ra_monitor.specs.Monitor.{Monitor, commands_of}
 use Rattle.ra_history_text.specs.Faults.{ending_told}
+use Rattle.ra_lines.specs.declared.format.Format.{Format}
 use Rattle.ra_lines.specs.declared.limits.TheConstants.{LONGEST_LINE}
 use Rattle.ra_lines.specs.Grammar.{fields_of}
 use Rattle.ra_history_text.specs.History.{said_of}
@@ -83,6 +84,12 @@ abbrev pub SaysNoHistory : Said → Type 0
 SaysNoHistory Nothing = ⊤
 SaysNoHistory (OfKind format kind) = ⊤
 SaysNoHistory (OfHistory format kind first joined commands) = ⊥
+
+-- the format that the first line names
+abbrev pub format_said : Said → Option Format
+format_said Nothing = None
+format_said (OfKind format kind) = Some format
+format_said (OfHistory format kind first joined commands) = Some format
 
 -- lines say a history, and this monitor was told its commands
 abbrev pub IsToldBy : Said → Monitor → Type 0

@@ -2,7 +2,7 @@
 ghost use Rattle.std.specs.Prelude.{◌≡◌, ◌≢◌, ◌++◌, ◌∷◌, [], All, Ok, IfErr, IfOk, MatchOption, OnErr, OnOk};
 ghost use Rattle.ra_history_text.specs.History.{said_of};
 ghost use Rattle.ra_history_text.specs.Output.{replies_of};
-ghost use Rattle.ra_history_text.specs.Sessions.{said_at, AddsReplies, StopsLine, StopsExtending, StopsClosing, StopsInside, EndsText, StopsEnding, SaysNoHistory, IsToldBy, names_said};
+ghost use Rattle.ra_history_text.specs.Sessions.{said_at, AddsReplies, StopsLine, StopsExtending, StopsClosing, StopsInside, EndsText, StopsEnding, SaysNoHistory, IsToldBy, format_said, names_said};
 ghost use Rattle.ra_history_text.specs.Text as text;
 ghost use Rattle.ra_history_text.specs.Text.{text_start, line_start, next_line, line_taken, taken};
 
@@ -139,6 +139,29 @@ fn take_command(history: &mut History, line: &[u8], out: &mut Vec<u8>) -> Result
     Ok(())
 }
 
+// Takes a whole line; or keeps it where it stops the text, for those who ask for it. Where there is no memory for it,
+// nothing is kept.
+fn take_or_keep(
+    stage: &mut Stage,
+    partial: &mut Vec<u8>,
+    line: &[u8],
+    out: &mut Vec<u8>,
+) -> Result<(), CheckFault>
+    ensures taken { OnOk result (line_taken (said_at stage.old) line.now ≡ Ok (line_start (said_at stage.new))) }
+    ensures replied { OnOk result (AddsReplies (said_at stage.old) (said_at stage.new) out.old.items out.new.items) }
+    ensures same { OnOk result (partial.new.items ≡ partial.old.items) }
+    ensures fault { IfErr result (StopsLine (said_at stage.old) line.now) }
+    ensures err { OnErr result (out.new.items ≡ out.old.items) }
+{
+    match stage.take_line(line, out) {
+        Ok(()) => Ok(()),
+        Err(fault) => {
+            let _ = partial.extend_from_slice(line);
+            Err(fault)
+        }
+    }
+}
+
 /// A text that is checked as it comes, in pieces that may end anywhere. Contracts see how far it has come: what its
 /// whole lines say, and what is there of the next one.
 #[derive(Drop)]
@@ -226,6 +249,25 @@ impl Session {
         }
     }
 
+    /// The format that the first line names, once it is there.
+    pub fn format(&self) -> Option<Format>
+        ensures { result ≡ format_said self.now.said }
+    {
+        match &self.stage {
+            Stage::Nothing => None,
+            Stage::OfKind(format, _) => Some(*format),
+            Stage::OfHistory(history) => Some(history.format()),
+        }
+    }
+
+    /// What is there of the next line. After a fault that is the line at which the text stopped, as far as it came; or
+    /// nothing, where there was no memory for it.
+    pub fn line_so_far(&self) -> &[u8]
+        ensures { result.now ≡ self.now.partial }
+    {
+        &self.partial
+    }
+
     // Takes a part of the next line, which has no line feed.
     fn extend(&mut self, part: &[u8]) -> Result<(), CheckFault>
         requires { All (λ b. b ≢ 10) part.now }
@@ -252,7 +294,7 @@ impl Session {
         ensures err { OnErr result (out.new.items ≡ out.old.items) }
     {
         if self.partial.is_empty() && last.len() <= LONGEST_LINE {
-            return self.stage.take_line(last, out);
+            return take_or_keep(&mut self.stage, &mut self.partial, last, out);
         }
         self.extend(last)?;
         self.stage.take_line(&self.partial, out)?;

@@ -1,7 +1,7 @@
 //! A history that is explained.
 use ra_explain::Places;
 use ra_journal::Entry;
-use ra_labels::{Command, NoMemory, Reply};
+use ra_labels::{Command, NoMemory, Op, Reply};
 use ra_lines::Names;
 use ra_monitor::Monitor;
 use std::alloc::Global;
@@ -46,6 +46,19 @@ impl<'a> Case<'a> {
     /// The entry at this place of the log.
     pub fn entry(&self, place: u32) -> Option<&'a Entry<Command, Reply>> {
         self.log.get(place as usize)
+    }
+
+    /// The operation of the label, where there is such a label.
+    pub fn op(&self, label: u32) -> Option<&'a Op> {
+        match &self.entry(self.places.at(label)?)?.command {
+            Command::Operate { op, .. } => Some(op),
+            Command::Deliver { .. } | Command::Join { .. } | Command::Verdict => None,
+        }
+    }
+
+    /// The replica that made the label, where there is such a label.
+    pub fn maker(&self, label: u32) -> Option<u8> {
+        self.source(label).map(|source| source.replica)
     }
 
     /// Where the label comes from, where there is such a label.

@@ -1,25 +1,21 @@
 //! A clock that stands against what was seen, and an update that does not fit.
 use crate::case::Case;
+use crate::no::No;
 use crate::put::{put, put_head, put_label, put_line, put_name};
 use ra_explain::{LabelsThat, labels_that};
 use ra_labels::{Command, NoMemory, Op, Reply, Stamp};
 use ra_lines::number::put_number;
 
 /// Puts the latest label that this one sees and whose clock is above its own, and how it came to be seen.
-pub fn put_order(
-    out: &mut Vec<u8>,
-    case: &Case<'_>,
-    label: u32,
-    replica: u8,
-    clock: Option<u32>,
-) -> Result<(), NoMemory> {
-    let Some(clock) = clock else {
+pub fn put_order(out: &mut Vec<u8>, case: &Case<'_>, no: &No<'_>) -> Result<(), NoMemory> {
+    let Some(clock) = no.clock else {
         return Ok(());
     };
+    let replica = no.replica;
     let sort = LabelsThat::StandAbove(replica, Stamp { clock, replica });
     let above = labels_that(*out.allocator(), case.monitor, sort)?;
     for other in above {
-        if other != label {
+        if other != no.fault.label {
             put_above(out, case, replica, other)?;
         }
     }
@@ -58,8 +54,9 @@ fn delivery_of(case: &Case<'_>, replica: u8, wanted: u32) -> Option<u32> {
 
 /// Puts what stands in the update's way: another label that put its element in, or an anchor or element that no label
 /// put in before it.
-pub fn put_update(out: &mut Vec<u8>, case: &Case<'_>, label: u32, op: &Op) -> Result<(), NoMemory> {
-    match op {
+pub fn put_update(out: &mut Vec<u8>, case: &Case<'_>, no: &No<'_>) -> Result<(), NoMemory> {
+    let label = no.fault.label;
+    match no.op {
         Op::After { anchor, element } => {
             if !put_insertions(out, case, label, *element, "but also")? {
                 put_needed(out, case, label, *anchor)?;

@@ -1,18 +1,19 @@
 //! What would make a label right.
 use crate::case::Case;
+use crate::no::No;
 use crate::put::{put, put_count, put_head, put_label, put_line, put_name, put_size, small};
-use ra_explain::{Change, LabelsThat, changes_that_help, got_last, labels_that};
-use ra_labels::{Command, NoMemory};
+use ra_explain::{Change, changes_that_help, got_last};
+use ra_labels::{Command, Kind, NoMemory};
 use std::alloc::Global;
 
-/// The most changes of each sort that are tried.
+/// The most changes of each sort that are tried of a list, whose order is a matter of many updates.
 const MOST_TRIES: u32 = 256;
 
 /// How many commands are told again for the changes of one sort: as many as a history may have.
 const MOST_STEPS: u32 = 1_048_576;
 
 /// The most changes that are told.
-const MOST_TOLD: usize = 5;
+pub const MOST_TOLD: usize = 5;
 
 /// Changes that were tried, and those of them that would do.
 #[derive(Drop)]
@@ -23,28 +24,41 @@ pub struct Help {
     pub found: Vec<Change>,
 }
 
+impl Help {
+    /// Those that are told.
+    pub fn told(&self) -> &[Change] {
+        match self.found.as_slice().get(..MOST_TOLD) {
+            Some(first) => first,
+            None => self.found.as_slice(),
+        }
+    }
+}
+
 /// Tries changes to what the replica had when it made its label at this place: that it had got one label more, or one
-/// less, or none yet of those that came last. The latest 256 of each sort are tried, and fewer where the history is
-/// long, so that about a million commands are told again for each.
-pub fn help_for(alloc: Global, case: &Case<'_>, place: u32, replica: u8) -> Result<Help, NoMemory> {
-    let most = (MOST_STEPS / place.saturating_add(1)).min(MOST_TRIES) as usize;
+/// less, or none yet of those that came last. Of what it could get next, which is one label of each replica, all are
+/// tried; else the latest, of a list 256 of each sort. Where the history is long there are fewer, so that about a
+/// million commands are told again for each sort.
+pub fn help_for(
+    alloc: Global,
+    case: &Case<'_>,
+    place: u32,
+    replica: u8,
+    lacking: &[u32],
+) -> Result<Help, NoMemory> {
+    let most = most_tries(case.monitor.setup().kind, place) as usize;
     let mut changes = Vec::new(alloc);
-    let lacked = labels_that(alloc, case.monitor, LabelsThat::AreLackedBy(replica))?;
-    for label in lacked.iter().rev().take(most) {
+    let next = next_among(alloc, case, lacking)?;
+    for label in next.iter().rev().take(most) {
         changes.push(Change::Gets(*label))?;
     }
-    let Some(before) = case.log.get(..place as usize) else {
-        return Ok(Help {
-            tried: 0,
-            found: Vec::new(alloc),
-        });
-    };
-    let got = got_last(alloc, before, replica)?;
-    for at in got.iter().rev().take(most) {
-        changes.push(Change::Misses(small(*at)))?;
-    }
-    for at in got.iter().rev().skip(1).take(most) {
-        changes.push(Change::ComesBefore(small(*at)))?;
+    if let Some(before) = case.log.get(..place as usize) {
+        let got = got_last(alloc, before, replica)?;
+        for at in got.iter().rev().take(most) {
+            changes.push(Change::Misses(small(*at)))?;
+        }
+        for at in got.iter().rev().skip(1).take(most) {
+            changes.push(Change::ComesBefore(small(*at)))?;
+        }
     }
     let found = changes_that_help(alloc, case.monitor, place, &changes)?;
     Ok(Help {
@@ -53,22 +67,40 @@ pub fn help_for(alloc: Global, case: &Case<'_>, place: u32, replica: u8) -> Resu
     })
 }
 
-/// Puts the changes with which the label at this place would have held, the latest first.
-pub fn put_help(
-    out: &mut Vec<u8>,
-    case: &Case<'_>,
-    place: u32,
-    replica: u8,
-) -> Result<(), NoMemory> {
-    let help = help_for(*out.allocator(), case, place, replica)?;
-    let mut is_first = true;
-    for change in help.found.iter().take(MOST_TOLD) {
-        put_head(out, if is_first { "would be right" } else { "or" })?;
-        put_change(out, case, replica, *change)?;
-        put(out, "\n")?;
-        is_first = false;
+fn most_tries(kind: Kind, place: u32) -> u32 {
+    let most = MOST_STEPS / place.saturating_add(1);
+    match kind {
+        Kind::Rga => most.min(MOST_TRIES),
+        Kind::Counter | Kind::Register | Kind::LwwSet | Kind::OrSet => most,
     }
-    put_rest(out, &help)
+}
+
+// Of each replica the first update among those that are lacking. None of its others could come before that one, which
+// they see.
+fn next_among(alloc: Global, case: &Case<'_>, lacking: &[u32]) -> Result<Vec<u32>, NoMemory> {
+    let mut sources: Vec<u8> = Vec::new(alloc);
+    let mut next = Vec::new(alloc);
+    for label in lacking {
+        if let Some(source) = case.source(*label) {
+            if !sources.contains(&source.replica) {
+                sources.push(source.replica)?;
+                next.push(*label)?;
+            }
+        }
+    }
+    Ok(next)
+}
+
+/// Puts the changes with which the label would have held, the latest first.
+pub fn put_help(out: &mut Vec<u8>, case: &Case<'_>, no: &No<'_>) -> Result<(), NoMemory> {
+    let mut head = "would be right";
+    for change in no.help.told() {
+        put_head(out, head)?;
+        put_change(out, case, no.replica, *change)?;
+        put(out, "\n")?;
+        head = "or";
+    }
+    put_rest(out, &no.help)
 }
 
 fn put_rest(out: &mut Vec<u8>, help: &Help) -> Result<(), NoMemory> {

@@ -1,10 +1,11 @@
 //! The page as one JSON object. Names and lines of commands are letters, digits, spaces and signs that need no escape.
 use crate::case::Case;
-use crate::help::help_for;
+use crate::help::Help;
+use crate::no::No;
 use crate::put::{put, put_line_number, put_name, put_size};
 use ra_explain::{Change, LabelsThat, labels_that, right_answer};
 use ra_history_writer::spelling::put_command;
-use ra_labels::{Command, Fault, NoMemory, Reply};
+use ra_labels::{Command, NoMemory, Reply};
 use ra_lines::number::put_number;
 use ra_lines::reply::cause_word;
 use ra_monitor::Report;
@@ -13,9 +14,14 @@ use ra_monitor::Report;
 const MOST_LINES: u32 = 10;
 
 /// Puts the object, and a line feed.
-pub fn put_json(out: &mut Vec<u8>, case: &Case<'_>, report: &Report) -> Result<(), NoMemory> {
-    match report.fault {
-        Some(fault) => put_no(out, case, fault)?,
+pub fn put_json(
+    out: &mut Vec<u8>,
+    case: &Case<'_>,
+    report: &Report,
+    no: Option<&No<'_>>,
+) -> Result<(), NoMemory> {
+    match no {
+        Some(no) => put_no(out, case, no)?,
         None => {
             put(out, "{\"answer\":\"yes\",\"labels\":")?;
             put_number(out, report.labels)?;
@@ -28,45 +34,24 @@ pub fn put_json(out: &mut Vec<u8>, case: &Case<'_>, report: &Report) -> Result<(
     put(out, "}\n")
 }
 
-fn put_no(out: &mut Vec<u8>, case: &Case<'_>, fault: Fault) -> Result<(), NoMemory> {
+fn put_no(out: &mut Vec<u8>, case: &Case<'_>, no: &No<'_>) -> Result<(), NoMemory> {
     put(out, "{\"answer\":\"no\",\"label\":")?;
-    put_number(out, fault.label)?;
+    put_number(out, no.fault.label)?;
     put(out, ",\"cause\":\"")?;
-    put(out, cause_word(fault.cause))?;
-    put(out, "\"")?;
-    let Some(place) = case.places.at(fault.label) else {
-        return Ok(());
-    };
-    let Some(entry) = case.entry(place) else {
-        return Ok(());
-    };
-    let Command::Operate { replica, .. } = &entry.command else {
-        return Ok(());
-    };
-    put_told(out, case, place, *replica, &entry.command)?;
-    put_right(out, case, *replica)?;
-    put(out, ",\"would_be_right\":")?;
-    put_changes(out, case, place, *replica)
-}
-
-fn put_told(
-    out: &mut Vec<u8>,
-    case: &Case<'_>,
-    place: u32,
-    replica: u8,
-    command: &Command,
-) -> Result<(), NoMemory> {
-    put(out, ",\"line\":")?;
-    put_line_number(out, place)?;
+    put(out, cause_word(no.fault.cause))?;
+    put(out, "\",\"line\":")?;
+    put_line_number(out, no.place)?;
     put(out, ",\"replica\":\"")?;
-    put_name(out, case, replica)?;
+    put_name(out, case, no.replica)?;
     put(out, "\",\"told\":\"")?;
-    put_command(out, case.names, command)?;
-    put(out, "\"")
+    put_command(out, case.names, no.command)?;
+    put(out, "\",\"right\":")?;
+    put_right(out, case, no.replica)?;
+    put(out, ",\"would_be_right\":")?;
+    put_changes(out, &no.help)
 }
 
 fn put_right(out: &mut Vec<u8>, case: &Case<'_>, replica: u8) -> Result<(), NoMemory> {
-    put(out, ",\"right\":")?;
     match right_answer(*out.allocator(), case.monitor)? {
         Some(op) => {
             let command = Command::Operate {
@@ -82,13 +67,7 @@ fn put_right(out: &mut Vec<u8>, case: &Case<'_>, replica: u8) -> Result<(), NoMe
     }
 }
 
-fn put_changes(
-    out: &mut Vec<u8>,
-    case: &Case<'_>,
-    place: u32,
-    replica: u8,
-) -> Result<(), NoMemory> {
-    let help = help_for(*out.allocator(), case, place, replica)?;
+fn put_changes(out: &mut Vec<u8>, help: &Help) -> Result<(), NoMemory> {
     let mut before = "[";
     for change in &help.found {
         put(out, before)?;

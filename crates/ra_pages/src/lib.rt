@@ -1,5 +1,5 @@
-//! What there is to say of a history that was checked, laid out: in words with a picture, as a JSON object, or as the
-//! sequence that linearizes it.
+//! What there is to say of a history that was checked, laid out: in words with a picture, as a JSON object, as a drawing
+//! (SVG) or a document (HTML), or as the sequence that linearizes it; and of a text that has a fault, where it is.
 //!
 //! The one contract for the layer above: each call returns, and puts something behind bytes, or answers `NoMemory`.
 //! What is told of a no and of a yes comes from calls with clauses (`ra_explain`, `Monitor::sequence`); the words and
@@ -9,18 +9,30 @@
 mod act;
 mod case;
 mod causes;
+mod chosen;
+mod drawing;
+mod event;
+mod field;
 mod help;
+mod html;
 mod json;
+mod no;
 mod page;
 mod picture;
 mod put;
 mod query;
-mod rows;
 mod seen;
 mod sequence;
+mod stop;
+mod svg;
+mod unmet;
 mod yes;
 
 pub use case::Case;
+pub use html::put_html;
 pub use json::put_json;
+pub use no::No;
 pub use page::put_page;
 pub use sequence::put_sequence;
+pub use stop::Stop;
+pub use svg::put_svg;

@@ -1,13 +1,15 @@
 //! The page in words.
 use crate::case::Case;
 use crate::causes::{put_order, put_update};
+use crate::drawing::Picture;
 use crate::help::put_help;
+use crate::no::No;
 use crate::picture::put_picture;
 use crate::put::{put, put_act, put_head, put_line};
 use crate::query::put_query;
 use crate::seen::put_seen;
 use crate::yes::put_yes;
-use ra_labels::{Cause, Command, Fault, NoMemory};
+use ra_labels::{Cause, NoMemory};
 use ra_lines::number::put_numbered;
 use ra_monitor::Report;
 
@@ -16,18 +18,41 @@ const WIDEST: usize = 100;
 
 const CUT: usize = 98;
 
-/// Puts what there is to say of the history behind the line with which a check ends.
-pub fn put_page(out: &mut Vec<u8>, case: &Case<'_>, report: &Report) -> Result<(), NoMemory> {
-    let mut page = Vec::new(*out.allocator());
-    match report.fault {
-        Some(fault) => put_no(&mut page, case, fault)?,
-        None => put_yes(&mut page, case, report)?,
+/// Puts what there is to say of a checked history behind the line with which the check ends: the words, and of a no the
+/// picture.
+pub fn put_page(
+    out: &mut Vec<u8>,
+    case: &Case<'_>,
+    report: &Report,
+    no: Option<&No<'_>>,
+) -> Result<(), NoMemory> {
+    put_words(out, case, report, no)?;
+    match no {
+        Some(no) => {
+            let picture = Picture::of(*out.allocator(), case, no)?;
+            put_picture(out, case, no, &picture)
+        }
+        None => Ok(()),
     }
-    put_lines(out, &page)
 }
 
-// The lines, of which long ones are cut.
-fn put_lines(out: &mut Vec<u8>, lines: &[u8]) -> Result<(), NoMemory> {
+/// Puts the words alone.
+pub fn put_words(
+    out: &mut Vec<u8>,
+    case: &Case<'_>,
+    report: &Report,
+    no: Option<&No<'_>>,
+) -> Result<(), NoMemory> {
+    let mut words = Vec::new(*out.allocator());
+    match no {
+        Some(no) => put_no(&mut words, case, no)?,
+        None => put_yes(&mut words, case, report)?,
+    }
+    put_cut(out, &words)
+}
+
+/// Puts the lines, of which long ones are cut.
+pub fn put_cut(out: &mut Vec<u8>, lines: &[u8]) -> Result<(), NoMemory> {
     let mut column: usize = 0;
     for byte in lines {
         if *byte == b'\n' {
@@ -43,43 +68,27 @@ fn put_lines(out: &mut Vec<u8>, lines: &[u8]) -> Result<(), NoMemory> {
     Ok(())
 }
 
-fn put_no(out: &mut Vec<u8>, case: &Case<'_>, fault: Fault) -> Result<(), NoMemory> {
-    let Some(place) = case.places.at(fault.label) else {
-        return Ok(());
-    };
-    let Some(entry) = case.entry(place) else {
-        return Ok(());
-    };
-    put_sentence(out, case, fault, place, &entry.command)?;
-    let Command::Operate { replica, op, stamp } = &entry.command else {
-        return Ok(());
-    };
-    match fault.cause {
-        Cause::Query => put_query(out, case, op, *replica)?,
-        Cause::Order => put_order(out, case, fault.label, *replica, *stamp)?,
-        Cause::Update => put_update(out, case, fault.label, op)?,
+fn put_no(out: &mut Vec<u8>, case: &Case<'_>, no: &No<'_>) -> Result<(), NoMemory> {
+    put_sentence(out, case, no)?;
+    match no.fault.cause {
+        Cause::Query => put_query(out, case, no)?,
+        Cause::Order => put_order(out, case, no)?,
+        Cause::Update => put_update(out, case, no)?,
     }
-    put_seen(out, case, fault.label, *replica)?;
-    put_help(out, case, place, *replica)?;
-    put_picture(out, case, place, *replica, op)
+    put_seen(out, case, no)?;
+    put_help(out, case, no)
 }
 
 // The line, the label, what was reported, and why it is wrong.
-fn put_sentence(
-    out: &mut Vec<u8>,
-    case: &Case<'_>,
-    fault: Fault,
-    place: u32,
-    command: &Command,
-) -> Result<(), NoMemory> {
+fn put_sentence(out: &mut Vec<u8>, case: &Case<'_>, no: &No<'_>) -> Result<(), NoMemory> {
     put(out, "\n")?;
-    put_line(out, place)?;
-    put_numbered(out, b" is wrong (label ", fault.label)?;
+    put_line(out, no.place)?;
+    put_numbered(out, b" is wrong (label ", no.fault.label)?;
     put(out, "): ")?;
-    put(out, reason(fault.cause))?;
+    put(out, reason(no.fault.cause))?;
     put(out, "\n\n")?;
     put_head(out, "reported")?;
-    put_act(out, case, command)?;
+    put_act(out, case, no.command)?;
     put(out, "\n")
 }
 

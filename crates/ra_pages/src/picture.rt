@@ -1,11 +1,11 @@
-//! The picture: replicas as columns, and what they did as rows.
+//! The picture in letters.
 use crate::case::Case;
-use crate::put::{put, put_line};
-use crate::rows::{columns_of, ends_of, rows_of};
-use ra_history_writer::spelling::put_command;
-use ra_journal::Entry;
-use ra_labels::{Command, NoMemory, Op, Reply};
-use ra_lines::number::{put_number, put_numbered};
+use crate::drawing::{Picture, Row};
+use crate::event::Event;
+use crate::no::No;
+use crate::put::{put, put_count};
+use ra_labels::NoMemory;
+use ra_lines::number::put_numbered;
 
 /// Where the first column begins, how wide a page is, and how wide a column at most.
 const MARGIN: usize = 16;
@@ -14,175 +14,120 @@ const PAGE: usize = 100;
 
 const WIDEST: usize = 28;
 
-/// Puts the picture of what led to the label of this replica at this place.
+/// Puts the picture, with replicas as columns and what they did as rows.
 pub fn put_picture(
     out: &mut Vec<u8>,
     case: &Case<'_>,
-    place: u32,
-    replica: u8,
-    op: &Op,
+    no: &No<'_>,
+    picture: &Picture,
 ) -> Result<(), NoMemory> {
-    let alloc = *out.allocator();
-    let rows = rows_of(alloc, case, place, replica, op)?;
-    let columns = columns_of(alloc, case, &rows, replica)?;
     put(out, "\n")?;
-    put_names(out, case, &columns)?;
-    let mut next = 0;
-    for at in &rows {
-        put_fold(out, at.saturating_sub(next))?;
-        put_row(out, case, &columns, *at, *at == place)?;
-        next = at.saturating_add(1);
+    put_names(out, case, picture)?;
+    for row in &picture.rows {
+        match row {
+            Row::Fold(count) => put_fold(out, *count)?,
+            other => put_event(out, case, no, picture, *other)?,
+        }
     }
-    Ok(())
+    put_left_out(out, picture.left_out(case))
 }
 
-// How many entries are not drawn between two that are.
-fn put_fold(out: &mut Vec<u8>, further: u32) -> Result<(), NoMemory> {
-    if further == 0 {
-        return Ok(());
-    }
-    put_numbered(out, b".. (", further)?;
+/// Puts how many entries are not drawn between two that are.
+fn put_fold(out: &mut Vec<u8>, count: u32) -> Result<(), NoMemory> {
+    put_numbered(out, b".. (", count)?;
     put(out, " further)\n")
 }
 
-fn put_names(out: &mut Vec<u8>, case: &Case<'_>, columns: &[u8]) -> Result<(), NoMemory> {
+/// Puts how many replicas have no column, if any.
+pub fn put_left_out(out: &mut Vec<u8>, count: u32) -> Result<(), NoMemory> {
+    if count == 0 {
+        return Ok(());
+    }
+    put_count(out, count, " more replica is", " more replicas are")?;
+    put(out, " not drawn\n")
+}
+
+fn put_names(out: &mut Vec<u8>, case: &Case<'_>, picture: &Picture) -> Result<(), NoMemory> {
     let mut line = blank(out)?;
-    let mut column: usize = 0;
-    for replica in columns {
-        if let Some(name) = case.names.name(*replica) {
-            write_at(
-                &mut line,
-                start_of(columns, column),
-                name,
-                width_of(columns),
-            );
+    let width = width_of(picture);
+    let mut start = MARGIN;
+    for column in &picture.columns {
+        if let Some(name) = case.names.name(column.replica) {
+            write_at(&mut line, start, name, width);
         }
-        column = column.saturating_add(1);
+        start = start.saturating_add(width);
     }
     put_trimmed(out, &line)
 }
 
-fn put_row(
+fn put_event(
     out: &mut Vec<u8>,
     case: &Case<'_>,
-    columns: &[u8],
-    at: u32,
-    is_wrong: bool,
+    no: &No<'_>,
+    picture: &Picture,
+    row: Row,
 ) -> Result<(), NoMemory> {
-    let Some(entry) = case.entry(at) else {
+    let Some(event) = Event::of(*out.allocator(), case, no, row)? else {
         return Ok(());
     };
     let mut line = blank(out)?;
-    let mut head = Vec::new(*out.allocator());
-    put_line(&mut head, at)?;
-    write_at(&mut line, 0, &head, MARGIN);
-    for column in 0..columns.len() {
-        write_at(&mut line, start_of(columns, column), b"|", 1);
-    }
-    let (from, to) = ends_of(case, &entry.command);
-    let to = column_of(columns, to);
-    let words = words_of(out, case, entry, is_wrong)?;
-    if let Some(from) = column_of(columns, from) {
-        draw_arrow(&mut line, columns, from, to, words.len());
-    }
-    if let Some(to) = to {
-        write_at(&mut line, start_of(columns, to), &words, width_of(columns));
+    write_at(&mut line, 0, &event.head, MARGIN);
+    draw_columns(&mut line, picture, event.place);
+    if let Some(to) = picture.column_of(event.to) {
+        if let Some(from) = picture.column_of(event.from) {
+            draw_arrow(&mut line, picture, from, to, &event);
+        }
+        let start = start_of(picture, to);
+        write_at(&mut line, start, &event.words, width_of(picture));
     }
     put_trimmed(out, &line)
 }
 
-// What a row says at the replica that has it: a label with its number, or what arrived.
-fn words_of(
-    out: &Vec<u8>,
-    case: &Case<'_>,
-    entry: &Entry<Command, Reply>,
-    is_wrong: bool,
-) -> Result<Vec<u8>, NoMemory> {
-    let mut words = Vec::new(*out.allocator());
-    match (entry.reply, &entry.command) {
-        (Reply::Got(label), _) => put_numbered(&mut words, b"has ", label)?,
-        (Reply::Joined(_), _) => put(&mut words, "joins")?,
-        (Reply::Ok(label), command) | (Reply::No { label, .. }, command) => {
-            put_number(&mut words, label)?;
-            put(&mut words, if is_wrong { "? " } else { ": " })?;
-            put_body(&mut words, case, command)?;
+// A bar at each column that is there by this place of the log.
+fn draw_columns(line: &mut Vec<u8>, picture: &Picture, place: u32) {
+    let mut start = MARGIN;
+    for column in &picture.columns {
+        if column.begins <= place {
+            write_at(line, start, b"|", 1);
         }
-        _ => {}
+        start = start.saturating_add(width_of(picture));
     }
-    Ok(words)
 }
 
-// The line of the command, without the name of its replica.
-fn put_body(words: &mut Vec<u8>, case: &Case<'_>, command: &Command) -> Result<(), NoMemory> {
-    let mut line = Vec::new(*words.allocator());
-    put_command(&mut line, case.names, command)?;
-    let mut is_behind = false;
-    for byte in &line {
-        if is_behind {
-            words.push(*byte)?;
-        }
-        is_behind = is_behind || *byte == b' ';
-    }
-    Ok(())
-}
-
-fn column_of(columns: &[u8], replica: Option<u8>) -> Option<usize> {
-    let wanted = replica?;
-    let mut column: usize = 0;
-    for replica in columns {
-        if *replica == wanted {
-            return Some(column);
-        }
-        column = column.saturating_add(1);
-    }
-    None
-}
-
-fn width_of(columns: &[u8]) -> usize {
-    match columns.len() {
+fn width_of(picture: &Picture) -> usize {
+    match picture.columns.len() {
         0 => WIDEST,
         count => ((PAGE - MARGIN) / count).min(WIDEST),
     }
 }
 
-fn start_of(columns: &[u8], column: usize) -> usize {
+fn start_of(picture: &Picture, column: usize) -> usize {
     column
-        .saturating_mul(width_of(columns))
+        .saturating_mul(width_of(picture))
         .saturating_add(MARGIN)
 }
 
 // The way of what comes from the one column to the other, with room for the words there.
-fn draw_arrow(line: &mut Vec<u8>, columns: &[u8], from: usize, to: Option<usize>, words: usize) {
-    let Some(to) = to else {
-        return;
-    };
-    let source = start_of(columns, from);
-    let target = start_of(columns, to);
+fn draw_arrow(line: &mut Vec<u8>, picture: &Picture, from: usize, to: usize, event: &Event) {
+    let source = start_of(picture, from);
+    let target = start_of(picture, to);
+    let step = if event.is_dashed { 2 } else { 1 };
     if source < target {
-        draw(
-            line,
-            source.saturating_add(1),
-            target.saturating_sub(2),
-            b'-',
-        );
-        draw(
-            line,
-            target.saturating_sub(2),
-            target.saturating_sub(1),
-            b'>',
-        );
+        let tip = target.saturating_sub(2);
+        draw(line, source.saturating_add(1), tip, b'-', step);
+        draw(line, tip, tip.saturating_add(1), b'>', 1);
     } else {
-        let behind = target.saturating_add(words).saturating_add(1);
-        let next = behind.saturating_add(1);
-        draw(line, behind, next, b'<');
-        draw(line, next, source, b'-');
+        let tip = target.saturating_add(event.words.len()).saturating_add(1);
+        let behind = tip.saturating_add(1);
+        draw(line, tip, behind, b'<', 1);
+        draw(line, behind, source, b'-', step);
     }
 }
 
-// The byte, from one place of the line up to another.
-fn draw(line: &mut Vec<u8>, from: usize, to: usize, byte: u8) {
+// The byte, from one place of the line up to another, at each or each second one.
+fn draw(line: &mut Vec<u8>, from: usize, to: usize, byte: u8, step: usize) {
     for at in from..to {
-        if at < line.len() {
+        if at < line.len() && (step == 1 || (at - from) % 2 == 0) {
             line[at] = byte;
         }
     }
@@ -199,8 +144,8 @@ fn write_at(line: &mut Vec<u8>, start: usize, text: &[u8], room: usize) {
     }
     if text.len() > room && room > 3 {
         let end = start.saturating_add(room);
-        draw(line, end.saturating_sub(3), end.saturating_sub(1), b'.');
-        draw(line, end.saturating_sub(1), end, b' ');
+        draw(line, end.saturating_sub(3), end.saturating_sub(1), b'.', 1);
+        draw(line, end.saturating_sub(1), end, b' ', 1);
     }
 }
 

@@ -1,30 +1,32 @@
 //! An answer that is wrong, and the right one.
 use crate::act::{elements_of, put_elements};
 use crate::case::Case;
+use crate::no::No;
 use crate::put::{put, put_act, put_head, put_size};
+use crate::unmet::put_unmet;
 use ra_explain::right_answer;
 use ra_labels::{Command, NoMemory, Op};
 use ra_lines::number::put_number;
 
-/// Puts the right answer, and the first difference between the two.
-pub fn put_query(
-    out: &mut Vec<u8>,
-    case: &Case<'_>,
-    told: &Op,
-    replica: u8,
-) -> Result<(), NoMemory> {
-    let Some(right) = right_answer(*out.allocator(), case.monitor)? else {
-        put_head(out, "right")?;
-        return put(
-            out,
-            "no answer: a list that it sees lacks what one of its updates needs\n",
-        );
-    };
+/// From which place on the elements round it are told, and how many of them stand before it.
+const FAR: usize = 8;
+
+const BEFORE: usize = 3;
+
+/// Puts the right answer, and the first difference between the two; or, where there is none, what is in its way.
+pub fn put_query(out: &mut Vec<u8>, case: &Case<'_>, no: &No<'_>) -> Result<(), NoMemory> {
+    match right_answer(*out.allocator(), case.monitor)? {
+        Some(right) => put_right(out, case, no, right),
+        None => put_unmet(out, case, no),
+    }
+}
+
+fn put_right(out: &mut Vec<u8>, case: &Case<'_>, no: &No<'_>, right: Op) -> Result<(), NoMemory> {
     let mut difference = Vec::new(*out.allocator());
-    put_difference(&mut difference, told, &right)?;
+    put_difference(&mut difference, no.op, &right)?;
     put_head(out, "right")?;
     let command = Command::Operate {
-        replica,
+        replica: no.replica,
         op: right,
         stamp: None,
     };
@@ -59,6 +61,22 @@ fn put_first(out: &mut Vec<u8>, told: &[u32], right: &[u32]) -> Result<(), NoMem
     put_at(out, told.get(place).copied(), " was told")?;
     put(out, ", ")?;
     put_at(out, right.get(place).copied(), " is right")?;
+    put(out, "\n")?;
+    if place < FAR {
+        return Ok(());
+    }
+    put_round(out, "told there", told, place)?;
+    put_round(out, "right there", right, place)
+}
+
+// The elements of a long list round this place.
+fn put_round(out: &mut Vec<u8>, words: &str, list: &[u32], place: usize) -> Result<(), NoMemory> {
+    put_head(out, words)?;
+    put(out, ".. ")?;
+    match list.get(place.saturating_sub(BEFORE)..) {
+        Some(part) => put_elements(out, part)?,
+        None => {}
+    }
     put(out, "\n")
 }
 

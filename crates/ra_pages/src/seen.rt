@@ -1,9 +1,10 @@
 //! What a label sees, and what a replica lacks.
 use crate::case::Case;
+use crate::no::No;
 use crate::put::{put, put_head, put_label, put_name, put_size};
-use ra_explain::{LabelsThat, labels_that};
 use ra_labels::NoMemory;
 use ra_lines::number::{put_number, put_numbered};
+use std::alloc::Global;
 
 /// The most replicas that have a line each.
 const MOST_LINES: u32 = 8;
@@ -15,31 +16,24 @@ struct Share {
     lacking: u32,
 }
 
-/// Puts of each replica how many of its updates the label sees, which is one of this replica.
-pub fn put_seen(
-    out: &mut Vec<u8>,
-    case: &Case<'_>,
-    label: u32,
-    replica: u8,
-) -> Result<(), NoMemory> {
-    let lacking = labels_that(
-        *out.allocator(),
-        case.monitor,
-        LabelsThat::AreLackedBy(replica),
-    )?;
+/// Puts of each replica how many of its updates the label sees.
+pub fn put_seen(out: &mut Vec<u8>, case: &Case<'_>, no: &No<'_>) -> Result<(), NoMemory> {
+    let alloc = *out.allocator();
+    let shares = shares_of(alloc, case, no.fault.label, &no.lacking)?;
     let mut lines: u32 = 0;
     let mut others: u32 = 0;
-    for from in 0..case.monitor.replicas() {
-        let share = share_of(case, label, &lacking, from);
+    let mut from: u8 = 0;
+    for share in &shares {
         if share.all > 0 && lines < MOST_LINES {
-            put_share(out, case, from, share)?;
+            put_share(out, case, from, *share)?;
             lines = lines.saturating_add(1);
         } else if share.all > 0 {
             others = others.saturating_add(1);
         }
+        from = from.saturating_add(1);
     }
     put_others(out, others)?;
-    put_latest_lacking(out, case, &lacking)
+    put_latest_lacking(out, case, &no.lacking)
 }
 
 fn put_share(out: &mut Vec<u8>, case: &Case<'_>, from: u8, share: Share) -> Result<(), NoMemory> {
@@ -83,29 +77,36 @@ fn put_latest_lacking(out: &mut Vec<u8>, case: &Case<'_>, lacking: &[u32]) -> Re
     put(out, "\n")
 }
 
-// The updates of this replica before the label.
-fn share_of(case: &Case<'_>, label: u32, lacking: &[u32], from: u8) -> Share {
-    let mut all: u32 = 0;
-    let mut lacks: u32 = 0;
+// Of each replica, its updates before the label.
+fn shares_of(
+    alloc: Global,
+    case: &Case<'_>,
+    label: u32,
+    lacking: &[u32],
+) -> Result<Vec<Share>, NoMemory> {
+    let mut shares = Vec::new(alloc);
+    for _ in 0..case.monitor.replicas() {
+        shares.push(Share { all: 0, lacking: 0 })?;
+    }
     for number in 0..label {
-        if is_update_of(case, number, from) {
-            all = all.saturating_add(1);
+        if let Some(share) = share_of(case, &mut shares, number) {
+            share.all = share.all.saturating_add(1);
         }
     }
     for number in lacking {
-        if is_update_of(case, *number, from) {
-            lacks = lacks.saturating_add(1);
+        if let Some(share) = share_of(case, &mut shares, *number) {
+            share.lacking = share.lacking.saturating_add(1);
         }
     }
-    Share {
-        all,
-        lacking: lacks,
-    }
+    Ok(shares)
 }
 
-fn is_update_of(case: &Case<'_>, label: u32, replica: u8) -> bool {
-    match case.source(label) {
-        Some(source) => source.is_update && source.replica == replica,
-        None => false,
+// The share to which the label counts, where it is an update.
+fn share_of<'a>(case: &Case<'_>, shares: &'a mut Vec<Share>, label: u32) -> Option<&'a mut Share> {
+    let source = case.source(label)?;
+    if source.is_update {
+        shares.get_mut(source.replica as usize)
+    } else {
+        None
     }
 }

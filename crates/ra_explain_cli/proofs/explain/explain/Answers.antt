@@ -1,4 +1,4 @@
-use Rattle.std.proofs.Common.{rules, Ok, Err, ap}
+use Rattle.std.proofs.Common.{rules, Ok, Err}
 use Rattle.ra_explain_cli.proofs.Explanations.{answered, stopped}
 use Rattle.ra_explain_cli.proofs.explain.explain.Goals as goal
 use Rattle.ra_explain_cli.proofs.explain.explain.Goals.{in-Ok, in-Err}
@@ -17,8 +17,7 @@ returns-clause-explained g c =
       | in-Err w ↦ (
         Err w.in-Err.fault,
         (
-          rw (w.err-is, w.ending-is) w.stop-ending.ensures,
-          ap g.W.Write.contents w.out-is,
+          rw (w.out-is, w.err-is, w.ending-is) w.end_stopped-ending.ensures.explained,
           stopped _ _ _ _ w.in-Err.fault w.in-Err.ensures.stopped,
           search rules,
         ),

@@ -12,16 +12,16 @@ returns-then-last-le-LONGEST_LINE-clause-taken c =
     let zero : vec_len c.self.inside.partial ≡ 0 = search rules in
     let nothing : c.self.inside.partial.items ≡ [] =
     nil_from_length c.self.inside.partial.items (omega (arith, zero, c.self.inside.partial.ok.0)) in
-    close_whole c.take_line.result _ c.args.self.now _ c.self.inside.partial.items c.args.last.now c.self.view_is
-    nothing nothing c.requires c.if-last-le-LONGEST_LINE.true c.take_line.ensures.taken
+    close_whole c.take_or_keep.result _ c.args.self.now _ _ c.args.last.now c.self.view_is
+    nothing c.take_or_keep.ensures.same c.requires c.if-last-le-LONGEST_LINE.true c.take_or_keep.ensures.taken
 
 pub returns-then-last-le-LONGEST_LINE-clause-fault : goal.returns-then-last-le-LONGEST_LINE-clause-fault
 returns-then-last-le-LONGEST_LINE-clause-fault c =
     let zero : vec_len c.self.inside.partial ≡ 0 = search rules in
     let nothing : c.self.inside.partial.items ≡ [] =
     nil_from_length c.self.inside.partial.items (omega (arith, zero, c.self.inside.partial.ok.0)) in
-    close_whole_stops c.take_line.result _ c.args.self.now c.args.last.now c.self.view_is nothing c.requires
-    c.if-last-le-LONGEST_LINE.true c.take_line.ensures.fault
+    close_whole_stops c.take_or_keep.result _ c.args.self.now c.args.last.now c.self.view_is nothing c.requires
+    c.if-last-le-LONGEST_LINE.true c.take_or_keep.ensures.fault
 
 -- a line that came in parts is not whole with the last alone
 pub returns-in_err-extend-clause-fault : goal.returns-in_err-extend-clause-fault

@@ -1,0 +1,119 @@
+//! Which entries of a log stand in a picture.
+use crate::case::Case;
+use crate::no::No;
+use ra_explain::{Change, LabelsThat, labels_that};
+use ra_labels::{Command, NoMemory, Op, Reply};
+use std::alloc::Global;
+
+/// The most entries of a short history, all of which are drawn, and of a longer one, of which others are folded. Five
+/// that would be right may come on top, so that there are at most 24 rows.
+const MOST_ENTRIES: usize = 19;
+
+const FEW_ENTRIES: usize = 12;
+
+/// The places of the entries that are drawn up to the label in question, rising: all that were accepted of a short
+/// history; else what would be right, what the label's update needs, what reached its replica last with where it came
+/// from, and what the replica did last.
+pub fn places_of(alloc: Global, case: &Case<'_>, no: &No<'_>) -> Result<Vec<u32>, NoMemory> {
+    let mut places = Vec::new(alloc);
+    places.push(no.place)?;
+    if (no.place as usize) < MOST_ENTRIES {
+        for at in 0..no.place {
+            add_entry(&mut places, case, at, MOST_ENTRIES)?;
+        }
+    } else {
+        add_changed(&mut places, case, no)?;
+        add_needed(&mut places, case, no.op)?;
+        add_latest(&mut places, case, no)?;
+    }
+    places.sort_unstable();
+    Ok(places)
+}
+
+// The entry at this place, where there is room for it, and it was accepted.
+fn add_entry(places: &mut Vec<u32>, case: &Case<'_>, at: u32, most: usize) -> Result<(), NoMemory> {
+    if places.len() < most && !places.contains(&at) && is_drawn(case, at) {
+        places.push(at)?;
+    }
+    Ok(())
+}
+
+fn is_drawn(case: &Case<'_>, at: u32) -> bool {
+    match case.entry(at) {
+        Some(entry) => match entry.reply {
+            Reply::Ok(_) | Reply::Got(_) | Reply::Joined(_) => true,
+            Reply::Yes(_) | Reply::No { .. } | Reply::Refused(_) => false,
+        },
+        None => false,
+    }
+}
+
+// What the changes that are told speak of.
+fn add_changed(places: &mut Vec<u32>, case: &Case<'_>, no: &No<'_>) -> Result<(), NoMemory> {
+    for change in no.help.told() {
+        match change {
+            Change::Gets(label) => add_label(places, case, *label)?,
+            Change::Misses(at) | Change::ComesBefore(at) => {
+                add_entry(places, case, *at, FEW_ENTRIES)?;
+            }
+        }
+    }
+    Ok(())
+}
+
+// The labels that put in what an update of a list names.
+fn add_needed(places: &mut Vec<u32>, case: &Case<'_>, op: &Op) -> Result<(), NoMemory> {
+    match op {
+        Op::After { anchor, element } => {
+            add_insertion(places, case, *element)?;
+            add_insertion(places, case, *anchor)
+        }
+        Op::RgaRemove(element) => add_insertion(places, case, *element),
+        _ => Ok(()),
+    }
+}
+
+fn add_insertion(places: &mut Vec<u32>, case: &Case<'_>, element: u32) -> Result<(), NoMemory> {
+    let labels = labels_that(
+        *places.allocator(),
+        case.monitor,
+        LabelsThat::PutIn(element),
+    )?;
+    match labels.first() {
+        Some(label) => add_label(places, case, *label),
+        None => Ok(()),
+    }
+}
+
+fn add_label(places: &mut Vec<u32>, case: &Case<'_>, label: u32) -> Result<(), NoMemory> {
+    match case.places.at(label) {
+        Some(at) => add_entry(places, case, at, FEW_ENTRIES),
+        None => Ok(()),
+    }
+}
+
+// What the replica did and got last, each arrival with the label that arrived.
+fn add_latest(places: &mut Vec<u32>, case: &Case<'_>, no: &No<'_>) -> Result<(), NoMemory> {
+    let Some(before) = case.log.get(..no.place as usize) else {
+        return Ok(());
+    };
+    let mut at = no.place;
+    for entry in before.iter().rev() {
+        at = at.saturating_sub(1);
+        match &entry.command {
+            Command::Deliver { replica, label } if *replica == no.replica => {
+                add_entry(places, case, at, FEW_ENTRIES)?;
+                add_label(places, case, *label)?;
+            }
+            Command::Operate { replica, .. } | Command::Join { replica, .. }
+                if *replica == no.replica => {
+                add_entry(places, case, at, FEW_ENTRIES)?;
+            }
+            _ => {}
+        }
+        if places.len() >= FEW_ENTRIES {
+            break;
+        }
+    }
+    Ok(())
+}

@@ -1,0 +1,159 @@
+//! What stands in a picture: rows, one below the other, and columns, one for each replica that has a row.
+use crate::case::Case;
+use crate::chosen::places_of;
+use crate::no::No;
+use ra_explain::Change;
+use ra_labels::{Command, NoMemory, Reply};
+use std::alloc::Global;
+
+/// The most replicas that have a column.
+const MOST_COLUMNS: usize = 8;
+
+/// A row of a picture.
+#[derive(Clone, Copy)]
+pub enum Row {
+    /// So many entries, which are not drawn.
+    Fold(u32),
+    /// The entry at this place.
+    Entry(u32),
+    /// The entry at this place, without which the label in question would be right.
+    Without(u32),
+    /// A delivery of this label, with which the label in question would be right.
+    With(u32),
+    /// The label in question, which would be right before the entry at this place.
+    Before(u32),
+    /// The label in question.
+    Asked,
+}
+
+/// A column: a replica, and the place of the entry from which on it is there.
+#[derive(Clone, Copy)]
+pub struct Column {
+    /// The replica.
+    pub replica: u8,
+    /// The place of its join, or 0.
+    pub begins: u32,
+}
+
+/// A picture of what led to a label that is wrong.
+#[derive(Drop)]
+pub struct Picture {
+    /// Its columns, by the numbers of their replicas.
+    pub columns: Vec<Column>,
+    /// Its rows, from the first entry on.
+    pub rows: Vec<Row>,
+}
+
+impl Picture {
+    /// That of this label.
+    pub fn of(alloc: Global, case: &Case<'_>, no: &No<'_>) -> Result<Picture, NoMemory> {
+        let places = places_of(alloc, case, no)?;
+        let mut rows = Vec::new(alloc);
+        let mut next = 0;
+        for at in &places {
+            let folded = at.saturating_sub(next);
+            if folded > 0 {
+                rows.push(Row::Fold(folded))?;
+            }
+            add_rows(&mut rows, no, *at)?;
+            next = at.saturating_add(1);
+        }
+        let columns = columns_of(alloc, case, no, &places)?;
+        Ok(Picture { columns, rows })
+    }
+
+    /// How many replicas have no column.
+    pub fn left_out(&self, case: &Case<'_>) -> u32 {
+        let all = case.monitor.replicas() as usize;
+        all.saturating_sub(self.columns.len()) as u32
+    }
+
+    /// The number of the replica's column, from 0.
+    pub fn column_of(&self, replica: Option<u8>) -> Option<usize> {
+        let wanted = replica?;
+        let mut number: usize = 0;
+        for column in &self.columns {
+            if column.replica == wanted {
+                return Some(number);
+            }
+            number = number.saturating_add(1);
+        }
+        None
+    }
+}
+
+// The row of the entry at this place, behind or before those of what would be right.
+fn add_rows(rows: &mut Vec<Row>, no: &No<'_>, at: u32) -> Result<(), NoMemory> {
+    let mut row = if at == no.place {
+        Row::Asked
+    } else {
+        Row::Entry(at)
+    };
+    for change in no.help.told() {
+        match change {
+            Change::Gets(label) if at == no.place => rows.push(Row::With(*label))?,
+            Change::Misses(missed) if *missed == at => row = Row::Without(at),
+            Change::ComesBefore(next) if *next == at => rows.push(Row::Before(at))?,
+            _ => {}
+        }
+    }
+    Ok(rows.push(row)?)
+}
+
+// The replicas that take part in the entries at these places, each once: that of the label first, and at most eight.
+fn columns_of(
+    alloc: Global,
+    case: &Case<'_>,
+    no: &No<'_>,
+    places: &[u32],
+) -> Result<Vec<Column>, NoMemory> {
+    let mut replicas = Vec::new(alloc);
+    replicas.push(no.replica)?;
+    for at in places {
+        if let Some(entry) = case.entry(*at) {
+            let (one, other) = ends_of(case, &entry.command);
+            add_replica(&mut replicas, one)?;
+            add_replica(&mut replicas, other)?;
+        }
+    }
+    replicas.sort_unstable();
+    let mut columns = Vec::new(alloc);
+    for replica in &replicas {
+        columns.push(Column {
+            replica: *replica,
+            begins: join_of(case, *replica),
+        })?;
+    }
+    Ok(columns)
+}
+
+fn add_replica(replicas: &mut Vec<u8>, replica: Option<u8>) -> Result<(), NoMemory> {
+    if let Some(replica) = replica {
+        if replicas.len() < MOST_COLUMNS && !replicas.contains(&replica) {
+            replicas.push(replica)?;
+        }
+    }
+    Ok(())
+}
+
+// The place of the replica's join; 0 where it was there from the start.
+fn join_of(case: &Case<'_>, replica: u8) -> u32 {
+    let mut place: u32 = 0;
+    for entry in case.log {
+        if entry.reply == Reply::Joined(replica) {
+            return place;
+        }
+        place = place.saturating_add(1);
+    }
+    0
+}
+
+/// Where an entry is drawn: from the replica that a label or a state comes from, if any, to the one that has it then.
+pub fn ends_of(case: &Case<'_>, command: &Command) -> (Option<u8>, Option<u8>) {
+    match command {
+        Command::Operate { replica, .. } => (None, Some(*replica)),
+        Command::Deliver { replica, label } => (case.maker(*label), Some(*replica)),
+        Command::Join { replica, from } => (Some(*from), Some(*replica)),
+        Command::Verdict => (None, None),
+    }
+}
