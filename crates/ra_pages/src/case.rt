@@ -1,4 +1,6 @@
 //! A history that is explained.
+ghost use Rattle.std.specs.Prelude.{◌≡◌, IfOk, MatchOption, None, Some, slice_get};
+
 use ra_explain::Places;
 use ra_journal::Entry;
 use ra_labels::{Command, NoMemory, Op, Reply};
@@ -34,7 +36,9 @@ pub struct Source {
 
 impl<'a> Case<'a> {
     /// The case of this monitor, whose replicas have these names. Costs a step for each entry of the log.
-    pub fn of(alloc: Global, monitor: &'a Monitor, names: &'a Names) -> Result<Case<'a>, NoMemory> {
+    pub fn of(alloc: Global, monitor: &'a Monitor, names: &'a Names) -> Result<Case<'a>, NoMemory>
+        ensures { IfOk result (λ case. case.log.now ≡ monitor.now.log) }
+    {
         Ok(Case {
             monitor,
             names,
@@ -44,7 +48,10 @@ impl<'a> Case<'a> {
     }
 
     /// The entry at this place of the log.
-    pub fn entry(&self, place: u32) -> Option<&'a Entry<Command, Reply>> {
+    pub fn entry(&self, place: u32) -> Option<&'a Entry<Command, Reply>>
+        ensures { MatchOption result (slice_get self.now.log.now place ≡ None)
+            (λ entry. slice_get self.now.log.now place ≡ Some entry.now) }
+    {
         self.log.get(place as usize)
     }
 

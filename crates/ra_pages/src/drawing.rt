@@ -1,4 +1,7 @@
 //! What stands in a picture: rows, one below the other, and columns, one for each replica that has a row.
+ghost use Rattle.std.specs.Prelude.{◌≡◌};
+ghost use Rattle.ra_pages.specs.Drawn.{replica_of};
+
 use crate::case::Case;
 use crate::chosen::places_of;
 use crate::no::No;
@@ -149,7 +152,9 @@ fn join_of(case: &Case<'_>, replica: u8) -> u32 {
 }
 
 /// Where an entry is drawn: from the replica that a label or a state comes from, if any, to the one that has it then.
-pub fn ends_of(case: &Case<'_>, command: &Command) -> (Option<u8>, Option<u8>) {
+pub fn ends_of(case: &Case<'_>, command: &Command) -> (Option<u8>, Option<u8>)
+    ensures { result.1 ≡ replica_of command.now }
+{
     match command {
         Command::Operate { replica, .. } => (None, Some(*replica)),
         Command::Deliver { replica, label } => (case.maker(*label), Some(*replica)),

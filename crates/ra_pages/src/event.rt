@@ -1,4 +1,7 @@
 //! What a row of a picture says.
+ghost use Rattle.std.specs.Prelude.{IfOk, IfSome};
+ghost use Rattle.ra_pages.specs.Drawn.{IsOfLog, IsDrawn};
+
 use crate::case::Case;
 use crate::drawing::{Row, ends_of};
 use crate::no::No;
@@ -35,7 +38,9 @@ impl Event {
         case: &Case<'_>,
         no: &No<'_>,
         row: Row,
-    ) -> Result<Option<Event>, NoMemory> {
+    ) -> Result<Option<Event>, NoMemory>
+        ensures folded { IfOk result (λ event. IfSome event (IsDrawn case.now.log.now row)) }
+    {
         match row {
             Row::Fold(_) => Ok(None),
             Row::Entry(place) => Event::at(alloc, case, place, false),
@@ -51,7 +56,9 @@ impl Event {
         case: &Case<'_>,
         place: u32,
         is_dashed: bool,
-    ) -> Result<Option<Event>, NoMemory> {
+    ) -> Result<Option<Event>, NoMemory>
+        ensures { IfOk result (λ event. IfSome event (IsOfLog case.now.log.now place)) }
+    {
         let Some(entry) = case.entry(place) else {
             return Ok(None);
         };

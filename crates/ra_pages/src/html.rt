@@ -5,8 +5,9 @@ use crate::drawing::Picture;
 use crate::event::Event;
 use crate::no::No;
 use crate::page::put_words;
+use crate::picture::put_left_out;
 use crate::put::{put, put_name};
-use crate::svg::{put_answer, put_svg};
+use crate::svg::{put_answer, put_drawing};
 use ra_labels::NoMemory;
 use ra_monitor::Report;
 
@@ -18,7 +19,7 @@ body{font:16px/1.5 sans-serif;max-width:70em;margin:2em auto;padding:0 1em}\
 pre,td{font-family:monospace;font-size:14px}\
 pre{white-space:pre-wrap}\
 figure{margin:1em 0;overflow-x:auto}\
-td,th{text-align:left;padding:0 1.5em 0 0}\
+td,th,caption{text-align:left;padding:0 1.5em 0 0}\
 </style>\n<title>";
 
 /// Puts the document of a checked history, of which this is the no, if it is one.
@@ -34,12 +35,25 @@ pub fn put_html(
     put_words(&mut words, case, report, no)?;
     put_start(out, &title, &words)?;
     if let Some(no) = no {
-        put(out, "<figure>\n")?;
-        put_svg(out, case, report, Some(no))?;
-        put(out, "</figure>\n")?;
-        put_table(out, case, no)?;
+        let picture = Picture::of(*out.allocator(), case, no)?;
+        put_figure(out, case, report, no, &picture)?;
+        put_table(out, case, no, &picture)?;
     }
     put_end(out)
+}
+
+fn put_figure(
+    out: &mut Vec<u8>,
+    case: &Case<'_>,
+    report: &Report,
+    no: &No<'_>,
+    picture: &Picture,
+) -> Result<(), NoMemory> {
+    put(out, "<figure>\n")?;
+    put_drawing(out, case, report, no, picture)?;
+    put(out, "<figcaption>")?;
+    put_left_out(out, picture.left_out(case))?;
+    put(out, "</figcaption></figure>\n")
 }
 
 /// Puts the end of the document.
@@ -69,13 +83,16 @@ fn put_escaped(out: &mut Vec<u8>, text: &[u8]) -> Result<(), NoMemory> {
     Ok(())
 }
 
-fn put_table(out: &mut Vec<u8>, case: &Case<'_>, no: &No<'_>) -> Result<(), NoMemory> {
-    let alloc = *out.allocator();
-    let picture = Picture::of(alloc, case, no)?;
+fn put_table(
+    out: &mut Vec<u8>,
+    case: &Case<'_>,
+    no: &No<'_>,
+    picture: &Picture,
+) -> Result<(), NoMemory> {
     put(out, "<table>\n<caption>The picture, row by row</caption>\n")?;
     put(out, "<tr><th>line<th>at<th>what<th>from\n")?;
     for row in &picture.rows {
-        if let Some(event) = Event::of(alloc, case, no, *row)? {
+        if let Some(event) = Event::of(*out.allocator(), case, no, *row)? {
             put_row(out, case, &event)?;
         }
     }

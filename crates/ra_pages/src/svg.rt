@@ -53,11 +53,22 @@ pub fn put_svg(
         return put(out, "</svg>\n");
     };
     let picture = Picture::of(*out.allocator(), case, no)?;
+    put_drawing(out, case, report, no, &picture)
+}
+
+/// Puts the drawing of this picture.
+pub fn put_drawing(
+    out: &mut Vec<u8>,
+    case: &Case<'_>,
+    report: &Report,
+    no: &No<'_>,
+    picture: &Picture,
+) -> Result<(), NoMemory> {
     let columns = small(picture.columns.len());
     let bottom = height_of(small(picture.rows.len()));
     put_start(out, report, left_of(columns), bottom)?;
-    put_columns(out, case, &picture, bottom)?;
-    put_rows(out, case, no, &picture)?;
+    put_columns(out, case, picture, bottom)?;
+    put_rows(out, case, no, picture)?;
     put(out, "</svg>\n")
 }
 
