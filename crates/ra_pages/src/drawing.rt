@@ -51,17 +51,19 @@ impl Picture {
     /// That of this label.
     pub fn of(alloc: Global, case: &Case<'_>, no: &No<'_>) -> Result<Picture, NoMemory> {
         let places = places_of(alloc, case, no)?;
+        let columns = columns_of(alloc, case, no, &places)?;
         let mut rows = Vec::new(alloc);
         let mut next = 0;
         for at in &places {
-            let folded = at.saturating_sub(next);
-            if folded > 0 {
-                rows.push(Row::Fold(folded))?;
+            if is_at_one(case, &columns, *at) {
+                let folded = at.saturating_sub(next);
+                if folded > 0 {
+                    rows.push(Row::Fold(folded))?;
+                }
+                add_rows(&mut rows, no, *at)?;
+                next = at.saturating_add(1);
             }
-            add_rows(&mut rows, no, *at)?;
-            next = at.saturating_add(1);
         }
-        let columns = columns_of(alloc, case, no, &places)?;
         Ok(Picture { columns, rows })
     }
 
@@ -101,6 +103,17 @@ fn add_rows(rows: &mut Vec<Row>, no: &No<'_>, at: u32) -> Result<(), NoMemory> {
         }
     }
     Ok(rows.push(row)?)
+}
+
+// Did the entry at this place happen at a replica that has a column?
+fn is_at_one(case: &Case<'_>, columns: &[Column], place: u32) -> bool {
+    match case.entry(place) {
+        Some(entry) => {
+            let (_, at) = ends_of(case, &entry.command);
+            columns.iter().any(|column| Some(column.replica) == at)
+        }
+        None => false,
+    }
 }
 
 // The replicas that take part in the entries at these places, each once: that of the label first, and at most eight.
