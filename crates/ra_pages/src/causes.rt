@@ -33,13 +33,14 @@ fn put_above(out: &mut Vec<u8>, case: &Case<'_>, replica: u8, other: u32) -> Res
             put(out, " got in ")?;
             put_line(out, place)?;
         }
-        None => put(out, "which its replica made, or joined with")?,
+        None if case.maker(other) == Some(replica) => put(out, "which its replica made itself")?,
+        None => put(out, "with which its replica joined")?,
     }
     put(out, "\n")
 }
 
-// The place at which the label reached the replica.
-fn delivery_of(case: &Case<'_>, replica: u8, wanted: u32) -> Option<u32> {
+/// The place at which the label reached the replica.
+pub fn delivery_of(case: &Case<'_>, replica: u8, wanted: u32) -> Option<u32> {
     let mut place: u32 = 0;
     for entry in case.log {
         if let Command::Deliver { replica: to, label } = &entry.command {
@@ -57,6 +58,13 @@ fn delivery_of(case: &Case<'_>, replica: u8, wanted: u32) -> Option<u32> {
 pub fn put_update(out: &mut Vec<u8>, case: &Case<'_>, no: &No<'_>) -> Result<(), NoMemory> {
     let label = no.fault.label;
     match no.op {
+        Op::After { element: 0, .. } | Op::RgaRemove(0) => {
+            put_head(out, "not possible")?;
+            put(
+                out,
+                "0 is the beginning of the list: it is never put in, and never taken out\n",
+            )
+        }
         Op::After { anchor, element } => {
             if !put_insertions(out, case, label, *element, "but also")? {
                 put_needed(out, case, label, *anchor)?;

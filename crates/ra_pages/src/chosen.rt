@@ -1,5 +1,7 @@
 //! Which entries of a log stand in a picture.
 use crate::case::Case;
+use crate::causes::delivery_of;
+use crate::difference::elements_between;
 use crate::no::No;
 use ra_explain::{Change, LabelsThat, labels_that};
 use ra_labels::{Command, NoMemory, Op, Reply};
@@ -9,11 +11,14 @@ use std::alloc::Global;
 /// that would be right may come on top, so that there are at most 24 rows.
 const MOST_ENTRIES: usize = 19;
 
-const FEW_ENTRIES: usize = 12;
+const FEW_ENTRIES: usize = 16;
+
+/// How many of the latest updates of an element are drawn, where the answers differ at it.
+const MOST_NAMING: u32 = 2;
 
 /// The places of the entries that are drawn up to the label in question, rising: all that were accepted of a short
-/// history; else what would be right, what the label's update needs, what reached its replica last with where it came
-/// from, and what the replica did last.
+/// history; else what would be right, what the label's update needs, the updates of elements at which its answer differs,
+/// what reached its replica last with where it came from, and what the replica did last.
 pub fn places_of(alloc: Global, case: &Case<'_>, no: &No<'_>) -> Result<Vec<u32>, NoMemory> {
     let mut places = Vec::new(alloc);
     places.push(no.place)?;
@@ -24,6 +29,7 @@ pub fn places_of(alloc: Global, case: &Case<'_>, no: &No<'_>) -> Result<Vec<u32>
     } else {
         add_changed(&mut places, case, no)?;
         add_needed(&mut places, case, no.op)?;
+        add_differing(&mut places, case, no)?;
         add_latest(&mut places, case, no)?;
     }
     places.sort_unstable();
@@ -89,6 +95,63 @@ fn add_label(places: &mut Vec<u32>, case: &Case<'_>, label: u32) -> Result<(), N
     match case.places.at(label) {
         Some(at) => add_entry(places, case, at, FEW_ENTRIES),
         None => Ok(()),
+    }
+}
+
+// The latest updates of the elements at which the answer and the right one differ.
+fn add_differing(places: &mut Vec<u32>, case: &Case<'_>, no: &No<'_>) -> Result<(), NoMemory> {
+    let Some(Command::Operate { op: right, .. }) = &no.right else {
+        return Ok(());
+    };
+    let (one, other) = elements_between(no.op, right);
+    add_updates(places, case, no, one)?;
+    add_updates(places, case, no, other)
+}
+
+// The latest updates of the element, and where they reached the replica.
+fn add_updates(
+    places: &mut Vec<u32>,
+    case: &Case<'_>,
+    no: &No<'_>,
+    element: Option<u32>,
+) -> Result<(), NoMemory> {
+    let Some(element) = element else {
+        return Ok(());
+    };
+    let mut left = MOST_NAMING;
+    let mut label = no.fault.label;
+    for _ in 0..no.fault.label {
+        label = label.saturating_sub(1);
+        if left > 0 && case.op(label).is_some_and(|op| is_update_of(op, element)) {
+            add_label(places, case, label)?;
+            add_arrival(places, case, no, label)?;
+            left = left.saturating_sub(1);
+        }
+    }
+    Ok(())
+}
+
+fn add_arrival(
+    places: &mut Vec<u32>,
+    case: &Case<'_>,
+    no: &No<'_>,
+    label: u32,
+) -> Result<(), NoMemory> {
+    match delivery_of(case, no.replica, label) {
+        Some(at) => add_entry(places, case, at, FEW_ENTRIES),
+        None => Ok(()),
+    }
+}
+
+fn is_update_of(op: &Op, wanted: u32) -> bool {
+    match op {
+        Op::LwwAdd(element) | Op::LwwRemove(element) | Op::RgaRemove(element) => {
+            *element == wanted
+        }
+        Op::OrAdd { element, .. } | Op::OrRemove { element, .. } | Op::After { element, .. } => {
+            *element == wanted
+        }
+        _ => false,
     }
 }
 

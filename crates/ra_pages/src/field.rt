@@ -13,25 +13,18 @@ const SIGNED: &str = "a number from -2147483648 to 2147483647, without a zero in
 const VALUE: &str = "none, or a number without a zero in front, at most 4294967295";
 
 const LIST: &str =
-    "- for nothing, or numbers with a comma between two, without a zero in front of any";
+    "- for nothing, or numbers and commas, as 0,4: each at most 4294967295, no 0 in front";
 
-const IDENTIFIERS: &str =
-    "# and the identifiers, as #1,2 or #- for none; or a clock, as @1; or nothing";
+const IDENTIFIERS: &str = "# and rising numbers, as #1,2, or #- for none: each at most 4294967295";
 
-const IDENTIFIER: &str = "# and the identifier, as #1; or a clock, as @1; or nothing";
+const IDENTIFIER: &str = "# and a number, as #1, at most #4294967295, without a zero in front";
 
-const CLOCK: &str = "a clock, as @1; or nothing";
+const CLOCK: &str = "a clock: @ and a number, as @1, at most @4294967295, without a zero in front";
 
-const NAME: &str =
-    "a name: a letter a to z, then up to 15 letters or digits; not verdict, not join";
+const NAME: &str = "a letter a to z, then up to 15 letters or digits; not verdict, not join";
 
-const NAME_OF_16: &str =
-    "a name: a letter a to z, then up to 15 letters or digits; at most 16, no two alike";
-
-const NAME_OF_64: &str =
-    "a name: a letter a to z, then up to 15 letters or digits; at most 64, no two alike";
-
-const WORD: &str = "got, or what the replica did: inc, dec, read, write, add, remove, after";
+const NEW_NAME: &str =
+    "a letter a to z, then up to 15 letters or digits; not verdict or join, none twice";
 
 const NOTHING: &str = "nothing: the line ends before this field";
 
@@ -98,7 +91,10 @@ impl<'a> Cursor<'a> {
     fn clock(&mut self, wanted: &'static str) -> Option<Trouble> {
         match self.take() {
             None => None,
-            Some([b'@', digits @ ..]) if number(digits).is_some() => self.end(),
+            Some([b'@', digits @ ..]) => match number(digits) {
+                Some(_) => self.end(),
+                None => self.trouble(CLOCK),
+            },
             Some(_) => self.trouble(wanted),
         }
     }
@@ -148,10 +144,16 @@ pub fn in_names(alloc: Global, format: Format, line: &[u8]) -> Result<Option<Tro
             Some(Err(LineFault::Syntax)) | None => break,
         }
     }
-    Ok(cursor.trouble(match format {
-        Format::Rah1 => NAME_OF_16,
-        Format::Rah2 => NAME_OF_64,
+    Ok(cursor.trouble(if count_of(&cursor) > format.most_names() {
+        NOTHING
+    } else {
+        NEW_NAME
     }))
+}
+
+// How many names were taken.
+fn count_of(cursor: &Cursor<'_>) -> usize {
+    cursor.number.saturating_sub(1) as usize
 }
 
 /// That of a line of a command, in a history of this kind with these names, if it has one.
@@ -162,8 +164,8 @@ pub fn in_command(format: Format, kind: Kind, names: &Names, line: &[u8]) -> Opt
         Some(b"join") if format == Format::Rah2 => in_join(names, cursor),
         Some(name) if names.replica(name).is_some() => in_act(kind, cursor),
         _ => cursor.trouble(match format {
-            Format::Rah1 => "the name of a replica; or verdict",
-            Format::Rah2 => "the name of a replica; or verdict; or join",
+            Format::Rah1 => "the name of a replica, or verdict; join is a word of RAH 2 alone",
+            Format::Rah2 => "the name of a replica, or verdict, or join",
         }),
     }
 }
@@ -178,17 +180,26 @@ fn in_join(names: &Names, mut cursor: Cursor<'_>) -> Option<Trouble> {
     cursor.end()
 }
 
-// Behind the name of a replica.
+// Behind the name of a replica. What is read in each kind is told as this kind has it.
 fn in_act(kind: Kind, mut cursor: Cursor<'_>) -> Option<Trouble> {
     match cursor.take() {
         Some(b"got") => cursor.number().or_else(|| cursor.end()),
-        Some(b"inc") | Some(b"dec") => cursor.clock(CLOCK),
+        Some(b"inc") | Some(b"dec") => cursor.clock(NOTHING),
         Some(b"read") => in_read(kind, cursor),
         Some(b"write") => cursor.number().or_else(|| cursor.clock(CLOCK)),
-        Some(b"add") => cursor.number().or_else(|| in_addition(cursor)),
-        Some(b"remove") => cursor.number().or_else(|| in_removal(cursor)),
+        Some(b"add") => cursor.number().or_else(|| in_addition(kind, cursor)),
+        Some(b"remove") => cursor.number().or_else(|| in_removal(kind, cursor)),
         Some(b"after") => in_insertion(cursor),
-        _ => cursor.trouble(WORD),
+        _ => cursor.trouble(words_of(kind)),
+    }
+}
+
+fn words_of(kind: Kind) -> &'static str {
+    match kind {
+        Kind::Counter => "got; or what the replica did: inc, dec, read",
+        Kind::Register => "got; or what the replica did: write, read",
+        Kind::LwwSet | Kind::OrSet => "got; or what the replica did: add, remove, read",
+        Kind::Rga => "got; or what the replica did: after, remove, read",
     }
 }
 
@@ -200,22 +211,31 @@ fn in_read(kind: Kind, mut cursor: Cursor<'_>) -> Option<Trouble> {
         Kind::LwwSet | Kind::OrSet | Kind::Rga if !field.is_some_and(is_list) => {
             cursor.trouble(LIST)
         }
-        _ => cursor.clock(CLOCK),
+        _ => cursor.clock(NOTHING),
     }
 }
 
-fn in_addition(mut cursor: Cursor<'_>) -> Option<Trouble> {
+fn in_addition(kind: Kind, mut cursor: Cursor<'_>) -> Option<Trouble> {
+    let wanted = match kind {
+        Kind::OrSet => IDENTIFIER,
+        Kind::Counter | Kind::Register | Kind::LwwSet | Kind::Rga => CLOCK,
+    };
     match cursor.take_marked() {
-        None => cursor.clock(IDENTIFIER),
-        Some(word) if number(word).is_some() => cursor.clock(CLOCK),
+        None => cursor.clock(wanted),
+        Some(word) if number(word).is_some() => cursor.clock(NOTHING),
         Some(_) => cursor.trouble(IDENTIFIER),
     }
 }
 
-fn in_removal(mut cursor: Cursor<'_>) -> Option<Trouble> {
+fn in_removal(kind: Kind, mut cursor: Cursor<'_>) -> Option<Trouble> {
+    let wanted = match kind {
+        Kind::OrSet => IDENTIFIERS,
+        Kind::Rga => NOTHING,
+        Kind::Counter | Kind::Register | Kind::LwwSet => CLOCK,
+    };
     match cursor.take_marked() {
-        None => cursor.clock(IDENTIFIERS),
-        Some(word) if is_list(word) => cursor.clock(CLOCK),
+        None => cursor.clock(wanted),
+        Some(word) if is_list(word) => cursor.clock(NOTHING),
         Some(_) => cursor.trouble(IDENTIFIERS),
     }
 }

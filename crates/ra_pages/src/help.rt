@@ -96,7 +96,7 @@ pub fn put_help(out: &mut Vec<u8>, case: &Case<'_>, no: &No<'_>) -> Result<(), N
     let mut head = "would be right";
     for change in no.help.told() {
         put_head(out, head)?;
-        put_change(out, case, no.replica, *change)?;
+        put_change(out, case, no, *change)?;
         put(out, "\n")?;
         head = "or";
     }
@@ -127,25 +127,27 @@ fn put_rest(out: &mut Vec<u8>, help: &Help) -> Result<(), NoMemory> {
 fn put_change(
     out: &mut Vec<u8>,
     case: &Case<'_>,
-    replica: u8,
+    no: &No<'_>,
     change: Change,
 ) -> Result<(), NoMemory> {
     match change {
         Change::Gets(label) => {
             put(out, "had ")?;
-            put_name(out, case, replica)?;
+            put_name(out, case, no.replica)?;
             put(out, " got ")?;
             put_label(out, case, label)
         }
         Change::Misses(at) => {
             put(out, "had ")?;
-            put_name(out, case, replica)?;
+            put_name(out, case, no.replica)?;
             put(out, " not got ")?;
             put_delivered(out, case, at)?;
             put(out, ", nor what needs it")
         }
         Change::ComesBefore(at) => {
-            put(out, "had it come before ")?;
+            put(out, "had ")?;
+            put_line(out, no.place)?;
+            put(out, " come before ")?;
             put_line(out, at)
         }
     }

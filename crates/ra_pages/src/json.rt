@@ -3,9 +3,9 @@ use crate::case::Case;
 use crate::help::Help;
 use crate::no::No;
 use crate::put::{put, put_line_number, put_name, put_size};
-use ra_explain::{Change, LabelsThat, labels_that, right_answer};
+use ra_explain::{Change, LabelsThat, labels_that};
 use ra_history_writer::spelling::put_command;
-use ra_labels::{Command, NoMemory, Reply};
+use ra_labels::{NoMemory, Reply};
 use ra_lines::number::put_number;
 use ra_lines::reply::cause_word;
 use ra_monitor::Report;
@@ -46,21 +46,16 @@ fn put_no(out: &mut Vec<u8>, case: &Case<'_>, no: &No<'_>) -> Result<(), NoMemor
     put(out, "\",\"told\":\"")?;
     put_command(out, case.names, no.command)?;
     put(out, "\",\"right\":")?;
-    put_right(out, case, no.replica)?;
+    put_right(out, case, no)?;
     put(out, ",\"would_be_right\":")?;
     put_changes(out, &no.help)
 }
 
-fn put_right(out: &mut Vec<u8>, case: &Case<'_>, replica: u8) -> Result<(), NoMemory> {
-    match right_answer(*out.allocator(), case.monitor)? {
-        Some(op) => {
-            let command = Command::Operate {
-                replica,
-                op,
-                stamp: None,
-            };
+fn put_right(out: &mut Vec<u8>, case: &Case<'_>, no: &No<'_>) -> Result<(), NoMemory> {
+    match &no.right {
+        Some(command) => {
             put(out, "\"")?;
-            put_command(out, case.names, &command)?;
+            put_command(out, case.names, command)?;
             put(out, "\"")
         }
         None => put(out, "null"),

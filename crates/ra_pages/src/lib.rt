@@ -10,6 +10,7 @@ mod act;
 mod case;
 mod causes;
 mod chosen;
+mod difference;
 mod drawing;
 mod event;
 mod field;

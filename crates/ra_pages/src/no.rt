@@ -1,7 +1,7 @@
 //! The label at which a history is a no.
 use crate::case::Case;
 use crate::help::{Help, help_for};
-use ra_explain::{LabelsThat, labels_that};
+use ra_explain::{LabelsThat, labels_that, right_answer};
 use ra_labels::{Command, Fault, NoMemory, Op};
 use ra_monitor::Report;
 use std::alloc::Global;
@@ -21,6 +21,8 @@ pub struct No<'a> {
     pub op: &'a Op,
     /// The clock of its stamp, where it carries one.
     pub clock: Option<u32>,
+    /// The command with the right answer, where there is one.
+    pub right: Option<Command>,
     /// The updates that the replica lacks, rising.
     pub lacking: Vec<u32>,
     /// What would make it right.
@@ -57,8 +59,21 @@ impl<'a> No<'a> {
             replica: *replica,
             op,
             clock: *stamp,
+            right: right_for(alloc, case, *replica)?,
             lacking,
             help,
         }))
+    }
+}
+
+// The command with the right answer, at this replica.
+fn right_for(alloc: Global, case: &Case<'_>, replica: u8) -> Result<Option<Command>, NoMemory> {
+    match right_answer(alloc, case.monitor)? {
+        Some(op) => Ok(Some(Command::Operate {
+            replica,
+            op,
+            stamp: None,
+        })),
+        None => Ok(None),
     }
 }

@@ -8,7 +8,7 @@ use crate::picture::put_picture;
 use crate::put::{put, put_act, put_head, put_line};
 use crate::query::put_query;
 use crate::seen::put_seen;
-use crate::yes::put_yes;
+use crate::yes::{put_refused, put_yes};
 use ra_labels::{Cause, NoMemory};
 use ra_lines::number::put_numbered;
 use ra_monitor::Report;
@@ -45,7 +45,10 @@ pub fn put_words(
 ) -> Result<(), NoMemory> {
     let mut words = Vec::new(*out.allocator());
     match no {
-        Some(no) => put_no(&mut words, case, no)?,
+        Some(no) => {
+            put_no(&mut words, case, no)?;
+            put_refused(&mut words, case, report.refused)?;
+        }
         None => put_yes(&mut words, case, report)?,
     }
     put_cut(out, &words)
@@ -96,6 +99,6 @@ fn reason(cause: Cause) -> &'static str {
     match cause {
         Cause::Query => "what it sees does not lead to its answer.",
         Cause::Order => "its clock is not above one that it sees.",
-        Cause::Update => "it does not fit where its clock puts it.",
+        Cause::Update => "it is not possible where the order puts it.",
     }
 }

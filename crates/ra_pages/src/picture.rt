@@ -53,11 +53,23 @@ fn put_names(out: &mut Vec<u8>, case: &Case<'_>, picture: &Picture) -> Result<()
     let mut start = MARGIN;
     for column in &picture.columns {
         if let Some(name) = case.names.name(column.replica) {
-            write_at(&mut line, start, name, width);
+            write_name(&mut line, start, name, width);
         }
         start = start.saturating_add(width);
     }
     put_trimmed(out, &line)
+}
+
+// The name, or the end of a long one, behind two points.
+fn write_name(line: &mut Vec<u8>, start: usize, name: &[u8], width: usize) {
+    let room = width.saturating_sub(3);
+    match name.get(name.len().saturating_sub(room)..) {
+        Some(end) if name.len() >= width => {
+            write_at(line, start, b"..", width);
+            write_at(line, start.saturating_add(2), end, width);
+        }
+        _ => write_at(line, start, name, width),
+    }
 }
 
 fn put_event(
@@ -124,10 +136,10 @@ fn draw_arrow(line: &mut Vec<u8>, picture: &Picture, from: usize, to: usize, eve
     }
 }
 
-// The byte, from one place of the line up to another, at each or each second one.
+// The byte, from one place of the line up to another: at each, or at each second one where no bar stands.
 fn draw(line: &mut Vec<u8>, from: usize, to: usize, byte: u8, step: usize) {
     for at in from..to {
-        if at < line.len() && (step == 1 || (at - from) % 2 == 0) {
+        if at < line.len() && (step == 1 || ((at - from) % 2 == 0 && line[at] == b' ')) {
             line[at] = byte;
         }
     }

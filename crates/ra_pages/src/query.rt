@@ -1,10 +1,10 @@
 //! An answer that is wrong, and the right one.
 use crate::act::{elements_of, put_elements};
 use crate::case::Case;
+use crate::difference::place_between;
 use crate::no::No;
 use crate::put::{put, put_act, put_head, put_size};
 use crate::unmet::put_unmet;
-use ra_explain::right_answer;
 use ra_labels::{Command, NoMemory, Op};
 use ra_lines::number::put_number;
 
@@ -15,24 +15,16 @@ const BEFORE: usize = 3;
 
 /// Puts the right answer, and the first difference between the two; or, where there is none, what is in its way.
 pub fn put_query(out: &mut Vec<u8>, case: &Case<'_>, no: &No<'_>) -> Result<(), NoMemory> {
-    match right_answer(*out.allocator(), case.monitor)? {
-        Some(right) => put_right(out, case, no, right),
-        None => put_unmet(out, case, no),
-    }
-}
-
-fn put_right(out: &mut Vec<u8>, case: &Case<'_>, no: &No<'_>, right: Op) -> Result<(), NoMemory> {
-    let mut difference = Vec::new(*out.allocator());
-    put_difference(&mut difference, no.op, &right)?;
-    put_head(out, "right")?;
-    let command = Command::Operate {
-        replica: no.replica,
-        op: right,
-        stamp: None,
+    let Some(right) = &no.right else {
+        return put_unmet(out, case, no);
     };
-    put_act(out, case, &command)?;
+    put_head(out, "right")?;
+    put_act(out, case, right)?;
     put(out, "\n")?;
-    Ok(out.extend_from_slice(&difference)?)
+    match right {
+        Command::Operate { op, .. } => put_difference(out, no.op, op),
+        Command::Deliver { .. } | Command::Join { .. } | Command::Verdict => Ok(()),
+    }
 }
 
 // Lists are told by what differs first: two lists of a set by what is missing and what is too much.
@@ -47,13 +39,7 @@ fn put_difference(out: &mut Vec<u8>, told: &Op, right: &Op) -> Result<(), NoMemo
 
 // The first place at which the two lists differ, counted from 1.
 fn put_first(out: &mut Vec<u8>, told: &[u32], right: &[u32]) -> Result<(), NoMemory> {
-    let mut place: usize = 0;
-    for element in right {
-        if told.get(place) != Some(element) {
-            break;
-        }
-        place = place.saturating_add(1);
-    }
+    let place = place_between(told, right);
     put_head(out, "differs")?;
     put(out, "at element ")?;
     put_size(out, place.saturating_add(1))?;

@@ -4,9 +4,10 @@ use crate::html::{put_end, put_start};
 use crate::page::put_cut;
 use crate::put::{put, put_head};
 use ra_history_text::{CheckFault, Session};
-use ra_labels::NoMemory;
+use ra_labels::{Fault, NoMemory};
 use ra_lines::fields::Fields;
-use ra_lines::number::{put_number, put_numbered};
+use ra_lines::number::put_numbered;
+use ra_lines::reply::cause_word;
 use std::alloc::Global;
 
 /// The most characters of a line that are shown.
@@ -20,6 +21,8 @@ pub struct Stop<'a> {
     // What is there of the line.
     text: &'a [u8],
     trouble: Option<Trouble>,
+    // The no that was answered before it.
+    before: Option<Fault>,
 }
 
 #[derive(Clone, Copy)]
@@ -56,7 +59,18 @@ impl<'a> Stop<'a> {
             why,
             text,
             trouble,
+            before: session.monitor().and_then(|monitor| monitor.report().fault),
         }))
+    }
+
+    fn sentence(&self) -> &'static str {
+        match self.why {
+            Why::Syntax => " cannot be read.",
+            Why::Truncated if self.text.is_empty() => " is not there: the text ends before it.",
+            Why::Truncated => " has no end: the text ends before its line feed.",
+            Why::LineTooLong => " has more than 1048576 bytes.",
+            Why::Full => " is one command more than a text may have, which has at most 1048576.",
+        }
     }
 
     /// Puts it in words.
@@ -71,6 +85,8 @@ impl<'a> Stop<'a> {
         let alloc = *out.allocator();
         let mut title = Vec::new(alloc);
         put_numbered(&mut title, b"line ", self.line)?;
+        put(&mut title, ": ")?;
+        put(&mut title, self.why.word())?;
         let mut words = Vec::new(alloc);
         self.put_page(&mut words)?;
         put_start(out, &title, &words)?;
@@ -96,15 +112,18 @@ impl<'a> Stop<'a> {
 
     fn put_words(&self, out: &mut Vec<u8>) -> Result<(), NoMemory> {
         put_numbered(out, b"line ", self.line)?;
-        put(out, self.why.sentence())?;
+        put(out, self.sentence())?;
         put(out, "\n\n")?;
-        put_head(out, "it says")?;
-        put_shown(out, self.text, "\\x")?;
-        put(out, "\n")?;
-        match self.trouble {
-            Some(trouble) => put_trouble(out, self.text, trouble),
-            None => Ok(()),
+        if !self.text.is_empty() {
+            put_head(out, "it says")?;
+            put_shown(out, self.text, "\\x")?;
+            put(out, "\n")?;
         }
+        if let Some(trouble) = self.trouble {
+            put_trouble(out, self.text, trouble)?;
+        }
+        put_note(out, self.text)?;
+        put_before(out, self.before)
     }
 }
 
@@ -115,15 +134,6 @@ impl Why {
             Why::Truncated => "truncated",
             Why::LineTooLong => "too long",
             Why::Full => "full",
-        }
-    }
-
-    fn sentence(self) -> &'static str {
-        match self {
-            Why::Syntax => " cannot be read.",
-            Why::Truncated => " has no end: the text ends before its line feed.",
-            Why::LineTooLong => " has more than 1048576 bytes.",
-            Why::Full => " is one command more than a text may have, which has at most 1048576.",
         }
     }
 }
@@ -149,13 +159,44 @@ fn put_trouble(out: &mut Vec<u8>, text: &[u8], trouble: Trouble) -> Result<(), N
     }
     out.extend_from_slice(&head)?;
     match field_of(text, trouble.field) {
+        Some([]) => put(out, "is empty: a space too many stands beside it")?,
         Some(field) => put_shown(out, field, "\\x")?,
         None => put(out, "is not there")?,
     }
     put(out, "\n")?;
-    put_head(out, "there may be")?;
+    put_head(out, "may stand there")?;
     put(out, trouble.wanted)?;
     put(out, "\n")
+}
+
+// What editors and other systems put into lines.
+fn put_note(out: &mut Vec<u8>, text: &[u8]) -> Result<(), NoMemory> {
+    if text.ends_with(b"\r") {
+        put_head(out, "note")?;
+        put(
+            out,
+            "\\x0d is a carriage return: lines end with a line feed alone\n",
+        )?;
+    }
+    if text.contains(&b'\t') {
+        put_head(out, "note")?;
+        put(out, "\\x09 is a tab: fields are separated by one space\n")?;
+    }
+    Ok(())
+}
+
+fn put_before(out: &mut Vec<u8>, before: Option<Fault>) -> Result<(), NoMemory> {
+    let Some(fault) = before else {
+        return Ok(());
+    };
+    put_head(out, "before it")?;
+    put_numbered(out, b"the answer was no ", fault.label)?;
+    put(out, " ")?;
+    put(out, cause_word(fault.cause))?;
+    put(
+        out,
+        " already: without this line and what follows, that is explained\n",
+    )
 }
 
 fn field_of(text: &[u8], number: u32) -> Option<&[u8]> {

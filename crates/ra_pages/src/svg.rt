@@ -11,7 +11,7 @@ use ra_monitor::Report;
 
 /// In points: where the first column and the first row stand, how far columns and rows are from one another, how far
 /// words stand from their column, and above their row.
-const LEFT: u32 = 110;
+const LEFT: u32 = 170;
 
 const TOP: u32 = 90;
 
@@ -29,14 +29,14 @@ const LETTERS: usize = 24;
 /// The colours on a light and on a dark screen, and the head of an arrow. What would be right is dashed.
 const STYLE: &str = "<style>\
 svg{background:#fff;color:#1a1a1a}\
-@media(prefers-color-scheme:dark){svg{background:#161616;color:#e6e6e6}}\
 text{font:13px monospace;fill:currentColor}\
 line{stroke:currentColor}\
 circle{fill:currentColor}\
 .replica line{stroke-opacity:.3}\
 .dashed line{stroke-dasharray:5 4}\
-.dashed text,.fold{fill-opacity:.65}\
-.asked text,.asked circle{fill:#d32f2f}\
+.dashed text,.fold{fill-opacity:.75}\
+.asked text,.asked circle{fill:#b71c1c}\
+@media(prefers-color-scheme:dark){svg{background:#161616;color:#e6e6e6}.asked text,.asked circle{fill:#ff8a80}}\
 </style>\
 <defs><marker id=\"tip\" viewBox=\"0 0 8 8\" refX=\"8\" refY=\"4\" markerWidth=\"9\" markerHeight=\"9\" orient=\"auto\">\
 <path d=\"M0 0 8 4 0 8z\" fill=\"currentColor\"/></marker></defs>\n";

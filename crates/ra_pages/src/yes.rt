@@ -4,6 +4,7 @@ use crate::put::{put, put_act, put_count, put_head, put_label, put_line, put_nam
 use ra_explain::{LabelsThat, labels_that};
 use ra_labels::{Command, NoMemory, Op, Refusal, Reply, Stamp};
 use ra_lines::number::put_number;
+use ra_lines::reply::put_reply;
 use ra_monitor::Report;
 
 /// The most replicas, and the most refused lines, that have a line each.
@@ -63,7 +64,8 @@ fn put_lacking_one(
     }
 }
 
-fn put_refused(out: &mut Vec<u8>, case: &Case<'_>, refused: u32) -> Result<(), NoMemory> {
+/// Puts the lines that were refused, each with its reason.
+pub fn put_refused(out: &mut Vec<u8>, case: &Case<'_>, refused: u32) -> Result<(), NoMemory> {
     let mut lines: u32 = 0;
     let mut place: u32 = 0;
     for entry in case.log {
@@ -83,7 +85,8 @@ fn put_refused(out: &mut Vec<u8>, case: &Case<'_>, refused: u32) -> Result<(), N
     Ok(())
 }
 
-// A refused line, and the reason in a line of its own.
+// A refused line, and the reason in a line of its own. A name that no replica has is not kept, so a line with one is told
+// by its number alone.
 fn put_refusal(
     out: &mut Vec<u8>,
     case: &Case<'_>,
@@ -93,12 +96,28 @@ fn put_refusal(
 ) -> Result<(), NoMemory> {
     put_head(out, "refused")?;
     put_line(out, place)?;
-    put(out, ": ")?;
-    put_act(out, case, command)?;
+    match why {
+        Refusal::UnknownReplica | Refusal::TooManyReplicas => {}
+        _ => {
+            put(out, ": ")?;
+            put_act(out, case, command)?;
+        }
+    }
     put(out, "\n")?;
     put_head(out, "")?;
+    put_word(out, why)?;
     put_reason(out, case, command, why)?;
     put(out, "\n")
+}
+
+// The word of the refusal, as replies have it.
+fn put_word(out: &mut Vec<u8>, why: Refusal) -> Result<(), NoMemory> {
+    let mut line = Vec::new(*out.allocator());
+    put_reply(&mut line, Reply::Refused(why))?;
+    if let Some(word) = line.as_slice().strip_prefix(b"refused ") {
+        out.extend_from_slice(word.trim_ascii_end())?;
+    }
+    put(out, ": ")
 }
 
 fn put_reason(
@@ -108,13 +127,13 @@ fn put_reason(
     why: Refusal,
 ) -> Result<(), NoMemory> {
     match why {
-        Refusal::UnknownReplica => put(out, "there is no such replica"),
+        Refusal::UnknownReplica => put(out, "it names a replica that is not there"),
         Refusal::WrongKind => put(out, "another kind has this operation"),
         Refusal::BadList => put(out, "the list does not rise"),
         Refusal::StampMissing => put(out, "it needs a clock, as @1, which is not 0"),
-        Refusal::StampUnwanted => put(out, "it carries no clock"),
-        Refusal::StampTaken => put_taken(out, case, stamp_of(command)),
-        Refusal::IdTaken => put_taken(out, case, identifier_of(command)),
+        Refusal::StampUnwanted => put(out, "this operation takes no clock"),
+        Refusal::StampTaken => put_taken(out, case, "its clock", stamp_of(command)),
+        Refusal::IdTaken => put_taken(out, case, "its identifier", identifier_of(command)),
         Refusal::UnknownLabel => put(out, "there is no label of this number yet"),
         Refusal::NotAnUpdate => put(out, "the label is a read, which nobody gets"),
         Refusal::AlreadySeen => put(out, "the replica has it already"),
@@ -152,8 +171,14 @@ fn identifier_of(command: &Command) -> Option<LabelsThat> {
 }
 
 // By which label it is taken.
-fn put_taken(out: &mut Vec<u8>, case: &Case<'_>, sort: Option<LabelsThat>) -> Result<(), NoMemory> {
-    put(out, "it is taken by ")?;
+fn put_taken(
+    out: &mut Vec<u8>,
+    case: &Case<'_>,
+    what: &str,
+    sort: Option<LabelsThat>,
+) -> Result<(), NoMemory> {
+    put(out, what)?;
+    put(out, " is taken by ")?;
     let Some(sort) = sort else {
         return put(out, "another label");
     };
