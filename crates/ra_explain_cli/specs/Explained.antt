@@ -55,7 +55,8 @@ EndsExplanation form (Ok outcome) ending text left old new err_old err_new =
     IsAtEnd left × IfSome text (λ bytes. IsAnswered bytes outcome)
     × EndsExplained form outcome ending old new err_old err_new
 EndsExplanation form (Err fault) ending text left old new err_old err_new =
-    EndsStopped fault ending old new err_old err_new × IfSome text (λ bytes. Stops bytes left fault) × (fault ≡ Endless → HasGiven text left MOST_READS)
+    EndsStopped fault ending old new err_old err_new × IfSome text (λ bytes. Stops bytes left fault)
+    × (fault ≡ Endless → HasGiven text left MOST_READS)
 
 -- the program explains a text
 abbrev pub ExplainsText : Form → Ending → (text left old new err_old err_new : Option (List ℕ)) → Type 0

@@ -21,7 +21,7 @@ pub record IsOfLog (log : List MonitorEntry) (place : ℕ) (event : Event) : Typ
   pub at : event.place ≡ place
   pub replica : event.to ≡ replica_of entry.command
 
--- What the row of an entry shows is one of the log's. The other rows show what did not happen, or the label in question.
+-- What the row of an entry shows is one of the log's. Other rows show what did not happen, or the label in question.
 abbrev pub IsDrawn : List MonitorEntry → Row → Event → Type 0
 IsDrawn log (row.Entry place) event = IsOfLog log place event
 IsDrawn log (row.Without place) event = IsOfLog log place event

@@ -17,8 +17,8 @@ const FEW_ENTRIES: usize = 16;
 const MOST_NAMING: u32 = 2;
 
 /// The places of the entries that are drawn up to the label in question, rising: all that were accepted of a short
-/// history; else what would be right, what the label's update needs, the updates of elements at which its answer differs,
-/// what reached its replica last with where it came from, and what the replica did last.
+/// history; else what would be right, what the label's update needs, the updates of elements at which its answer
+/// differs, what reached its replica last with where it came from, and what the replica did last.
 pub fn places_of(alloc: Global, case: &Case<'_>, no: &No<'_>) -> Result<Vec<u32>, NoMemory> {
     let mut places = Vec::new(alloc);
     places.push(no.place)?;

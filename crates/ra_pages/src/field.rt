@@ -183,14 +183,31 @@ fn in_join(names: &Names, mut cursor: Cursor<'_>) -> Option<Trouble> {
 // Behind the name of a replica. What is read in each kind is told as this kind has it.
 fn in_act(kind: Kind, mut cursor: Cursor<'_>) -> Option<Trouble> {
     match cursor.take() {
-        Some(b"got") => cursor.number().or_else(|| cursor.end()),
         Some(b"inc") | Some(b"dec") => cursor.clock(NOTHING),
         Some(b"read") => in_read(kind, cursor),
-        Some(b"write") => cursor.number().or_else(|| cursor.clock(CLOCK)),
-        Some(b"add") => cursor.number().or_else(|| in_addition(kind, cursor)),
-        Some(b"remove") => cursor.number().or_else(|| in_removal(kind, cursor)),
         Some(b"after") => in_insertion(cursor),
+        Some(word) if has_number(word) => match cursor.number() {
+            None => behind_number(kind, word, cursor),
+            trouble => trouble,
+        },
         _ => cursor.trouble(words_of(kind)),
+    }
+}
+
+// Is it a word behind which one number comes?
+fn has_number(word: &[u8]) -> bool {
+    match word {
+        b"got" | b"write" | b"add" | b"remove" => true,
+        _ => false,
+    }
+}
+
+fn behind_number(kind: Kind, word: &[u8], mut cursor: Cursor<'_>) -> Option<Trouble> {
+    match word {
+        b"got" => cursor.end(),
+        b"add" => in_addition(kind, cursor),
+        b"remove" => in_removal(kind, cursor),
+        _ => cursor.clock(CLOCK),
     }
 }
 

@@ -1,5 +1,5 @@
-//! What there is to say of a history that was checked, laid out: in words with a picture, as a JSON object, as a drawing
-//! (SVG) or a document (HTML), or as the sequence that linearizes it; and of a text that has a fault, where it is.
+//! What there is to say of a history that was checked, laid out: in words with a picture, as a JSON object, as a
+//! drawing (SVG) or a document (HTML), or as the sequence that linearizes it; and of a text with a fault, where it is.
 //!
 //! The one contract for the layer above: each call returns, and puts something behind bytes, or answers `NoMemory`.
 //! What is told of a no and of a yes comes from calls with clauses (`ra_explain`, `Monitor::sequence`); the words and

@@ -38,7 +38,8 @@ circle{fill:currentColor}\
 .asked text,.asked circle{fill:#b71c1c}\
 @media(prefers-color-scheme:dark){svg{background:#161616;color:#e6e6e6}.asked text,.asked circle{fill:#ff8a80}}\
 </style>\
-<defs><marker id=\"tip\" viewBox=\"0 0 8 8\" refX=\"8\" refY=\"4\" markerWidth=\"9\" markerHeight=\"9\" orient=\"auto\">\
+<defs><marker id=\"tip\" viewBox=\"0 0 8 8\" refX=\"8\" refY=\"4\" markerWidth=\"9\" markerHeight=\"9\" \
+orient=\"auto\">\
 <path d=\"M0 0 8 4 0 8z\" fill=\"currentColor\"/></marker></defs>\n";
 
 /// Puts the last line of the check, and of a no the picture.

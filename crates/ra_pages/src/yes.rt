@@ -85,8 +85,8 @@ pub fn put_refused(out: &mut Vec<u8>, case: &Case<'_>, refused: u32) -> Result<(
     Ok(())
 }
 
-// A refused line, and the reason in a line of its own. A name that no replica has is not kept, so a line with one is told
-// by its number alone.
+// A refused line, and the reason in a line of its own. A name that no replica has is not kept, so a line with one is
+// told by its number alone.
 fn put_refusal(
     out: &mut Vec<u8>,
     case: &Case<'_>,
