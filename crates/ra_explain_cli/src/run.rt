@@ -17,9 +17,9 @@ use std::io::{Read, Write};
 /// Runs the program on the words behind its name.
 ///
 /// `explain` has the text that the reader gives explained on `out` in words, with `--json` as one JSON object, with
-/// `--svg` as a drawing, with `--html` as a document, and with `--sequence` by the sequence that linearizes it; a fault's
-/// line stands on `err`. Other words are answered with the line `usage` on `err`, or `no memory` where they could not be
-/// read for want of it.
+/// `--svg` as a drawing, with `--html` as a document, and with `--sequence` by the sequence that linearizes it; a
+/// fault's line stands on `err`. Other words are answered with the line `usage` on `err`, or `no memory` where they
+/// could not be read for want of it.
 pub fn run<R: Read, W: Write, E: Write>(
     alloc: Global,
     words: &Result<Vec<String>, WordsFault>,
