@@ -58,6 +58,7 @@ export async function checkRandom(makeReplica, kind, replicas = 3, operations = 
     if (failure !== null) throw raised(setting, await small(setting, failure, progress), seed, runs, failure);
     progress.tell(`${runs} runs, all right so far`);
   }
+  if (runs === 0) throw new RangeError("there is no seed, so nothing was tried");
   return runs;
 }
 

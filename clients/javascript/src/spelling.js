@@ -100,6 +100,9 @@ export class Speller {
       return String(number + 0);
     }
     if (this.kind === "register") return this.#isNothing(value) ? "none" : this.#values.of(value);
+    if (typeof value?.[Symbol.iterator] !== "function") {
+      throw new CannotTell(`a read of ${inspect(value)} lists nothing: answer an array of what is shown`);
+    }
     const numbers = Array.from(value, (it) => this.#values.of(it));
     return joined(this.kind === "rga" ? numbers : rising(numbers));
   }

@@ -239,6 +239,12 @@ test("a fork that answers nothing is told", async () => {
   await assert.rejects(checkRandom(made(ForksIntoNothing), "counter"), /fork\('[bc]'\) threw .*answers undefined/);
 });
 
+test("no seed is no test", async () => {
+  for (const seeds of [0, []]) {
+    await assert.rejects(checkRandom(made(Counter), "counter", 3, 30, seeds), /nothing was tried/);
+  }
+});
+
 test("a kind that is none is told", async () => {
   await assert.rejects(checkRandom(made(Counter), "list"), /there is no kind list, but counter, /);
 });

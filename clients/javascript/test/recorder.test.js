@@ -65,6 +65,13 @@ test("great clocks are counted from the first one", async () => {
   }
 });
 
+test("a read that lists nothing says so", async () => {
+  for (const kind of ["lwwset", "orset", "rga"]) {
+    const recorder = new Recorder(kind, ["a", "b"]);
+    await assert.rejects(recorder.read("a", undefined), /a read of undefined lists nothing/);
+  }
+});
+
 test("clocks that cannot be told say so", async () => {
   const wrong = [
     [[NOW, NOW - 2 ** 28], /too early/],

@@ -225,6 +225,11 @@ class PlantedBugs(unittest.TestCase):
 
 
 class OtherFailures(unittest.TestCase):
+    def test_no_seed_is_no_test(self) -> None:
+        for seeds in (0, [], range(3, 3)):
+            with self.subTest(seeds=seeds), self.assertRaisesRegex(ValueError, "nothing was tried"):
+                check_random(Counter, "counter", seeds=seeds)
+
     def test_an_exception_of_a_replica_is_shrunk_too(self) -> None:
         with self.assertRaises(ReplicaRaised) as caught:
             check_random(RaisingRga, "rga")

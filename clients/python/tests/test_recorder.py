@@ -77,6 +77,13 @@ class Clocks(unittest.TestCase):
             recorder.read("b", 1)
         self.assertIn("write 1 @268435456\n", recorder.history())
 
+    def test_a_read_that_lists_nothing_says_so(self) -> None:
+        for kind in ("lwwset", "orset", "rga"):
+            recorder = Recorder(kind, ["a", "b"])
+            with self.subTest(kind=kind), self.assertRaisesRegex(CannotTell, "a read of None lists nothing"):
+                recorder.read("a", None)
+            recorder.stop()
+
     def test_what_cannot_be_told_says_so(self) -> None:
         for clocks, said in [
             ([NOW, NOW - (1 << 28)], "too early"),

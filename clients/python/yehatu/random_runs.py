@@ -67,6 +67,8 @@ def check_random(
         if failure is not None:
             raise _raised(setting, _shrunk(setting, failure, progress), seed, runs, failure)
         progress.tell(f"{runs} runs, all right so far")
+    if runs == 0:
+        raise ValueError("there is no seed, so nothing was tried")
     return runs
 
 

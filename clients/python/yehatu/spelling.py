@@ -99,7 +99,11 @@ class Speller:
             return str(int(value))
         if self.kind == "register":
             return "none" if _is_same(value, self._nothing) else str(self._values.of(value))
-        numbers = [self._values.of(it) for it in value]
+        try:
+            shown = iter(value)
+        except TypeError:
+            raise CannotTell(f"a read of {value!r} lists nothing: answer a list of what is shown") from None
+        numbers = [self._values.of(it) for it in shown]
         return _joined(numbers if self.kind == "rga" else _rising(numbers))
 
     # Lines in the user's words.
