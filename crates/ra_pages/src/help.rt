@@ -35,9 +35,9 @@ impl Help {
 }
 
 /// Tries changes to what the replica had when it made its label at this place: that it had got one label more, or one
-/// less, or none yet of those that came last. Of what it could get next, which is one label of each replica, all are
-/// tried; else the latest, of a list 256 of each sort. Where the history is long there are fewer, so that about a
-/// million commands are told again for each sort.
+/// less, or none yet of those that came last. What it could get next is one label of each replica: of a counter each of
+/// these is tried, so that none that would do is left out. Else the latest are tried, of a list 256 of each sort, and
+/// fewer where the history is long, so that about a million commands are told again for each sort.
 pub fn help_for(
     alloc: Global,
     case: &Case<'_>,
@@ -45,10 +45,16 @@ pub fn help_for(
     replica: u8,
     lacking: &[u32],
 ) -> Result<Help, NoMemory> {
-    let most = most_tries(case.monitor.setup().kind, place) as usize;
+    let kind = case.monitor.setup().kind;
+    let most = most_tries(kind, place) as usize;
     let mut changes = Vec::new(alloc);
     let next = next_among(alloc, case, lacking)?;
-    for label in next.iter().rev().take(most) {
+    let most_next = if kind == Kind::Counter {
+        next.len()
+    } else {
+        most
+    };
+    for label in next.iter().rev().take(most_next) {
         changes.push(Change::Gets(*label))?;
     }
     if let Some(before) = case.log.get(..place as usize) {
