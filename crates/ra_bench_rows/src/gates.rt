@@ -1,5 +1,6 @@
 //! Gates that hold a replica back, or stop it.
 
+use crate::lies::is_answered;
 use ra_bench::{BenchFault, BenchReport, Gate, Lie, run_bench, run_bench_with};
 use ra_labels::{Cause, Kind, Reply};
 use std::sync::atomic::{AtomicU32, Ordering};
@@ -73,7 +74,7 @@ fn two_in_flight(rt: HostRuntime) {
     for held in [0, 1] {
         let gate = Holding::new(held, 0, 1);
         let answer = run_bench(&rt, rt.alloc(), Kind::Counter, 2, 1, &gate);
-        assert_eq!(rt; answer, Ok(wanted));
+        is_answered(&rt, answer, Ok(wanted));
     }
 }
 
@@ -90,7 +91,7 @@ fn three_in_flight(rt: HostRuntime) {
         for round in [0, 1, 2, 3] {
             let gate = Holding::new(held, round, 2);
             let answer = run_bench(&rt, rt.alloc(), Kind::OrSet, 3, 2, &gate);
-            assert_eq!(rt; answer, Ok(wanted));
+            is_answered(&rt, answer, Ok(wanted));
         }
     }
 }
@@ -108,7 +109,11 @@ fn the_one_that_lies_is_told(rt: HostRuntime) {
                 label,
                 cause: Cause::Query,
             };
-            assert_eq!(rt; answer, Err(BenchFault::Answered { replica, reply: no }));
+            is_answered(
+                &rt,
+                answer,
+                Err(BenchFault::Answered { replica, reply: no }),
+            );
         }
     }
 }
@@ -135,7 +140,7 @@ fn a_closed_gate_stalls(rt: HostRuntime) {
         for from in [0, 1, 2] {
             let gate = Closed { round, from };
             let answer = run_bench(&rt, rt.alloc(), Kind::Register, 3, 4, &gate);
-            assert_eq!(rt; answer, Err(BenchFault::Stalled { replica: from }));
+            is_answered(&rt, answer, Err(BenchFault::Stalled { replica: from }));
         }
     }
 }

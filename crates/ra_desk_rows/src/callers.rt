@@ -6,7 +6,9 @@ ghost use Rattle.ra_desk.specs.Reports.{passes_of, AreOfOneDesk};
 
 use crate::desks::{got_the_first, is_full, register_of, reply_in, write};
 use ra_desk::{DeskCloseFault, DeskReporter};
+use ra_journal::Entry;
 use ra_labels::{Command, Refusal, Reply};
+use ra_monitor::Monitor;
 use ra_ticket::Glance;
 use std::alloc::Global;
 use std::process::Abort;
@@ -83,9 +85,10 @@ fn a_glance_finds_each_report(rt: HostRuntime) {
     for calls in 0..3 {
         let found = Glance { calls, fault: None };
         assert_eq!(rt; (first.glance(), second.glance()), (found, found));
-        assert_eq!(rt;
+        is_told(
+            &rt,
             written(&rt, &mut first, 0, calls + 1),
-            Some(Reply::Ok(calls))
+            Reply::Ok(calls),
         );
     }
 }
@@ -93,8 +96,7 @@ fn a_glance_finds_each_report(rt: HostRuntime) {
 #[test]
 fn reporters_that_meet_come_back_in_order(rt: HostRuntime) {
     let (mut first, second) = two_reporters(&rt, rt.alloc(), 10);
-    let wrote = reply_in(first.tell(&rt, write(0, 7)));
-    assert_eq!(rt; wrote, Some(Reply::Ok(0)));
+    is_told(&rt, reply_in(first.tell(&rt, write(0, 7))), Reply::Ok(0));
     let (first, second, calls) = first.meet(second);
     assert_eq!(rt; (first.number(), second.number(), calls), (0, 1, 1));
 }
@@ -111,10 +113,7 @@ fn a_desk_has_the_room_that_was_reserved(rt: HostRuntime) {
         Err(_) => panic!(rt; "no desk"),
     };
     assert_eq!(rt; accepted(&rt, &mut reporter, 0, 3), 3);
-    match reporter.close() {
-        Ok(monitor) => assert_eq!(rt; monitor.room(), room - 3),
-        Err(_) => panic!(rt; "not closed"),
-    }
+    assert_eq!(rt; closed(&rt, reporter).room(), room - 3);
 }
 
 // Whoever is refused goes on, and the monitor of a closed desk has what was reported, with room left.
@@ -122,42 +121,54 @@ fn a_desk_has_the_room_that_was_reserved(rt: HostRuntime) {
 fn a_refused_report_is_logged_and_no_more(rt: HostRuntime) {
     let (mut first, second) = two_reporters(&rt, rt.alloc(), 10);
     let early = reply_in(first.tell(&rt, got_the_first(1)));
-    let wrote = reply_in(first.try_tell(write(0, 7)));
-    assert_eq!(rt; early, Some(Reply::Refused(Refusal::UnknownLabel)));
-    assert_eq!(rt; wrote, Some(Reply::Ok(0)));
+    is_told(&rt, early, Reply::Refused(Refusal::UnknownLabel));
+    is_told(&rt, reply_in(first.try_tell(write(0, 7))), Reply::Ok(0));
     drop(second);
-    match first.close() {
-        Ok(monitor) => {
-            let report = monitor.report();
-            assert_eq!(rt; (report.calls, report.labels, report.refused), (2, 1, 1));
-        }
-        Err(_) => panic!(rt; "not closed"),
-    }
+    let report = closed(&rt, first).report();
+    assert!(rt; report.calls == 2 && report.labels == 1 && report.refused == 1);
 }
 
 #[test]
 fn a_closed_desk_has_its_log(rt: HostRuntime) {
     let (mut first, mut second) = two_reporters(&rt, rt.alloc(), 2);
-    assert_eq!(rt; written(&rt, &mut first, 0, 7), Some(Reply::Ok(0)));
-    let came = reply_in(second.try_tell(got_the_first(1)));
-    assert_eq!(rt; came, Some(Reply::Got(0)));
+    is_told(&rt, written(&rt, &mut first, 0, 7), Reply::Ok(0));
+    is_told(
+        &rt,
+        reply_in(second.try_tell(got_the_first(1))),
+        Reply::Got(0),
+    );
     assert!(rt; is_full(first.tell(&rt, Command::Verdict)));
-    let second = match second.close() {
-        Err(DeskCloseFault::Shared(second)) => second,
-        _ => panic!(rt; "closed with another reporter left"),
-    };
-    assert_eq!(rt; (first.number(), second.number()), (0, 1));
+    let second = not_closed(&rt, second);
+    assert!(rt; first.number() == 0 && second.number() == 1);
     drop(first);
-    let monitor = match second.close() {
+    let monitor = closed(&rt, second);
+    assert!(rt; monitor.log().len() == 2);
+    are_in_turn(&rt, monitor.log());
+}
+
+fn is_told(rt: &impl Abort, reply: Option<Reply>, wanted: Reply) {
+    assert_eq!(rt; reply, Some(wanted));
+}
+
+// The reporter, which cannot be closed while another one is there.
+fn not_closed(rt: &impl Abort, reporter: DeskReporter) -> DeskReporter {
+    match reporter.close() {
+        Err(DeskCloseFault::Shared(reporter)) => reporter,
+        _ => panic!(rt; "closed with another reporter left"),
+    }
+}
+
+fn closed(rt: &impl Abort, reporter: DeskReporter) -> Monitor {
+    match reporter.close() {
         Ok(monitor) => monitor,
         Err(_) => panic!(rt; "not closed"),
-    };
-    assert_eq!(rt; monitor.log().len(), 2);
-    for (place, entry) in monitor.log().iter().enumerate() {
-        assert_eq!(rt;
-            (usize::from(entry.pass), entry.ticket),
-            (place, place as u64)
-        );
+    }
+}
+
+// The passes reported one after another, from the first ticket on.
+fn are_in_turn(rt: &impl Abort, log: &[Entry<Command, Reply>]) {
+    for (place, entry) in log.iter().enumerate() {
+        assert!(rt; usize::from(entry.pass) == place && entry.ticket == place as u64);
     }
 }
 

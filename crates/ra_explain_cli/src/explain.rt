@@ -9,8 +9,10 @@ use ra_history_text::{CheckFault, Outcome, Session, check_session, status, write
 use ra_labels::NoMemory;
 use ra_lines::reply::put_end;
 use ra_monitor::Report;
-use ra_pages::{Case, No, Stop, put_html, put_json, put_page, put_sequence, put_svg};
+use ra_pages::{Case, No, put_json, put_sequence};
+use ra_pictures::{put_html, put_page, put_svg};
 use ra_program::{Ending, stop};
+use ra_stops::Stop;
 use std::alloc::Global;
 use std::io;
 use std::io::{Read, Write};

@@ -78,17 +78,57 @@ fn agrees(list: &ElementList, plain: &[Plain], marks: &[bool]) -> bool {
     true
 }
 
-// So many elements with their number added to 1,000, behind such anchors, with stamps that rise or that scatter.
+// What a list is compared with: the plain list, and marks of all elements and of some.
+struct Beside {
+    plain: Vec<Plain>,
+    all: Vec<bool>,
+    some: Vec<bool>,
+}
+
+impl Drop for Beside {
+    fn drop(self) {
+        let Beside {
+            plain: _,
+            all: _,
+            some: _,
+        } = self;
+    }
+}
+
+// With the root alone.
+fn root_alone(alloc: Global) -> Result<Beside, NoMemory> {
+    let root = Plain {
+        number: ROOT,
+        stamp: LOWEST,
+    };
+    Ok(Beside {
+        plain: vec![in alloc; root]?,
+        all: vec![in alloc; true]?,
+        some: vec![in alloc; true]?,
+    })
+}
+
+// Does a list agree that has so many elements with their number added to 1,000, behind such anchors, with stamps that
+// rise or that scatter?
 fn grown(alloc: Global, count: u32, anchors: Anchors, spread: u32) -> Result<bool, NoMemory> {
     let mut list = ElementList::new(alloc)?;
-    let mut plain = vec![in alloc;
-        Plain {
-            number: ROOT,
-            stamp: LOWEST
-        },
-    ]?;
-    let mut all = vec![in alloc; true]?;
-    let mut some = vec![in alloc; true]?;
+    let mut kept = root_alone(alloc)?;
+    let grown = grow(&mut list, &mut kept, count, anchors, spread);
+    Ok(
+        grown?
+            && agrees(&list, kept.plain.as_slice(), kept.all.as_slice())
+            && agrees(&list, kept.plain.as_slice(), kept.some.as_slice()),
+    )
+}
+
+// Is each of them put in?
+fn grow(
+    list: &mut ElementList,
+    kept: &mut Beside,
+    count: u32,
+    anchors: Anchors,
+    spread: u32,
+) -> Result<bool, NoMemory> {
     let mut seed: u32 = 7;
     for number in 1..count {
         seed = seed.wrapping_mul(1_664_525).wrapping_add(1_013_904_223);
@@ -102,17 +142,14 @@ fn grown(alloc: Global, count: u32, anchors: Anchors, spread: u32) -> Result<boo
             Anchors::Root => ROOT,
             Anchors::Scattered => (seed >> 4) % number,
         };
-        if !insert(&mut list, number.wrapping_add(1_000), stamp, anchor)? {
+        if !insert(list, number.wrapping_add(1_000), stamp, anchor)? {
             return Ok(false);
         }
-        put(&mut plain, Plain { number, stamp }, anchor)?;
-        all.push(true)?;
-        some.push(number % 5 == 0)?;
+        put(&mut kept.plain, Plain { number, stamp }, anchor)?;
+        kept.all.push(true)?;
+        kept.some.push(number % 5 == 0)?;
     }
-    Ok(
-        agrees(&list, plain.as_slice(), all.as_slice())
-            && agrees(&list, plain.as_slice(), some.as_slice()),
-    )
+    Ok(true)
 }
 
 #[test]
@@ -126,35 +163,24 @@ fn elements_stand_as_in_a_plain_list(rt: HostRuntime) {
 }
 
 // Two children of the root, the later one first.
-fn two_children(alloc: Global) -> Result<bool, NoMemory> {
-    let mut list = ElementList::new(alloc)?;
-    let first = insert(
-        &mut list,
-        10,
-        Stamp {
-            clock: 1,
-            replica: 0,
-        },
-        ROOT,
-    )?;
-    let second = insert(
-        &mut list,
-        20,
-        Stamp {
-            clock: 2,
-            replica: 1,
-        },
-        ROOT,
-    )?;
+fn two_children(list: &mut ElementList) -> Result<bool, NoMemory> {
+    for (element, clock) in [(10, 1), (20, 2)] {
+        if !insert(list, element, Stamp { clock, replica: 0 }, ROOT)? {
+            return Ok(false);
+        }
+    }
     if list.len() != 3 {
         return Ok(false);
     }
     let looked_up = list.number_of(20) == Some(2) && list.number_of(30) == None;
     let told = list.element(1) == 10 && list.stamp(2).clock == 2 && list.anchor(2) == ROOT;
-    Ok(first && second && looked_up && told && list.is_youngest(2) && !list.is_youngest(1))
+    Ok(looked_up && told && list.is_youngest(2) && !list.is_youngest(1))
 }
 
 #[test]
 fn the_later_of_two_children_comes_first(rt: HostRuntime) {
-    assert!(rt; two_children(rt.alloc()) == Ok(true));
+    match ElementList::new(rt.alloc()) {
+        Ok(mut list) => assert!(rt; two_children(&mut list) == Ok(true)),
+        Err(_) => panic!(rt; "no memory"),
+    }
 }

@@ -8,16 +8,37 @@ use ra_replica_list::ReplicaList;
 use std::alloc::Global;
 use std::process::Abort;
 
-fn list_of(rt: &impl Abort, alloc: Global) -> ReplicaList {
+// The list of a replica, and that of all elements. Each is let go by one call, and not part by part where a test ends.
+struct Own {
+    list: ReplicaList,
+}
+
+struct All {
+    list: ElementList,
+}
+
+impl Drop for Own {
+    fn drop(self) {
+        let Own { list: _ } = self;
+    }
+}
+
+impl Drop for All {
+    fn drop(self) {
+        let All { list: _ } = self;
+    }
+}
+
+fn list_of(rt: &impl Abort, alloc: Global) -> Own {
     match ReplicaList::new(alloc) {
-        Ok(list) => list,
+        Ok(list) => Own { list },
         Err(_) => panic!(rt; "no memory"),
     }
 }
 
-fn all_of(rt: &impl Abort, alloc: Global) -> ElementList {
+fn all_of(rt: &impl Abort, alloc: Global) -> All {
     match ElementList::new(alloc) {
-        Ok(list) => list,
+        Ok(list) => All { list },
         Err(_) => panic!(rt; "no memory"),
     }
 }
@@ -70,9 +91,9 @@ fn remove_own(
 }
 
 // A list for a replica that joins from the one of this list.
-fn copy_of(rt: &impl Abort, list: &ReplicaList) -> ReplicaList {
+fn copy_of(rt: &impl Abort, list: &ReplicaList) -> Own {
     match list.copy() {
-        Ok(copy) => copy,
+        Ok(list) => Own { list },
         Err(_) => panic!(rt; "no memory"),
     }
 }
@@ -88,78 +109,140 @@ fn shows(list: &ReplicaList, elements: Vec<u32>) -> bool {
 // Each element stands behind the one before it, and each third is removed; and the list is copied.
 #[test]
 fn labels_of_its_own_lead_to_a_state(rt: HostRuntime) {
-    let mut list = list_of(&rt, rt.alloc());
     let mut all = all_of(&rt, rt.alloc());
-    let mut shown = Vec::new(rt.alloc());
+    let mut own = list_of(&rt, rt.alloc());
+    let shown = grown(&rt, rt.alloc(), &mut own.list, &mut all.list);
+    assert_eq!(rt; own.list.greatest().clock, 1_999);
+    assert!(rt; shows(&copy_of(&rt, &own.list).list, shown));
+}
+
+// The list grows so; the elements that stay.
+fn grown(
+    rt: &impl Abort,
+    alloc: Global,
+    list: &mut ReplicaList,
+    all: &mut ElementList,
+) -> Vec<u32> {
+    let mut shown = Vec::new(alloc);
     for number in 1..2_000u32 {
         let element = number.wrapping_add(1_000);
         let stamp = Stamp {
             clock: number,
             replica: 1,
         };
-        let steps = put(&rt, &mut list, &mut all, number, element, stamp, number - 1);
+        let steps = put(rt, list, all, number, element, stamp, number - 1);
         assert_eq!(rt; steps, 1);
         if number % 3 != 0 {
             assert!(rt; shown.push(element).is_ok());
         } else {
-            assert_eq!(rt; remove_own(&rt, &mut list, &all, number, number), 1);
+            assert_eq!(rt; remove_own(rt, list, all, number, number), 1);
         }
     }
-    assert_eq!(rt; list.greatest().clock, 1_999);
-    assert!(rt; shows(&copy_of(&rt, &list), shown));
+    shown
+}
+
+// What a replica issues with a label: an element that is put in behind an anchor at a clock, or one that is removed.
+#[derive(Clone, Copy)]
+enum Act {
+    Put {
+        element: u32,
+        clock: u32,
+        anchor: u32,
+    },
+    Remove(u32),
+}
+
+// The replica issues these, each with its label and the number of steps that it takes.
+fn are_issued(
+    rt: &impl Abort,
+    list: &mut ReplicaList,
+    all: &mut ElementList,
+    replica: u8,
+    acts: &[(u32, Act, u64)],
+) {
+    for (label, act, steps) in acts {
+        let taken = match *act {
+            Act::Put {
+                element,
+                clock,
+                anchor,
+            } => put(
+                rt,
+                list,
+                all,
+                *label,
+                element,
+                Stamp { clock, replica },
+                anchor,
+            ),
+            Act::Remove(number) => remove_own(rt, list, all, *label, number),
+        };
+        assert_eq!(rt; taken, *steps);
+    }
+}
+
+const FIRST: Act = Act::Put {
+    element: 10,
+    clock: 1,
+    anchor: ROOT,
+};
+
+const BEHIND_IT: Act = Act::Put {
+    element: 20,
+    clock: 2,
+    anchor: 1,
+};
+
+const ANOTHER: Act = Act::Put {
+    element: 30,
+    clock: 3,
+    anchor: ROOT,
+};
+
+#[test]
+fn a_new_list_shows_nothing(rt: HostRuntime) {
+    let own = list_of(&rt, rt.alloc());
+    assert_eq!(rt; own.list.greatest(), LOWEST);
+    assert!(rt; shows(&own.list, Vec::new(rt.alloc())));
 }
 
 // Of two replicas the second has nothing of what the first one issued, and issues labels on an element of it.
 #[test]
 fn labels_wait_for_what_is_not_there(rt: HostRuntime) {
-    let mut first = list_of(&rt, rt.alloc());
-    let mut second = list_of(&rt, rt.alloc());
     let mut all = all_of(&rt, rt.alloc());
-    assert_eq!(rt; second.greatest(), LOWEST);
-    assert!(rt; shows(&second, Vec::new(rt.alloc())));
-    let stamp = Stamp {
-        clock: 1,
-        replica: 0,
-    };
-    assert_eq!(rt; put(&rt, &mut first, &mut all, 0, 10, stamp, ROOT), 1);
-    let later = Stamp {
-        clock: 2,
-        replica: 1,
-    };
-    assert_eq!(rt; put(&rt, &mut second, &mut all, 1, 20, later, 1), 0);
-    assert_eq!(rt; remove_own(&rt, &mut second, &all, 2, 1), 0);
-    assert_eq!(rt; second.greatest(), later);
-    assert!(rt; second.state().is_none());
-    let Ok(shown) = vec![in rt.alloc(); 10] else {
-        panic!(rt; "no memory");
-    };
-    assert!(rt; shows(&first, shown));
+    let mut first = list_of(&rt, rt.alloc());
+    are_issued(&rt, &mut first.list, &mut all.list, 0, &[(0, FIRST, 1)]);
+    let mut second = list_of(&rt, rt.alloc());
+    let waiting = [(1, BEHIND_IT, 0), (2, Act::Remove(1), 0)];
+    are_issued(&rt, &mut second.list, &mut all.list, 1, &waiting);
+    assert_eq!(rt; second.list.greatest().clock, 2);
+    assert!(rt; second.list.state().is_none());
+    assert!(rt; shows(&first.list, list_of_one(&rt, rt.alloc(), 10)));
+}
+
+fn list_of_one(rt: &impl Abort, alloc: Global, element: u32) -> Vec<u32> {
+    match vec![in alloc; element] {
+        Ok(list) => list,
+        Err(_) => panic!(rt; "no memory"),
+    }
 }
 
 // A replica joins from one that has a label that waits: that one waits at the new one too, whose own labels leave the
 // other one as it was.
 #[test]
 fn those_that_wait_wait_at_a_replica_that_joins(rt: HostRuntime) {
-    let mut list = list_of(&rt, rt.alloc());
     let mut all = all_of(&rt, rt.alloc());
     let stamp = Stamp {
         clock: 1,
         replica: 0,
     };
-    assert!(rt; insert(&mut all, 10, stamp, ROOT) == Ok(true));
-    let later = Stamp {
-        clock: 2,
-        replica: 1,
-    };
-    assert_eq!(rt; put(&rt, &mut list, &mut all, 1, 20, later, 1), 0);
-    let mut copy = copy_of(&rt, &list);
-    assert!(rt; copy.state().is_none());
-    let own = Stamp {
-        clock: 3,
-        replica: 2,
-    };
-    assert_eq!(rt; put(&rt, &mut copy, &mut all, 2, 30, own, ROOT), 1);
-    assert!(rt; copy.state().is_none());
-    assert_eq!(rt; copy.greatest(), own);
-    assert_eq!(rt; list.greatest(), later);
+    assert!(rt; insert(&mut all.list, 10, stamp, ROOT) == Ok(true));
+    let mut own = list_of(&rt, rt.alloc());
+    are_issued(&rt, &mut own.list, &mut all.list, 1, &[(1, BEHIND_IT, 0)]);
+    let mut copy = copy_of(&rt, &own.list);
+    assert!(rt; copy.list.state().is_none());
+    are_issued(&rt, &mut copy.list, &mut all.list, 2, &[(2, ANOTHER, 1)]);
+    assert!(rt; copy.list.state().is_none());
+    assert_eq!(rt; copy.list.greatest().clock, 3);
+    assert_eq!(rt; own.list.greatest().clock, 2);
 }

@@ -11,9 +11,6 @@ ghost use Rattle.ra_journal.specs.Log.{last_ticket_of, unstepped};
 ghost use Rattle.ra_witness.specs.Sequence.{ref_of};
 ghost use Rattle.ra_monitor.specs.Replies.{is_yes, is_refused};
 
-#[cfg(test)]
-mod tests;
-
 use crate::faults::NewFault;
 use crate::history::History;
 use crate::report::Report;
@@ -122,6 +119,12 @@ impl Monitor {
         ensures { result ≡ had (records_of self.now.setup self.now.log) replica label }
     {
         self.history.had(replica, label)
+    }
+
+    /// How many updates were made so far, at the label's own replica and where it was delivered: what time goes with,
+    /// as `ra_witness` has it (`counted`, `few_steps`). No more than 2^64 - 1 are counted. It takes no memory.
+    pub fn steps(&self) -> u64 {
+        self.history.witness.steps()
     }
 
     /// How many entries can be logged without a growth, as far as the limit lets them. It takes no memory.

@@ -1,6 +1,6 @@
-//! What operations told.
-use crate::put::{put, put_size};
+//! What operations told, and what they need.
 use ra_labels::{NoMemory, Op};
+use ra_layout::{put, put_size};
 use ra_lines::number::put_number;
 
 /// The most elements of a list that stand in a page.
@@ -11,6 +11,15 @@ pub fn elements_of(op: &Op) -> &[u32] {
     match op {
         Op::LwwRead(list) | Op::OrRead(list) | Op::OrRemove { ids: list, .. } => list.as_slice(),
         _ => &[],
+    }
+}
+
+/// The element of a list that the operation needs: behind which it puts another one in, or which it takes out.
+pub fn needed_by(op: &Op) -> Option<u32> {
+    match op {
+        Op::After { anchor, .. } => Some(*anchor),
+        Op::RgaRemove(element) => Some(*element),
+        _ => None,
     }
 }
 

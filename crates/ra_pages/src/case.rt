@@ -1,7 +1,6 @@
 //! A history that is explained.
 ghost use Rattle.std.specs.Prelude.{◌≡◌, IfOk, MatchOption, None, Some, slice_get};
 
-use ra_explain::Places;
 use ra_journal::Entry;
 use ra_labels::{Command, NoMemory, Op, Reply};
 use ra_lines::Names;
@@ -82,3 +81,5 @@ impl<'a> Case<'a> {
         }
     }
 }
+
+use ra_explain::Places;

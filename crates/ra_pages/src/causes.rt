@@ -1,9 +1,10 @@
 //! A clock that stands against what was seen, and an update that does not fit.
 use crate::case::Case;
 use crate::no::No;
-use crate::put::{put, put_head, put_label, put_line, put_name};
+use crate::put::{put_label, put_line, put_name};
 use ra_explain::{LabelsThat, labels_that};
 use ra_labels::{Command, NoMemory, Op, Reply, Stamp};
+use ra_layout::{put, put_head};
 use ra_lines::number::put_number;
 
 /// Puts the latest label that this one sees and whose clock is above its own, and how it came to be seen.

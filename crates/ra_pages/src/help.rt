@@ -1,9 +1,10 @@
 //! What would make a label right.
 use crate::case::Case;
 use crate::no::No;
-use crate::put::{put, put_count, put_head, put_label, put_line, put_name, put_size, small};
+use crate::put::{put_label, put_line, put_name};
 use ra_explain::{Change, changes_that_help, got_last};
 use ra_labels::{Command, Kind, NoMemory};
+use ra_layout::{put, put_count, put_head, put_size, small};
 use std::alloc::Global;
 
 /// The most changes of each sort that are tried of a list, whose order is a matter of many updates.

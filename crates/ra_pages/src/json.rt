@@ -2,10 +2,11 @@
 use crate::case::Case;
 use crate::help::Help;
 use crate::no::No;
-use crate::put::{put, put_line_number, put_name, put_size};
+use crate::put::{put_line_number, put_name};
 use ra_explain::{Change, LabelsThat, labels_that};
 use ra_history_writer::spelling::put_command;
 use ra_labels::{NoMemory, Reply};
+use ra_layout::{put, put_size};
 use ra_lines::number::put_number;
 use ra_lines::reply::cause_word;
 use ra_monitor::Report;

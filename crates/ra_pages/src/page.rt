@@ -1,42 +1,18 @@
-//! The page in words.
+//! What there is to say, in words.
 use crate::case::Case;
 use crate::causes::{put_order, put_update};
-use crate::drawing::Picture;
 use crate::help::put_help;
 use crate::no::No;
-use crate::picture::put_picture;
-use crate::put::{put, put_act, put_head, put_line};
+use crate::put::{put_act, put_line};
 use crate::query::put_query;
 use crate::seen::put_seen;
 use crate::yes::{put_refused, put_yes};
 use ra_labels::{Cause, NoMemory};
+use ra_layout::{put, put_cut, put_head};
 use ra_lines::number::put_numbered;
 use ra_monitor::Report;
 
-/// How many characters a line has at most, and how many of them where it is cut: two points stand behind these.
-const WIDEST: usize = 100;
-
-const CUT: usize = 98;
-
-/// Puts what there is to say of a checked history behind the line with which the check ends: the words, and of a no the
-/// picture.
-pub fn put_page(
-    out: &mut Vec<u8>,
-    case: &Case<'_>,
-    report: &Report,
-    no: Option<&No<'_>>,
-) -> Result<(), NoMemory> {
-    put_words(out, case, report, no)?;
-    match no {
-        Some(no) => {
-            let picture = Picture::of(*out.allocator(), case, no)?;
-            put_picture(out, case, no, &picture)
-        }
-        None => Ok(()),
-    }
-}
-
-/// Puts the words alone.
+/// Puts what there is to say of a checked history.
 pub fn put_words(
     out: &mut Vec<u8>,
     case: &Case<'_>,
@@ -52,23 +28,6 @@ pub fn put_words(
         None => put_yes(&mut words, case, report)?,
     }
     put_cut(out, &words)
-}
-
-/// Puts the lines, of which long ones are cut.
-pub fn put_cut(out: &mut Vec<u8>, lines: &[u8]) -> Result<(), NoMemory> {
-    let mut column: usize = 0;
-    for byte in lines {
-        if *byte == b'\n' {
-            out.push(b'\n')?;
-            column = 0;
-        } else {
-            if column < WIDEST {
-                out.push(if column < CUT { *byte } else { b'.' })?;
-            }
-            column = column.saturating_add(1);
-        }
-    }
-    Ok(())
 }
 
 fn put_no(out: &mut Vec<u8>, case: &Case<'_>, no: &No<'_>) -> Result<(), NoMemory> {

@@ -2,6 +2,7 @@
 use crate::case::Case;
 use ra_history_writer::spelling::put_command;
 use ra_labels::{Command, NoMemory};
+use ra_layout::put;
 use ra_lines::number::{put_number, put_numbered};
 
 /// The most bytes of a command's line that stand in a page.
@@ -9,20 +10,6 @@ const WIDTH: usize = 72;
 
 /// How many lines of a text stand before its first command, and the numbers of lines count from 1.
 const LINES_BEFORE: u32 = 3;
-
-/// Puts the words.
-pub fn put(out: &mut Vec<u8>, words: &str) -> Result<(), NoMemory> {
-    Ok(out.extend_from_slice(words.as_bytes())?)
-}
-
-/// Puts the words, and spaces behind them up to the column at which the facts of a page begin.
-pub fn put_head(out: &mut Vec<u8>, words: &str) -> Result<(), NoMemory> {
-    put(out, words)?;
-    for _ in words.len()..16 {
-        out.push(b' ')?;
-    }
-    Ok(())
-}
 
 /// Puts the name of the replica, if it has one.
 pub fn put_name(out: &mut Vec<u8>, case: &Case<'_>, replica: u8) -> Result<(), NoMemory> {
@@ -68,24 +55,4 @@ pub fn put_label(out: &mut Vec<u8>, case: &Case<'_>, label: u32) -> Result<(), N
         put_act(out, case, &entry.command)?;
     }
     put(out, ")")
-}
-
-/// Puts the number, and behind it the word for one or for several.
-pub fn put_count(out: &mut Vec<u8>, count: u32, one: &str, several: &str) -> Result<(), NoMemory> {
-    put_number(out, count)?;
-    put(out, if count == 1 { one } else { several })
-}
-
-/// Puts the number of things in a list.
-pub fn put_size(out: &mut Vec<u8>, size: usize) -> Result<(), NoMemory> {
-    put_number(out, small(size))
-}
-
-/// The number in 32 bits, or the greatest of these.
-pub fn small(number: usize) -> u32 {
-    if number > u32::MAX as usize {
-        u32::MAX
-    } else {
-        number as u32
-    }
 }

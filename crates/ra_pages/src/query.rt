@@ -3,9 +3,10 @@ use crate::act::{elements_of, put_elements};
 use crate::case::Case;
 use crate::difference::place_between;
 use crate::no::No;
-use crate::put::{put, put_act, put_head, put_size};
+use crate::put::put_act;
 use crate::unmet::put_unmet;
 use ra_labels::{Command, NoMemory, Op};
+use ra_layout::{put, put_head, put_size};
 use ra_lines::number::put_number;
 
 /// From which place on the elements round it are told, and how many of them stand before it.

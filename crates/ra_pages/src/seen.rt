@@ -1,8 +1,9 @@
 //! What a label sees, and what a replica lacks.
 use crate::case::Case;
 use crate::no::No;
-use crate::put::{put, put_head, put_label, put_name, put_size};
+use crate::put::{put_label, put_name};
 use ra_labels::NoMemory;
+use ra_layout::{put, put_head, put_size};
 use ra_lines::number::{put_number, put_numbered};
 use std::alloc::Global;
 

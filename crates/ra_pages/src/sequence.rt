@@ -1,7 +1,8 @@
 //! The evidence itself: the sequence that linearizes the history.
 use crate::case::Case;
-use crate::put::{put, put_line_number};
+use crate::put::put_line_number;
 use ra_labels::NoMemory;
+use ra_layout::put;
 use ra_lines::number::put_number;
 use ra_monitor::Half;
 

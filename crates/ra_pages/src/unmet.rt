@@ -1,8 +1,10 @@
 //! An update that a label sees, without what it needs.
+use crate::act::needed_by;
 use crate::case::Case;
 use crate::no::No;
-use crate::put::{put, put_head, put_label};
-use ra_labels::{Command, NoMemory, Op};
+use crate::put::put_label;
+use ra_labels::{NoMemory, Op};
+use ra_layout::{put, put_head};
 use ra_lines::number::put_numbered;
 use std::alloc::Global;
 
@@ -40,11 +42,7 @@ fn insertions_among(
 
 // The element that the label needs, and the label that puts it in, where that one is missing.
 fn need_of(case: &Case<'_>, missing: &[(u32, u32)], label: u32) -> Option<(u32, u32)> {
-    let needed = match case.op(label)? {
-        Op::After { anchor, .. } => *anchor,
-        Op::RgaRemove(element) => *element,
-        _ => return None,
-    };
+    let needed = needed_by(case.op(label)?)?;
     match missing.binary_search_by_key(&needed, |insertion| insertion.0) {
         Ok(place) => missing.get(place).copied(),
         Err(_) => None,

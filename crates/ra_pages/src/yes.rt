@@ -1,8 +1,9 @@
 //! What a yes leaves open: updates that did not reach every replica, and lines that were refused.
 use crate::case::Case;
-use crate::put::{put, put_act, put_count, put_head, put_label, put_line, put_name, small};
+use crate::put::{put_act, put_label, put_line, put_name};
 use ra_explain::{LabelsThat, labels_that};
 use ra_labels::{Command, NoMemory, Op, Refusal, Reply, Stamp};
+use ra_layout::{put, put_count, put_head, small};
 use ra_lines::number::put_number;
 use ra_lines::reply::put_reply;
 use ra_monitor::Report;

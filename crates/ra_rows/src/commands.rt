@@ -102,12 +102,14 @@ pub fn stepped(
     step_by(rt, monitor, pass, ticket, command).ok()
 }
 
-// What the monitor tells without a growth: its report, how many replicas and entries there are, and the last ticket.
-fn told(monitor: &Monitor) -> (Report, u8, usize, Option<u64>) {
+// What the monitor tells without a growth: its report, how many replicas, entries and steps there are, and the last
+// ticket.
+fn told(monitor: &Monitor) -> (Report, u8, usize, u64, Option<u64>) {
     (
         monitor.report(),
         monitor.replicas(),
         monitor.log().len(),
+        monitor.steps(),
         monitor.last_ticket(),
     )
 }

@@ -55,8 +55,7 @@ impl Crossing {
         for round in 0..rounds {
             made.go_round(alloc, round)?;
         }
-        let labels = made.labels;
-        writeln!(made.replies, "end yes {labels}")?;
+        add_line(&mut made.replies, &["end yes "], made.labels)?;
         Ok(made)
     }
 
@@ -102,19 +101,32 @@ impl Crossing {
     // The operation becomes the label that this gives.
     fn operates(&mut self, name: &str, body: &str) -> Result<u32, AllocError> {
         let label = self.labels;
-        writeln!(self.text, "{name} {body}")?;
-        writeln!(self.replies, "ok {label}")?;
+        add(&mut self.text, &[name, " ", body, "\n"])?;
+        add_line(&mut self.replies, &["ok "], label)?;
         self.labels = label.saturating_add(1);
         self.calls = self.calls.saturating_add(1);
         Ok(label)
     }
 
     fn gets(&mut self, name: &str, label: u32) -> Result<(), AllocError> {
-        writeln!(self.text, "{name} got {label}")?;
-        writeln!(self.replies, "got {label}")?;
+        add_line(&mut self.text, &[name, " got "], label)?;
+        add_line(&mut self.replies, &["got "], label)?;
         self.calls = self.calls.saturating_add(1);
         Ok(())
     }
+}
+
+fn add(out: &mut String, words: &[&str]) -> Result<(), AllocError> {
+    for word in words {
+        out.push_str(word)?;
+    }
+    Ok(())
+}
+
+// The words, the number, and a line feed.
+fn add_line(out: &mut String, words: &[&str], number: u32) -> Result<(), AllocError> {
+    add(out, words)?;
+    writeln!(out, "{number}")
 }
 
 // What a does in a round, and b. The rounds put two new numbers in, and take them out, by turns; but the first two
@@ -133,22 +145,34 @@ fn updates_of(round: u32) -> (Update, Update) {
 
 // The body of a line. A register has what was put in and what was taken out both written.
 fn body(alloc: Global, kind: Kind, update: Update, clock: u64) -> Result<String, AllocError> {
-    match update {
-        Update::PutIn(number) => match kind {
-            Kind::Counter => String::from_str(alloc, "inc"),
-            Kind::Register => format!(in alloc; "write {number} @{clock}"),
-            Kind::LwwSet => format!(in alloc; "add {number} @{clock}"),
-            Kind::OrSet => format!(in alloc; "add {number} #{number}"),
-            Kind::Rga => format!(in alloc; "after 0 {number} @{clock}"),
-        },
-        Update::TakeOut(number) => match kind {
-            Kind::Counter => String::from_str(alloc, "dec"),
-            Kind::Register => format!(in alloc; "write {number} @{clock}"),
-            Kind::LwwSet => format!(in alloc; "remove {number} @{clock}"),
-            Kind::OrSet => format!(in alloc; "remove {number} #{number}"),
-            Kind::Rga => format!(in alloc; "remove {number}"),
-        },
+    match (kind, update) {
+        (Kind::Counter, Update::PutIn(_)) => String::from_str(alloc, "inc"),
+        (Kind::Counter, Update::TakeOut(_)) => String::from_str(alloc, "dec"),
+        (Kind::Register, Update::PutIn(number) | Update::TakeOut(number)) => {
+            marked(alloc, "write", number, '@', clock)
+        }
+        (Kind::LwwSet, Update::PutIn(number)) => marked(alloc, "add", number, '@', clock),
+        (Kind::LwwSet, Update::TakeOut(number)) => marked(alloc, "remove", number, '@', clock),
+        (Kind::OrSet, Update::PutIn(number)) => marked(alloc, "add", number, '#', number),
+        (Kind::OrSet, Update::TakeOut(number)) => marked(alloc, "remove", number, '#', number),
+        (Kind::Rga, Update::PutIn(number)) => marked(alloc, "after 0", number, '@', clock),
+        (Kind::Rga, Update::TakeOut(number)) => numbered(alloc, "remove", number),
     }
+}
+
+fn numbered(alloc: Global, word: &str, number: u64) -> Result<String, AllocError> {
+    format!(in alloc; "{word} {number}")
+}
+
+// With a clock or an identifier behind its mark.
+fn marked(
+    alloc: Global,
+    word: &str,
+    number: u64,
+    mark: char,
+    last: u64,
+) -> Result<String, AllocError> {
+    format!(in alloc; "{word} {number} {mark}{last}")
 }
 
 // What is read behind a round that took out, where this was b's update: at one clock b's stamp is the greater one. A
@@ -158,7 +182,7 @@ fn read_after(alloc: Global, kind: Kind, last: Update) -> Result<String, AllocEr
         Kind::Counter => String::from_str(alloc, "read 4"),
         Kind::Register => {
             let (Update::PutIn(number) | Update::TakeOut(number)) = last;
-            format!(in alloc; "read {number}")
+            numbered(alloc, "read", number)
         }
         Kind::LwwSet | Kind::OrSet => String::from_str(alloc, "read 1,2,3,4"),
         Kind::Rga => String::from_str(alloc, "read 4,3,2,1"),

@@ -3,9 +3,9 @@ use Rattle.std.specs.Prelude.{◌≡◌, ℕ, List, Option, Some, None, slice_ge
 use Rattle.ra_labels.specs.declared.command.Command.{Command}
 use Rattle.ra_labels.specs.declared.command.Command.TheVariants.{Operate, Deliver, Join, Verdict}
 use Rattle.ra_monitor.specs.Monitor.{MonitorEntry}
-use Rattle.ra_pages.specs.declared.drawing.Row.{Row}
-use Rattle.ra_pages.specs.declared.drawing.Row.TheVariants as row
-use Rattle.ra_pages.specs.declared.event.Event.{Event}
+use Rattle.ra_pictures.specs.declared.drawing.Row.{Row}
+use Rattle.ra_pictures.specs.declared.drawing.Row.TheVariants as row
+use Rattle.ra_pictures.specs.declared.event.Event.{Event}
 
 -- the replica at which a command happens
 abbrev pub replica_of : Command → Option ℕ

@@ -1,13 +1,12 @@
 //! The picture as a drawing in SVG.
-use crate::case::Case;
 use crate::drawing::{Column, Picture, Row};
 use crate::event::Event;
-use crate::no::No;
-use crate::put::{put, put_name, small};
 use ra_labels::NoMemory;
+use ra_layout::{put, small};
 use ra_lines::number::put_numbered;
 use ra_lines::reply::put_end;
 use ra_monitor::Report;
+use ra_pages::{Case, No, put_name};
 
 /// In points: where the first column and the first row stand, how far columns and rows are from one another, how far
 /// words stand from their column, and above their row.

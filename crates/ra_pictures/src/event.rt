@@ -1,15 +1,14 @@
 //! What a row of a picture says.
-ghost use Rattle.std.specs.Prelude.{IfOk, IfSome};
-ghost use Rattle.ra_pages.specs.Drawn.{IsOfLog, IsDrawn};
+ghost use Rattle.std.specs.Prelude.{◌≡◌, IfOk, IfSome};
+ghost use Rattle.ra_pictures.specs.Drawn.{IsOfLog, IsDrawn};
 
-use crate::case::Case;
 use crate::drawing::{Row, ends_of};
-use crate::no::No;
-use crate::put::{put, put_line};
 use ra_history_writer::spelling::put_command;
 use ra_journal::Entry;
 use ra_labels::{Command, NoMemory, Reply};
+use ra_layout::put;
 use ra_lines::number::{put_number, put_numbered};
+use ra_pages::{Case, No, put_line};
 use std::alloc::Global;
 
 /// What happened at a replica, or would have to.
@@ -32,6 +31,21 @@ pub struct Event {
 }
 
 impl Event {
+    // What happened at this place of the log and at this replica, of which nothing is said so far.
+    fn new(alloc: Global, place: u32, to: Option<u8>) -> Event
+        ensures { (result.place ≡ place) × (result.to ≡ to) }
+    {
+        Event {
+            head: Vec::new(alloc),
+            words: Vec::new(alloc),
+            from: None,
+            to,
+            place,
+            is_dashed: false,
+            is_asked: false,
+        }
+    }
+
     /// That of this row; none where entries are folded.
     pub fn of(
         alloc: Global,
@@ -63,17 +77,12 @@ impl Event {
             return Ok(None);
         };
         let (from, to) = ends_of(case, &entry.command);
-        let mut head = Vec::new(alloc);
-        put_line(&mut head, place)?;
-        Ok(Some(Event {
-            head,
-            words: words_of(alloc, case, entry)?,
-            from,
-            to,
-            place,
-            is_dashed,
-            is_asked: false,
-        }))
+        let mut event = Event::new(alloc, place, to);
+        put_line(&mut event.head, place)?;
+        put_words(&mut event.words, case, entry)?;
+        event.from = from;
+        event.is_dashed = is_dashed;
+        Ok(Some(event))
     }
 
     // The label in question, before the entry at this place.
@@ -84,25 +93,18 @@ impl Event {
         place: u32,
         is_dashed: bool,
     ) -> Result<Option<Event>, NoMemory> {
-        let mut head = Vec::new(alloc);
-        let mut words = Vec::new(alloc);
+        let mut event = Event::new(alloc, place, Some(no.replica));
         if is_dashed {
-            put(&mut head, "or here")?;
+            put(&mut event.head, "or here")?;
         } else {
-            put_line(&mut head, place)?;
+            put_line(&mut event.head, place)?;
         }
-        put_number(&mut words, no.fault.label)?;
-        put(&mut words, if is_dashed { ": " } else { "? " })?;
-        put_body(&mut words, case, no.command)?;
-        Ok(Some(Event {
-            head,
-            words,
-            from: None,
-            to: Some(no.replica),
-            place,
-            is_dashed,
-            is_asked: true,
-        }))
+        put_number(&mut event.words, no.fault.label)?;
+        put(&mut event.words, if is_dashed { ": " } else { "? " })?;
+        put_body(&mut event.words, case, no.command)?;
+        event.is_dashed = is_dashed;
+        event.is_asked = true;
+        Ok(Some(event))
     }
 
     // The delivery of this label just before the one in question.
@@ -112,40 +114,31 @@ impl Event {
         no: &No<'_>,
         label: u32,
     ) -> Result<Option<Event>, NoMemory> {
-        let mut head = Vec::new(alloc);
-        let mut words = Vec::new(alloc);
-        put(&mut head, "or with")?;
-        put_numbered(&mut words, b"has ", label)?;
-        Ok(Some(Event {
-            head,
-            words,
-            from: case.maker(label),
-            to: Some(no.replica),
-            place: no.place,
-            is_dashed: true,
-            is_asked: false,
-        }))
+        let mut event = Event::new(alloc, no.place, Some(no.replica));
+        put(&mut event.head, "or with")?;
+        put_numbered(&mut event.words, b"has ", label)?;
+        event.from = case.maker(label);
+        event.is_dashed = true;
+        Ok(Some(event))
     }
 }
 
-// What happened at the replica that has it: a label with its number, or what arrived.
-fn words_of(
-    alloc: Global,
+// Puts what happened at the replica that has it: a label with its number, or what arrived.
+fn put_words(
+    out: &mut Vec<u8>,
     case: &Case<'_>,
     entry: &Entry<Command, Reply>,
-) -> Result<Vec<u8>, NoMemory> {
-    let mut words = Vec::new(alloc);
+) -> Result<(), NoMemory> {
     match entry.reply {
-        Reply::Got(label) => put_numbered(&mut words, b"has ", label)?,
-        Reply::Joined(_) => put(&mut words, "joins")?,
+        Reply::Got(label) => put_numbered(out, b"has ", label),
+        Reply::Joined(_) => put(out, "joins"),
         Reply::Ok(label) => {
-            put_number(&mut words, label)?;
-            put(&mut words, ": ")?;
-            put_body(&mut words, case, &entry.command)?;
+            put_number(out, label)?;
+            put(out, ": ")?;
+            put_body(out, case, &entry.command)
         }
-        Reply::Yes(_) | Reply::No { .. } | Reply::Refused(_) => {}
+        Reply::Yes(_) | Reply::No { .. } | Reply::Refused(_) => Ok(()),
     }
-    Ok(words)
 }
 
 // The line of the command, without the name of its replica.

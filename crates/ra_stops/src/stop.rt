@@ -1,10 +1,8 @@
 //! A text that stops with a fault.
 use crate::field::{Trouble, in_command, in_first_line, in_names};
-use crate::html::{put_end, put_start};
-use crate::page::put_cut;
-use crate::put::{put, put_head};
 use ra_history_text::{CheckFault, Session};
 use ra_labels::{Fault, NoMemory};
+use ra_layout::{put, put_cut, put_end, put_head, put_start};
 use ra_lines::fields::Fields;
 use ra_lines::number::put_numbered;
 use ra_lines::reply::cause_word;

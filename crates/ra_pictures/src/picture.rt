@@ -1,11 +1,10 @@
 //! The picture in letters.
-use crate::case::Case;
 use crate::drawing::{Picture, Row};
 use crate::event::Event;
-use crate::no::No;
-use crate::put::{put, put_count};
 use ra_labels::NoMemory;
+use ra_layout::{put, put_count};
 use ra_lines::number::put_numbered;
+use ra_pages::{Case, No};
 
 /// Where the first column begins, how wide a page is, and how wide a column at most.
 const MARGIN: usize = 16;

@@ -1,12 +1,11 @@
 //! What stands in a picture: rows, one below the other, and columns, one for each replica that has a row.
 ghost use Rattle.std.specs.Prelude.{◌≡◌};
-ghost use Rattle.ra_pages.specs.Drawn.{replica_of};
+ghost use Rattle.ra_pictures.specs.Drawn.{replica_of};
 
-use crate::case::Case;
 use crate::chosen::places_of;
-use crate::no::No;
 use ra_explain::Change;
 use ra_labels::{Command, NoMemory, Reply};
+use ra_pages::{Case, No};
 use std::alloc::Global;
 
 /// The most replicas that have a column.

@@ -1,26 +1,12 @@
-//! The page as one HTML document, which stands alone: the words, the picture, and its rows as a table, for those who
-//! hear it.
-use crate::case::Case;
+//! The page as one HTML document: the words, the picture, and its rows as a table, for those who hear it.
 use crate::drawing::Picture;
 use crate::event::Event;
-use crate::no::No;
-use crate::page::put_words;
 use crate::picture::put_left_out;
-use crate::put::{put, put_name};
 use crate::svg::{put_answer, put_drawing};
 use ra_labels::NoMemory;
+use ra_layout::{put, put_end, put_escaped, put_start};
 use ra_monitor::Report;
-
-const HEAD: &str = "<!doctype html>\n<html lang=\"en\">\n<head>\n<meta charset=\"utf-8\">\n\
-<meta name=\"viewport\" content=\"width=device-width\">\n\
-<style>\
-:root{color-scheme:light dark}\
-body{font:16px/1.5 sans-serif;max-width:70em;margin:2em auto;padding:0 1em}\
-pre,td{font-family:monospace;font-size:14px}\
-pre{white-space:pre-wrap}\
-figure{margin:1em 0;overflow-x:auto}\
-td,th,caption{text-align:left;padding:0 1.5em 0 0}\
-</style>\n<title>";
+use ra_pages::{Case, No, put_name, put_words};
 
 /// Puts the document of a checked history, of which this is the no, if it is one.
 pub fn put_html(
@@ -54,33 +40,6 @@ fn put_figure(
     put(out, "<figcaption>")?;
     put_left_out(out, picture.left_out(case))?;
     put(out, "</figcaption></figure>\n")
-}
-
-/// Puts the end of the document.
-pub fn put_end(out: &mut Vec<u8>) -> Result<(), NoMemory> {
-    put(out, "</body>\n</html>\n")
-}
-
-/// Puts the document up to the words and with them.
-pub fn put_start(out: &mut Vec<u8>, title: &[u8], words: &[u8]) -> Result<(), NoMemory> {
-    put(out, HEAD)?;
-    put_escaped(out, title)?;
-    put(out, "</title>\n</head>\n<body>\n<h1>")?;
-    put_escaped(out, title)?;
-    put(out, "</h1>\n<pre>")?;
-    put_escaped(out, words.trim_ascii())?;
-    put(out, "</pre>\n")
-}
-
-fn put_escaped(out: &mut Vec<u8>, text: &[u8]) -> Result<(), NoMemory> {
-    for byte in text {
-        match *byte {
-            b'<' => put(out, "&lt;")?,
-            b'&' => put(out, "&amp;")?,
-            other => out.push(other)?,
-        }
-    }
-    Ok(())
 }
 
 fn put_table(

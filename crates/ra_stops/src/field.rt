@@ -1,5 +1,4 @@
 //! Which field of a line cannot be read, and what may stand there.
-use ra_labels::{Kind, NoMemory};
 use ra_lines::fields::Fields;
 use ra_lines::kind_line::kind_of_word;
 use ra_lines::number::{number, signed_number};
@@ -292,3 +291,5 @@ fn is_list(field: &[u8]) -> bool {
 fn is_number(field: &[u8]) -> bool {
     number(field).is_some()
 }
+
+use ra_labels::{Kind, NoMemory};

@@ -1,10 +1,7 @@
 //! Which entries of a log stand in a picture.
-use crate::case::Case;
-use crate::causes::delivery_of;
-use crate::difference::elements_between;
-use crate::no::No;
 use ra_explain::{Change, LabelsThat, labels_that};
 use ra_labels::{Command, NoMemory, Op, Reply};
+use ra_pages::{Case, No, delivery_of, elements_between, needed_by};
 use std::alloc::Global;
 
 /// The most entries of a short history, all of which are drawn, and of a longer one, of which others are folded. Five
@@ -67,15 +64,14 @@ fn add_changed(places: &mut Vec<u32>, case: &Case<'_>, no: &No<'_>) -> Result<()
     Ok(())
 }
 
-// The labels that put in what an update of a list names.
+// The labels that put in the element that is put in here again, and the one that is needed.
 fn add_needed(places: &mut Vec<u32>, case: &Case<'_>, op: &Op) -> Result<(), NoMemory> {
-    match op {
-        Op::After { anchor, element } => {
-            add_insertion(places, case, *element)?;
-            add_insertion(places, case, *anchor)
-        }
-        Op::RgaRemove(element) => add_insertion(places, case, *element),
-        _ => Ok(()),
+    if let Op::After { element, .. } = op {
+        add_insertion(places, case, *element)?;
+    }
+    match needed_by(op) {
+        Some(element) => add_insertion(places, case, element),
+        None => Ok(()),
     }
 }
 
@@ -120,12 +116,12 @@ fn add_updates(
     };
     let mut left = MOST_NAMING;
     let mut label = no.fault.label;
-    for _ in 0..no.fault.label {
-        label = label.saturating_sub(1);
-        if left > 0 && case.op(label).is_some_and(|op| is_update_of(op, element)) {
+    while label > 0 && left > 0 {
+        label -= 1;
+        if case.op(label).is_some_and(|op| is_update_of(op, element)) {
             add_label(places, case, label)?;
             add_arrival(places, case, no, label)?;
-            left = left.saturating_sub(1);
+            left -= 1;
         }
     }
     Ok(())
