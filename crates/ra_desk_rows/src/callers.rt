@@ -4,12 +4,11 @@ ghost use Rattle.std.specs.Prelude.{◌≡◌, ◌++◌, ◌∷◌, []};
 ghost use Rattle.ra_ticket.specs.Callers.{AreOfOneLock};
 ghost use Rattle.ra_desk.specs.Reports.{passes_of, AreOfOneDesk};
 
-use crate::desks::{got_the_first, is_full, register_of, reply_in, write};
+use crate::desks::{are_found, got_the_first, is_full, is_told, register_of, reply_in, write};
 use ra_desk::{DeskCloseFault, DeskReporter};
 use ra_journal::Entry;
 use ra_labels::{Command, Refusal, Reply};
 use ra_monitor::Monitor;
-use ra_ticket::Glance;
 use std::alloc::Global;
 use std::process::Abort;
 use std::sync::Wait;
@@ -70,12 +69,9 @@ fn two_threads_report_to_one_desk(rt: HostRuntime) {
         || accepted(&rt, &mut first, 0, 1_000),
         || accepted(&rt, &mut second, 1, 1_000),
     );
-    assert_eq!(rt; taken, (1_000, 1_000));
-    let all = Glance {
-        calls: 2_000,
-        fault: None,
-    };
-    assert_eq!(rt; (first.glance(), second.glance()), (all, all));
+    assert!(rt; taken.0 == 1_000 && taken.1 == 1_000);
+    are_found(&rt, first.glance(), 2_000, None);
+    are_found(&rt, second.glance(), 2_000, None);
 }
 
 // A glance finds what is there by now, and what it found before is no longer all.
@@ -83,8 +79,8 @@ fn two_threads_report_to_one_desk(rt: HostRuntime) {
 fn a_glance_finds_each_report(rt: HostRuntime) {
     let (mut first, mut second) = two_reporters(&rt, rt.alloc(), 10);
     for calls in 0..3 {
-        let found = Glance { calls, fault: None };
-        assert_eq!(rt; (first.glance(), second.glance()), (found, found));
+        are_found(&rt, first.glance(), calls, None);
+        are_found(&rt, second.glance(), calls, None);
         is_told(
             &rt,
             written(&rt, &mut first, 0, calls + 1),
@@ -98,7 +94,7 @@ fn reporters_that_meet_come_back_in_order(rt: HostRuntime) {
     let (mut first, second) = two_reporters(&rt, rt.alloc(), 10);
     is_told(&rt, reply_in(first.tell(&rt, write(0, 7))), Reply::Ok(0));
     let (first, second, calls) = first.meet(second);
-    assert_eq!(rt; (first.number(), second.number(), calls), (0, 1, 1));
+    assert!(rt; first.number() == 0 && second.number() == 1 && calls == 1);
 }
 
 // Room that was reserved before the desk is opened is there for its reports, and what they leave comes back.
@@ -144,10 +140,6 @@ fn a_closed_desk_has_its_log(rt: HostRuntime) {
     let monitor = closed(&rt, second);
     assert!(rt; monitor.log().len() == 2);
     are_in_turn(&rt, monitor.log());
-}
-
-fn is_told(rt: &impl Abort, reply: Option<Reply>, wanted: Reply) {
-    assert_eq!(rt; reply, Some(wanted));
 }
 
 // The reporter, which cannot be closed while another one is there.

@@ -2,13 +2,13 @@
 ghost use Rattle.std.specs.Prelude.{All, IfOk, IfSome};
 ghost use Rattle.ra_ticket.specs.Passes.{IsPassOf};
 
-use crate::desks::{Answer, counted};
+use crate::desks::{Answer, are_found, counted};
 use crate::lock::GREATEST;
 use crate::lock::threads::start_together;
 use ra_desk::Desk;
 use ra_labels::{Command, Refusal, Reply};
 use ra_monitor::Monitor;
-use ra_ticket::{CallFault, Glance, Pass};
+use ra_ticket::{CallFault, Pass};
 use std::alloc::{AllocError, Global};
 use std::process::Abort;
 use std::sync::Wait;
@@ -242,11 +242,7 @@ fn passes_on_threads_have_their_calls(rt: HostRuntime) {
         };
         assert_eq!(rt; told_to(asked.as_slice()), told);
         let mut pass = first_of(&rt, &desk, asked);
-        let all = Glance {
-            calls: told.replied(),
-            fault: None,
-        };
-        assert_eq!(rt; desk.glance(&mut pass), all);
+        are_found(&rt, desk.glance(&mut pass), told.replied(), None);
         match desk.close(pass) {
             Ok(monitor) => is_left(&rt, &monitor, told),
             Err(_) => panic!(rt; "not settled"),
@@ -257,10 +253,7 @@ fn passes_on_threads_have_their_calls(rt: HostRuntime) {
 // Three replicas were there first.
 fn is_left(rt: &impl Abort, monitor: &Monitor, told: Told) {
     let report = monitor.report();
-    assert_eq!(rt;
-        (report.calls, report.refused),
-        (told.replied(), told.there)
-    );
+    assert!(rt; report.calls == told.replied() && report.refused == told.there);
     assert_eq!(rt;
         u32::from(monitor.replicas()),
         told.joined.saturating_add(3)

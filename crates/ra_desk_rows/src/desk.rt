@@ -2,13 +2,15 @@
 
 ghost use Rattle.ra_ticket.specs.Passes.{IsPassOf};
 
-use crate::desks::{got_the_first, is_full, is_worn, last, opened, opened_again, reply_in, write};
+use crate::desks::{
+    are_found, got_the_first, is_full, is_told, is_worn, last, opened, opened_again, reply_in, write,
+};
 use crate::lock::GREATEST;
 use crate::lock::threads::last_pass;
 use ra_desk::Desk;
 use ra_labels::{Cause, Command, Reply};
 use ra_monitor::Monitor;
-use ra_ticket::{Glance, Pass};
+use ra_ticket::Pass;
 use std::process::Abort;
 use std::sync::Wait;
 
@@ -38,13 +40,16 @@ fn a_desk_answers_as_the_monitor(rt: HostRuntime) {
     let (desk, passes) = opened(&rt, rt.alloc(), 3, 4, 0);
     for mut pass in passes {
         let number = pass.number();
-        let is_well = match number {
-            0 => submitted(&rt, &desk, &mut pass, write(0, 7)) == Some(Reply::Ok(0)),
-            1 => submitted(&rt, &desk, &mut pass, got_the_first(1)) == Some(Reply::Got(0)),
-            2 => submitted(&rt, &desk, &mut pass, last(1, 7)) == Some(Reply::Ok(1)),
-            _ => is_full(desk.submit(&rt, &mut pass, Command::Verdict)),
+        let (command, wanted) = match number {
+            0 => (write(0, 7), Some(Reply::Ok(0))),
+            1 => (got_the_first(1), Some(Reply::Got(0))),
+            2 => (last(1, 7), Some(Reply::Ok(1))),
+            _ => (Command::Verdict, None),
         };
-        assert!(rt; is_well, "pass {number}");
+        match wanted {
+            Some(wanted) => is_told(&rt, submitted(&rt, &desk, &mut pass, command), wanted),
+            None => assert!(rt; is_full(desk.submit(&rt, &mut pass, command))),
+        }
     }
 }
 
@@ -54,7 +59,8 @@ fn one_pass_fills_a_desk_at_once(rt: HostRuntime) {
     let mut pass = last_pass(&rt, &desk, &mut passes);
     let first = attempted(&desk, &mut pass, Command::Verdict);
     let second = attempted(&desk, &mut pass, Command::Verdict);
-    assert_eq!(rt; (first, second), (Some(Reply::Yes(0)), Some(Reply::Yes(0))));
+    is_told(&rt, first, Reply::Yes(0));
+    is_told(&rt, second, Reply::Yes(0));
     assert!(rt; is_full(desk.try_submit(&mut pass, Command::Verdict)));
 }
 
@@ -68,7 +74,7 @@ fn passes_that_meet_see_what_neither_had_seen(rt: HostRuntime) {
     one_call_and_a_glance(&rt, &desk, &mut first);
     two_attempts(&rt, &desk, &mut second);
     let (first, third, calls) = desk.meet(first, third);
-    assert_eq!(rt; (calls, first.number(), third.number()), (3, 0, 2));
+    assert!(rt; calls == 3 && first.number() == 0 && third.number() == 2);
     match desk.close(third) {
         Ok(monitor) => assert_eq!(rt; monitor.log().len(), 3),
         Err(_) => panic!(rt; "not settled"),
@@ -79,12 +85,8 @@ fn one_call_and_a_glance<R: Abort + Wait>(rt: &R, desk: &Desk, pass: &mut Pass<M
     requires { IsPassOf desk.now pass.old }
     ensures { IsPassOf desk.now pass.new }
 {
-    assert_eq!(rt; submitted(rt, desk, pass, write(0, 7)), Some(Reply::Ok(0)));
-    let one = Glance {
-        calls: 1,
-        fault: None,
-    };
-    assert_eq!(rt; desk.glance(pass), one);
+    is_told(rt, submitted(rt, desk, pass, write(0, 7)), Reply::Ok(0));
+    are_found(rt, desk.glance(pass), 1, None);
 }
 
 fn two_attempts(rt: &impl Abort, desk: &Desk, pass: &mut Pass<Monitor>)
@@ -92,7 +94,8 @@ fn two_attempts(rt: &impl Abort, desk: &Desk, pass: &mut Pass<Monitor>)
 {
     let first = attempted(desk, pass, got_the_first(1));
     let second = attempted(desk, pass, last(1, 7));
-    assert_eq!(rt; (first, second), (Some(Reply::Got(0)), Some(Reply::Ok(1))));
+    is_told(rt, first, Reply::Got(0));
+    is_told(rt, second, Reply::Ok(1));
 }
 
 // A worn desk answers a glance as ever.
@@ -101,13 +104,9 @@ fn a_desk_is_worn_after_the_greatest_ticket(rt: HostRuntime) {
     let (desk, mut passes) = opened(&rt, rt.alloc(), 100, 3, GREATEST);
     let mut pass = last_pass(&rt, &desk, &mut passes);
     let reply = submitted(&rt, &desk, &mut pass, Command::Verdict);
-    assert_eq!(rt; reply, Some(Reply::Yes(0)));
-    let one = Glance {
-        calls: 1,
-        fault: None,
-    };
+    is_told(&rt, reply, Reply::Yes(0));
     are_worn(&rt, &desk, &mut pass);
-    assert_eq!(rt; desk.glance(&mut pass), one);
+    are_found(&rt, desk.glance(&mut pass), 1, None);
 }
 
 // A call and an attempt are worn.
@@ -126,23 +125,19 @@ fn a_glance_tells_the_label_of_a_fault(rt: HostRuntime) {
     let mut other = last_pass(&rt, &desk, &mut passes);
     let mut pass = last_pass(&rt, &desk, &mut passes);
     fail(&rt, &desk, &mut pass);
-    let fault = Glance {
-        calls: 2,
-        fault: Some(1),
-    };
-    assert_eq!(rt; desk.glance(&mut other), fault);
+    are_found(&rt, desk.glance(&mut other), 2, Some(1));
 }
 
 // A read of what its replica has not got.
 fn fail<R: Abort + Wait>(rt: &R, desk: &Desk, pass: &mut Pass<Monitor>)
     requires { IsPassOf desk.now pass.old }
 {
-    assert_eq!(rt; submitted(rt, desk, pass, write(0, 7)), Some(Reply::Ok(0)));
+    is_told(rt, submitted(rt, desk, pass, write(0, 7)), Reply::Ok(0));
     let no = Reply::No {
         label: 1,
         cause: Cause::Query,
     };
-    assert_eq!(rt; submitted(rt, desk, pass, last(1, 7)), Some(no));
+    is_told(rt, submitted(rt, desk, pass, last(1, 7)), no);
 }
 
 // A write by a call that waits, or by an attempt: whether it was accepted.
@@ -180,7 +175,8 @@ fn write_again<R: Abort + Wait>(
     if is_written(rt, desk, pass, clock, waits) {
         return;
     }
-    assert_eq!(rt; (desk.glance(pass), desk.glance(other)), (before, before));
+    are_found(rt, desk.glance(pass), before.calls, before.fault);
+    are_found(rt, desk.glance(other), before.calls, before.fault);
     let went_on = submitted(rt, desk, other, Command::Verdict);
     assert!(rt; matches!(went_on, Some(Reply::Yes(_))));
     assert!(rt; is_written(rt, desk, pass, clock, waits));

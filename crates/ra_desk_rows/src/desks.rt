@@ -6,7 +6,7 @@ ghost use Rattle.ra_ticket.specs.Passes.{IsPassOf};
 use ra_desk::Desk;
 use ra_labels::{Command, Kind, Op, Reply};
 use ra_monitor::Monitor;
-use ra_ticket::{CallFault, Pass, TicketLock};
+use ra_ticket::{CallFault, Glance, Pass, TicketLock};
 use std::alloc::Global;
 use std::process::Abort;
 
@@ -41,6 +41,17 @@ pub fn register_of(rt: &impl Abort, alloc: Global, limit: u32) -> Monitor
         Ok(monitor) => monitor,
         Err(_) => panic!(rt; "no monitor"),
     }
+}
+
+/// The reply is this one. Compared in one place: wherever replies are compared, with words where they differ, that is
+/// proved anew.
+pub fn is_told(rt: &impl Abort, reply: Option<Reply>, wanted: Reply) {
+    assert_eq!(rt; reply, Some(wanted));
+}
+
+/// A glance found so many calls, and this fault.
+pub fn are_found(rt: &impl Abort, found: Glance, calls: u32, fault: Option<u32>) {
+    assert_eq!(rt; found, Glance { calls, fault });
 }
 
 /// A desk whose log may have this many entries, and its passes.

@@ -40,6 +40,21 @@ fn call<M: Journal, R: Wait>(
     lock.submit(rt, pass, command)
 }
 
+// It is answered so.
+fn is_answered<R: Wait + Abort>(
+    rt: &R,
+    lock: &TicketLock<Tally>,
+    pass: &mut Pass<Tally>,
+    command: u32,
+    wanted: Result<u32, CallFault<u32>>,
+)
+    requires { IsPassOf lock.now pass.old }
+    ensures { IsSamePass pass.old pass.new }
+{
+    let answer = call(rt, lock, pass, command);
+    assert_eq!(rt; answer, wanted);
+}
+
 // What a journal tells of itself, by the bound alone.
 fn told<M: Journal>(journal: &M) -> (u32, u32, Option<u32>, Option<u64>) {
     (
@@ -48,6 +63,19 @@ fn told<M: Journal>(journal: &M) -> (u32, u32, Option<u32>, Option<u64>) {
         journal.fault(),
         journal.last_ticket(),
     )
+}
+
+// The tally has two places, so many calls, this last ticket, and no fault.
+fn tells(rt: &impl Abort, tally: &Tally, calls: u32, last: Option<u64>) {
+    assert_eq!(rt; told(tally), (2, calls, None, last));
+}
+
+fn is_stepped(
+    rt: &impl Abort,
+    answer: Result<u32, StepFault<u32>>,
+    wanted: Result<u32, StepFault<u32>>,
+) {
+    assert_eq!(rt; answer, wanted);
 }
 
 // A tally whose drops nobody counts.
@@ -81,12 +109,12 @@ fn opened(
 #[test]
 fn a_tally_replies_its_total_and_logs_each_step(rt: HostRuntime) {
     let mut tally = tally_of(&rt, rt.alloc(), 2);
-    assert_eq!(rt; told(&tally), (2, 0, None, None));
-    assert_eq!(rt; tally.step(3, 0, 4_294_967_295), Ok(4_294_967_295));
-    assert_eq!(rt; told(&tally), (2, 1, None, Some(0)));
-    assert_eq!(rt; tally.step(1, 9, 5), Ok(4));
-    assert_eq!(rt; tally.step(1, 10, 6), Err(StepFault::Full(6)));
-    assert_eq!(rt; told(&tally), (2, 2, None, Some(9)));
+    tells(&rt, &tally, 0, None);
+    is_stepped(&rt, tally.step(3, 0, 4_294_967_295), Ok(4_294_967_295));
+    tells(&rt, &tally, 1, Some(0));
+    is_stepped(&rt, tally.step(1, 9, 5), Ok(4));
+    is_stepped(&rt, tally.step(1, 10, 6), Err(StepFault::Full(6)));
+    tells(&rt, &tally, 2, Some(9));
 }
 
 #[test]
@@ -117,9 +145,9 @@ fn the_greatest_ticket_is_served_and_then_the_lock_is_worn(rt: HostRuntime) {
     let tally = tally_of(&rt, rt.alloc(), 1_000);
     let (lock, mut passes) = opened(&rt, rt.alloc(), tally, 1, GREATEST);
     let mut pass = last_pass(&rt, &lock, &mut passes);
-    assert_eq!(rt; call(&rt, &lock, &mut pass, 5), Ok(5));
-    assert_eq!(rt; call(&rt, &lock, &mut pass, 6), Err(CallFault::Worn(6)));
-    assert_eq!(rt; call(&rt, &lock, &mut pass, 7), Err(CallFault::Worn(7)));
+    is_answered(&rt, &lock, &mut pass, 5, Ok(5));
+    is_answered(&rt, &lock, &mut pass, 6, Err(CallFault::Worn(6)));
+    is_answered(&rt, &lock, &mut pass, 7, Err(CallFault::Worn(7)));
 }
 
 // None, and one more than the most.
@@ -192,7 +220,7 @@ fn a_pass_that_has_seen_nothing_glances_each_call(rt: HostRuntime) {
     };
     let one = Glance { calls: 1, ..none };
     assert_eq!(rt; calls_seen(&lock, &mut pass), none);
-    assert_eq!(rt; call(&rt, &lock, &mut pass, 5), Ok(5));
+    is_answered(&rt, &lock, &mut pass, 5, Ok(5));
     assert_eq!(rt; calls_seen(&lock, &mut pass), one);
     assert_eq!(rt; calls_seen(&lock, &mut other), one);
 }
@@ -202,9 +230,9 @@ fn a_dropped_pass_harms_nobody(rt: HostRuntime) {
     let (lock, mut passes) = opened(&rt, rt.alloc(), tally_of(&rt, rt.alloc(), 9), 2, 0);
     let mut other = last_pass(&rt, &lock, &mut passes);
     let mut pass = last_pass(&rt, &lock, &mut passes);
-    assert_eq!(rt; call(&rt, &lock, &mut pass, 1), Ok(1));
+    is_answered(&rt, &lock, &mut pass, 1, Ok(1));
     drop(pass);
-    assert_eq!(rt; call(&rt, &lock, &mut other, 2), Ok(3));
+    is_answered(&rt, &lock, &mut other, 2, Ok(3));
 }
 
 // A lock that is not opened, one that is never used, and one that is used until it is full or worn.

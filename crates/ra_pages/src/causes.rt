@@ -45,7 +45,7 @@ pub fn delivery_of(case: &Case<'_>, replica: u8, wanted: u32) -> Option<u32> {
     let mut place: u32 = 0;
     for entry in case.log {
         if let Command::Deliver { replica: to, label } = &entry.command {
-            if *to == replica && *label == wanted && entry.reply == Reply::Got(wanted) {
+            if *to == replica && *label == wanted && matches!(entry.reply, Reply::Got(_)) {
                 return Some(place);
             }
         }

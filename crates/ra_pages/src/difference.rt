@@ -6,10 +6,10 @@ use ra_labels::Op;
 pub fn place_between(told: &[u32], right: &[u32]) -> usize {
     let mut place: usize = 0;
     for element in right {
-        if told.get(place) != Some(element) {
-            break;
+        match told.get(place) {
+            Some(other) if other == element => place = place.saturating_add(1),
+            _ => break,
         }
-        place = place.saturating_add(1);
     }
     place
 }

@@ -155,8 +155,9 @@ fn add_replica(replicas: &mut Vec<u8>, replica: Option<u8>) -> Result<(), NoMemo
 fn join_of(case: &Case<'_>, replica: u8) -> u32 {
     let mut place: u32 = 0;
     for entry in case.log {
-        if entry.reply == Reply::Joined(replica) {
-            return place;
+        match entry.reply {
+            Reply::Joined(joined) if joined == replica => return place,
+            _ => {}
         }
         place = place.saturating_add(1);
     }

@@ -143,6 +143,12 @@ pub fn reply_behind(
     panic!(rt; "no memory")
 }
 
+/// The command has this reply.
+pub fn is_told(rt: &impl Abort, reporter: &mut Reporter, command: Command, want: Reply) {
+    let reply = reply_to(rt, reporter, command);
+    assert_eq!(rt; reply, want);
+}
+
 /// The parts of the monitor's labels in their order.
 pub fn sequence_of(rt: &impl Abort, monitor: &Monitor) -> Vec<PartRef> {
     for _attempt in 0..ATTEMPTS {

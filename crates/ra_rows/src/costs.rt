@@ -1,6 +1,6 @@
 //! What deliveries cost, in updates that the monitor makes.
 
-use crate::commands::{bare, got, reply_to, reporter_of, stamped};
+use crate::commands::{bare, got, is_told, reporter_of, stamped};
 use ra_labels::{Command, Kind, Op, Reply};
 use ra_monitor::Reporter;
 use std::process::Abort;
@@ -11,17 +11,17 @@ fn a_late_write_costs_few_steps(rt: HostRuntime) {
     let mut reporter = reporter_of(&rt, rt.alloc(), Kind::Register, 3, 1_000);
     for value in 0..300 {
         let write = stamped(0, Op::Write(value), value + 2);
-        assert_eq!(rt; reply_to(&rt, &mut reporter, write), Reply::Ok(value));
+        is_told(&rt, &mut reporter, write, Reply::Ok(value));
     }
     let late = stamped(1, Op::Write(7), 1);
-    assert_eq!(rt; reply_to(&rt, &mut reporter, late), Reply::Ok(300));
+    is_told(&rt, &mut reporter, late, Reply::Ok(300));
     for label in 0..=300 {
         let most = if label < 300 { 64 } else { 364 };
         let steps = steps_of(&rt, &mut reporter, got(2, label), Reply::Got(label));
         assert!(rt; 1 <= steps && steps <= most, "{steps} steps at {label}");
     }
     let read = bare(2, Op::Last(Some(299)));
-    assert_eq!(rt; reply_to(&rt, &mut reporter, read), Reply::Ok(301));
+    is_told(&rt, &mut reporter, read, Reply::Ok(301));
 }
 
 // An RGA: b's updates wait at c for a's element, and then follow it, each by one step. a's own element is there at
@@ -55,7 +55,6 @@ fn after(replica: u8, anchor: u32, element: u32, clock: u32) -> Command {
 // How many updates are made for the command, which has this reply.
 fn steps_of(rt: &impl Abort, reporter: &mut Reporter, command: Command, want: Reply) -> u64 {
     let before = reporter.monitor().steps();
-    let reply = reply_to(rt, reporter, command);
-    assert_eq!(rt; reply, want);
+    is_told(rt, reporter, command, want);
     reporter.monitor().steps().saturating_sub(before)
 }

@@ -1,9 +1,6 @@
 //! Each public call of the libraries once, with ample memory.
 
-use crate::commands::{
-    bare, copy_of, counter_of, got, increment, read, reply_to, reporter_of, stamped, state_of,
-    stepped,
-};
+use crate::commands::{bare, copy_of, counter_of, got, increment, is_told, read, reporter_of, stamped, state_of, stepped};
 use ra_journal::StepFault;
 use ra_labels::{
     Cause, Command, Elements, Kind, NoMemory, Op, Query, Refusal, Reply, Update, fits,
@@ -45,12 +42,14 @@ fn a_register_and_a_set_are_copied(rt: HostRuntime) {
 #[test]
 fn a_monitor_is_told_three_things(rt: HostRuntime) {
     let mut monitor = counter_of(&rt, rt.alloc(), 2, 1_000);
-    let made = stepped(&rt, &mut monitor, 0, 0, increment(0));
-    let came = stepped(&rt, &mut monitor, 0, 1, got(1, 0));
-    let told = stepped(&rt, &mut monitor, 0, 2, read(1, 1));
-    assert_eq!(rt; made, Some(Reply::Ok(0)));
-    assert_eq!(rt; came, Some(Reply::Got(0)));
-    assert_eq!(rt; told, Some(Reply::Ok(1)));
+    for (ticket, command, want) in [
+        (0, increment(0), Reply::Ok(0)),
+        (1, got(1, 0), Reply::Got(0)),
+        (2, read(1, 1), Reply::Ok(1)),
+    ] {
+        let reply = stepped(&rt, &mut monitor, 0, ticket, command);
+        assert_eq!(rt; reply, Some(want));
+    }
 }
 
 #[test]
@@ -68,12 +67,12 @@ fn a_reporter_is_answered_as_the_monitor(rt: HostRuntime) {
         (Command::Verdict, Reply::Yes(2)),
         (read(2, 1), no),
     ] {
-        assert_eq!(rt; reply_to(&rt, &mut reporter, command), want);
+        is_told(&rt, &mut reporter, command, want);
     }
     assert!(rt; is_full(reporter.tell(Command::Verdict)));
     assert_eq!(rt; reporter.monitor().report().refused, 1);
     for (place, entry) in reporter.into_monitor().log().iter().enumerate() {
-        assert_eq!(rt; (entry.pass, entry.ticket), (0, place as u64));
+        assert!(rt; entry.pass == 0 && entry.ticket == place as u64);
     }
 }
 

@@ -1,6 +1,6 @@
 //! Replicas that join: worked histories of each kind, and as many as there can be.
 
-use crate::commands::{got, increment, read, reply_to, reporter_of};
+use crate::commands::{got, increment, is_told, read, reporter_of};
 use crate::rows::{NO_AT_ONE, Row, Say, are_answered};
 use ra_labels::{Cause, Command, Fault, Kind, Refusal, Reply};
 use std::process::Abort;
@@ -222,15 +222,12 @@ fn two_replicas_become_sixty_four(rt: HostRuntime) {
     for replica in 2..MOST {
         let issuer = replica - 1;
         let number = reporter.monitor().report().labels;
-        assert_eq!(rt;
-            reply_to(&rt, &mut reporter, increment(issuer)),
-            Reply::Ok(number)
-        );
+        is_told(&rt, &mut reporter, increment(issuer), Reply::Ok(number));
         let join = Command::Join {
             replica,
             from: issuer,
         };
-        assert_eq!(rt; reply_to(&rt, &mut reporter, join), Reply::Joined(replica));
+        is_told(&rt, &mut reporter, join, Reply::Joined(replica));
         assert_eq!(rt; reporter.monitor().replicas(), replica + 1);
     }
     // The replica from which it joins and the next number are asked for before there is no room.
@@ -241,14 +238,11 @@ fn two_replicas_become_sixty_four(rt: HostRuntime) {
         (255, 255, Refusal::UnknownReplica),
         (63, 0, Refusal::ReplicaThere),
     ] {
-        let reply = reply_to(&rt, &mut reporter, Command::Join { replica, from });
-        assert_eq!(rt; reply, Reply::Refused(why), "{replica} from {from}");
+        let join = Command::Join { replica, from };
+        is_told(&rt, &mut reporter, join, Reply::Refused(why));
     }
-    assert_eq!(rt; reply_to(&rt, &mut reporter, read(63, 62)), Reply::Ok(62));
-    assert_eq!(rt; reply_to(&rt, &mut reporter, read(0, 0)), Reply::Ok(63));
-    assert_eq!(rt;
-        reply_to(&rt, &mut reporter, got(0, 61)),
-        Reply::Refused(Refusal::NotCausal(0))
-    );
+    is_told(&rt, &mut reporter, read(63, 62), Reply::Ok(62));
+    is_told(&rt, &mut reporter, read(0, 0), Reply::Ok(63));
+    is_told(&rt, &mut reporter, got(0, 61), Reply::Refused(Refusal::NotCausal(0)));
     assert_eq!(rt; reporter.monitor().replicas(), 64);
 }

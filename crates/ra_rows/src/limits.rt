@@ -1,8 +1,6 @@
 //! Limits of a monitor, and histories of thousands.
 
-use crate::commands::{
-    counter_of, got, increment, read, reply_to, reporter_of, sequence_of, step_by, stepped,
-};
+use crate::commands::{counter_of, got, increment, is_told, read, reporter_of, sequence_of, step_by, stepped};
 use ra_journal::{Journal, StepFault};
 use ra_labels::{Command, Kind, Op, Refusal, Reply};
 use ra_monitor::{Half, Monitor, NewFault};
@@ -72,26 +70,17 @@ fn the_greatest_pass_ticket_and_replica_are_taken(rt: HostRuntime) {
 fn thousands_of_labels_are_taken(rt: HostRuntime) {
     let mut reporter = reporter_of(&rt, rt.alloc(), Kind::Counter, 16, 1_048_576);
     for number in 0..5_000u32 {
-        let reply = reply_to(&rt, &mut reporter, increment((number % 2) as u8));
-        assert_eq!(rt; reply, Reply::Ok(number));
+        let added = increment((number % 2) as u8);
+        is_told(&rt, &mut reporter, added, Reply::Ok(number));
         if number == 299 {
             stands_in_turn(&rt, reporter.monitor(), 300);
         }
     }
-    assert_eq!(rt;
-        reply_to(&rt, &mut reporter, got(2, 4_999)),
-        Reply::Refused(Refusal::NotCausal(1))
-    );
-    assert_eq!(rt; reply_to(&rt, &mut reporter, got(2, 1)), Reply::Got(1));
-    assert_eq!(rt; reply_to(&rt, &mut reporter, read(2, 1)), Reply::Ok(5_000));
-    assert_eq!(rt;
-        reply_to(&rt, &mut reporter, read(0, 2_500)),
-        Reply::Ok(5_001)
-    );
-    assert_eq!(rt;
-        reply_to(&rt, &mut reporter, Command::Verdict),
-        Reply::Yes(5_002)
-    );
+    is_told(&rt, &mut reporter, got(2, 4_999), Reply::Refused(Refusal::NotCausal(1)));
+    is_told(&rt, &mut reporter, got(2, 1), Reply::Got(1));
+    is_told(&rt, &mut reporter, read(2, 1), Reply::Ok(5_000));
+    is_told(&rt, &mut reporter, read(0, 2_500), Reply::Ok(5_001));
+    is_told(&rt, &mut reporter, Command::Verdict, Reply::Yes(5_002));
     stands_in_turn(&rt, reporter.monitor(), 5_002);
 }
 

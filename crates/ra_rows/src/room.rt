@@ -1,6 +1,6 @@
 //! Room for entries: what a monitor has reserved, it answers with.
 
-use crate::commands::{got, increment, read, reply_to, reporter_of};
+use crate::commands::{got, increment, is_told, read, reply_to, reporter_of};
 use ra_journal::Entry;
 use ra_labels::{Cause, Command, Kind, Refusal, Reply};
 use ra_monitor::Reporter;
@@ -41,7 +41,7 @@ fn what_is_reserved_is_answered(rt: HostRuntime) {
         is_answered(&rt, &mut reporter, got(1, 0), missing);
         is_answered(&rt, &mut reporter, Command::Verdict, Reply::Yes(0));
     }
-    assert_eq!(rt; reply_to(&rt, &mut reporter, increment(0)), Reply::Ok(0));
+    is_told(&rt, &mut reporter, increment(0), Reply::Ok(0));
     assert_eq!(rt; reply_to(&rt, &mut reporter, read(1, 1)), no);
     for command in [increment(0), increment(2), got(1, 0), Command::Verdict] {
         is_answered(&rt, &mut reporter, command, no);

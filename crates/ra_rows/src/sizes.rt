@@ -3,7 +3,7 @@
 ghost use Rattle.std.specs.Prelude.{◌≡◌, ◌+◌, ◌<◌, ◌≤◌, length};
 ghost use Rattle.ra_visibility.specs.Tracked.{labels_in, replicas_in};
 
-use crate::commands::{bare, copy_of, reply_to, reporter_of, sequence_of, stamped, state_of};
+use crate::commands::{bare, copy_of, is_told, reporter_of, sequence_of, stamped, state_of};
 use ra_labels::{Elements, Kind, Label, Op, Query, Refusal, Reply, Stamp, Update};
 use ra_monitor::{Monitor, Reporter};
 use ra_time_order::TimeOrder;
@@ -89,12 +89,10 @@ fn thousands_of_elements_are_put_in(rt: HostRuntime) {
     let all = put_in(&rt, rt.alloc(), &mut reporter);
     for (replica, clock) in [(0, 2), (0, 4_200), (1, 1), (1, 4_199)] {
         let add = stamped(replica, Op::LwwAdd(0), clock);
-        let reply = reply_to(&rt, &mut reporter, add);
-        assert_eq!(rt; reply, Reply::Refused(Refusal::StampTaken));
+        is_told(&rt, &mut reporter, add, Reply::Refused(Refusal::StampTaken));
     }
     let read = bare(0, Op::LwwRead(Elements::new(all)));
-    let reply = reply_to(&rt, &mut reporter, read);
-    assert_eq!(rt; reply, Reply::Ok(4_200));
+    is_told(&rt, &mut reporter, read, Reply::Ok(4_200));
     stand_by_turns(&rt, reporter.monitor());
 }
 
@@ -106,8 +104,7 @@ fn put_in(rt: &impl Abort, alloc: Global, reporter: &mut Reporter) -> Vec<u32> {
         let replica = (number / 2_100) as u8;
         let clock = 2 * (number % 2_100) + 2 - replica as u32;
         let add = stamped(replica, Op::LwwAdd(number ^ 1), clock);
-        let reply = reply_to(rt, reporter, add);
-        assert_eq!(rt; reply, Reply::Ok(number));
+        is_told(rt, reporter, add, Reply::Ok(number));
         if number < 2_100 && all.push(number).is_err() && all.push(number).is_err() {
             panic!(rt; "no memory");
         }

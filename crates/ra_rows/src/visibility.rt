@@ -67,6 +67,22 @@ fn delivered(
     }
 }
 
+fn is_delivered(
+    rt: &impl Abort,
+    tracker: &mut Tracker,
+    replica: u8,
+    label: u32,
+    wanted: Result<(), DeliverFault>,
+)
+    requires replica { replica < replicas_in tracker.old.now }
+    requires three { 2 < replicas_in tracker.old.now }
+    ensures labels { labels_in tracker.new.now ≡ labels_in tracker.old.now }
+    ensures replicas { replicas_in tracker.new.now ≡ replicas_in tracker.old.now }
+{
+    let got = delivered(rt, tracker, replica, label);
+    assert_eq!(rt; got, wanted);
+}
+
 fn tracker_of_three(rt: &impl Abort, alloc: Global) -> Tracker
     ensures labels { labels_in result.now ≡ 0 }
     ensures replicas { replicas_in result.now ≡ 3 }
@@ -83,20 +99,14 @@ fn tracker_of_three(rt: &impl Abort, alloc: Global) -> Tracker
 #[test]
 fn a_label_sees_first_updates_of_each_replica(rt: HostRuntime) {
     let mut tracker = tracker_of_three(&rt, rt.alloc());
-    let first = issued(&rt, &mut tracker, 0, true);
-    assert_eq!(rt; first, 0);
-    let got = delivered(&rt, &mut tracker, 1, 0);
-    assert_eq!(rt; got, Ok(()));
-    let second = issued(&rt, &mut tracker, 1, true);
-    assert_eq!(rt; second, 1);
-    let early = delivered(&rt, &mut tracker, 2, 1);
-    assert_eq!(rt; early, Err(DeliverFault::Refused(Refusal::NotCausal(0))));
-    let got = delivered(&rt, &mut tracker, 2, 0);
-    assert_eq!(rt; got, Ok(()));
-    let got = delivered(&rt, &mut tracker, 2, 1);
-    assert_eq!(rt; got, Ok(()));
-    let read = issued(&rt, &mut tracker, 2, false);
-    assert_eq!(rt; read, 2);
+    assert!(rt; issued(&rt, &mut tracker, 0, true) == 0);
+    is_delivered(&rt, &mut tracker, 1, 0, Ok(()));
+    assert!(rt; issued(&rt, &mut tracker, 1, true) == 1);
+    let early = DeliverFault::Refused(Refusal::NotCausal(0));
+    is_delivered(&rt, &mut tracker, 2, 1, Err(early));
+    is_delivered(&rt, &mut tracker, 2, 0, Ok(()));
+    is_delivered(&rt, &mut tracker, 2, 1, Ok(()));
+    assert!(rt; issued(&rt, &mut tracker, 2, false) == 2);
     let seen = tracker.vis(2);
     for (replica, count) in [(0, 1), (1, 1), (2, 0)] {
         assert_eq!(rt; seen.count(replica), count);
