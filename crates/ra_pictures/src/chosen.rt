@@ -115,9 +115,10 @@ fn add_updates(
         return Ok(());
     };
     let mut left = MOST_NAMING;
-    let mut label = no.fault.label;
-    while label > 0 && left > 0 {
-        label -= 1;
+    for label in (0..no.fault.label).rev() {
+        if left == 0 {
+            break;
+        }
         if case.op(label).is_some_and(|op| is_update_of(op, element)) {
             add_label(places, case, label)?;
             add_arrival(places, case, no, label)?;
