@@ -6,3 +6,4 @@ pub mod TheLaws
 pub mod RightAnswers
 pub mod Retold
 pub mod Ranges
+pub mod LastDeliveries

@@ -3,3 +3,4 @@ pub mod Sorts
 pub mod Changes
 pub mod Seen
 pub mod Right
+pub mod LastDeliveries

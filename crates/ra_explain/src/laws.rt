@@ -1,12 +1,16 @@
 //! Laws of a log with a fault, each the clause of a function that does nothing.
-ghost use Rattle.std.specs.Prelude.{◌≡◌, ℕ, ℤ, Bool, true, List, ◌∷◌, Option, Some, None};
+ghost use Rattle.std.specs.Prelude.{◌≡◌, ℕ, ℤ, Bool, true, not, ◌&&◌, List, ◌∷◌, Option, Some, None};
+ghost use Rattle.ra_labels.specs.declared.kind.Kind.{Kind};
 ghost use Rattle.ra_labels.specs.declared.operation.Op.{Op};
 ghost use Rattle.ra_labels.specs.declared.operation.Op.TheVariants as op;
 ghost use Rattle.ra_labels.specs.declared.command.Command.TheVariants.{Operate};
 ghost use Rattle.ra_labels.specs.declared.reply.Fault.{Fault};
-ghost use Rattle.ra_labels.specs.Lists.{identifiers_of, shown};
+ghost use Rattle.ra_labels.specs.Lists.{is_among, identifiers_of, shown};
 ghost use Rattle.ra_labels.specs.Records.{Records, label_count};
+ghost use Rattle.ra_labels.specs.Visibility.{had, sees, IsCausal};
+ghost use Rattle.ra_labels.specs.NamedOrder.{named_labels};
 ghost use Rattle.ra_labels.specs.Fault.{fault_of};
+ghost use Rattle.ra_explain.specs.LastDeliveries.{without, last_got};
 ghost use Rattle.ra_labels.specs.Specification.{Number, Written, Members, Pairs, Listed};
 ghost use Rattle.ra_seqspec.specs.Pairs.{distinct_elements};
 ghost use Rattle.ra_monitor.specs.declared.setup.Setup.{Setup};
@@ -55,4 +59,21 @@ pub fn a_change_that_helps_makes_the_label_hold()
         → let records = records_with setup change by before in
         (refusal_of setup.kind setup.replicas records (Operate by operation clock) ≡ None)
         × (fault_of setup.kind (Operate by operation clock ∷ records) ≡ None) }
+{}
+
+/// What reached a replica last matters to it alone. Without some of that, as far back as no label of its own and no
+/// replica that joined depends on it, other replicas had the same, the labels see the same and stand in the same order,
+/// and the first fault is the same; and the replica had all else that it had.
+pub fn what_a_replica_got_last_matters_to_it_alone()
+    ensures others { (by : ℕ) (left : ℕ → Bool) (records : Records) (replica n : ℕ) → ¬ (replica ≡ by)
+        → had (without by left records) replica n ≡ had records replica n }
+    ensures sight { (by : ℕ) (left : ℕ → Bool) (records : Records) (n m : ℕ)
+        → sees (without by left records) n m ≡ sees records n m }
+    ensures order { (kind : Kind) (by : ℕ) (left : ℕ → Bool) (records : Records)
+        → named_labels kind (without by left records) ≡ named_labels kind records }
+    ensures fault { (kind : Kind) (by : ℕ) (left : ℕ → Bool) (records : Records)
+        → fault_of kind (without by left records) ≡ fault_of kind records }
+    ensures own { (by : ℕ) (left : ℕ → Bool) (records : Records) (n : ℕ) → IsCausal records
+        → had (without by left records) by n
+        ≡ (had records by n && not (left n && is_among n (last_got by records))) }
 {}

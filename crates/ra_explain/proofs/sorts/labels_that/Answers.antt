@@ -1,4 +1,4 @@
-use Rattle.std.proofs.Common.{◌≡◌, ℕ, Bool, List, ap, sym, ◌∙◌}
+use Rattle.std.proofs.Common.{◌≡◌, ℕ, List, ap, sym, ◌∙◌}
 use Rattle.ra_explain.specs.Sorts.{is_such_at}
 use Rattle.ra_explain.specs.Places.{places_in}
 use Rattle.ra_explain.proofs.Ranges.{chosen_one, chosen_none}
