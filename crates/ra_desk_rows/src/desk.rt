@@ -3,7 +3,8 @@
 ghost use Rattle.ra_ticket.specs.Passes.{IsPassOf};
 
 use crate::desks::{
-    are_found, got_the_first, is_full, is_told, is_worn, last, opened, opened_again, reply_in, write,
+    are_found, got_the_first, is_full, is_told, is_worn, last, opened, opened_again, reply_in,
+    write,
 };
 use crate::lock::GREATEST;
 use crate::lock::threads::last_pass;

@@ -1,6 +1,9 @@
 //! Each public call of the libraries once, with ample memory.
 
-use crate::commands::{bare, copy_of, counter_of, got, increment, is_told, read, reporter_of, stamped, state_of, stepped};
+use crate::commands::{
+    bare, copy_of, counter_of, got, increment, is_told, read, reporter_of, stamped, state_of,
+    stepped,
+};
 use ra_journal::StepFault;
 use ra_labels::{
     Cause, Command, Elements, Kind, NoMemory, Op, Query, Refusal, Reply, Update, fits,

@@ -243,6 +243,11 @@ fn two_replicas_become_sixty_four(rt: HostRuntime) {
     }
     is_told(&rt, &mut reporter, read(63, 62), Reply::Ok(62));
     is_told(&rt, &mut reporter, read(0, 0), Reply::Ok(63));
-    is_told(&rt, &mut reporter, got(0, 61), Reply::Refused(Refusal::NotCausal(0)));
+    is_told(
+        &rt,
+        &mut reporter,
+        got(0, 61),
+        Reply::Refused(Refusal::NotCausal(0)),
+    );
     assert_eq!(rt; reporter.monitor().replicas(), 64);
 }

@@ -1,6 +1,8 @@
 //! Limits of a monitor, and histories of thousands.
 
-use crate::commands::{counter_of, got, increment, is_told, read, reporter_of, sequence_of, step_by, stepped};
+use crate::commands::{
+    counter_of, got, increment, is_told, read, reporter_of, sequence_of, step_by, stepped,
+};
 use ra_journal::{Journal, StepFault};
 use ra_labels::{Command, Kind, Op, Refusal, Reply};
 use ra_monitor::{Half, Monitor, NewFault};
@@ -76,7 +78,12 @@ fn thousands_of_labels_are_taken(rt: HostRuntime) {
             stands_in_turn(&rt, reporter.monitor(), 300);
         }
     }
-    is_told(&rt, &mut reporter, got(2, 4_999), Reply::Refused(Refusal::NotCausal(1)));
+    is_told(
+        &rt,
+        &mut reporter,
+        got(2, 4_999),
+        Reply::Refused(Refusal::NotCausal(1)),
+    );
     is_told(&rt, &mut reporter, got(2, 1), Reply::Got(1));
     is_told(&rt, &mut reporter, read(2, 1), Reply::Ok(5_000));
     is_told(&rt, &mut reporter, read(0, 2_500), Reply::Ok(5_001));
