@@ -164,8 +164,8 @@ fn elements_stand_as_in_a_plain_list(rt: HostRuntime) {
 
 // Two children of the root, the later one first.
 fn two_children(list: &mut ElementList) -> Result<bool, NoMemory> {
-    for (element, clock) in [(10, 1), (20, 2)] {
-        if !insert(list, element, Stamp { clock, replica: 0 }, ROOT)? {
+    for (element, clock, replica) in [(10, 1, 0), (20, 2, 1)] {
+        if !insert(list, element, Stamp { clock, replica }, ROOT)? {
             return Ok(false);
         }
     }

@@ -215,9 +215,14 @@ fn labels_wait_for_what_is_not_there(rt: HostRuntime) {
     let mut second = list_of(&rt, rt.alloc());
     let waiting = [(1, BEHIND_IT, 0), (2, Act::Remove(1), 0)];
     are_issued(&rt, &mut second.list, &mut all.list, 1, &waiting);
-    assert_eq!(rt; second.list.greatest().clock, 2);
+    is_greatest(&rt, &second.list, 2, 1);
     assert!(rt; second.list.state().is_none());
     assert!(rt; shows(&first.list, list_of_one(&rt, rt.alloc(), 10)));
+}
+
+// The greatest stamp in the list has this clock and this replica.
+fn is_greatest(rt: &impl Abort, list: &ReplicaList, clock: u32, replica: u8) {
+    assert_eq!(rt; list.greatest(), Stamp { clock, replica });
 }
 
 fn list_of_one(rt: &impl Abort, alloc: Global, element: u32) -> Vec<u32> {
@@ -243,6 +248,6 @@ fn those_that_wait_wait_at_a_replica_that_joins(rt: HostRuntime) {
     assert!(rt; copy.list.state().is_none());
     are_issued(&rt, &mut copy.list, &mut all.list, 2, &[(2, ANOTHER, 1)]);
     assert!(rt; copy.list.state().is_none());
-    assert_eq!(rt; copy.list.greatest().clock, 3);
-    assert_eq!(rt; own.list.greatest().clock, 2);
+    is_greatest(&rt, &copy.list, 3, 2);
+    is_greatest(&rt, &own.list, 2, 1);
 }
