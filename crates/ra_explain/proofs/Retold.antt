@@ -1,5 +1,8 @@
--- What a monitor of its own was told, and what it answered.
-use Rattle.std.proofs.Common.{◌≡◌, ℕ, true, List, [], ◌∷◌, Option, Some, None, refl, ap, ◌∙◌}
+-- What a trial was told of, and what it answered.
+use Rattle.std.proofs.Common.{◌≡◌, ℕ, suc, ◌+◌, ◌<◌, true, false, List, length, drop, get_or, arith, [], ◌∷◌, ◌++◌, Option, Some, None, refl, sym, ap, ◌∙◌, subst}
+use Rattle.std.proofs.Math.Seq.{drop-cons}
+use Rattle.std.proofs.lemmas.Bool.{cond-true, cond-false}
+use Rattle.std.proofs.lemmas.List.{append-nil, append_assoc}
 use Rattle.std.specs.Option.{option_map_or}
 use Rattle.ra_labels.specs.declared.command.Command.{Command}
 use Rattle.ra_labels.specs.declared.command.Command.TheVariants.{Operate}
@@ -12,19 +15,83 @@ use Rattle.ra_labels.specs.Records.{Records, label_count}
 use Rattle.ra_labels.specs.Fault.{fault_of}
 use Rattle.ra_labels.specs.Answer.{answer_of, records_after_all, refusal_of, no_at}
 use Rattle.ra_monitor.specs.declared.setup.Setup.{Setup}
-use Rattle.ra_monitor.specs.Monitor.{MonitorEntry, commands_of, records_of}
-use Rattle.ra_explain.specs.Changes.{is_ok, holds_after}
+use Rattle.ra_monitor.specs.declared.trial.Trial.{Trial}
+use Rattle.ra_monitor.specs.Monitor.{MonitorEntry}
+use Rattle.ra_monitor.specs.Trial.{IsToldOf}
+use Rattle.ra_explain.specs.declared.changes.Change.{Change}
+use Rattle.ra_explain.specs.Changes.{is_ok, is_kept, kept_one, kept_from, holds_after}
+
+-- the trial was told of some commands, which with what is kept of the rest are those that are kept of all
+pub record IsToldSo (trial : Trial) (change : Change) (replica place : ℕ) (rest whole : List MonitorEntry) : Type 0 where
+  pub commands : List Command
+  pub told : IsToldOf trial commands
+  pub same : commands ++ kept_from change replica place rest ≡ kept_from change replica 0 whole
+
+-- at first it was told of nothing
+pub told_nothing : (trial : Trial) (change : Change) (replica : ℕ) (whole : List MonitorEntry) → IsToldOf trial []
+    → IsToldSo trial change replica 0 whole whole
+told_nothing trial change replica whole told = record { commands = []; told = told; same = refl }
+
+-- then of one entry's command more, which is kept
+pub told_more : (old new : Trial) (change : Change) (replica place : ℕ) (entry : MonitorEntry)
+    (rest whole : List MonitorEntry) → IsToldSo old change replica place (entry ∷ rest) whole
+    → is_kept change replica place entry ≡ true
+    → ((commands : List Command) → IsToldOf old commands → IsToldOf new (commands ++ entry.command ∷ []))
+    → IsToldSo new change replica (place + 1) rest whole
+told_more old new change replica place entry rest whole so kept tells =
+    let behind = kept_from change replica (place + 1) rest in
+    let one : kept_one change replica place entry ≡ entry.command ∷ [] =
+    cond-true (is_kept change replica place entry) (entry.command ∷ []) [] kept in
+    record {
+      commands = so.commands ++ entry.command ∷ [];
+      told = tells so.commands so.told;
+      same = append_assoc so.commands (entry.command ∷ []) behind
+          ∙ sym (ap (λ (cs : List Command). so.commands ++ (cs ++ behind)) one) ∙ so.same;
+    }
+
+-- or it is left out
+pub told_same : (trial : Trial) (change : Change) (replica place : ℕ) (entry : MonitorEntry)
+    (rest whole : List MonitorEntry) → IsToldSo trial change replica place (entry ∷ rest) whole
+    → is_kept change replica place entry ≡ false → IsToldSo trial change replica (place + 1) rest whole
+told_same trial change replica place entry rest whole so kept =
+    let behind = kept_from change replica (place + 1) rest in
+    let none : kept_one change replica place entry ≡ [] =
+    cond-false (is_kept change replica place entry) (entry.command ∷ []) [] kept in
+    record {
+      commands = so.commands;
+      told = so.told;
+      same = sym (ap (λ (cs : List Command). so.commands ++ (cs ++ behind)) none) ∙ so.same;
+    }
+
+-- in the end of all that are kept
+pub told_all : (trial : Trial) (change : Change) (replica place : ℕ) (whole : List MonitorEntry)
+    → IsToldSo trial change replica place [] whole → IsToldOf trial (kept_from change replica 0 whole)
+told_all trial change replica place whole so =
+    subst (λ (cs : List Command). IsToldOf trial cs) (sym (append-nil so.commands) ∙ so.same) so.told
+
+-- the first of the rest is the entry at its place
+next_one : (i : ℕ) (log : List MonitorEntry) (entry : MonitorEntry) → i < length log → entry ≡ get_or log i entry
+    → drop i log ≡ entry ∷ drop (i + 1) log
+next_one i log entry below is =
+    let next : suc i ≡ i + 1 = omega arith in
+    drop-cons log i entry below
+    ∙ ap (λ (e : MonitorEntry). e ∷ drop (suc i) log) (sym is) ∙ ap (λ (j : ℕ). entry ∷ drop j log) next
+
+-- the entry's command comes next
+pub told_next : (trial : Trial) (change : Change) (replica place i : ℕ) (entry : MonitorEntry) (whole : List MonitorEntry)
+    → i < length whole → entry ≡ get_or whole i entry → IsToldSo trial change replica place (drop i whole) whole
+    → IsToldSo trial change replica place (entry ∷ drop (i + 1) whole) whole
+told_next trial change replica place i entry whole below is so =
+    subst (λ (rest : List MonitorEntry). IsToldSo trial change replica place rest whole) (next_one i whole entry below is) so
 
 -- the reply to the last command tells whether it holds after the others
-pub told_last : (setup told : Setup) (log : List MonitorEntry) (commands : List Command) (last same : Command)
-    (reply : Reply) → told ≡ setup → commands_of log ≡ commands → same ≡ last
-    → reply ≡ answer_of told.kind told.replicas (records_of told log) same
+pub told_last : (setup told : Setup) (commands : List Command) (last same : Command) (reply : Reply)
+    → told ≡ setup → same ≡ last
+    → reply ≡ answer_of told.kind told.replicas (records_after_all told.kind told.replicas [] commands) same
     → is_ok reply ≡ holds_after setup commands last
-told_last setup told log commands last same reply setups others lasts is =
+told_last setup told commands last same reply setups lasts is =
     ap is_ok is
-    ∙ ap (λ (s : Setup). is_ok (answer_of s.kind s.replicas (records_of s log) same)) setups
-    ∙ ap (λ (cs : List Command). is_ok (answer_of setup.kind setup.replicas
-    (records_after_all setup.kind setup.replicas [] cs) same)) others
+    ∙ ap (λ (s : Setup). is_ok (answer_of s.kind s.replicas (records_after_all s.kind s.replicas [] commands) same)) setups
     ∙ ap (λ (c : Command). holds_after setup commands c) lasts
 
 -- an answer is ok only where no fault was before, nothing refuses the command, and none comes with it

@@ -27,6 +27,10 @@ places_from failed at (entry ∷ log) = place_of failed at entry ++ places_from 
 abbrev pub places_in : List MonitorEntry → List ℕ
 places_in log = places_from false 0 log
 
--- the command of label n, where these are the labels' places
+-- label n, where these are the labels' places
+abbrev pub entry_at : List MonitorEntry → List ℕ → ℕ → Option MonitorEntry
+entry_at log places n = option_and_then (slice_get log) (slice_get places n)
+
+-- and its command
 abbrev pub command_at : List MonitorEntry → List ℕ → ℕ → Option Command
-command_at log places n = option_map (λ entry. entry.command) (option_and_then (slice_get log) (slice_get places n))
+command_at log places n = option_map (λ entry. entry.command) (entry_at log places n)

@@ -1,14 +1,14 @@
 //! What the label at the fault would have been, had its replica had something more or less.
-ghost use Rattle.std.specs.Prelude.{◌≡◌, ◌++◌, ◌∷◌, [], IfOk, OnOk, filter};
-ghost use Rattle.ra_labels.specs.Answer.{answer_of};
-ghost use Rattle.ra_monitor.specs.Monitor.{commands_of, records_of};
+ghost use Rattle.std.specs.Prelude.{◌≡◌, ◌++◌, [], List, IfOk, OnOk, filter};
+ghost use Rattle.ra_labels.specs.declared.command.Command.{Command};
+ghost use Rattle.ra_monitor.specs.Trial.{IsToldOf, IsToldOfSome};
 ghost use Rattle.ra_explain.specs.Changes as changes;
 ghost use Rattle.ra_explain.specs.Changes.{got_last, got_with, kept_from, would_hold, command_holds_with};
 
 use ra_accepted::tells_accepted;
 use ra_journal::Entry;
 use ra_labels::{Command, NoMemory, Reply};
-use ra_monitor::{Monitor, Reporter};
+use ra_monitor::{Setup, Trial};
 use std::alloc::Global;
 
 /// One change to what the replica of a label had when it made the label.
@@ -22,49 +22,43 @@ pub enum Change {
     ComesBefore(u32),
 }
 
-/// Would the label that stands at this place of the monitor's log have held with the change? The accepted commands
-/// before it are told to a monitor of its own, but for those that the change leaves out, and then the label: with a yes
-/// it is accepted, and holds by the named order. A delivery that needs one that is left out is refused then, and so is
-/// left out too.
+/// Would the label that stands at this place of a monitor's log have held with the change? The accepted commands before
+/// it are told to a trial, but for those that the change leaves out, and then the label: with a yes it is accepted, and
+/// holds by the named order. A delivery that needs one that is left out is refused then, and so is left out too.
 ///
-/// The entries before are those before the first no. `NoMemory` where a growth is refused, or where the log is so full
-/// that it has no place for what is added. Costs what the steps of a monitor for the commands before cost, which is let
-/// go afterwards.
+/// The entries before are those before the first no. `NoMemory` where a growth is refused, or where so many commands
+/// are told that a trial takes no more. Costs what the steps of a monitor for the commands before cost, without their
+/// log; what is kept for them is let go afterwards.
 pub fn would_hold(
     alloc: Global,
-    monitor: &Monitor,
+    setup: &Setup,
+    log: &[Entry<Command, Reply>],
     place: u32,
     change: Change,
 ) -> Result<bool, NoMemory>
-    ensures { IfOk result (λ holds. holds ≡ would_hold monitor.now.setup monitor.now.log place change) }
+    ensures { IfOk result (λ holds. holds ≡ would_hold setup.now log.now place change) }
 {
-    let log = monitor.log();
     let Some(entry) = log.get(place as usize) else {
         return Ok(false);
     };
-    holds_with(
-        alloc,
-        monitor,
-        &log[..place as usize],
-        change,
-        &entry.command,
-    )
+    holds_with(alloc, setup, &log[..place as usize], change, &entry.command)
 }
 
 /// Those of the changes with which the label at this place would have held, in their order. Costs what `would_hold`
 /// does for each of them.
 pub fn changes_that_help(
     alloc: Global,
-    monitor: &Monitor,
+    setup: &Setup,
+    log: &[Entry<Command, Reply>],
     place: u32,
     changes: &[Change],
 ) -> Result<Vec<Change>, NoMemory>
     ensures { IfOk result (λ found. found.items
-        ≡ filter (λ change. would_hold monitor.now.setup monitor.now.log place change) changes.now) }
+        ≡ filter (λ change. would_hold setup.now log.now place change) changes.now) }
 {
     let mut found = Vec::new(alloc);
     for change in changes {
-        if would_hold(alloc, monitor, place, *change)? {
+        if would_hold(alloc, setup, log, place, *change)? {
             found.push(*change)?;
         }
     }
@@ -135,88 +129,82 @@ fn reaches(replica: u8, command: &Command) -> bool
 // Would the command have held after these entries, with the change?
 fn holds_with(
     alloc: Global,
-    monitor: &Monitor,
+    setup: &Setup,
     before: &[Entry<Command, Reply>],
     change: Change,
     command: &Command,
 ) -> Result<bool, NoMemory>
-    ensures { IfOk result (λ holds. holds ≡ command_holds_with monitor.now.setup before.now change command.now) }
+    ensures { IfOk result (λ holds. holds ≡ command_holds_with setup.now before.now change command.now) }
 {
     let Command::Operate { replica, .. } = command else {
         return Ok(false);
     };
-    let setup = monitor.setup();
-    let Ok(mut reporter) = Reporter::new(alloc, setup.kind, setup.replicas, setup.limit) else {
-        return Err(NoMemory);
-    };
-    let answer = tell_with(&mut reporter, before, change, *replica, command);
-    // A reporter has many parts, so it is let go by a call: the proof goes through them once, and not at each return.
-    drop(reporter);
+    let mut trial = Trial::new(alloc, setup)?;
+    let answer = tell_with(&mut trial, before, change, *replica, command);
+    // A trial has many parts, so it is let go by a call: the proof goes through them once, and not at each return.
+    drop(trial);
     answer
 }
 
-// Is the command accepted as a label that holds, once the reporter was told of the others?
+// Is the command accepted as a label that holds, once the trial was told of the others?
 fn tell_with(
-    reporter: &mut Reporter,
+    trial: &mut Trial,
     before: &[Entry<Command, Reply>],
     change: Change,
     replica: u8,
     command: &Command,
 ) -> Result<bool, NoMemory>
-    requires { reporter.old.log ≡ [] }
-    ensures { IfOk result (λ holds. holds ≡ changes.holds_after reporter.old.setup
+    requires { IsToldOf trial.old [] }
+    ensures { IfOk result (λ holds. holds ≡ changes.holds_after trial.old.setup
         (changes.commands_with change replica before.now) command.now) }
 {
-    tell_kept(reporter, before, change, replica)?;
-    tell_added(reporter, change, replica)?;
-    let reply = tell(reporter, command.clone()?)?;
+    tell_kept(trial, before, change, replica)?;
+    tell_added(trial, change, replica)?;
+    let reply = trial.tell(copy(command)?)?;
     Ok(is_ok(reply))
 }
 
+// The same command: said here, so that whoever tells it on need not go through what it may have.
+fn copy(command: &Command) -> Result<Command, NoMemory>
+    ensures { IfOk result (λ copy. copy ≡ command.now) }
+{
+    Ok(command.clone()?)
+}
+
+// Tells the trial of what is not left out.
 fn tell_kept(
-    reporter: &mut Reporter,
+    trial: &mut Trial,
     before: &[Entry<Command, Reply>],
     change: Change,
     replica: u8,
 ) -> Result<(), NoMemory>
-    requires { reporter.old.log ≡ [] }
-    ensures told { OnOk result (commands_of reporter.new.log ≡ kept_from change replica 0 before.now) }
-    ensures same_setup { reporter.new.setup ≡ reporter.old.setup }
+    requires { IsToldOf trial.old [] }
+    ensures told { OnOk result (IsToldOf trial.new (kept_from change replica 0 before.now)) }
+    ensures same_setup { trial.new.setup ≡ trial.old.setup }
 {
     let mut place = 0;
     for entry in before {
         if is_kept(change, replica, place, entry) {
-            tell(reporter, entry.command.clone()?)?;
+            trial.tell(copy(&entry.command)?)?;
         }
         place += 1;
     }
     Ok(())
 }
 
-fn tell_added(reporter: &mut Reporter, change: Change, replica: u8) -> Result<(), NoMemory>
-    ensures told { OnOk result
-        (commands_of reporter.new.log ≡ commands_of reporter.old.log ++ changes.added_by change replica) }
-    ensures same_setup { reporter.new.setup ≡ reporter.old.setup }
+// Tells the trial of what is added.
+fn tell_added(trial: &mut Trial, change: Change, replica: u8) -> Result<(), NoMemory>
+    requires { IsToldOfSome trial.old }
+    ensures told { (commands : List Command) → IsToldOf trial.old commands
+        → OnOk result (IsToldOf trial.new (commands ++ changes.added_by change replica)) }
+    ensures same_setup { trial.new.setup ≡ trial.old.setup }
 {
     match change {
         Change::Gets(label) => {
-            tell(reporter, Command::Deliver { replica, label })?;
+            trial.tell(Command::Deliver { replica, label })?;
             Ok(())
         }
         Change::Misses(_) | Change::ComesBefore(_) => Ok(()),
-    }
-}
-
-// Tells the reporter of the command.
-fn tell(reporter: &mut Reporter, command: Command) -> Result<Reply, NoMemory>
-    ensures told { OnOk result (commands_of reporter.new.log ≡ commands_of reporter.old.log ++ command ∷ []) }
-    ensures reply { IfOk result (λ reply. reply ≡ answer_of reporter.old.setup.kind reporter.old.setup.replicas
-        (records_of reporter.old.setup reporter.old.log) command) }
-    ensures same_setup { reporter.new.setup ≡ reporter.old.setup }
-{
-    match reporter.tell(command) {
-        Ok(reply) => Ok(reply),
-        Err(_) => Err(NoMemory),
     }
 }
 

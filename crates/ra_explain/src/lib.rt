@@ -18,4 +18,4 @@ mod sorts;
 pub use changes::{Change, changes_that_help, got_last, would_hold};
 pub use places::Places;
 pub use right::right_answer;
-pub use sorts::{LabelsThat, labels_that};
+pub use sorts::{LabelsThat, LabelsWith, labels_that, labels_with};

@@ -1,11 +1,12 @@
 //! Where labels stand in a log.
-ghost use Rattle.std.specs.Prelude.{◌≡◌, IfOk, option_map, option_copied};
+ghost use Rattle.std.specs.Prelude.{◌≡◌, ◌≤◌, IfOk, MatchOption, None, Some, length, option_and_then, option_map, option_copied};
 ghost use Rattle.std.specs.List.{slice_get};
 ghost use Rattle.ra_explain.specs.Places as places;
-ghost use Rattle.ra_explain.specs.Places.{places_in};
+ghost use Rattle.ra_explain.specs.Places.{entry_at, places_in};
 
 use ra_accepted::{is_no, tells_accepted};
-use ra_labels::{Command, NoMemory};
+use ra_journal::Entry;
+use ra_labels::{Command, NoMemory, Reply};
 use ra_monitor::Monitor;
 use std::alloc::Global;
 use std::marker::Model;
@@ -17,11 +18,13 @@ pub struct Places {
 }
 
 impl Model for Places {
-    ghost use Rattle.std.specs.Prelude.{ℕ, List};
+    ghost use Rattle.std.specs.Prelude.{ℕ, List, ◌≤◌, length};
 
     ghost Value = { List ℕ };
 
     ghost view = { λ p. p.places.items };
+
+    ghost invariant = { λ p. length p.places.items ≤ 4294967295 };
 }
 
 impl Places {
@@ -41,6 +44,25 @@ impl Places {
             place += 1;
         }
         Ok(Places { places })
+    }
+
+    /// How many labels there are.
+    pub fn count(&self) -> u32
+        ensures { result ≡ length self.now }
+    {
+        self.places.len() as u32
+    }
+
+    /// The entry of the log that is this label, where there is such a label.
+    pub fn entry<'a>(
+        &self,
+        log: &'a [Entry<Command, Reply>],
+        label: u32,
+    ) -> Option<&'a Entry<Command, Reply>>
+        ensures { MatchOption result (entry_at log.now self.now label ≡ None)
+            (λ entry. entry_at log.now self.now label ≡ Some entry.now) }
+    {
+        log.get(self.at(label)? as usize)
     }
 
     /// The place of the label, counted from 0, where there is such a label.

@@ -44,10 +44,7 @@ fn right_at(
         (command_at monitor.now.log (places_in monitor.now.log) label)) }
 {
     let places = Places::of(alloc, monitor)?;
-    let Some(place) = places.at(label) else {
-        return Ok(None);
-    };
-    match log.get(place as usize) {
+    match places.entry(log, label) {
         Some(entry) => right_of(alloc, monitor, &places, &entry.command),
         None => Ok(None),
     }

@@ -81,10 +81,7 @@ fn update_at(
 ) -> Result<Option<Update>, NoMemory>
     ensures { IfOk result (λ update. update ≡ seen.update_at log.now places.now label) }
 {
-    let Some(place) = places.at(label) else {
-        return Ok(None);
-    };
-    match log.get(place as usize) {
+    match places.entry(log, label) {
         Some(entry) => update_by(&entry.command),
         None => Ok(None),
     }

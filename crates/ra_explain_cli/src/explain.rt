@@ -7,9 +7,10 @@ ghost use Rattle.ra_explain_cli.specs.Explained.{ExplainsText, EndsExplained, En
 use crate::asked::Form;
 use ra_history_text::{CheckFault, Outcome, Session, check_session, status, write_out};
 use ra_labels::NoMemory;
+use ra_lines::Names;
 use ra_lines::reply::put_end;
-use ra_monitor::Report;
-use ra_pages::{Case, No, put_json, put_sequence};
+use ra_monitor::{Monitor, Report};
+use ra_pages::{Case, No, Told, put_json, put_sequence};
 use ra_pictures::{put_html, put_page, put_svg};
 use ra_program::{Ending, stop};
 use ra_stops::Stop;
@@ -33,20 +34,22 @@ pub fn explain<R: Read, W: Write, E: Write>(
 {
     let mut session = Session::new(alloc);
     let answer = check_session(alloc, &mut session, reader, &mut io::sink());
-    let ending = match answer {
-        Ok(outcome) => end_explained(alloc, form, &session, outcome, out, err),
-        Err(fault) => end_stopped(alloc, form, &session, fault, out, err),
-    };
-    // A session has many parts, so it is let go by a call: the proof goes through them once, and not at each return.
-    drop(session);
-    ending
+    match answer {
+        Ok(outcome) => end_explained(alloc, form, session, outcome, out, err),
+        Err(fault) => {
+            let ending = end_stopped(alloc, form, &session, fault, out, err);
+            // Let go by a call: the proof goes through its parts once, and not at each return.
+            drop(session);
+            ending
+        }
+    }
 }
 
 // All was read and answered.
 fn end_explained<W: Write, E: Write>(
     alloc: Global,
     form: Form,
-    session: &Session,
+    session: Session,
     outcome: Outcome,
     out: &mut W,
     err: &mut E,
@@ -113,16 +116,16 @@ fn words_on(
 fn page_of(
     alloc: Global,
     form: Form,
-    session: &Session,
+    session: Session,
     report: &Report,
 ) -> Result<Vec<u8>, NoMemory>
     ensures { IfOk result (λ page. IsPage form report.now page.items) }
 {
+    let body = body_of(alloc, form, session, report)?;
     let mut page = Vec::new(alloc);
     if form == Form::Page {
         put_end(&mut page, report.labels, report.fault)?;
     }
-    let body = body_of(alloc, form, session, report)?;
     page.extend_from_slice(&body)?;
     Ok(page)
 }
@@ -130,34 +133,50 @@ fn page_of(
 fn body_of(
     alloc: Global,
     form: Form,
-    session: &Session,
+    session: Session,
     report: &Report,
 ) -> Result<Vec<u8>, NoMemory> {
     let mut body = Vec::new(alloc);
-    let (Some(monitor), Some(names)) = (session.monitor(), session.names()) else {
-        return Ok(body);
-    };
-    let case = Case::of(alloc, monitor, names)?;
-    let no = match form {
-        Form::Sequence => None,
-        Form::Page | Form::Json | Form::Svg | Form::Html => No::of(alloc, &case, report)?,
-    };
-    put_body(&mut body, form, &case, report, no.as_ref())?;
+    if let Some((monitor, names)) = session.into_history() {
+        put_history(&mut body, form, monitor, &names, report)?;
+    }
     Ok(body)
 }
 
-fn put_body(
+// Asks the monitor, and lets it go but for its log, before other courses of the history are tried.
+fn put_history(
+    body: &mut Vec<u8>,
+    form: Form,
+    monitor: Monitor,
+    names: &Names,
+    report: &Report,
+) -> Result<(), NoMemory> {
+    if form == Form::Sequence {
+        return put_sequence(body, &monitor);
+    }
+    let told = Told::by(*body.allocator(), &monitor, form == Form::Json)?;
+    let log = monitor.into_log();
+    let case = Case {
+        told: &told,
+        names,
+        log: &log,
+    };
+    put_case(body, form, &case, report)
+}
+
+fn put_case(
     body: &mut Vec<u8>,
     form: Form,
     case: &Case<'_>,
     report: &Report,
-    no: Option<&No<'_>>,
 ) -> Result<(), NoMemory> {
+    let found = No::of(*body.allocator(), case)?;
+    let no = found.as_ref();
     match form {
         Form::Page => put_page(body, case, report, no),
         Form::Json => put_json(body, case, report, no),
         Form::Svg => put_svg(body, case, report, no),
         Form::Html => put_html(body, case, report, no),
-        Form::Sequence => put_sequence(body, case),
+        Form::Sequence => Ok(()),
     }
 }

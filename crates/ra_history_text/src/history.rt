@@ -152,6 +152,22 @@ impl History {
         &self.monitor
     }
 
+    /// Gives the monitor that answered its commands up to the caller, and the names.
+    pub fn into_parts(self) -> (Monitor, Names)
+        ensures kind { result.0.setup.kind ≡ self.kind }
+        ensures replicas { result.0.setup.replicas ≡ length self.first }
+        ensures commands { commands_of result.0.log ≡ self.commands }
+        ensures names { result.1 ≡ self.first ++ self.joined }
+    {
+        let History {
+            format: _,
+            kind: _,
+            names,
+            monitor,
+        } = self;
+        (monitor, names)
+    }
+
     /// What the history amounts to.
     pub fn report(&self) -> Report
         ensures { IsReportOf self.now.kind self.now.first self.now.commands result }

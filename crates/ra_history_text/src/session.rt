@@ -249,6 +249,18 @@ impl Session {
         }
     }
 
+    /// Gives the monitor and the names up to the caller, where the first two lines are there.
+    pub fn into_history(self) -> Option<(Monitor, Names)>
+        ensures { MatchOption result (SaysNoHistory self.said)
+            (λ parts. IsToldBy self.said parts.0 × (parts.1 ≡ names_said self.said)) }
+    {
+        let Session { stage, partial: _ } = self;
+        match stage {
+            Stage::OfHistory(history) => Some(history.into_parts()),
+            Stage::Nothing | Stage::OfKind(_, _) => None,
+        }
+    }
+
     /// The format that the first line names, once it is there.
     pub fn format(&self) -> Option<Format>
         ensures { result ≡ format_said self.now.said }

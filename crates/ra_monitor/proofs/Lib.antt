@@ -4,3 +4,4 @@ pub mod NewRecords
 pub mod Legal
 pub mod NewEntries
 pub mod LogLaws
+pub mod Trials

@@ -7,3 +7,4 @@ pub mod Order
 pub mod Clocks
 pub mod Taken
 pub mod History
+pub mod Trial

@@ -5,7 +5,7 @@
 //! says (`ra_labels/specs/Answer`), after the records of its log, and appends that entry. Every monitor's log is
 //! legal, and a yes in it implies an RA-linearization of the records up to there. A monitor is a journal, so it can
 //! stand behind the ticket lock (`ra_desk`), and `laws` says what its replies are there. A `Reporter` has the tickets
-//! with it, so a loop that reports needs no proof.
+//! with it, so a loop that reports needs no proof. A `Trial` answers as a monitor does and logs nothing.
 //!
 //! Its history is taken apart as the definitions are: what replicas had and labels see is a `Tracker`'s to say
 //! (`ra_visibility`), where labels stand the order's that the kind names (`order`), and whether the records still hold
@@ -23,6 +23,7 @@ mod report;
 mod reporter;
 mod setup;
 mod taken;
+mod trial;
 
 pub use faults::NewFault;
 pub use monitor::Monitor;
@@ -31,5 +32,6 @@ pub use ra_labels::MOST_REPLICAS;
 pub use report::Report;
 pub use reporter::Reporter;
 pub use setup::Setup;
+pub use trial::Trial;
 /// The parts of the named sequence are told by the labels' numbers.
 pub use ra_witness::{Half, PartRef};

@@ -105,6 +105,20 @@ impl Monitor {
         self.log.as_slice()
     }
 
+    /// Gives its log up to the caller, and lets the rest go.
+    pub fn into_log(self) -> Vec<Entry<Command, Reply>>
+        ensures entries { result.items ≡ self.log }
+        ensures legal { IsLegalLog self.setup self.log }
+    {
+        let Monitor {
+            setup: _,
+            log,
+            history: _,
+            refused: _,
+        } = self;
+        log
+    }
+
     /// How many replicas there are by now, those that joined included. It takes no memory.
     pub fn replicas(&self) -> u8
         ensures replicas { result ≡ replica_count self.now.setup.replicas (records_of self.now.setup self.now.log) }

@@ -1,23 +1,21 @@
 //! A history that is explained.
-ghost use Rattle.std.specs.Prelude.{◌≡◌, IfOk, MatchOption, None, Some, slice_get};
+ghost use Rattle.std.specs.Prelude.{◌≡◌, MatchOption, None, Some, slice_get};
 
+use crate::told::Told;
+use crate::unmet::op_of;
 use ra_journal::Entry;
-use ra_labels::{Command, NoMemory, Op, Reply};
+use ra_labels::{Command, Op, Reply};
 use ra_lines::Names;
-use ra_monitor::Monitor;
-use std::alloc::Global;
 
-/// A history: its monitor, its replicas' names, and where its labels stand in the monitor's log.
-#[derive(Drop)]
+/// A history: what its monitor tells, the names of its replicas, and the monitor's log.
+#[derive(Clone, Copy)]
 pub struct Case<'a> {
-    /// The monitor that answered it.
-    pub monitor: &'a Monitor,
+    /// What the monitor tells.
+    pub told: &'a Told,
     /// The names of the replicas.
     pub names: &'a Names,
     /// The monitor's log.
     pub log: &'a [Entry<Command, Reply>],
-    /// Where labels stand in the log.
-    pub places: Places,
 }
 
 /// An update of the history: who made it, and with which clock.
@@ -34,18 +32,6 @@ pub struct Source {
 }
 
 impl<'a> Case<'a> {
-    /// The case of this monitor, whose replicas have these names. Costs a step for each entry of the log.
-    pub fn of(alloc: Global, monitor: &'a Monitor, names: &'a Names) -> Result<Case<'a>, NoMemory>
-        ensures { IfOk result (λ case. case.log.now ≡ monitor.now.log) }
-    {
-        Ok(Case {
-            monitor,
-            names,
-            log: monitor.log(),
-            places: Places::of(alloc, monitor)?,
-        })
-    }
-
     /// The entry at this place of the log.
     pub fn entry(&self, place: u32) -> Option<&'a Entry<Command, Reply>>
         ensures { MatchOption result (slice_get self.now.log.now place ≡ None)
@@ -56,10 +42,7 @@ impl<'a> Case<'a> {
 
     /// The operation of the label, where there is such a label.
     pub fn op(&self, label: u32) -> Option<&'a Op> {
-        match &self.entry(self.places.at(label)?)?.command {
-            Command::Operate { op, .. } => Some(op),
-            Command::Deliver { .. } | Command::Join { .. } | Command::Verdict => None,
-        }
+        op_of(self.log, &self.told.places, label)
     }
 
     /// The replica that made the label, where there is such a label.
@@ -69,7 +52,7 @@ impl<'a> Case<'a> {
 
     /// Where the label comes from, where there is such a label.
     pub fn source(&self, label: u32) -> Option<Source> {
-        let place = self.places.at(label)?;
+        let place = self.told.places.at(label)?;
         match &self.entry(place)?.command {
             Command::Operate { replica, op, stamp } => Some(Source {
                 place,
@@ -81,5 +64,3 @@ impl<'a> Case<'a> {
         }
     }
 }
-
-use ra_explain::Places;

@@ -2,22 +2,17 @@
 use crate::case::Case;
 use crate::no::No;
 use crate::put::{put_label, put_line, put_name};
-use ra_explain::{LabelsThat, labels_that};
-use ra_labels::{Command, NoMemory, Op, Reply, Stamp};
+use ra_explain::{LabelsWith, labels_with};
+use ra_labels::{Command, NoMemory, Op, Reply};
 use ra_layout::{put, put_head};
 use ra_lines::number::put_number;
 
 /// Puts the latest label that this one sees and whose clock is above its own, and how it came to be seen.
 pub fn put_order(out: &mut Vec<u8>, case: &Case<'_>, no: &No<'_>) -> Result<(), NoMemory> {
-    let Some(clock) = no.clock else {
-        return Ok(());
-    };
-    let replica = no.replica;
-    let sort = LabelsThat::StandAbove(replica, Stamp { clock, replica });
-    let above = labels_that(*out.allocator(), case.monitor, sort)?;
-    for other in above {
+    for other in &no.why.above {
+        let other = *other;
         if other != no.fault.label {
-            put_above(out, case, replica, other)?;
+            put_above(out, case, no.replica, other)?;
         }
     }
     Ok(())
@@ -100,7 +95,8 @@ fn put_insertions(
     element: u32,
     words: &str,
 ) -> Result<bool, NoMemory> {
-    let found = labels_that(*out.allocator(), case.monitor, LabelsThat::PutIn(element))?;
+    let sort = LabelsWith::Element(element);
+    let found = labels_with(*out.allocator(), case.log, &case.told.places, sort)?;
     let mut any = false;
     for other in found {
         if other != label {

@@ -46,7 +46,8 @@ pub fn help_for(
     replica: u8,
     lacking: &[u32],
 ) -> Result<Help, NoMemory> {
-    let kind = case.monitor.setup().kind;
+    let setup = &case.told.setup;
+    let kind = setup.kind;
     let most = most_tries(kind, place) as usize;
     let mut changes = Vec::new(alloc);
     let next = next_among(alloc, case, lacking)?;
@@ -67,7 +68,7 @@ pub fn help_for(
             changes.push(Change::ComesBefore(small(*at)))?;
         }
     }
-    let found = changes_that_help(alloc, case.monitor, place, &changes)?;
+    let found = changes_that_help(alloc, setup, case.log, place, &changes)?;
     Ok(Help {
         tried: changes.len(),
         found,

@@ -3,7 +3,7 @@ use crate::case::Case;
 use crate::help::Help;
 use crate::no::No;
 use crate::put::{put_line_number, put_name};
-use ra_explain::{Change, LabelsThat, labels_that};
+use ra_explain::Change;
 use ra_history_writer::spelling::put_command;
 use ra_labels::{NoMemory, Reply};
 use ra_layout::{put, put_size};
@@ -53,7 +53,7 @@ fn put_no(out: &mut Vec<u8>, case: &Case<'_>, no: &No<'_>) -> Result<(), NoMemor
 }
 
 fn put_right(out: &mut Vec<u8>, case: &Case<'_>, no: &No<'_>) -> Result<(), NoMemory> {
-    match &no.right {
+    match &no.why.right {
         Some(command) => {
             put(out, "\"")?;
             put_command(out, case.names, command)?;
@@ -118,33 +118,19 @@ fn put_refused(out: &mut Vec<u8>, case: &Case<'_>, refused: u32) -> Result<(), N
 fn put_lacking(out: &mut Vec<u8>, case: &Case<'_>) -> Result<(), NoMemory> {
     put(out, "{")?;
     let mut is_first = true;
-    for replica in 0..case.monitor.replicas() {
-        is_first = put_lacking_of(out, case, replica, is_first)?;
+    let mut replica: u8 = 0;
+    for lack in &case.told.lacks {
+        if let Some(oldest) = lack.oldest {
+            put(out, if is_first { "\"" } else { ",\"" })?;
+            put_name(out, case, replica)?;
+            put(out, "\":{\"updates\":")?;
+            put_size(out, lack.updates)?;
+            put(out, ",\"oldest\":")?;
+            put_number(out, oldest)?;
+            put(out, "}")?;
+            is_first = false;
+        }
+        replica = replica.saturating_add(1);
     }
     put(out, "}")
-}
-
-// That of the replica, if it lacks any. Is the next one still the first?
-fn put_lacking_of(
-    out: &mut Vec<u8>,
-    case: &Case<'_>,
-    replica: u8,
-    is_first: bool,
-) -> Result<bool, NoMemory> {
-    let lacking = labels_that(
-        *out.allocator(),
-        case.monitor,
-        LabelsThat::AreLackedBy(replica),
-    )?;
-    let Some(oldest) = lacking.first() else {
-        return Ok(is_first);
-    };
-    put(out, if is_first { "\"" } else { ",\"" })?;
-    put_name(out, case, replica)?;
-    put(out, "\":{\"updates\":")?;
-    put_size(out, lacking.len())?;
-    put(out, ",\"oldest\":")?;
-    put_number(out, *oldest)?;
-    put(out, "}")?;
-    Ok(false)
 }

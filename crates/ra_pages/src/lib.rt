@@ -18,6 +18,7 @@ mod put;
 mod query;
 mod seen;
 mod sequence;
+mod told;
 mod unmet;
 mod yes;
 
@@ -31,3 +32,4 @@ pub use no::No;
 pub use page::put_words;
 pub use put::{put_line, put_name};
 pub use sequence::put_sequence;
+pub use told::Told;

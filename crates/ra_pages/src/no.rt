@@ -1,12 +1,11 @@
 //! The label at which a history is a no.
 use crate::case::Case;
 use crate::help::{Help, help_for};
-use ra_explain::{LabelsThat, labels_that, right_answer};
+use crate::told::Why;
 use ra_labels::{Command, Fault, NoMemory, Op};
-use ra_monitor::Report;
 use std::alloc::Global;
 
-/// A label that is wrong: where it stands, what was reported, and what would make it right.
+/// A label that is wrong: where it stands, what was reported, why it is wrong, and what would make it right.
 #[derive(Drop)]
 pub struct No<'a> {
     /// The label and the cause.
@@ -19,61 +18,41 @@ pub struct No<'a> {
     pub replica: u8,
     /// Its operation.
     pub op: &'a Op,
-    /// The clock of its stamp, where it carries one.
-    pub clock: Option<u32>,
-    /// The command with the right answer, where there is one.
-    pub right: Option<Command>,
-    /// The updates that the replica lacks, rising.
-    pub lacking: Vec<u32>,
+    /// Why it is wrong.
+    pub why: &'a Why,
     /// What would make it right.
     pub help: Help,
 }
 
 impl<'a> No<'a> {
-    /// That of a history with this report, if it is a no.
-    pub fn of(alloc: Global, case: &Case<'a>, report: &Report) -> Result<Option<No<'a>>, NoMemory> {
-        match report.fault {
-            Some(fault) => No::at(alloc, case, fault),
+    /// That of a history, if it is a no. Tries what would make it right, which costs up to some millions of steps of a
+    /// monitor.
+    pub fn of(alloc: Global, case: &Case<'a>) -> Result<Option<No<'a>>, NoMemory> {
+        match &case.told.why {
+            Some(why) => No::by(alloc, case, why),
             None => Ok(None),
         }
     }
 
-    fn at(alloc: Global, case: &Case<'a>, fault: Fault) -> Result<Option<No<'a>>, NoMemory> {
-        let Some(place) = case.places.at(fault.label) else {
+    fn by(alloc: Global, case: &Case<'a>, why: &'a Why) -> Result<Option<No<'a>>, NoMemory> {
+        let Some(place) = case.told.places.at(why.fault.label) else {
             return Ok(None);
         };
         let Some(entry) = case.entry(place) else {
             return Ok(None);
         };
         let command = &entry.command;
-        let Command::Operate { replica, op, stamp } = command else {
+        let Command::Operate { replica, op, .. } = command else {
             return Ok(None);
         };
-        let sort = LabelsThat::AreLackedBy(*replica);
-        let lacking = labels_that(alloc, case.monitor, sort)?;
-        let help = help_for(alloc, case, place, *replica, &lacking)?;
         Ok(Some(No {
-            fault,
+            fault: why.fault,
             place,
             command,
             replica: *replica,
             op,
-            clock: *stamp,
-            right: right_for(alloc, case, *replica)?,
-            lacking,
-            help,
+            why,
+            help: help_for(alloc, case, place, *replica, &why.lacking)?,
         }))
-    }
-}
-
-// The command with the right answer, at this replica.
-fn right_for(alloc: Global, case: &Case<'_>, replica: u8) -> Result<Option<Command>, NoMemory> {
-    match right_answer(alloc, case.monitor)? {
-        Some(op) => Ok(Some(Command::Operate {
-            replica,
-            op,
-            stamp: None,
-        })),
-        None => Ok(None),
     }
 }

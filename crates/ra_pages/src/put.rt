@@ -45,7 +45,7 @@ pub fn put_act(out: &mut Vec<u8>, case: &Case<'_>, command: &Command) -> Result<
 /// Puts `label N (line K: what the line says)`.
 pub fn put_label(out: &mut Vec<u8>, case: &Case<'_>, label: u32) -> Result<(), NoMemory> {
     put_numbered(out, b"label ", label)?;
-    let Some(place) = case.places.at(label) else {
+    let Some(place) = case.told.places.at(label) else {
         return Ok(());
     };
     put(out, " (")?;

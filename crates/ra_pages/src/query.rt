@@ -16,7 +16,7 @@ const BEFORE: usize = 3;
 
 /// Puts the right answer, and the first difference between the two; or, where there is none, what is in its way.
 pub fn put_query(out: &mut Vec<u8>, case: &Case<'_>, no: &No<'_>) -> Result<(), NoMemory> {
-    let Some(right) = &no.right else {
+    let Some(right) = &no.why.right else {
         return put_unmet(out, case, no);
     };
     put_head(out, "right")?;

@@ -20,7 +20,7 @@ struct Share {
 /// Puts of each replica how many of its updates the label sees.
 pub fn put_seen(out: &mut Vec<u8>, case: &Case<'_>, no: &No<'_>) -> Result<(), NoMemory> {
     let alloc = *out.allocator();
-    let shares = shares_of(alloc, case, no.fault.label, &no.lacking)?;
+    let shares = shares_of(alloc, case, no.fault.label, &no.why.lacking)?;
     let mut lines: u32 = 0;
     let mut others: u32 = 0;
     let mut from: u8 = 0;
@@ -34,7 +34,7 @@ pub fn put_seen(out: &mut Vec<u8>, case: &Case<'_>, no: &No<'_>) -> Result<(), N
         from = from.saturating_add(1);
     }
     put_others(out, others)?;
-    put_latest_lacking(out, case, &no.lacking)
+    put_latest_lacking(out, case, &no.why.lacking)
 }
 
 fn put_share(out: &mut Vec<u8>, case: &Case<'_>, from: u8, share: Share) -> Result<(), NoMemory> {
@@ -86,7 +86,7 @@ fn shares_of(
     lacking: &[u32],
 ) -> Result<Vec<Share>, NoMemory> {
     let mut shares = Vec::new(alloc);
-    for _ in 0..case.monitor.replicas() {
+    for _ in 0..case.told.replicas {
         shares.push(Share { all: 0, lacking: 0 })?;
     }
     for number in 0..label {

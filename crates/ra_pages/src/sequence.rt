@@ -1,19 +1,20 @@
 //! The evidence itself: the sequence that linearizes the history.
-use crate::case::Case;
 use crate::put::put_line_number;
+use ra_explain::Places;
 use ra_labels::NoMemory;
 use ra_layout::put;
 use ra_lines::number::put_number;
-use ra_monitor::Half;
+use ra_monitor::{Half, Monitor};
 
 /// Puts a line for each part of the named sequence: the label, `whole`, `query` or `update`, and the number of the line
 /// of the text that says it.
-pub fn put_sequence(out: &mut Vec<u8>, case: &Case<'_>) -> Result<(), NoMemory> {
-    let parts = case.monitor.sequence()?;
+pub fn put_sequence(out: &mut Vec<u8>, monitor: &Monitor) -> Result<(), NoMemory> {
+    let places = Places::of(*out.allocator(), monitor)?;
+    let parts = monitor.sequence()?;
     for part in &parts {
         put_number(out, part.label)?;
         put(out, word(part.half))?;
-        if let Some(place) = case.places.at(part.label) {
+        if let Some(place) = places.at(part.label) {
             put_line_number(out, place)?;
         }
         put(out, "\n")?;

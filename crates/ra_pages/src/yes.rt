@@ -1,7 +1,8 @@
 //! What a yes leaves open: updates that did not reach every replica, and lines that were refused.
 use crate::case::Case;
+use crate::told::Lack;
 use crate::put::{put_act, put_label, put_line, put_name};
-use ra_explain::{LabelsThat, labels_that};
+use ra_explain::{LabelsWith, labels_with};
 use ra_labels::{Command, NoMemory, Op, Refusal, Reply, Stamp};
 use ra_layout::{put, put_count, put_head, small};
 use ra_lines::number::put_number;
@@ -23,18 +24,15 @@ pub fn put_yes(out: &mut Vec<u8>, case: &Case<'_>, report: &Report) -> Result<()
 fn put_lacking(out: &mut Vec<u8>, case: &Case<'_>) -> Result<(), NoMemory> {
     let mut lines: u32 = 0;
     let mut others: u32 = 0;
-    for replica in 0..case.monitor.replicas() {
-        let lacking = labels_that(
-            *out.allocator(),
-            case.monitor,
-            LabelsThat::AreLackedBy(replica),
-        )?;
+    let mut replica: u8 = 0;
+    for lack in &case.told.lacks {
         if lines < MOST_LINES {
-            put_lacking_one(out, case, replica, &lacking)?;
+            put_lack(out, case, replica, *lack)?;
             lines = lines.saturating_add(1);
-        } else if !lacking.is_empty() {
+        } else if lack.oldest.is_some() {
             others = others.saturating_add(1);
         }
+        replica = replica.saturating_add(1);
     }
     if others > 0 {
         put_head(out, "")?;
@@ -45,21 +43,16 @@ fn put_lacking(out: &mut Vec<u8>, case: &Case<'_>) -> Result<(), NoMemory> {
 }
 
 // How many updates the replica lacks, and the oldest of them.
-fn put_lacking_one(
-    out: &mut Vec<u8>,
-    case: &Case<'_>,
-    replica: u8,
-    lacking: &[u32],
-) -> Result<(), NoMemory> {
+fn put_lack(out: &mut Vec<u8>, case: &Case<'_>, replica: u8, lack: Lack) -> Result<(), NoMemory> {
     put_head(out, "at the end")?;
     put_name(out, case, replica)?;
-    match lacking.first() {
+    match lack.oldest {
         None => put(out, " has every update\n"),
         Some(oldest) => {
             put(out, " lacks ")?;
-            put_count(out, small(lacking.len()), " update", " updates")?;
+            put_count(out, small(lack.updates), " update", " updates")?;
             put(out, ", the oldest ")?;
-            put_label(out, case, *oldest)?;
+            put_label(out, case, oldest)?;
             put(out, "\n")
         }
     }
@@ -147,13 +140,13 @@ fn put_reason(
     }
 }
 
-fn stamp_of(command: &Command) -> Option<LabelsThat> {
+fn stamp_of(command: &Command) -> Option<LabelsWith> {
     match command {
         Command::Operate {
             replica,
             stamp: Some(clock),
             ..
-        } => Some(LabelsThat::Carry(Stamp {
+        } => Some(LabelsWith::Stamp(Stamp {
             clock: *clock,
             replica: *replica,
         })),
@@ -161,12 +154,12 @@ fn stamp_of(command: &Command) -> Option<LabelsThat> {
     }
 }
 
-fn identifier_of(command: &Command) -> Option<LabelsThat> {
+fn identifier_of(command: &Command) -> Option<LabelsWith> {
     match command {
         Command::Operate {
             op: Op::OrAdd { id, .. },
             ..
-        } => Some(LabelsThat::Give(*id)),
+        } => Some(LabelsWith::Identifier(*id)),
         _ => None,
     }
 }
@@ -176,14 +169,14 @@ fn put_taken(
     out: &mut Vec<u8>,
     case: &Case<'_>,
     what: &str,
-    sort: Option<LabelsThat>,
+    sort: Option<LabelsWith>,
 ) -> Result<(), NoMemory> {
     put(out, what)?;
     put(out, " is taken by ")?;
     let Some(sort) = sort else {
         return put(out, "another label");
     };
-    let labels = labels_that(*out.allocator(), case.monitor, sort)?;
+    let labels = labels_with(*out.allocator(), case.log, &case.told.places, sort)?;
     match labels.first() {
         Some(label) => put_label(out, case, *label),
         None => put(out, "another label"),

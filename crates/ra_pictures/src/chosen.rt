@@ -1,5 +1,5 @@
 //! Which entries of a log stand in a picture.
-use ra_explain::{Change, LabelsThat, labels_that};
+use ra_explain::{Change, LabelsWith, labels_with};
 use ra_labels::{Command, NoMemory, Op, Reply};
 use ra_pages::{Case, No, delivery_of, elements_between, needed_by};
 use std::alloc::Global;
@@ -76,11 +76,8 @@ fn add_needed(places: &mut Vec<u32>, case: &Case<'_>, op: &Op) -> Result<(), NoM
 }
 
 fn add_insertion(places: &mut Vec<u32>, case: &Case<'_>, element: u32) -> Result<(), NoMemory> {
-    let labels = labels_that(
-        *places.allocator(),
-        case.monitor,
-        LabelsThat::PutIn(element),
-    )?;
+    let sort = LabelsWith::Element(element);
+    let labels = labels_with(*places.allocator(), case.log, &case.told.places, sort)?;
     match labels.first() {
         Some(label) => add_label(places, case, *label),
         None => Ok(()),
@@ -88,7 +85,7 @@ fn add_insertion(places: &mut Vec<u32>, case: &Case<'_>, element: u32) -> Result
 }
 
 fn add_label(places: &mut Vec<u32>, case: &Case<'_>, label: u32) -> Result<(), NoMemory> {
-    match case.places.at(label) {
+    match case.told.places.at(label) {
         Some(at) => add_entry(places, case, at, FEW_ENTRIES),
         None => Ok(()),
     }
@@ -96,7 +93,7 @@ fn add_label(places: &mut Vec<u32>, case: &Case<'_>, label: u32) -> Result<(), N
 
 // The latest updates of the elements at which the answer and the right one differ.
 fn add_differing(places: &mut Vec<u32>, case: &Case<'_>, no: &No<'_>) -> Result<(), NoMemory> {
-    let Some(Command::Operate { op: right, .. }) = &no.right else {
+    let Some(Command::Operate { op: right, .. }) = &no.why.right else {
         return Ok(());
     };
     let (one, other) = elements_between(no.op, right);

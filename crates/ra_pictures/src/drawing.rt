@@ -68,7 +68,7 @@ impl Picture {
 
     /// How many replicas have no column.
     pub fn left_out(&self, case: &Case<'_>) -> u32 {
-        let all = case.monitor.replicas() as usize;
+        let all = case.told.replicas as usize;
         all.saturating_sub(self.columns.len()) as u32
     }
 

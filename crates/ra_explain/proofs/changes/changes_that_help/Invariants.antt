@@ -6,4 +6,4 @@ use Rattle.ra_explain.proofs.changes.changes_that_help.Given as goal
 -- those so far are found
 abbrev pub invariant-loop-change : goal.invariant-loop-change
 invariant-loop-change l = l.found.items
-    ≡ filter (λ change. would_hold l.monitor.setup l.monitor.log l.place change) (take l.change-index l.changes)
+    ≡ filter (λ change. would_hold l.setup l.log l.place change) (take l.change-index l.changes)

@@ -12,7 +12,7 @@ loop-label-preserved c =
     let n = c.loop-label.label in
     let found = c.loop-label.found.items in
     let told : c.is_such_at.result ≡ test n = c.is_such_at.ensures
-    ∙ ap (λ (places : List ℕ). is_such_at m.setup m.log places c.args.sort n) c.in_ok-places.ensures in
+    ∙ ap (λ (places : List ℕ). is_such_at m.setup m.log places c.args.sort n) c.requires in
     elim c.if-is_such_at.branch [
       | then-is_such_at+in_ok-push w ↦ ap (λ v. v.items) w.found-is ∙ w.in_ok-push.ensures.items
           ∙ chosen_one test n found (sym told ∙ w.if-is_such_at.true) c.loop-label.invariant
