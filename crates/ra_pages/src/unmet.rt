@@ -79,11 +79,7 @@ fn need_of(
 }
 
 /// The operation of the label, where there is such a label.
-pub fn op_of<'a>(
-    log: &'a [Entry<Command, Reply>],
-    places: &Places,
-    label: u32,
-) -> Option<&'a Op> {
+pub fn op_of<'a>(log: &'a [Entry<Command, Reply>], places: &Places, label: u32) -> Option<&'a Op> {
     match &places.entry(log, label)?.command {
         Command::Operate { op, .. } => Some(op),
         Command::Deliver { .. } | Command::Join { .. } | Command::Verdict => None,

@@ -1,7 +1,7 @@
 //! What a yes leaves open: updates that did not reach every replica, and lines that were refused.
 use crate::case::Case;
-use crate::told::Lack;
 use crate::put::{put_act, put_label, put_line, put_name};
+use crate::told::Lack;
 use ra_explain::{LabelsWith, labels_with};
 use ra_labels::{Command, NoMemory, Op, Refusal, Reply, Stamp};
 use ra_layout::{put, put_count, put_head, small};
