@@ -49,8 +49,8 @@ pub struct Why {
 }
 
 impl Told {
-    /// What the monitor tells; of a no, what replicas lack at the end only where that is asked for too. Costs a step for
-    /// each entry of the log, and a look-up for each label and each replica whose lack is told.
+    /// What the monitor tells; of a no, what replicas lack at the end only where that is asked for too. Costs a step
+    /// for each entry of the log, and a look-up for each label and each replica whose lack is told.
     pub fn by(alloc: Global, monitor: &Monitor, lacks_of_a_no: bool) -> Result<Told, NoMemory> {
         let places = Places::of(alloc, monitor)?;
         let fault = monitor.report().fault;
