@@ -354,9 +354,6 @@ so_far_refused format line names name fields others front refused lists =
     refused (MayJoin-from_names format names fields name (subst (AreNames format) same lists.0))
 
 -- a fault that is passed on
-pub same_fault : {T : Type 0} (r : Result T LineFault) (x y d : LineFault) → r ≡ Err y → y ≡ d → r ≡ Err x → d ≡ x
-same_fault r x y d p q e = cc
-
 abbrev pub failed : LineFault → Result (Unit {0}) LineFault
 failed fault = Err fault
 

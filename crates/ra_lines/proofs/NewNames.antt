@@ -1,12 +1,13 @@
 -- The new name of a join: it is a name, and its bytes are a text.
-use Rattle.std.proofs.Common.{◌≡◌, ℕ, ◌<◌, Bool, true, false, ltb, leb, List, [], ◌∷◌, length, Result, Ok, Err, refl, sym, ap, subst, ◌∙◌, inl, inr, arith}
-use Rattle.std.specs.Prelude.{not, ◌&&◌, MatchResult, IfErr}
+use Rattle.std.proofs.Common.{◌≡◌, ℕ, ◌<◌, ◌≤◌, Bool, true, false, eqb, ltb, leb, List, [], ◌∷◌, length, Result, Ok, Err, refl, sym, ap, ◌∙◌, inl, inr, arith}
+use Rattle.std.specs.Prelude.{not, ◌&&◌, MatchResult}
 use Rattle.std.specs.Result.{IsOk}
 use Rattle.std.specs.Borrow.{Bor}
 use Rattle.std.specs.Char.{is_ascii_lowercase, is_ascii_digit}
 use Rattle.std.specs.List.{list_all}
 use Rattle.std.specs.Str.{IsUtf8, IsAscii}
-use Rattle.std.proofs.lemmas.Bool.{and_parts, or_cases, leb-true}
+use Rattle.std.proofs.lemmas.Bool.{and_parts, or_cases, eqb-false, leb-true}
+use Rattle.std.proofs.lemmas.List.{length-map}
 use Rattle.std.proofs.lemmas.Str.{IsUtf8-from_ascii}
 use Rattle.std.proofs.lemmas.Str.Ascii.{IsAscii-nil, IsAscii-cons}
 use Rattle.ra_labels.specs.declared.kind.Kind.{Kind}
@@ -15,10 +16,8 @@ use Rattle.ra_labels.specs.declared.command.Command.TheVariants.{Join}
 use Rattle.ra_labels.specs.Laws.{is_join}
 use Rattle.ra_lines.specs.declared.format.Format.{Format}
 use Rattle.ra_lines.specs.declared.format.Format.TheVariants.{Rah2}
-use Rattle.ra_lines.specs.declared.fault.NamesFault.{NamesFault}
-use Rattle.ra_lines.specs.declared.fault.NamesFault.TheVariants.{NoMemory}
-use Rattle.ra_lines.specs.Grammar.{is_name, has_form_of_name, may_follow, second_of, new_name, Spells}
-use Rattle.ra_lines.specs.Names.{MayJoin, StopsAdding, is_bad_behind}
+use Rattle.ra_lines.specs.Grammar.{is_name, has_form_of_name, may_follow, second_of, new_name, AreNames, Spells}
+use Rattle.ra_lines.specs.Names.{IsCount, AreDistinctNames, texts_of, is_bad_behind}
 
 -- ---- tests
 
@@ -79,8 +78,15 @@ pub bad_tested : (tested : Bool) (names : List (List ℕ)) (word : List ℕ)
     → tested ≡ not (is_bad_behind names word) → tested ≡ false → is_bad_behind names word ≡ true
 bad_tested tested names word is failed = turned_back (is_bad_behind names word) (sym is ∙ failed)
 
-pub memory_alone : (names : List (List ℕ)) (word : List ℕ) (r : Result (Unit {0}) NamesFault)
-    → (y : NamesFault) × (r ≡ Err y) × (y ≡ NoMemory) → MayJoin Rah2 names word → IfErr r (StopsAdding names word)
-memory_alone names word r p may =
-    subst (λ (r : Result (Unit {0}) NamesFault). IfErr r (StopsAdding names word)) (sym p.1)
-    (subst (StopsAdding names word) (sym p.2) may)
+-- ---- names from elsewhere
+
+pub is_count : (names : List (Bor (List ℕ))) (empty : Bool) → empty ≡ eqb (length names) 0 → empty ≡ false
+    → length names ≤ 64 → IsCount (length (texts_of names))
+is_count names empty is full few =
+    let texts : length (texts_of names) ≡ length names = length-map names (λ text. text.now) in
+    let some : length names ≡ 0 → ⊥ = eqb-false (length names) 0 (sym is ∙ full) in
+    (omega (arith, texts, some), omega (arith, texts, few))
+
+pub taken_names : (names : List (Bor (List ℕ))) → IsCount (length (texts_of names)) → AreDistinctNames (texts_of names)
+    → AreNames Rah2 (texts_of names)
+taken_names names count good = record { some = count.0; few = count.1; each = good.each; distinct = good.distinct }

@@ -9,6 +9,7 @@ use crate::format::Format;
 use crate::name::Names;
 use crate::number::number;
 use crate::operation::operation;
+use crate::word::is_word;
 use ra_labels::{Command, Kind, NoMemory};
 use std::alloc::Global;
 
@@ -69,27 +70,27 @@ fn command_in(
 fn is_join_word(format: Format, word: &[u8]) -> bool
     ensures { result ≡ is_join_word format word.now }
 {
-    format == Format::Rah2 && word == b"join".as_slice()
+    format == Format::Rah2 && is_word(word, "join")
 }
 
 // A join, by the new name and the fields behind it.
 fn join(names: &Names, name: &[u8], mut fields: Fields<'_>) -> Option<Command>
     ensures { result ≡ join_read names.now name.now fields.entry }
 {
-    let source = fields.take()?;
-    if fields.take().is_some() {
+    let (Some(source), None) = (fields.take(), fields.take()) else {
         return None;
+    };
+    match (names.replica(name), names.replica(source)) {
+        (Some(replica), Some(from)) => Some(Command::Join { replica, from }),
+        _ => None,
     }
-    let replica = names.replica(name)?;
-    let from = names.replica(source)?;
-    Some(Command::Join { replica, from })
 }
 
 // The command of a line that has one field.
 fn lone(word: &[u8]) -> Option<Command>
     ensures { result ≡ lone_read word.now }
 {
-    if word == b"verdict".as_slice() {
+    if is_word(word, "verdict") {
         Some(Command::Verdict)
     } else {
         None
@@ -107,7 +108,7 @@ fn replica_command(
     ensures read { IfOk result (λ command. command ≡ replica_command_read kind replica word.now fields.entry) }
     ensures memory { OnErr result (asks_for_list kind word.now ≡ true) }
 {
-    if word == b"got".as_slice() {
+    if is_word(word, "got") {
         Ok(delivery(replica, fields))
     } else {
         operation_at(alloc, kind, replica, word, fields)
@@ -117,10 +118,12 @@ fn replica_command(
 fn delivery(replica: u8, mut fields: Fields<'_>) -> Option<Command>
     ensures { result ≡ delivery_read replica fields.entry }
 {
-    let field = fields.take()?;
-    match fields.take() {
-        None => number(field).map(|label| Command::Deliver { replica, label }),
-        Some(_) => None,
+    let (Some(field), None) = (fields.take(), fields.take()) else {
+        return None;
+    };
+    match number(field) {
+        Some(label) => Some(Command::Deliver { replica, label }),
+        None => None,
     }
 }
 
@@ -135,8 +138,10 @@ fn operation_at(
     ensures read { IfOk result (λ command. command ≡ operation_read kind replica word.now fields.entry) }
     ensures memory { OnErr result (asks_for_list kind word.now ≡ true) }
 {
-    let Some(op) = operation(alloc, kind, word, &mut fields)? else {
-        return Ok(None);
+    let op = match operation(alloc, kind, word, &mut fields) {
+        Ok(Some(op)) => op,
+        Ok(None) => return Ok(None),
+        Err(refused) => return Err(refused),
     };
     match last_clock(fields) {
         Some(stamp) => Ok(Some(Command::Operate { replica, op, stamp })),
@@ -151,10 +156,9 @@ fn last_clock(mut fields: Fields<'_>) -> Option<Option<u32>>
     let Some(field) = fields.take() else {
         return Some(None);
     };
-    let clock = clock(field)?;
-    match fields.take() {
-        None => Some(Some(clock)),
-        Some(_) => None,
+    match (clock(field), fields.take()) {
+        (Some(clock), None) => Some(Some(clock)),
+        _ => None,
     }
 }
 

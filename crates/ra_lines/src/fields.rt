@@ -12,8 +12,10 @@ use std::marker::Model;
 pub fn cut_at(byte: u8, bytes: &[u8]) -> Option<(&[u8], &[u8])>
     ensures { MatchOption result (All (λ b. b ≢ byte) bytes.now) (λ cut. IsCutAt byte bytes.now cut.0.now cut.1.now) }
 {
-    let at = memchr(byte, bytes)?;
-    Some((&bytes[..at], &bytes[at + 1..]))
+    match memchr(byte, bytes) {
+        Some(at) => Some((&bytes[..at], &bytes[at + 1..])),
+        None => None,
+    }
 }
 
 /// The fields of a line, of which those at the front were taken.
@@ -44,7 +46,9 @@ impl<'a> Fields<'a> {
     pub fn take(&mut self) -> Option<&'a [u8]>
         ensures { MatchOption result ((self.old ≡ []) × (self.new ≡ [])) (λ field. self.old ≡ field.now ∷ self.new) }
     {
-        let rest = self.rest?;
+        let Some(rest) = self.rest else {
+            return None;
+        };
         match cut_at(b' ', rest) {
             Some((field, more)) => {
                 self.rest = Some(more);
@@ -63,8 +67,8 @@ impl<'a> Fields<'a> {
         ensures { MatchOption result ((mark_first self.old ≡ None) × (self.new ≡ self.old))
             (λ word. self.old ≡ marked word.now ∷ self.new) }
     {
-        match self.rest? {
-            [b'#', behind @ ..] => {
+        match self.rest {
+            Some([b'#', behind @ ..]) => {
                 self.rest = Some(behind);
                 self.take()
             }

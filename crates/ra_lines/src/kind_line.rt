@@ -7,6 +7,7 @@ ghost use Rattle.ra_lines.specs.Grammar.{first_line};
 ghost use Rattle.ra_lines.specs.Reading.{head_read, kind_read, kind_named};
 
 use crate::format::Format;
+use crate::word::is_word;
 use ra_labels::Kind;
 
 /// The format and the kind that a first line names.
@@ -19,30 +20,35 @@ pub fn head_of(line: &[u8]) -> Option<(Format, Kind)>
     if let Some(kind) = kind_of(Format::Rah1, line) {
         return Some((Format::Rah1, kind));
     }
-    let kind = kind_of(Format::Rah2, line)?;
-    Some((Format::Rah2, kind))
+    match kind_of(Format::Rah2, line) {
+        Some(kind) => Some((Format::Rah2, kind)),
+        None => None,
+    }
 }
 
 // The kind that a first line of this format names.
 fn kind_of(format: Format, line: &[u8]) -> Option<Kind>
     ensures { result ≡ kind_read format line.now }
 {
-    kind_of_word(line.strip_prefix(format.word().as_bytes())?)
+    match line.strip_prefix(format.word().as_bytes()) {
+        Some(word) => kind_of_word(word),
+        None => None,
+    }
 }
 
 /// The kind whose word this is.
 pub fn kind_of_word(word: &[u8]) -> Option<Kind>
     ensures { result ≡ kind_named word.now }
 {
-    if word == b"counter".as_slice() {
+    if is_word(word, "counter") {
         Some(Kind::Counter)
-    } else if word == b"register".as_slice() {
+    } else if is_word(word, "register") {
         Some(Kind::Register)
-    } else if word == b"lwwset".as_slice() {
+    } else if is_word(word, "lwwset") {
         Some(Kind::LwwSet)
-    } else if word == b"orset".as_slice() {
+    } else if is_word(word, "orset") {
         Some(Kind::OrSet)
-    } else if word == b"rga".as_slice() {
+    } else if is_word(word, "rga") {
         Some(Kind::Rga)
     } else {
         None

@@ -24,6 +24,7 @@ pub mod number;
 mod operation;
 mod reading;
 pub mod reply;
+mod word;
 
 pub use fault::{LineFault, NamesFault};
 pub use format::Format;

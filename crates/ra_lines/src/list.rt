@@ -4,6 +4,7 @@ ghost use Rattle.ra_lines.specs.Reading.{list_read};
 
 use crate::fields::cut_at;
 use crate::number::number;
+use crate::word::is_word;
 use ra_labels::{Elements, NoMemory};
 use std::alloc::Global;
 
@@ -13,7 +14,7 @@ pub fn list(alloc: Global, field: &[u8]) -> Result<Option<Elements>, NoMemory>
     ensures { IfOk result (λ list. list ≡ list_read field.now) }
 {
     let mut items = Vec::new(alloc);
-    if field == b"-".as_slice() {
+    if is_word(field, "-") {
         return Ok(Some(Elements::new(items)));
     }
     let mut rest = field;

@@ -12,6 +12,7 @@ use crate::fault::{LineFault, NamesFault};
 use crate::fields::Fields;
 use crate::format::Format;
 use crate::limits::{LONGEST_NAME, MOST_NAMES};
+use crate::word::is_word;
 use indexmap::IndexSet;
 use ra_labels::NoMemory;
 use std::alloc::Global;
@@ -21,7 +22,7 @@ use std::marker::Model;
 pub fn is_name(word: &[u8]) -> bool
     ensures { result ≡ grammar.is_name word.now }
 {
-    has_form(word) && word != b"verdict".as_slice() && word != b"join".as_slice()
+    has_form(word) && !is_word(word, "verdict") && !is_word(word, "join")
 }
 
 fn has_form(word: &[u8]) -> bool
@@ -44,9 +45,15 @@ fn may_follow(bytes: &[u8]) -> bool
 }
 
 /// The names of a history's replicas, whose places are the replicas' numbers. Contracts see the list of the names.
-#[derive(Drop)]
 pub struct Names {
     set: IndexSet<Vec<u8>>,
+}
+
+impl Drop for Names {
+    // Written out, so that whoever lets names go calls this, and not what lets the set go.
+    fn drop(self) {
+        let Names { set: _ } = self;
+    }
 }
 
 impl Model for Names {
@@ -78,7 +85,10 @@ impl Names {
         if let Some(place) = first_bad(names) {
             return Err(NamesFault::BadName(place as u32));
         }
-        Ok(Names::of(alloc, names)?)
+        match Names::of(alloc, names) {
+            Ok(list) => Ok(list),
+            Err(_) => Err(NamesFault::NoMemory),
+        }
     }
 
     // These words, which are names.
@@ -88,7 +98,9 @@ impl Names {
     {
         let mut list = Names::none(alloc);
         for name in names {
-            list.push(name.as_bytes())?;
+            if let Err(refused) = list.push(name.as_bytes()) {
+                return Err(refused);
+            }
         }
         Ok(list)
     }
@@ -100,12 +112,14 @@ impl Names {
     {
         let mut fields = Fields::of(line);
         match fields.take() {
-            Some(word) if word == b"replicas".as_slice() => {}
+            Some(word) if is_word(word, "replicas") => {}
             _ => return Err(LineFault::Syntax),
         }
         let mut names = Names::none(alloc);
         while let Some(name) = fields.take() {
-            names.list(format, name)?;
+            if let Err(fault) = names.list(format, name) {
+                return Err(fault);
+            }
         }
         if names.count() == 0 {
             return Err(LineFault::Syntax);
@@ -175,8 +189,10 @@ impl Names {
         if self.set.len() == MOST_NAMES {
             return Err(NamesFault::BadCount);
         }
-        self.push(name)?;
-        Ok(())
+        match self.push(name) {
+            Ok(()) => Ok(()),
+            Err(_) => Err(NamesFault::NoMemory),
+        }
     }
 
     // Adds a name of a second line in this format. An `Err` changes nothing.
@@ -189,8 +205,10 @@ impl Names {
         if self.set.len() >= format.most_names() || !self.is_new(name) {
             return Err(LineFault::Syntax);
         }
-        self.push(name)?;
-        Ok(())
+        match self.push(name) {
+            Ok(()) => Ok(()),
+            Err(_) => Err(LineFault::NoMemory),
+        }
     }
 
     // Is the word a name, and none of these?

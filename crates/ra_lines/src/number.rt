@@ -24,8 +24,14 @@ pub fn signed_number(field: &[u8]) -> Option<i32>
 {
     match field {
         [] => None,
-        [b'-', digits @ ..] => below_zero(number(digits)?),
-        _ => above_zero(number(field)?),
+        [b'-', digits @ ..] => match number(digits) {
+            Some(size) => below_zero(size),
+            None => None,
+        },
+        _ => match number(field) {
+            Some(size) => above_zero(size),
+            None => None,
+        },
     }
 }
 
@@ -44,7 +50,10 @@ fn digits(field: &[u8]) -> Option<u32>
 {
     let mut value: u32 = 0;
     for byte in field {
-        value = with_digit(value, *byte)?;
+        let Some(next) = with_digit(value, *byte) else {
+            return None;
+        };
+        value = next;
     }
     Some(value)
 }

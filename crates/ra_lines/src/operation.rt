@@ -1,11 +1,13 @@
 //! The operations that fields spell, with their return values.
-ghost use Rattle.std.specs.Prelude.{◌≡◌, true, IfOk, OnErr};
-ghost use Rattle.ra_lines.specs.Reading.{Reads, number_first, query_read, value_read, read_first, write_first, add_first, remove_first, plain_removal, after_first, word_first, reads_list, asks_for_list};
+ghost use Rattle.std.specs.Prelude.{◌≡◌, true, ℕ, List, Some, IfOk, OnErr};
+ghost use Rattle.ra_labels.specs.declared.kind.Kind.TheVariants.{Counter, Register};
+ghost use Rattle.ra_lines.specs.Reading.{Reads, number_first, query_read, value_read, list_read, read_first, write_first, add_first, remove_first, plain_removal, after_first, word_first, reads_list, asks_for_list};
 
 use crate::fields::Fields;
 use crate::list::list;
 use crate::number::{number, signed_number};
-use ra_labels::{Kind, NoMemory, Op};
+use crate::word::is_word;
+use ra_labels::{Elements, Kind, NoMemory, Op};
 use std::alloc::Global;
 
 /// The operation that the word and the fields behind it spell in a history of this kind. It takes those fields. `None`
@@ -19,19 +21,19 @@ pub fn operation(
     ensures read { IfOk result (λ op. Reads (word_first kind word.now fields.old) op fields.new) }
     ensures memory { OnErr result (asks_for_list kind word.now ≡ true) }
 {
-    if word == b"inc".as_slice() {
+    if is_word(word, "inc") {
         Ok(Some(Op::Inc))
-    } else if word == b"dec".as_slice() {
+    } else if is_word(word, "dec") {
         Ok(Some(Op::Dec))
-    } else if word == b"read".as_slice() {
+    } else if is_word(word, "read") {
         read(alloc, kind, fields)
-    } else if word == b"write".as_slice() {
+    } else if is_word(word, "write") {
         Ok(write(fields))
-    } else if word == b"add".as_slice() {
+    } else if is_word(word, "add") {
         Ok(add(fields))
-    } else if word == b"remove".as_slice() {
+    } else if is_word(word, "remove") {
         remove(alloc, kind, fields)
-    } else if word == b"after".as_slice() {
+    } else if is_word(word, "after") {
         Ok(after(fields))
     } else {
         Ok(None)
@@ -54,46 +56,88 @@ fn query(alloc: Global, kind: Kind, field: &[u8]) -> Result<Option<Op>, NoMemory
     ensures memory { OnErr result (reads_list kind ≡ true) }
 {
     match kind {
-        Kind::Counter => Ok(signed_number(field).map(|value| Op::Count(value))),
-        Kind::Register => Ok(value(field).map(|value| Op::Last(value))),
-        Kind::LwwSet => Ok(list(alloc, field)?.map(|elements| Op::LwwRead(elements))),
-        Kind::OrSet => Ok(list(alloc, field)?.map(|elements| Op::OrRead(elements))),
-        Kind::Rga => Ok(list(alloc, field)?.map(|elements| Op::RgaRead(elements))),
+        Kind::Counter => Ok(count(field)),
+        Kind::Register => Ok(last(field)),
+        Kind::LwwSet | Kind::OrSet | Kind::Rga => match list(alloc, field)? {
+            Some(elements) => Ok(Some(list_query(kind, elements))),
+            None => Ok(None),
+        },
+    }
+}
+
+// The read of a kind that reads lists, by the list that it returned.
+fn list_query(kind: Kind, elements: Elements) -> Op
+    requires { reads_list kind ≡ true }
+    ensures { (field : List ℕ) → list_read field ≡ Some elements → query_read kind field ≡ Some result }
+{
+    match kind {
+        Kind::LwwSet => Op::LwwRead(elements),
+        Kind::OrSet => Op::OrRead(elements),
+        Kind::Rga | Kind::Counter | Kind::Register => Op::RgaRead(elements),
+    }
+}
+
+fn count(field: &[u8]) -> Option<Op>
+    ensures { result ≡ query_read Counter field.now }
+{
+    match signed_number(field) {
+        Some(value) => Some(Op::Count(value)),
+        None => None,
+    }
+}
+
+fn last(field: &[u8]) -> Option<Op>
+    ensures { result ≡ query_read Register field.now }
+{
+    match value(field) {
+        Some(value) => Some(Op::Last(value)),
+        None => None,
     }
 }
 
 fn value(field: &[u8]) -> Option<Option<u32>>
     ensures { result ≡ value_read field.now }
 {
-    if field == b"none".as_slice() {
+    if is_word(field, "none") {
         Some(None)
     } else {
-        number(field).map(|value| Some(value))
+        match number(field) {
+            Some(value) => Some(Some(value)),
+            None => None,
+        }
     }
 }
 
 fn next_number(fields: &mut Fields<'_>) -> Option<u32>
     ensures { Reads (number_first fields.old) result fields.new }
 {
-    number(fields.take()?)
+    match fields.take() {
+        Some(field) => number(field),
+        None => None,
+    }
 }
 
 fn write(fields: &mut Fields<'_>) -> Option<Op>
     ensures { Reads (write_first fields.old) result fields.new }
 {
-    Some(Op::Write(next_number(fields)?))
+    match next_number(fields) {
+        Some(value) => Some(Op::Write(value)),
+        None => None,
+    }
 }
 
 fn add(fields: &mut Fields<'_>) -> Option<Op>
     ensures { Reads (add_first fields.old) result fields.new }
 {
-    let element = next_number(fields)?;
+    let Some(element) = next_number(fields) else {
+        return None;
+    };
     match fields.take_marked() {
         None => Some(Op::LwwAdd(element)),
-        Some(word) => {
-            let id = number(word)?;
-            Some(Op::OrAdd { element, id })
-        }
+        Some(word) => match number(word) {
+            Some(id) => Some(Op::OrAdd { element, id }),
+            None => None,
+        },
     }
 }
 
@@ -124,7 +168,11 @@ fn plain_removal(kind: Kind, element: u32) -> Op
 fn after(fields: &mut Fields<'_>) -> Option<Op>
     ensures { Reads (after_first fields.old) result fields.new }
 {
-    let anchor = next_number(fields)?;
-    let element = next_number(fields)?;
-    Some(Op::After { anchor, element })
+    let Some(anchor) = next_number(fields) else {
+        return None;
+    };
+    match next_number(fields) {
+        Some(element) => Some(Op::After { anchor, element }),
+        None => None,
+    }
 }

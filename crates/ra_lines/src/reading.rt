@@ -7,7 +7,8 @@ ghost use Rattle.ra_lines.specs.Names.{StopsAdding};
 ghost use Rattle.ra_lines.specs.declared.fault.LineFault.TheVariants.{Syntax};
 ghost use Rattle.ra_lines.specs.declared.reading.Item.{Item};
 ghost use Rattle.ra_lines.specs.declared.reading.Header.{Header};
-ghost use Rattle.ra_lines.specs.declared.reading.Header.TheVariants.{Nothing};
+ghost use Rattle.ra_lines.specs.declared.reading.Header.TheVariants.{Nothing, OfKind, OfNames};
+ghost use Rattle.ra_lines.specs.declared.reading.Item.TheVariants.{NamesLine};
 
 use crate::command::{command, new_name};
 use crate::fault::{LineFault, NamesFault};
@@ -114,26 +115,78 @@ impl Header {
         ensures err { OnErr result (self.new ≡ self.old) }
     {
         match self {
-            Header::Nothing => {
-                let Some((format, kind)) = head_of(line) else {
-                    return Err(LineFault::Syntax);
-                };
-                *self = Header::OfKind(format, kind);
-                Ok(Item::KindLine(kind))
-            }
+            Header::Nothing => self.take_head(line),
             Header::OfKind(format, kind) => {
-                let names = Names::read(alloc, *format, line)?;
-                let count = names.count();
-                *self = Header::OfNames(*format, *kind, names);
-                Ok(Item::NamesLine(count))
-            }
-            Header::OfNames(format, kind, names) => {
-                match command(alloc, *format, *kind, names, line)? {
-                    Some(command) => Ok(item_of(alloc, command, line)?),
-                    None => Err(LineFault::Syntax),
+                match names_line(alloc, *format, *kind, line) {
+                    Ok((header, count)) => {
+                        *self = header;
+                        Ok(Item::NamesLine(count))
+                    }
+                    Err(fault) => Err(fault),
                 }
             }
+            Header::OfNames(format, kind, names) => {
+                command_line(alloc, *format, *kind, names, line)
+            }
         }
+    }
+
+    // Takes the first line.
+    fn take_head(&mut self, line: &[u8]) -> Result<Item, LineFault>
+        requires { self.old ≡ Nothing }
+        ensures gives { IfOk result (λ item. SpellsItem Nothing line.now item self.new) }
+        ensures syntax { IsErrOf result Syntax → (item : Item) (next : Header) →
+            SpellsItem Nothing line.now item next → ⊥ }
+        ensures err { OnErr result (self.new ≡ self.old) }
+    {
+        let Some((format, kind)) = head_of(line) else {
+            return Err(LineFault::Syntax);
+        };
+        *self = Header::OfKind(format, kind);
+        Ok(Item::KindLine(kind))
+    }
+}
+
+// The names that a second line lists, and their number.
+fn names_line(
+    alloc: Global,
+    format: Format,
+    kind: Kind,
+    line: &[u8],
+) -> Result<(Header, u8), LineFault>
+    ensures gives { IfOk result (λ read. SpellsItem (OfKind format kind) line.now (NamesLine read.1) read.0) }
+    ensures syntax { IsErrOf result Syntax → (item : Item) (next : Header) →
+        SpellsItem (OfKind format kind) line.now item next → ⊥ }
+{
+    match Names::read(alloc, format, line) {
+        Ok(names) => {
+            let count = names.count();
+            Ok((Header::OfNames(format, kind, names), count))
+        }
+        Err(fault) => Err(fault),
+    }
+}
+
+// The item of a line behind the names.
+fn command_line(
+    alloc: Global,
+    format: Format,
+    kind: Kind,
+    names: &Names,
+    line: &[u8],
+) -> Result<Item, LineFault>
+    ensures gives { IfOk result (λ item. SpellsItem (OfNames format kind names.now) line.now item
+        (OfNames format kind names.now)) }
+    ensures syntax { IsErrOf result Syntax → (item : Item) (next : Header) →
+        SpellsItem (OfNames format kind names.now) line.now item next → ⊥ }
+{
+    match command(alloc, format, kind, names, line) {
+        Ok(Some(command)) => match item_of(alloc, command, line) {
+            Ok(item) => Ok(item),
+            Err(_) => Err(LineFault::NoMemory),
+        },
+        Ok(None) => Err(LineFault::Syntax),
+        Err(_) => Err(LineFault::NoMemory),
     }
 }
 
@@ -144,8 +197,10 @@ fn item_of(alloc: Global, command: Command, line: &[u8]) -> Result<Item, NoMemor
 {
     match command {
         Command::Join { .. } => {
-            let name = text_of(alloc, new_name(line))?;
-            Ok(Item::JoinLine { command, name })
+            match text_of(alloc, new_name(line)) {
+                Ok(name) => Ok(Item::JoinLine { command, name }),
+                Err(refused) => Err(refused),
+            }
         }
         Command::Operate { .. } | Command::Deliver { .. } | Command::Verdict => {
             Ok(Item::CommandLine(command))

@@ -67,7 +67,7 @@ fn put_counted(out: &mut Vec<u8>, words: &[u8], number: u32) -> Result<(), NoMem
     ensures part { OnErr result (BeginsWith out.old.items out.new.items) }
 {
     put_numbered(out, words, number)?;
-    Ok(out.push(b'\n')?)
+    put_bytes(out, b"\n")
 }
 
 // The words, the label, the word of the cause and a line feed.
@@ -77,9 +77,9 @@ fn put_caused(out: &mut Vec<u8>, words: &[u8], label: u32, cause: Cause) -> Resu
     ensures part { OnErr result (BeginsWith out.old.items out.new.items) }
 {
     put_numbered(out, words, label)?;
-    out.push(b' ')?;
-    out.extend_from_slice(cause_word(cause).as_bytes())?;
-    Ok(out.push(b'\n')?)
+    put_bytes(out, b" ")?;
+    put_bytes(out, cause_word(cause).as_bytes())?;
+    put_bytes(out, b"\n")
 }
 
 // The line of a refusal, or a part of it where a growth is refused.

@@ -1,8 +1,7 @@
 use Rattle.std.proofs.Common.{◌<◌, rules, length, arith}
 use Rattle.ra_lines.specs.declared.format.Format.TheVariants.{Rah2}
-use Rattle.std.proofs.lemmas.Result.{err_from_is_err_and}
 use Rattle.ra_lines.proofs.NameLists.{as_many, may_join}
-use Rattle.ra_lines.proofs.NewNames.{good_tested, memory_alone}
+use Rattle.ra_lines.proofs.NewNames.{good_tested}
 use Rattle.ra_lines.proofs.name.Names.add.Goals as goal
 
 pub push-requires : goal.push-requires
@@ -17,18 +16,20 @@ push-requires c =
           c.self.view_is,
     )) good
 
-pub returns-in_err-push-clause-fault : goal.returns-in_err-push-clause-fault
-returns-in_err-push-clause-fault c =
+pub returns-in-Err-clause-fault : goal.returns-in-Err-clause-fault
+returns-in-Err-clause-fault c =
     let keys = c.self.inside.set.keys in
     let room : length keys < 64 = search rules steps 100000 in
     let good = good_tested c.is_new.result c.args.self.now c.args.name.now c.is_new.ensures c.if-not-is_new.false in
-    memory_alone c.args.self.now c.args.name.now c.from_residual.result
-    (err_from_is_err_and c.from_residual.result c.from_residual.ensures.1)
-    (may_join Rah2 c.args.self.now c.args.name.now (omega (arith, room, as_many keys c.args.self.now c.self.view_is))
-    good)
+    may_join Rah2 c.args.self.now c.args.name.now (omega (
+      arith,
+      room,
+      as_many keys c.args.self.now
+          c.self.view_is,
+    )) good
 
-pub returns-clause-may : goal.returns-clause-may
-returns-clause-may c =
+pub returns-in-Ok-clause-may : goal.returns-in-Ok-clause-may
+returns-in-Ok-clause-may c =
     let keys = c.self.inside.set.keys in
     let room : length keys < 64 = search rules steps 100000 in
     let good = good_tested c.is_new.result c.args.self.now c.args.name.now c.is_new.ensures c.if-not-is_new.false in

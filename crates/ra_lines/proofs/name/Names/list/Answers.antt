@@ -29,8 +29,8 @@ push-requires c =
     (may_join c.args.format c.args.self.now c.args.name.now
     (omega (arith, room, as_many keys c.args.self.now c.self.view_is)) good)
 
-pub returns-clause-may : goal.returns-clause-may
-returns-clause-may c =
+pub returns-in-Ok-clause-may : goal.returns-in-Ok-clause-may
+returns-in-Ok-clause-may c =
     let keys = c.self.inside.set.keys in
     let room : length keys < most_names c.args.format = search rules steps 100000 in
     let good = good_tested c.is_new.result c.args.self.now c.args.name.now c.is_new.ensures c.if-not-is_new.false in

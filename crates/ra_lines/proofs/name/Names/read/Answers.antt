@@ -1,8 +1,7 @@
-use Rattle.std.proofs.Common.{◌∷◌, rules, ap}
-use Rattle.std.proofs.lemmas.Result.{err_from_is_err_and}
+use Rattle.std.proofs.Common.{◌≡◌, ◌∷◌, rules, ap}
 use Rattle.ra_lines.specs.Names.{ListsSoFar}
 use Rattle.ra_lines.specs.declared.fault.LineFault.TheVariants.{Syntax}
-use Rattle.ra_lines.proofs.NameLists.{so_far_first, so_far_next, so_far_refused, same_fault, failed}
+use Rattle.ra_lines.proofs.NameLists.{so_far_first, so_far_next, so_far_refused, failed}
 use Rattle.ra_lines.proofs.name.Names.read.Goals as goal
 
 pub loop-name-init : goal.loop-name-init
@@ -18,16 +17,15 @@ loop-name-preserved c =
     rw c.in-Some-take.ensures at c.loop-name.invariant in
     let next = so_far_next c.args.format c.args.line.now c.loop-name.names c.in-Some-take.name.now
     c.take-in-loop-name.new.self front
-    c.in_ok-list.ensures.may in
-    rw c.in_ok-list.ensures.ok next
+    c.in_default-list.ensures.may in
+    rw c.in_default-list.ensures.ok next
 
-pub returns-in_err-list-clause-syntax : goal.returns-in_err-list-clause-syntax
-returns-in_err-list-clause-syntax c is_syntax others lists =
+pub returns-in-Err-clause-syntax : goal.returns-in-Err-clause-syntax
+returns-in-Err-clause-syntax c is_syntax others lists =
     let front : ListsSoFar c.args.format c.args.line.now c.loop-name.names
     (c.in-Some-take.name.now ∷ c.take-in-loop-name.new.self) =
     rw c.in-Some-take.ensures at c.loop-name.invariant in
-    let p = err_from_is_err_and c.from_residual.result c.from_residual.ensures.1 in
+    let same : c.in-Err.fault ≡ Syntax = let e = is_syntax in cc in
     so_far_refused c.args.format c.args.line.now c.loop-name.names c.in-Some-take.name.now
     c.take-in-loop-name.new.self others front
-    (c.in_err-list.ensures.syntax
-    (ap failed (same_fault c.from_residual.result Syntax p.0 c.in_err-list.field-0.0 p.1 p.2 is_syntax))) lists
+    (c.in-Err.ensures.syntax (ap failed same)) lists
