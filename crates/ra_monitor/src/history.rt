@@ -49,14 +49,16 @@ impl History {
         ensures { IfOk result (λ history. StandsFor history (past_in setup.now [])) }
     {
         let tracker = Tracker::new(alloc, setup.replicas)?;
+        let taken = Taken::new(alloc, setup.replicas)?;
         let order = Order::of(alloc, setup.kind, setup.replicas)?;
+        // The witness comes last: what is let go where it gives up has fewer parts, each of which the proof goes through.
         let witness = Witness::new(alloc, setup.kind, setup.replicas, order)?;
         Ok(History {
             labels: 0,
             replicas: setup.replicas,
             tracker,
             witness,
-            taken: Taken::new(alloc, setup.replicas)?,
+            taken,
             fault: None,
         })
     }

@@ -1,4 +1,4 @@
-use Rattle.std.proofs.Common.{◌≡◌, ℕ, ◌∷◌, Option, Some, None, refl, sym, ap, ◌∙◌, subst}
+use Rattle.std.proofs.Common.{◌≡◌, ℕ, ◌<◌, ◌∷◌, Option, Some, None, refl, sym, ap, ◌∙◌, subst}
 use Rattle.std.specs.Prelude.{IfOk, is_some, if◌then◌else◌}
 use Rattle.std.specs.Option.{option_or, option_map_or}
 use Rattle.ra_labels.proofs.Results.{on_err, on_err_any}
@@ -13,7 +13,7 @@ use Rattle.ra_labels.specs.Records.{Records, replica_count}
 use Rattle.ra_labels.specs.Fault.{fault_of}
 use Rattle.ra_labels.specs.Answer.{no_at, refusal_of, refusal_at, answer_of, answer_to_accepted, with_accepted, records_after}
 use Rattle.ra_laws.proofs.TheLaws.{joins_are_accepted_with_the_next_number}
-use Rattle.ra_monitor.specs.History.{StandsFor, refusal_left, past_in}
+use Rattle.ra_monitor.specs.History.{StandsFor, IsAtReplica, refusal_left, past_in}
 use Rattle.ra_monitor.proofs.NewRecords.{taken_known}
 use Rattle.ra_monitor.proofs.history.History.take.Goals as goal
 
@@ -203,3 +203,30 @@ returns-in-Join-clause-joins c = λ records stands.
     let both = answered setup.kind setup.replicas records command (Join c.in-Join.replica c.in-Join.from) c.in-Join.is refl
     none accepted in
     on_err_any c.join.result (sym both.1 ∙ ap (λ (d : Command). d ∷ records) (sym c.in-Join.is))
+
+-- what gave up is as before
+pub returns-in-Operate-clause-err : goal.returns-in-Operate-clause-err
+returns-in-Operate-clause-err c = λ records stands. c.accept.ensures.err (past_in c.args.setup.now records) stands
+
+pub returns-in-Deliver-clause-err : goal.returns-in-Deliver-clause-err
+returns-in-Deliver-clause-err c = λ records stands. c.deliver.ensures.err (past_in c.args.setup.now records) stands
+
+pub returns-in-Join-clause-err : goal.returns-in-Join-clause-err
+returns-in-Join-clause-err c = λ records stands. c.join.ensures.err (past_in c.args.setup.now records) stands
+
+pub deliver-requires : goal.deliver-requires
+deliver-requires c =
+    let r = c.requires in
+    let setup = c.args.setup.now in
+    let none : fault_of setup.kind r.records ≡ None = sym r.stands.fault ∙ c.in_default.is in
+    record {
+      past = past_in setup r.records;
+      stands = r.stands;
+      none = none;
+      refused = ap (refusal_of setup.kind setup.replicas r.records) (sym c.in-Deliver.is)
+          ∙ c.in_default-refusal_of.ensures.first r.records (taken_known c.args.self.now (past_in setup r.records) r.stands none) r.stands.replicas
+          ∙ ap (refusal_left r.records) c.in-Deliver.is;
+      replica = subst (λ (n : ℕ). c.in-Deliver.replica < n) r.stands.replicas
+          (subst (IsAtReplica c.args.self.now.replicas) c.in-Deliver.is
+          (c.in_default-refusal_of.ensures.known refl));
+    }

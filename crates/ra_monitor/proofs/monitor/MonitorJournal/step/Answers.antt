@@ -65,3 +65,21 @@ returns-in-Err-clause-settled c = λ room stays.
     ≡ records_of l.setup l.log) (sym c.self.view_is) stays in
     let longer : suc (length records) ≡ length records = ap (λ (r : Records). length r) (sym joins ∙ stays_there) in
     absurd (omega (arith, longer))
+
+-- it gave up, and what is kept is as before
+pub invariant_of-self-in-Err : goal.invariant_of-self-in-Err
+invariant_of-self-in-Err c =
+    let m = c.self.inside in
+    let kept = c.self.invariant in
+    let same : c.reserve_one.new.log.items ≡ m.log.items = c.reserve_one.ensures.items in
+    let records = records_of m.setup m.log.items in
+    record {
+      replicas = kept.replicas;
+      joined = c.take.ensures.replicas kept.joined;
+      limit = kept.limit;
+      fits = rw same kept.fits;
+      legal = rw same kept.legal;
+      history = rw same (c.in-Err.ensures.err records kept.history);
+      labels = rw (same, c.in-Err.ensures.kept) kept.labels;
+      refused = rw same kept.refused;
+    }
