@@ -1,4 +1,5 @@
 pub mod Seats
+pub mod Slots
 pub mod Changes
 pub mod Steps
 pub mod Moves
@@ -12,3 +13,4 @@ pub mod Logs
 pub mod Journals
 pub mod Marks
 pub mod OwnPasses
+pub mod Served

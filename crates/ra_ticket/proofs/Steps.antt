@@ -15,6 +15,7 @@ use Rattle.ra_ticket.specs.Mark.{IsMarkOf}
 use Rattle.ra_ticket.specs.Views.{stage_of, ticket_at, ticket_of, held_at, held_of, setup_of, HasOwn}
 use Rattle.ra_ticket.specs.Rule.{At, NobodyHolds}
 use Rattle.ra_ticket.specs.Steps.{IsAsSeen, HasEntered, IsAhead, IsTold, drew_served, looked, published, released}
+use Rattle.ra_ticket.proofs.Slots.{carries_one}
 use Rattle.ra_ticket.proofs.Seats.{at_after, at_back, at_new}
 use Rattle.ra_ticket.proofs.Logs.{begins_same, legal_push}
 use Rattle.ra_ticket.proofs.Tickets.{below_more}
@@ -54,13 +55,6 @@ module _ {M C R S : Type 0} (j : Readings M C R S) (opened : S) where
 
   abbrev Slots : Type 0
   Slots = List (ℕ × Option M)
-
-  abbrev carried_first : Option M → Slots → Option M
-  carried_first none_there [] = none_there
-  carried_first none_there (x ∷ xs) = x.1
-
-  carries_one : (a b : M) → ◌≡◌ {A = Slots} ((0, Some a) ∷ []) ((0, Some b) ∷ []) → a ≡ b
-  carries_one a b e = let same : Some a ≡ Some b = ap (carried_first (Some a)) e in cc
 
   -- a step on the word i, which becomes n, has a view and an act that keep the rule, and tells `then`
   abbrev pub Goes : changes.Table j opened → ℕ → Slots → List ℕ → (View C R S × Slots → Type 0) → Type 0

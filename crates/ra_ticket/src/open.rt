@@ -2,9 +2,10 @@
 ghost use Rattle.std.specs.Prelude.{◌≡◌, ◌+◌, ◌-◌, ◌<◌, ◌≤◌, ◌⊎◌, [], map, All, IfOk, IsOkUnless, Some};
 ghost use Rattle.std.specs.List.{range_with_len};
 ghost use Rattle.ra_ticket.specs.Steps.{IsSeated, IsSameSeat};
-ghost use Rattle.ra_ticket.specs.Views.{stage_of, numbers_of, next_of, serving_of, setup_of, seen_of};
+ghost use Rattle.ra_ticket.specs.Views.{stage_of, numbers_of, seen_of};
 ghost use Rattle.ra_ticket.specs.Views.{first_pass, other_passes, starting};
 ghost use Rattle.ra_ticket.specs.Passes.{number_of, next_reached, serving_reached, pass_setup, seen, IsPassOf};
+ghost use Rattle.ra_ticket.specs.Dealing.{AreDealt};
 ghost use Rattle.ra_ticket.specs.declared.board.Stage.TheVariants.{Idle};
 
 use crate::board::{About, Board, LockSeat, LockTable};
@@ -68,12 +69,7 @@ fn deal<M: Journal>(
     requires table { IsSeated rest.table_id board.now.table_id }
     requires idle { (stage_of rest.me.0 ≡ Some Idle) × (numbers_of rest.me.0 ≡ range_with_len 0 passes) }
     requires new { seen_of rest.me.0 ≡ [] }
-    ensures numbers { IfOk result (λ v. map number_of v.items ≡ range_with_len 0 passes) }
-    ensures own { IfOk result (λ v. All (λ p. p.seat.table_id ≡ board.now.table_id) v.items) }
-    ensures next { IfOk result (λ v. All (λ p. next_reached p ≡ next_of rest.me.0) v.items) }
-    ensures serving { IfOk result (λ v. All (λ p. serving_reached p ≡ serving_of rest.me.0) v.items) }
-    ensures setup { IfOk result (λ v. All (λ p. pass_setup p ≡ setup_of rest.me.0) v.items) }
-    ensures seen { IfOk result (λ v. All (λ p. seen p ≡ []) v.items) }
+    ensures { IfOk result (λ v. AreDealt board.now.table_id rest.me.0 passes v.items) }
 {
     let mut dealt = Vec::with_capacity(alloc, usize::from(passes))?;
     for number in 0..passes {
