@@ -1,8 +1,8 @@
 //! Texts that a session takes piece by piece, and reports of them.
 
 use super::crossing::{Crossing, KINDS, made_of};
-use super::{REPLIES, SETS};
-use ra_history_text::Session;
+use super::{REPLIES, SETS, is_fault};
+use ra_history_text::{CheckFault, Session};
 use ra_labels::Kind;
 use ra_monitor::Report;
 use ra_report::report_json;
@@ -27,12 +27,17 @@ fn is_answered(
     let mut session = Session::new(alloc);
     let mut answer = Vec::new(alloc);
     for piece in text.chunks(length.max(1)) {
-        let fed = session.feed(piece, &mut answer);
-        assert_eq!(rt; fed, Ok(()), "{length} bytes at a time");
+        is_fault(rt, session.feed(piece, &mut answer).err(), None, length);
     }
-    let ended = session.finish(&mut answer);
-    assert_eq!(rt; ended, Ok(report), "{length} bytes at a time");
+    is_report(rt, session.finish(&mut answer), report, length);
     assert!(rt; answer.as_slice() == replies, "{length} bytes at a time");
+}
+
+fn is_report(rt: &impl Abort, ended: Result<Report, CheckFault>, wanted: Report, length: usize) {
+    match ended {
+        Ok(report) => assert_eq!(rt; report, wanted, "{length} bytes at a time"),
+        Err(fault) => is_fault(rt, Some(fault), None, length),
+    }
 }
 
 // It is cut at each of its bytes.

@@ -1,7 +1,7 @@
-//! The list of one replica: labels that it issued. Deliveries are tested where records are (`ra_rows`), since their
+//! The list of one replica: labels that it issued. Deliveries are tested where records are (`lists`), since their
 //! contract asks for some.
 
-use crate::elements::insert;
+use super::elements::insert;
 use ra_element_list::{ElementList, LOWEST, ROOT};
 use ra_labels::{Elements, Query, Stamp};
 use ra_replica_list::ReplicaList;

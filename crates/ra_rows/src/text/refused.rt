@@ -49,7 +49,7 @@ fn joins_again(rt: &impl Abort, alloc: Global) -> u32 {
     let mut joins = 0u32;
     for line in JOINED.as_bytes().split(|byte| *byte == b'\n') {
         if !line.is_empty() {
-            if let Item::JoinLine { .. } = line_again(rt, &mut reading, line) {
+            if is_join(line_again(rt, &mut reading, line)) {
                 joins = joins.wrapping_add(1);
             }
         }
@@ -57,23 +57,38 @@ fn joins_again(rt: &impl Abort, alloc: Global) -> u32 {
     joins
 }
 
-#[test]
-fn calls_of_the_text_are_made_again(rt: HostRuntime) {
-    let names = names_again(&rt, rt.alloc());
-    assert_eq!(rt; names.count(), 3);
-    let mut reading = Reading::new(rt.alloc());
+// How many lines of a text are commands, and none of them a join.
+fn commands_again(rt: &impl Abort, alloc: Global) -> u32 {
+    let mut reading = Reading::new(alloc);
     let mut commands = 0u32;
     for line in SETS.as_bytes().split(|byte| *byte == b'\n') {
         if !line.is_empty() {
-            match line_again(&rt, &mut reading, line) {
-                Item::KindLine(kind) => assert_eq!(rt; kind, Kind::OrSet),
-                Item::NamesLine(count) => assert_eq!(rt; count, 3),
-                Item::CommandLine(_) => commands = commands.wrapping_add(1),
-                Item::JoinLine { .. } => panic!(rt; "a join"),
+            if is_command(rt, line_again(rt, &mut reading, line)) {
+                commands = commands.wrapping_add(1);
             }
         }
     }
-    assert_eq!(rt; commands, 9);
+    commands
+}
+
+fn is_command(rt: &impl Abort, item: Item) -> bool {
+    match &item {
+        Item::KindLine(kind) => assert!(rt; *kind == Kind::OrSet),
+        Item::NamesLine(count) => assert!(rt; *count == 3),
+        Item::CommandLine(_) => return true,
+        Item::JoinLine { .. } => panic!(rt; "a join"),
+    }
+    false
+}
+
+fn is_join(item: Item) -> bool {
+    matches!(&item, Item::JoinLine { .. })
+}
+
+#[test]
+fn calls_of_the_text_are_made_again(rt: HostRuntime) {
+    assert_eq!(rt; names_again(&rt, rt.alloc()).count(), 3);
+    assert_eq!(rt; commands_again(&rt, rt.alloc()), 9);
     assert_eq!(rt; joins_again(&rt, rt.alloc()), 3);
     let report = Report {
         kind: Kind::Rga,
@@ -85,7 +100,7 @@ fn calls_of_the_text_are_made_again(rt: HostRuntime) {
     let object = report_again(&rt, rt.alloc(), &report);
     let wanted = "{\"calls\":3,\"kind\":\"rga\",\"labels\":2,\"refused\":1,\
 \"verdict\":\"yes\"}";
-    assert_eq!(rt; object.as_str(), wanted);
+    assert!(rt; object.as_str() == wanted);
 }
 
 // Gives ten bytes at a time, and keeps a copy of them.

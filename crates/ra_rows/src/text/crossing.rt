@@ -18,13 +18,24 @@ pub const KINDS: [Kind; 5] = [
 ];
 
 /// The text of a history that holds, as it is made, and what is written for it.
-#[derive(Drop)]
 pub struct Crossing {
     kind: Kind,
     text: String,
     replies: String,
     labels: u32,
     calls: u32,
+}
+
+impl Drop for Crossing {
+    fn drop(self) {
+        let Crossing {
+            kind: _,
+            text: _,
+            replies: _,
+            labels: _,
+            calls: _,
+        } = self;
+    }
 }
 
 // What one replica does to all: it puts in something new of this number, or takes out what has this number.

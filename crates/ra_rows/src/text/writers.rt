@@ -1,10 +1,11 @@
 //! Replies that go to a writer of a few bytes.
 
-use super::{LIST, LIST_REPLIES, REPLIES, SETS, TEXT, WRITTEN};
+use super::{LIST, LIST_REPLIES, REPLIES, SETS, TEXT, WRITTEN, are_bytes, is_fault};
 use ra_history_text::{CheckFault, check};
 use std::alloc::Global;
 use std::io;
 use std::io::{ErrorKind, Write};
+use std::process::Abort;
 
 /// Takes some bytes at a time, and at one write fails, or takes none: one who asks again gets the rest written.
 #[derive(Drop)]
@@ -68,20 +69,37 @@ fn writes_of_a_few_bytes(rt: HostRuntime) {
     ] {
         for good_writes in 0..written.len().saturating_add(1) {
             for (most, fails) in [(1, true), (1, false), (3, true), (3, false)] {
-                let mut writer = Trickle::new(rt.alloc(), most, good_writes, fails);
-                let outcome = check(rt.alloc(), &mut text.as_bytes(), &mut writer);
-                let taken = writer.taken();
-                let told = if taken.len() < written.len() {
-                    Some(CheckFault::Write)
-                } else {
-                    fault
-                };
-                assert_eq!(rt; outcome.err(), told, "after {good_writes} writes");
-                let wanted = written.as_bytes().get(..taken.len());
-                assert_eq!(rt; Some(taken), wanted, "after {good_writes} writes");
-                let least = good_writes.min(written.len());
-                assert!(rt; taken.len() == least || (most > 1 && taken.len() > least));
+                let writer = Trickle::new(rt.alloc(), most, good_writes, fails);
+                ends_as_it_must(&rt, rt.alloc(), writer, text, written, fault);
             }
         }
     }
+}
+
+// The writer has the beginning of what is written of the text, and the check has its fault where it has all of it.
+fn ends_as_it_must(
+    rt: &impl Abort,
+    alloc: Global,
+    mut writer: Trickle,
+    text: &str,
+    written: &str,
+    fault: Option<CheckFault>,
+) {
+    let (most, good_writes) = (writer.most, writer.good_writes);
+    let found = check(alloc, &mut text.as_bytes(), &mut writer).err();
+    let taken = writer.taken();
+    let wanted = if taken.len() < written.len() {
+        Some(CheckFault::Write)
+    } else {
+        fault
+    };
+    is_fault(rt, found, wanted, good_writes);
+    are_bytes(
+        rt,
+        Some(taken),
+        written.as_bytes().get(..taken.len()),
+        good_writes,
+    );
+    let least = good_writes.min(written.len());
+    assert!(rt; taken.len() == least || (most > 1 && taken.len() > least));
 }

@@ -1,6 +1,6 @@
 //! Texts that come from readers of all sorts.
 
-use super::{LIST, LIST_REPLIES, REPLIES, SETS, TEXT, WRITTEN};
+use super::{LIST, LIST_REPLIES, REPLIES, SETS, TEXT, WRITTEN, are_bytes, is_fault};
 use ra_history_text::CheckFault::{self, Truncated};
 use ra_history_text::check;
 use std::alloc::Global;
@@ -112,16 +112,12 @@ fn ends_as_it_must(
     };
     let mut out = Vec::new(alloc);
     let fault = check(alloc, &mut reader, &mut out).err();
-    assert_eq!(rt; fault, wanted, "after {reads} reads");
+    is_fault(rt, fault, wanted, reads);
     let replied = first_lines(written, lines.saturating_sub(2));
-    assert_eq!(rt;
-        out.get(..replied.len()),
-        Some(replied),
-        "after {reads} reads"
-    );
-    assert_eq!(rt; out.len() > replied.len(), ends, "after {reads} reads");
+    are_bytes(rt, out.get(..replied.len()), Some(replied), reads);
+    assert!(rt; (out.len() > replied.len()) == ends, "after {reads} reads");
     if is_whole {
-        assert_eq!(rt; out.as_slice(), written.as_bytes());
+        are_bytes(rt, Some(out.as_slice()), Some(written.as_bytes()), reads);
     }
 }
 
@@ -191,6 +187,6 @@ fn many_reads_of_a_byte(rt: HostRuntime) {
     };
     let mut writer = Counting { written: 0 };
     let outcome = check(rt.alloc(), &mut reader, &mut writer);
-    assert_eq!(rt; outcome.err(), None);
+    is_fault(&rt, outcome.err(), None, 0);
     assert_eq!(rt; writer.written, 24 * 364_723 + 10);
 }
