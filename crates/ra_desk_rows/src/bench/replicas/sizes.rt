@@ -1,8 +1,8 @@
 //! Thousands of elements, of identifiers and of messages that wait.
 
-use super::{apply_next, bring, hold, list, made, message, replica_of};
+use super::{applies, apply_next, bring, hold, is_op, list, made, message, replica_of, rise_from};
 use ra_labels::{Kind, Op};
-use ra_replicas::{Made, Replica};
+use ra_replicas::Replica;
 use std::alloc::Global;
 use std::process::Abort;
 
@@ -75,11 +75,7 @@ fn thousands_of_elements_are_shown(rt: HostRuntime) {
             shown.reverse();
         }
         assert_eq!(rt; shown.len(), 20_000);
-        let mut next = 1;
-        for element in &shown {
-            assert_eq!(rt; *element, next);
-            next = next.wrapping_add(1);
-        }
+        rise_from(&rt, shown.as_slice(), 1);
     }
 }
 
@@ -92,17 +88,18 @@ fn thousands_of_identifiers_are_taken_out(rt: HostRuntime) {
         let op = Op::OrAdd { element: 3, id };
         bring(&rt, rt.alloc(), &mut replica, 1, op, None);
     }
-    let Made { op, .. } = made(&rt, &mut replica, 2);
-    let Op::OrRemove { element, ids } = op else {
-        panic!(rt; "no removal");
-    };
-    assert_eq!(rt; (element, ids.as_slice().len()), (3, 20_000));
-    let mut next = 0;
-    for id in ids.as_slice() {
-        assert_eq!(rt; *id, next);
-        next = next.wrapping_add(1);
-    }
+    takes_all_out(&rt, &made(&rt, &mut replica, 2).op);
     assert_eq!(rt; elements(&rt, &replica).len(), 0);
+}
+
+fn takes_all_out(rt: &impl Abort, op: &Op) {
+    match op {
+        Op::OrRemove { element, ids } => {
+            assert!(rt; *element == 3 && ids.as_slice().len() == 20_000);
+            rise_from(rt, ids.as_slice(), 0);
+        }
+        _ => panic!(rt; "no removal"),
+    }
 }
 
 // 300 elements at the front are removed one by one, the first that is shown each time, and 20,000 messages wait.
@@ -111,7 +108,11 @@ fn thousands_wait_and_are_removed(rt: HostRuntime) {
     let mut replica = with_many(&rt, rt.alloc(), Kind::Rga, Many::Wide);
     for removed in 0..300 {
         let made = made(&rt, &mut replica, 2);
-        assert!(rt; made.op == Op::RgaRemove(20_000u32.saturating_sub(removed)));
+        is_op(
+            &rt,
+            &made.op,
+            &Op::RgaRemove(20_000u32.saturating_sub(removed)),
+        );
     }
     assert_eq!(rt; elements(&rt, &replica).len(), 19_700);
     for number in 0..20_000 {
@@ -122,15 +123,9 @@ fn thousands_wait_and_are_removed(rt: HostRuntime) {
             message(number, 1, Op::RgaRemove(1), None, had),
         );
     }
-    assert_eq!(rt;
-        (apply_next(&rt, &mut replica), replica.held()),
-        (None, 20_000)
-    );
+    applies(&rt, &mut replica, None, 20_000);
     bring_cause(&rt, rt.alloc(), &mut replica);
-    assert_eq!(rt;
-        (apply_next(&rt, &mut replica), replica.held()),
-        (Some(0), 19_999)
-    );
+    applies(&rt, &mut replica, Some(0), 19_999);
 }
 
 // One update of replica 2, which is applied though 20,000 others wait.

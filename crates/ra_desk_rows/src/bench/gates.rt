@@ -1,6 +1,6 @@
 //! Gates that hold a replica back, or stop it.
 
-use crate::lies::is_answered;
+use super::lies::is_answered;
 use ra_bench::{BenchFault, BenchReport, Gate, Lie, run_bench, run_bench_with};
 use ra_labels::{Cause, Kind, Reply};
 use std::sync::atomic::{AtomicU32, Ordering};

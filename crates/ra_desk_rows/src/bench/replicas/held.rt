@@ -1,6 +1,6 @@
 //! Messages that wait for their causes, and clocks.
 
-use super::{apply_next, bring, copy, hold, list, made, message, replica_of, shown};
+use super::{applies, bring, copy, hold, is_op, list, made, message, replica_of, shows};
 use ra_labels::{Elements, Kind, Op};
 use ra_replicas::Message;
 
@@ -16,7 +16,7 @@ fn a_message_is_held_until_its_cause_came(rt: HostRuntime) {
         made: made(&rt, &mut a, 0),
     };
     hold(&rt, &mut b, copy(&rt, &first));
-    assert_eq!(rt; apply_next(&rt, &mut b), Some(40));
+    applies(&rt, &mut b, Some(40), 0);
     let second = Message {
         label: 50,
         from: 1,
@@ -24,15 +24,15 @@ fn a_message_is_held_until_its_cause_came(rt: HostRuntime) {
     };
     assert_eq!(rt; second.made.had.as_slice(), [1, 0, 0].as_slice());
     hold(&rt, &mut c, second);
-    assert_eq!(rt; apply_next(&rt, &mut c), None);
-    assert_eq!(rt; (c.held(), shown(&rt, rt.alloc(), &c).as_str()), (1, "0"));
+    applies(&rt, &mut c, None, 1);
+    shows(&rt, rt.alloc(), &c, "0");
     hold(&rt, &mut c, first);
     assert_eq!(rt; c.held(), 2);
-    assert_eq!(rt; apply_next(&rt, &mut c), Some(40));
-    assert_eq!(rt; (c.held(), shown(&rt, rt.alloc(), &c).as_str()), (1, "1"));
-    assert_eq!(rt; apply_next(&rt, &mut c), Some(50));
-    assert_eq!(rt; apply_next(&rt, &mut c), None);
-    assert_eq!(rt; (c.held(), shown(&rt, rt.alloc(), &c).as_str()), (0, "2"));
+    applies(&rt, &mut c, Some(40), 1);
+    shows(&rt, rt.alloc(), &c, "1");
+    applies(&rt, &mut c, Some(50), 0);
+    applies(&rt, &mut c, None, 0);
+    shows(&rt, rt.alloc(), &c, "2");
 }
 
 // What was held first and can be applied goes first, and after each one the look begins again at the front.
@@ -50,9 +50,9 @@ fn the_first_that_can_be_applied_is(rt: HostRuntime) {
         hold(&rt, &mut c, message(label, from, Op::Inc, None, had));
     }
     for (label, held) in [(30, 4), (10, 3), (11, 2), (12, 1), (31, 0)] {
-        assert_eq!(rt; (apply_next(&rt, &mut c), c.held()), (Some(label), held));
+        applies(&rt, &mut c, Some(label), held);
     }
-    assert_eq!(rt; apply_next(&rt, &mut c), None);
+    applies(&rt, &mut c, None, 0);
     let made = made(&rt, &mut c, 0);
     assert_eq!(rt; made.had.as_slice(), [3, 2, 0].as_slice());
 }
@@ -65,7 +65,7 @@ fn clocks_go_on_from_the_greatest(rt: HostRuntime) {
     assert_eq!(rt; made(&rt, &mut b, 0).clock, Some(10));
     bring(&rt, rt.alloc(), &mut b, 0, Op::Write(6), Some(4));
     assert_eq!(rt; made(&rt, &mut b, 1).clock, Some(11));
-    assert_eq!(rt; shown(&rt, rt.alloc(), &b).as_str(), "4");
+    shows(&rt, rt.alloc(), &b, "4");
 }
 
 // A copy is as good as the message.
@@ -79,6 +79,6 @@ fn copies_are_equal(rt: HostRuntime) {
     let message = message(8, 1, op, Some(6), list(&rt, rt.alloc(), &[2, 7]));
     let copy = copy(&rt, &message);
     assert_eq!(rt; (copy.label, copy.from, copy.made.clock), (8, 1, Some(6)));
-    assert!(rt; copy.made.op == message.made.op);
+    is_op(&rt, &copy.made.op, &message.made.op);
     assert_eq!(rt; copy.made.had.as_slice(), [2, 7].as_slice());
 }

@@ -1,6 +1,7 @@
 //! A call that was refused a growth is made again, and is answered as if none had been. `tests/refused_memory` refuses
 //! each growth in its turn; where none is refused, each call is made once.
 
+use super::is_text;
 use super::words::words;
 use ra_labels::Kind;
 use ra_replicas::{Made, Message, Replica};
@@ -69,20 +70,27 @@ fn each_call_is_made_again(rt: HostRuntime) {
         let mut a = new_again(&rt, rt.alloc(), kind, 0);
         let mut b = new_again(&rt, rt.alloc(), kind, 1);
         for round in 0..3 {
-            let made = made_again(&rt, &mut a, round);
-            let message = Message {
-                label: round,
-                from: 0,
-                made,
-            };
-            hold_again(&rt, &mut b, &message);
-            assert_eq!(rt; b.held(), 1);
-            assert_eq!(rt; apply_again(&rt, &mut b), Some(round));
-            assert_eq!(rt; apply_again(&rt, &mut b), None);
+            hear(&rt, &mut a, &mut b, round);
         }
-        for replica in [&a, &b] {
-            let shown = shown_again(&rt, rt.alloc(), replica);
-            assert_eq!(rt; shown.as_str(), read);
-        }
+        is_text(&rt, shown_again(&rt, rt.alloc(), &a).as_str(), read, 0);
+        is_text(&rt, shown_again(&rt, rt.alloc(), &b).as_str(), read, 1);
     }
+}
+
+// What the first replica makes in the round is applied at the other one.
+fn hear(rt: &impl Abort, from: &mut Replica, to: &mut Replica, round: u32) {
+    let message = Message {
+        label: round,
+        from: 0,
+        made: made_again(rt, from, round),
+    };
+    hold_again(rt, to, &message);
+    assert_eq!(rt; to.held(), 1);
+    applies_again(rt, to, Some(round));
+    applies_again(rt, to, None);
+}
+
+// This label is applied next, or none.
+fn applies_again(rt: &impl Abort, replica: &mut Replica, label: Option<u32>) {
+    assert_eq!(rt; apply_again(rt, replica), label);
 }

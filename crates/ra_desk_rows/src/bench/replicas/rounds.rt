@@ -1,7 +1,10 @@
 //! What each kind makes and shows in its first rounds, with no word from others.
 
-use super::{apply_next, made, replica_of, said, shown};
+use super::{applies, is_text, made, replica_of, said, shown, shows};
 use ra_labels::Kind;
+use ra_replicas::Replica;
+use std::alloc::Global;
+use std::process::Abort;
 
 struct Rounds {
     kind: Kind,
@@ -122,17 +125,33 @@ fn each_round_has_its_update(rt: HostRuntime) {
         assert_eq!(rt; replica.number(), row.number);
         let mut round = 0;
         for (update, read) in row.said {
-            let made = made(&rt, &mut replica, round);
-            let said = said(&rt, rt.alloc(), &made.op, made.clock);
-            assert_eq!(rt; said.as_str(), *update, "round {round}");
-            let had = made.had.as_slice();
-            assert_eq!(rt; had.len(), row.replicas as usize);
-            assert_eq!(rt; had.get(row.number as usize), Some(&round));
-            let shown = shown(&rt, rt.alloc(), &replica);
-            assert_eq!(rt; shown.as_str(), *read, "round {round}");
+            makes(&rt, rt.alloc(), &mut replica, row, round, update);
+            is_text(
+                &rt,
+                shown(&rt, rt.alloc(), &replica).as_str(),
+                read,
+                round as usize,
+            );
             round = round.wrapping_add(1);
         }
     }
+}
+
+// The replica makes this in the round, and had one of its own updates in each round before.
+fn makes(
+    rt: &impl Abort,
+    alloc: Global,
+    replica: &mut Replica,
+    row: &Rounds,
+    round: u32,
+    update: &str,
+) {
+    let made = made(rt, replica, round);
+    let said = said(rt, alloc, &made.op, made.clock);
+    is_text(rt, said.as_str(), update, round as usize);
+    let had = made.had.as_slice();
+    assert_eq!(rt; had.len(), row.replicas as usize);
+    assert_eq!(rt; had.get(row.number as usize), Some(&round));
 }
 
 // What a replica that is alone shows then.
@@ -149,8 +168,7 @@ fn the_fortieth_round_has_its_read(rt: HostRuntime) {
         for round in 0..40 {
             made(&rt, &mut replica, round);
         }
-        let shown = shown(&rt, rt.alloc(), &replica);
-        assert_eq!(rt; shown.as_str(), read);
+        shows(&rt, rt.alloc(), &replica, read);
     }
 }
 
@@ -165,9 +183,8 @@ fn at_first_nothing_is_shown(rt: HostRuntime) {
         (Kind::Rga, "-"),
     ] {
         let mut replica = replica_of(&rt, rt.alloc(), kind, 0, 16);
-        let shown = shown(&rt, rt.alloc(), &replica);
-        assert_eq!(rt; shown.as_str(), read);
+        shows(&rt, rt.alloc(), &replica, read);
         assert_eq!(rt; replica.held(), 0);
-        assert_eq!(rt; apply_next(&rt, &mut replica), None);
+        applies(&rt, &mut replica, None, 0);
     }
 }

@@ -62,6 +62,35 @@ pub fn copy(rt: &impl Abort, message: &Message) -> Message {
     }
 }
 
+/// The update is this one. Compared in one place: wherever updates are compared, that is proved anew.
+pub fn is_op(rt: &impl Abort, op: &Op, wanted: &Op) {
+    assert!(rt; *op == *wanted);
+}
+
+/// The numbers rise by one from the first.
+pub fn rise_from(rt: &impl Abort, numbers: &[u32], first: u32) {
+    let mut next = first;
+    for number in numbers {
+        assert_eq!(rt; *number, next);
+        next = next.wrapping_add(1);
+    }
+}
+
+/// This label is applied next, or none, and so many messages are held then.
+pub fn applies(rt: &impl Abort, replica: &mut Replica, label: Option<u32>, held: usize) {
+    assert_eq!(rt; (apply_next(rt, replica), replica.held()), (label, held));
+}
+
+/// The replica shows this.
+pub fn shows(rt: &impl Abort, alloc: Global, replica: &Replica, read: &str) {
+    is_text(rt, shown(rt, alloc, replica).as_str(), read, 0);
+}
+
+/// The text is this one, in a round or a row with this number.
+pub fn is_text(rt: &impl Abort, text: &str, wanted: &str, number: usize) {
+    assert_eq!(rt; text, wanted, "at {number}");
+}
+
 /// The label that is applied next, if one is.
 pub fn apply_next(rt: &impl Abort, replica: &mut Replica) -> Option<u32> {
     match replica.apply_next() {

@@ -1,6 +1,6 @@
 //! What is shown when updates come late, at the same clock, or of what was never there.
 
-use super::{bring, list, replica_of, shown};
+use super::{bring, is_text, list, replica_of, shown};
 use ra_labels::{Elements, Kind, Op};
 use std::alloc::Global;
 use std::process::Abort;
@@ -252,8 +252,7 @@ fn show(rt: &impl Abort, alloc: Global, rows: &[Row]) {
             let op = op_of(rt, alloc, *come);
             bring(rt, alloc, &mut replica, *from, op, *clock);
         }
-        let shown = shown(rt, alloc, &replica);
-        assert_eq!(rt; shown.as_str(), row.read, "row {place}");
+        is_text(rt, shown(rt, alloc, &replica).as_str(), row.read, place);
     }
 }
 

@@ -2,10 +2,7 @@
 
 use ra_bench::{BenchFault, BenchReport, Lie, OpenGate, run_bench_with};
 use ra_labels::{Cause, Kind, Reply};
-use std::alloc::Global;
 use std::process::Abort;
-use std::sync::Wait;
-use std::thread::Threads;
 
 const KINDS: [Kind; 5] = [
     Kind::Counter,
@@ -16,13 +13,8 @@ const KINDS: [Kind; 5] = [
 ];
 
 // The replica whose read is answered no for what it reads; none where all is well, or where it is answered otherwise.
-fn named<R: Abort + Threads + Wait + Sync>(
-    rt: &R,
-    alloc: Global,
-    kind: Kind,
-    lie: Lie,
-) -> Option<u8> {
-    match run_bench_with(rt, alloc, kind, 3, 3, Some(lie), &OpenGate) {
+fn named(answer: Result<BenchReport, BenchFault>) -> Option<u8> {
+    match answer {
         Err(
             BenchFault::Answered {
                 replica,
@@ -69,9 +61,9 @@ fn a_register_of_one_replica_lies(rt: HostRuntime) {
 fn each_kind_lies_in_each_round_with_a_read(rt: HostRuntime) {
     for kind in KINDS {
         for round in [0, 2, 4] {
-            let lie = Lie { replica: 1, round };
-            let replica = named(&rt, rt.alloc(), kind, lie);
-            assert!(rt; matches!(replica, Some(0 | 1)));
+            let lie = Some(Lie { replica: 1, round });
+            let answer = run_bench_with(&rt, rt.alloc(), kind, 3, 3, lie, &OpenGate);
+            assert!(rt; matches!(named(answer), Some(0 | 1)));
         }
     }
 }
