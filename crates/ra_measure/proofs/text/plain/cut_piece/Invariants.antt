@@ -1,6 +1,6 @@
 use Rattle.std.proofs.Common.{length}
 use Rattle.std.specs.Prelude.{⊤}
-use Rattle.ra_text_bench.proofs.plain.cut_piece.Given as goal
+use Rattle.ra_measure.proofs.text.plain.cut_piece.Given as goal
 
 abbrev pub invariant-loop-at : goal.invariant-loop-at
 invariant-loop-at l = ⊤

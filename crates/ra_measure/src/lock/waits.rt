@@ -2,8 +2,8 @@
 ghost use Rattle.std.specs.Prelude.{All};
 ghost use Rattle.ra_ticket.specs.Passes.{IsPassOf};
 
-use crate::calls::opened;
-use crate::journal::Log;
+use super::calls::opened;
+use super::journal::Log;
 use anyhow::Result;
 use ra_ticket::{CallFault, Pass, TicketLock};
 use std::alloc::Global;

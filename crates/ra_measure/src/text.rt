@@ -1,21 +1,17 @@
-//! Times the check of a million lines beside a plain loop that reads the same bytes, cuts lines and fields and pushes
+//! The check of a million lines, and beside it a plain loop that reads the same bytes, cuts lines and fields and pushes
 //! one log entry a line.
-//!
-//! With the word `loop` it runs that loop once, on standard input, and prints how many entries that pushed, so that a
-//! run of it can be timed beside a run of the check. It prints nothing without a word on its command line, since the
-//! gate runs it so.
-#![tactic(auto)]
 
 mod plain;
 mod texts;
 
-use crate::plain::cut_and_log;
-use crate::texts::text_of;
 use anyhow::{Result, bail};
+use plain::cut_and_log;
 use ra_history_text::check;
 use std::alloc::Global;
+use std::io;
+use std::io::{Print, Read};
 use std::time::{Clock, Duration, Instant};
-use std::{env, io};
+use texts::text_of;
 
 /// How many lines are timed.
 const LINES: u32 = 1_000_000;
@@ -23,30 +19,36 @@ const LINES: u32 = 1_000_000;
 /// How often each is timed, in turns.
 const TURNS: u32 = 5;
 
-fn main(rt: HostRuntime) -> Result<()> {
-    let Some(word) = env::args(&rt)?.nth(1) else {
-        return Ok(());
-    };
-    if word.as_str() == "loop" {
-        let entries = cut_and_log(rt.alloc(), &mut rt.reader())?;
-        println!(rt; "{entries}")?;
-        return Ok(());
-    }
+/// Runs the loop once, and prints how many entries it pushed, so that a run of it can be timed beside a run of the
+/// check.
+pub fn print_entries<R: Read>(rt: &impl Print, alloc: Global, reader: &mut R) -> Result<()> {
+    let entries = cut_and_log(alloc, reader)?;
+    println!(rt; "{entries}")?;
+    Ok(())
+}
+
+/// Prints the times of check and loop, a line for each turn.
+pub fn print_times<R: Clock + Print>(rt: &R, alloc: Global) -> Result<()> {
     println!(rt; "line          check (ms)  lines/s     loop (ms)   lines/s")?;
     for line in ["verdict", "a write 7 @3"] {
-        let text = text_of(rt.alloc(), line, LINES)?;
+        let text = text_of(alloc, line, LINES)?;
         for _ in 0..TURNS {
-            let checked = time_of_check(&rt, rt.alloc(), text.as_bytes())?;
-            let cut = time_of_loop(&rt, rt.alloc(), text.as_bytes())?;
-            println!(rt;
-                "{line:<12}  {:>10}  {:>10}  {:>9}  {:>10}",
-                checked.as_millis(),
-                lines_a_second(checked),
-                cut.as_millis(),
-                lines_a_second(cut)
-            )?;
+            print_turn(rt, alloc, line, text.as_bytes())?;
         }
     }
+    Ok(())
+}
+
+fn print_turn<R: Clock + Print>(rt: &R, alloc: Global, line: &str, text: &[u8]) -> Result<()> {
+    let checked = time_of_check(rt, alloc, text)?;
+    let cut = time_of_loop(rt, alloc, text)?;
+    println!(rt;
+        "{line:<12}  {:>10}  {:>10}  {:>9}  {:>10}",
+        checked.as_millis(),
+        lines_a_second(checked),
+        cut.as_millis(),
+        lines_a_second(cut)
+    )?;
     Ok(())
 }
 

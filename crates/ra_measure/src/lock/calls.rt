@@ -2,7 +2,7 @@
 ghost use Rattle.std.specs.Prelude.{All, IfOk};
 ghost use Rattle.ra_ticket.specs.Passes.{IsPassOf};
 
-use crate::journal::{Call, Log};
+use super::journal::{Call, Log};
 use anyhow::{Result, bail};
 use ra_ticket::{Entry, OpenFault, Pass, TicketLock};
 use std::alloc::Global;
