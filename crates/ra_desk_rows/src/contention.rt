@@ -2,13 +2,13 @@
 ghost use Rattle.std.specs.Prelude.{All, IfOk, IfSome};
 ghost use Rattle.ra_ticket.specs.Passes.{IsPassOf};
 
-use crate::desks::{Answer, are_found, counted};
+use crate::desks::{Answer, Outcome, are_found, counted, outcome_of};
 use crate::lock::GREATEST;
 use crate::lock::threads::start_together;
 use ra_desk::Desk;
 use ra_labels::{Command, Refusal, Reply};
 use ra_monitor::Monitor;
-use ra_ticket::{CallFault, Pass};
+use ra_ticket::Pass;
 use std::alloc::{AllocError, Global};
 use std::process::Abort;
 use std::sync::Wait;
@@ -69,12 +69,19 @@ impl Told {
     }
 
     fn add(&mut self, answer: Answer) {
-        match answer {
-            Ok(Reply::Yes(0)) => self.yes = self.yes.saturating_add(1),
-            Ok(Reply::Joined(_)) => self.joined = self.joined.saturating_add(1),
-            Ok(Reply::Refused(Refusal::ReplicaThere)) => self.there = self.there.saturating_add(1),
-            Err(CallFault::Full(Command::Verdict)) => self.full = self.full.saturating_add(1),
-            Err(CallFault::Worn(Command::Verdict)) => self.worn = self.worn.saturating_add(1),
+        match outcome_of(answer) {
+            Outcome::Replied(reply) => self.add_reply(reply),
+            Outcome::Full => self.full = self.full.saturating_add(1),
+            Outcome::Worn => self.worn = self.worn.saturating_add(1),
+            Outcome::HandedBack => {}
+        }
+    }
+
+    fn add_reply(&mut self, reply: Reply) {
+        match reply {
+            Reply::Yes(0) => self.yes = self.yes.saturating_add(1),
+            Reply::Joined(_) => self.joined = self.joined.saturating_add(1),
+            Reply::Refused(Refusal::ReplicaThere) => self.there = self.there.saturating_add(1),
             _ => {}
         }
     }

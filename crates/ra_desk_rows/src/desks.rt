@@ -122,17 +122,43 @@ pub fn counted(
 /// What is answered to a command.
 pub type Answer = Result<Reply, CallFault<Command>>;
 
+/// What is told of an answer.
+#[derive(Clone, Copy)]
+pub enum Outcome {
+    /// The reply.
+    Replied(Reply),
+    /// A verdict is handed back, since the log is full.
+    Full,
+    /// A verdict is handed back, since the last ticket was drawn.
+    Worn,
+    /// A command is handed back otherwise.
+    HandedBack,
+}
+
+/// What comes of a command.
+pub fn outcome_of(answer: Answer) -> Outcome {
+    match &answer {
+        Ok(reply) => Outcome::Replied(*reply),
+        Err(CallFault::Full(Command::Verdict)) => Outcome::Full,
+        Err(CallFault::Worn(Command::Verdict)) => Outcome::Worn,
+        Err(_) => Outcome::HandedBack,
+    }
+}
+
 /// The reply; none where the command is handed back.
 pub fn reply_in(answer: Answer) -> Option<Reply> {
-    answer.ok()
+    match outcome_of(answer) {
+        Outcome::Replied(reply) => Some(reply),
+        Outcome::Full | Outcome::Worn | Outcome::HandedBack => None,
+    }
 }
 
 /// Is a verdict handed back, since the log is full?
 pub fn is_full(answer: Answer) -> bool {
-    matches!(&answer, Err(CallFault::Full(Command::Verdict)))
+    matches!(outcome_of(answer), Outcome::Full)
 }
 
 /// Is a verdict handed back, since the last ticket was drawn?
 pub fn is_worn(answer: Answer) -> bool {
-    matches!(&answer, Err(CallFault::Worn(Command::Verdict)))
+    matches!(outcome_of(answer), Outcome::Worn)
 }

@@ -29,23 +29,20 @@ fn a_late_write_costs_few_steps(rt: HostRuntime) {
 #[test]
 fn those_that_wait_cost_a_step_each(rt: HostRuntime) {
     let mut reporter = reporter_of(&rt, rt.alloc(), Kind::Rga, 3, 1_000);
-    for (label, command, steps) in [
-        (0, after(0, 0, 5, 1), 1),
-        (1, after(1, 5, 6, 2), 0),
-        (2, bare(1, Op::RgaRemove(6)), 0),
-        (3, after(1, 6, 7, 3), 0),
-    ] {
-        assert_eq!(rt;
-            steps_of(&rt, &mut reporter, command, Reply::Ok(label)),
-            steps
-        );
-    }
+    costs(&rt, &mut reporter, after(0, 0, 5, 1), Reply::Ok(0), 1);
+    costs(&rt, &mut reporter, after(1, 5, 6, 2), Reply::Ok(1), 0);
+    let removal = bare(1, Op::RgaRemove(6));
+    costs(&rt, &mut reporter, removal, Reply::Ok(2), 0);
+    costs(&rt, &mut reporter, after(1, 6, 7, 3), Reply::Ok(3), 0);
     for (label, steps) in [(1, 0), (2, 0), (3, 0), (0, 4)] {
-        assert_eq!(rt;
-            steps_of(&rt, &mut reporter, got(2, label), Reply::Got(label)),
-            steps
-        );
+        let delivery = got(2, label);
+        costs(&rt, &mut reporter, delivery, Reply::Got(label), steps);
     }
+}
+
+// So many updates are made for the command, which has this reply.
+fn costs(rt: &impl Abort, reporter: &mut Reporter, command: Command, want: Reply, steps: u64) {
+    assert_eq!(rt; steps_of(rt, reporter, command, want), steps);
 }
 
 fn after(replica: u8, anchor: u32, element: u32, clock: u32) -> Command {

@@ -7,10 +7,8 @@ use ra_labels::{Command, Kind, Op};
 use ra_monitor::Monitor;
 use std::alloc::Global;
 use std::process::Abort;
-use std::test::Fail;
 
 // A history that three replicas begin, and what its last label had to be.
-#[derive(Clone, Copy)]
 struct Row {
     name: &'static str,
     kind: Kind,
@@ -175,17 +173,23 @@ fn is_told(rt: &impl Abort, alloc: Global, row: &Row) {
         reply_behind(rt, &mut reporter, command_of(rt, alloc, *say), None);
     }
     for _call in 0..2 {
-        let right = told(rt, alloc, reporter.monitor());
-        let want = row.right.map(|say| operation_of(rt, alloc, say));
-        assert_eq!(rt; right, want, "{}", row.name);
+        is_right(rt, alloc, reporter.monitor(), row);
         reply_behind(rt, &mut reporter, Command::Verdict, None);
     }
 }
 
+fn is_right(rt: &impl Abort, alloc: Global, monitor: &Monitor, row: &Row) {
+    let right = told(rt, alloc, monitor);
+    let want = match row.right {
+        Some(say) => Some(operation_of(rt, alloc, say)),
+        None => None,
+    };
+    assert!(rt; right == want, "{}", row.name);
+}
+
 #[test]
-fn a_no_is_told_the_right_answer(rt: HostRuntime) -> Result<(), Fail> {
-    for row in ROWS {
-        is_told(&rt, rt.alloc(), &row);
+fn a_no_is_told_the_right_answer(rt: HostRuntime) {
+    for row in &ROWS {
+        is_told(&rt, rt.alloc(), row);
     }
-    Ok(())
 }

@@ -1,5 +1,8 @@
 //! Each public call of the libraries once, with ample memory.
 
+ghost use Rattle.std.specs.Prelude.{◌≡◌, true};
+ghost use Rattle.ra_seqspec.specs.Asked.{asks_rising};
+
 use crate::commands::{
     bare, copy_of, counter_of, got, increment, is_told, read, reporter_of, stamped, state_of,
     stepped,
@@ -8,7 +11,8 @@ use ra_journal::StepFault;
 use ra_labels::{
     Cause, Command, Elements, Kind, NoMemory, Op, Query, Refusal, Reply, Update, fits,
 };
-use std::alloc::{AllocError, AllocFailed};
+use std::alloc::{AllocError, AllocFailed, Global};
+use std::process::Abort;
 
 #[test]
 fn a_counter_counts(rt: HostRuntime) {
@@ -24,22 +28,32 @@ fn a_counter_counts(rt: HostRuntime) {
 #[test]
 fn a_register_and_a_set_are_copied(rt: HostRuntime) {
     let mut register = state_of(&rt, rt.alloc(), Kind::Register);
-    let mut set = state_of(&rt, rt.alloc(), Kind::LwwSet);
     let written = register.apply(&Update::Write(7));
     assert!(rt; matches!(&written, Ok(true)));
+    assert!(rt; copy_of(&rt, &register).admits(&Query::Last(Some(7))));
+    a_set_is_copied(&rt, rt.alloc());
+}
+
+// What is removed from a set is there in a copy that was made before.
+fn a_set_is_copied(rt: &impl Abort, alloc: Global) {
+    let mut set = state_of(rt, alloc, Kind::LwwSet);
     let added = set.apply(&Update::LwwAdd(4));
     assert!(rt; matches!(&added, Ok(true)));
-    let same_register = copy_of(&rt, &register);
-    let same_set = copy_of(&rt, &set);
+    let same_set = copy_of(rt, &set);
     let removed = set.apply(&Update::LwwRemove(4));
     assert!(rt; matches!(&removed, Ok(true)));
-    let four = match Vec::from_slice(rt.alloc(), &[4]) {
-        Ok(four) => Query::LwwRead(Elements::new(four)),
-        Err(_) => panic!(rt; "no memory"),
-    };
-    assert!(rt; same_register.admits(&Query::Last(Some(7))));
+    let four = read_of_four(rt, alloc);
     assert!(rt; same_set.admits(&four));
     assert!(rt; !set.admits(&four));
+}
+
+fn read_of_four(rt: &impl Abort, alloc: Global) -> Query
+    ensures { asks_rising result ≡ true }
+{
+    match Vec::from_slice(alloc, &[4]) {
+        Ok(four) => Query::LwwRead(Elements::new(four)),
+        Err(_) => panic!(rt; "no memory"),
+    }
 }
 
 #[test]

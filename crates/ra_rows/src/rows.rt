@@ -4,7 +4,7 @@ use crate::commands::{
     bare, elements_of, got, increment, read, reply_behind, reporter_of, sequence_of, stamped,
 };
 use ra_labels::{Cause, Command, Fault, Kind, Op, Reply};
-use ra_monitor::{Half, PartRef, Report};
+use ra_monitor::{Half, Monitor, PartRef, Report, Reporter};
 use std::alloc::Global;
 use std::process::Abort;
 
@@ -16,7 +16,7 @@ pub const NO_AT_ONE: Reply = Reply::No {
 
 /// What a replica reports in a row, or what is asked. The first number is the replica's, and the last one that of an
 /// operation with a stamp the clock that it comes with.
-#[derive(Clone, Copy, Debug)]
+#[derive(Clone, Copy)]
 pub enum Say {
     Inc(u8),
     /// An increment that comes with this clock.
@@ -109,30 +109,39 @@ pub struct Row {
 pub fn are_answered(rt: &impl Abort, alloc: Global, rows: &[Row]) {
     for row in rows {
         let mut reporter = reporter_of(rt, alloc, row.kind, 3, 100);
-        for (say, want) in row.steps {
-            let command = command_of(rt, alloc, *say);
-            let sequence = sequence_of(rt, reporter.monitor());
-            let reply = reply_behind(rt, &mut reporter, command, Some(sequence.as_slice()));
-            assert_eq!(rt; reply, *want, "{}, at {say:?}", row.name);
+        for (step, (say, want)) in row.steps.iter().enumerate() {
+            let reply = reply_in(rt, &mut reporter, command_of(rt, alloc, *say));
+            assert_eq!(rt; reply, *want, "{}, at step {step}", row.name);
         }
-        let Ok(calls) = u32::try_from(row.steps.len()) else {
-            panic!(rt; "too many steps");
-        };
-        let report = Report {
-            kind: row.kind,
-            calls,
-            labels: row.labels,
-            refused: row.refused,
-            fault: row.fault,
-        };
-        assert_eq!(rt; reporter.monitor().report(), report, "{}", row.name);
-        let sequence = sequence_of(rt, reporter.monitor());
-        assert!(rt;
-            are_parts(sequence.as_slice(), row.sequence),
-            "{}",
-            row.name
-        );
+        amounts_to(rt, reporter.monitor(), row);
     }
+}
+
+// The reply to one command, behind the labels that are there.
+fn reply_in(rt: &impl Abort, reporter: &mut Reporter, command: Command) -> Reply {
+    let sequence = sequence_of(rt, reporter.monitor());
+    reply_behind(rt, reporter, command, Some(sequence.as_slice()))
+}
+
+// The monitor's report and its sequence are those of the row.
+fn amounts_to(rt: &impl Abort, monitor: &Monitor, row: &Row) {
+    let Ok(calls) = u32::try_from(row.steps.len()) else {
+        panic!(rt; "too many steps");
+    };
+    let report = Report {
+        kind: row.kind,
+        calls,
+        labels: row.labels,
+        refused: row.refused,
+        fault: row.fault,
+    };
+    assert_eq!(rt; monitor.report(), report, "{}", row.name);
+    let sequence = sequence_of(rt, monitor);
+    assert!(rt;
+        are_parts(sequence.as_slice(), row.sequence),
+        "{}",
+        row.name
+    );
 }
 
 /// Are these the parts of the labels: of one that is there twice the query half and then the update half?

@@ -1,0 +1,5 @@
+//! The bench, its replicas, and a replica that does it wrong.
+
+mod gates;
+mod lies;
+mod replicas;

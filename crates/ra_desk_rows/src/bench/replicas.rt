@@ -1,0 +1,120 @@
+//! What the replicas of the bench make, hold and show: worked by hand from what each data type is.
+
+mod held;
+mod late;
+mod memory;
+mod rounds;
+mod schedule;
+mod sizes;
+mod words;
+
+use self::words::words;
+use ra_labels::{Kind, Op};
+use ra_replicas::{Counts, Made, Message, Replica};
+use std::alloc::Global;
+use std::process::Abort;
+
+pub fn replica_of(rt: &impl Abort, alloc: Global, kind: Kind, number: u8, replicas: u8) -> Replica {
+    match Replica::new(alloc, kind, number, replicas) {
+        Ok(replica) => replica,
+        Err(_) => panic!(rt; "no memory"),
+    }
+}
+
+/// What the replica makes in the round.
+pub fn made(rt: &impl Abort, replica: &mut Replica, round: u32) -> Made {
+    match replica.update(round) {
+        Ok(made) => made,
+        Err(_) => panic!(rt; "no memory"),
+    }
+}
+
+/// What the replica shows.
+pub fn shown(rt: &impl Abort, alloc: Global, replica: &Replica) -> String {
+    match replica.read() {
+        Ok(op) => said(rt, alloc, &op, None),
+        Err(_) => panic!(rt; "no memory"),
+    }
+}
+
+pub fn said(rt: &impl Abort, alloc: Global, op: &Op, clock: Option<u32>) -> String {
+    match words(alloc, op, clock) {
+        Ok(words) => words,
+        Err(_) => panic!(rt; "no memory"),
+    }
+}
+
+pub fn list(rt: &impl Abort, alloc: Global, items: &[u32]) -> Vec<u32> {
+    match Vec::from_slice(alloc, items) {
+        Ok(list) => list,
+        Err(_) => panic!(rt; "no memory"),
+    }
+}
+
+pub fn hold(rt: &impl Abort, replica: &mut Replica, message: Message) {
+    assert!(rt; replica.hold(message).is_ok());
+}
+
+pub fn copy(rt: &impl Abort, message: &Message) -> Message {
+    match message.copy() {
+        Ok(copy) => copy,
+        Err(_) => panic!(rt; "no memory"),
+    }
+}
+
+/// The update is this one. Compared in one place: wherever updates are compared, that is proved anew.
+pub fn is_op(rt: &impl Abort, op: &Op, wanted: &Op) {
+    assert!(rt; *op == *wanted);
+}
+
+/// The numbers rise by one from the first.
+pub fn rise_from(rt: &impl Abort, numbers: &[u32], first: u32) {
+    let mut next = first;
+    for number in numbers {
+        assert_eq!(rt; *number, next);
+        next = next.wrapping_add(1);
+    }
+}
+
+/// This label is applied next, or none, and so many messages are held then.
+pub fn applies(rt: &impl Abort, replica: &mut Replica, label: Option<u32>, held: usize) {
+    assert_eq!(rt; (apply_next(rt, replica), replica.held()), (label, held));
+}
+
+/// The replica shows this.
+pub fn shows(rt: &impl Abort, alloc: Global, replica: &Replica, read: &str) {
+    is_text(rt, shown(rt, alloc, replica).as_str(), read, 0);
+}
+
+/// The text is this one, in a round or a row with this number.
+pub fn is_text(rt: &impl Abort, text: &str, wanted: &str, number: usize) {
+    assert_eq!(rt; text, wanted, "at {number}");
+}
+
+/// The label that is applied next, if one is.
+pub fn apply_next(rt: &impl Abort, replica: &mut Replica) -> Option<u32> {
+    match replica.apply_next() {
+        Ok(label) => label,
+        Err(_) => panic!(rt; "no memory"),
+    }
+}
+
+/// An update on its way, whose replica had so many of each.
+pub fn message(label: u32, from: u8, op: Op, clock: Option<u32>, had: Vec<u32>) -> Message {
+    let had = Counts::new(had);
+    let made = Made { op, clock, had };
+    Message { label, from, made }
+}
+
+/// An update comes whose replica had none before it, and is applied at once.
+pub fn bring(
+    rt: &impl Abort,
+    alloc: Global,
+    replica: &mut Replica,
+    from: u8,
+    op: Op,
+    clock: Option<u32>,
+) {
+    hold(rt, replica, message(7, from, op, clock, Vec::new(alloc)));
+    assert_eq!(rt; apply_next(rt, replica), Some(7));
+}

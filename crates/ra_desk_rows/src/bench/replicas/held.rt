@@ -1,0 +1,84 @@
+//! Messages that wait for their causes, and clocks.
+
+use super::{applies, bring, copy, hold, is_op, list, made, message, replica_of, shows};
+use ra_labels::{Elements, Kind, Op};
+use ra_replicas::Message;
+
+// a goes up, b has that and goes up, c gets b's message before a's.
+#[test]
+fn a_message_is_held_until_its_cause_came(rt: HostRuntime) {
+    let mut a = replica_of(&rt, rt.alloc(), Kind::Counter, 0, 3);
+    let mut b = replica_of(&rt, rt.alloc(), Kind::Counter, 1, 3);
+    let mut c = replica_of(&rt, rt.alloc(), Kind::Counter, 2, 3);
+    let first = Message {
+        label: 40,
+        from: 0,
+        made: made(&rt, &mut a, 0),
+    };
+    hold(&rt, &mut b, copy(&rt, &first));
+    applies(&rt, &mut b, Some(40), 0);
+    let second = Message {
+        label: 50,
+        from: 1,
+        made: made(&rt, &mut b, 1),
+    };
+    assert_eq!(rt; second.made.had.as_slice(), [1, 0, 0].as_slice());
+    hold(&rt, &mut c, second);
+    applies(&rt, &mut c, None, 1);
+    shows(&rt, rt.alloc(), &c, "0");
+    hold(&rt, &mut c, first);
+    assert_eq!(rt; c.held(), 2);
+    applies(&rt, &mut c, Some(40), 1);
+    shows(&rt, rt.alloc(), &c, "1");
+    applies(&rt, &mut c, Some(50), 0);
+    applies(&rt, &mut c, None, 0);
+    shows(&rt, rt.alloc(), &c, "2");
+}
+
+// What was held first and can be applied goes first, and after each one the look begins again at the front.
+#[test]
+fn the_first_that_can_be_applied_is(rt: HostRuntime) {
+    let mut c = replica_of(&rt, rt.alloc(), Kind::Counter, 2, 3);
+    for (label, from, had) in [
+        (11, 0, [1, 0, 0]),
+        (30, 1, [0, 0, 0]),
+        (12, 0, [2, 1, 0]),
+        (10, 0, [0, 0, 0]),
+        (31, 1, [0, 1, 0]),
+    ] {
+        let had = list(&rt, rt.alloc(), had.as_slice());
+        hold(&rt, &mut c, message(label, from, Op::Inc, None, had));
+    }
+    for (label, held) in [(30, 4), (10, 3), (11, 2), (12, 1), (31, 0)] {
+        applies(&rt, &mut c, Some(label), held);
+    }
+    applies(&rt, &mut c, None, 0);
+    let made = made(&rt, &mut c, 0);
+    assert_eq!(rt; made.had.as_slice(), [3, 2, 0].as_slice());
+}
+
+// A clock is one more than the greatest that was seen, whatever came last.
+#[test]
+fn clocks_go_on_from_the_greatest(rt: HostRuntime) {
+    let mut b = replica_of(&rt, rt.alloc(), Kind::Register, 1, 2);
+    bring(&rt, rt.alloc(), &mut b, 0, Op::Write(5), Some(9));
+    assert_eq!(rt; made(&rt, &mut b, 0).clock, Some(10));
+    bring(&rt, rt.alloc(), &mut b, 0, Op::Write(6), Some(4));
+    assert_eq!(rt; made(&rt, &mut b, 1).clock, Some(11));
+    shows(&rt, rt.alloc(), &b, "4");
+}
+
+// A copy is as good as the message.
+#[test]
+fn copies_are_equal(rt: HostRuntime) {
+    let ids = list(&rt, rt.alloc(), &[3, 5]);
+    let op = Op::OrRemove {
+        element: 4,
+        ids: Elements::new(ids),
+    };
+    let message = message(8, 1, op, Some(6), list(&rt, rt.alloc(), &[2, 7]));
+    let copy = copy(&rt, &message);
+    assert_eq!(rt; (copy.label, copy.from, copy.made.clock), (8, 1, Some(6)));
+    is_op(&rt, &copy.made.op, &message.made.op);
+    assert_eq!(rt; copy.made.had.as_slice(), [2, 7].as_slice());
+}

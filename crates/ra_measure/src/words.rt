@@ -1,0 +1,43 @@
+//! The word of the command line.
+
+use crate::lock::Asked;
+use anyhow::{Result, bail};
+use std::alloc::AllocGlobal;
+use std::env;
+use std::env::Env;
+
+/// What is measured.
+#[derive(Clone, Copy)]
+pub enum Word {
+    /// The lock beside a Mutex.
+    Lock,
+    /// What each of several threads gets done at the lock.
+    Asked(Asked),
+    /// The check of a text beside a plain loop.
+    Text,
+    /// That loop, on standard input.
+    Loop,
+}
+
+/// What the first word says, or none where there is none.
+pub fn word_of<R: Env + AllocGlobal>(rt: &R) -> Result<Option<Word>> {
+    match env::args(rt)?.nth(1) {
+        Some(word) => match named(word.as_str()) {
+            Some(word) => Ok(Some(word)),
+            None => bail!("ra_measure lock|calls|attempts|glances|text|loop"),
+        },
+        None => Ok(None),
+    }
+}
+
+fn named(word: &str) -> Option<Word> {
+    Some(match word {
+        "lock" => Word::Lock,
+        "calls" => Word::Asked(Asked::Calls),
+        "attempts" => Word::Asked(Asked::Attempts),
+        "glances" => Word::Asked(Asked::Glances),
+        "text" => Word::Text,
+        "loop" => Word::Loop,
+        _ => return None,
+    })
+}

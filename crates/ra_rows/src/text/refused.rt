@@ -1,0 +1,174 @@
+//! Calls that are refused a growth: made again, they are answered as if none had been, and a check tells whose growth
+//! it was. `tests/refused_memory` refuses each growth in its turn; where none is refused, each call is made once.
+
+use super::histories::JOINED;
+use super::{REPLIES, SETS};
+use ra_history_text::{CheckFault, Item, LineFault, Names, NamesFault, Reading, check};
+use ra_labels::Kind;
+use ra_monitor::Report;
+use ra_report::report_json;
+use std::alloc::Global;
+use std::io;
+use std::io::{ErrorKind, Read, Write};
+use std::process::Abort;
+
+// What a name, a line and a report come to.
+
+fn names_again(rt: &impl Abort, alloc: Global) -> Names {
+    for _ in 0..2 {
+        match Names::new(alloc, &["a", "b", "c"]) {
+            Ok(names) => return names,
+            Err(fault) => assert_eq!(rt; fault, NamesFault::NoMemory),
+        }
+    }
+    panic!(rt; "no memory")
+}
+
+fn line_again(rt: &impl Abort, reading: &mut Reading, line: &[u8]) -> Item {
+    for _ in 0..2 {
+        match reading.line(line) {
+            Ok(item) => return item,
+            Err(fault) => assert_eq!(rt; fault, LineFault::NoMemory),
+        }
+    }
+    panic!(rt; "no memory")
+}
+
+fn report_again(rt: &impl Abort, alloc: Global, report: &Report) -> String {
+    for _ in 0..2 {
+        if let Ok(object) = report_json(alloc, report) {
+            return object;
+        }
+    }
+    panic!(rt; "no memory")
+}
+
+// How many lines of a text join a replica.
+fn joins_again(rt: &impl Abort, alloc: Global) -> u32 {
+    let mut reading = Reading::new(alloc);
+    let mut joins = 0u32;
+    for line in JOINED.as_bytes().split(|byte| *byte == b'\n') {
+        if !line.is_empty() {
+            if is_join(line_again(rt, &mut reading, line)) {
+                joins = joins.wrapping_add(1);
+            }
+        }
+    }
+    joins
+}
+
+// How many lines of a text are commands, and none of them a join.
+fn commands_again(rt: &impl Abort, alloc: Global) -> u32 {
+    let mut reading = Reading::new(alloc);
+    let mut commands = 0u32;
+    for line in SETS.as_bytes().split(|byte| *byte == b'\n') {
+        if !line.is_empty() {
+            if is_command(rt, line_again(rt, &mut reading, line)) {
+                commands = commands.wrapping_add(1);
+            }
+        }
+    }
+    commands
+}
+
+fn is_command(rt: &impl Abort, item: Item) -> bool {
+    match &item {
+        Item::KindLine(kind) => assert!(rt; *kind == Kind::OrSet),
+        Item::NamesLine(count) => assert!(rt; *count == 3),
+        Item::CommandLine(_) => return true,
+        Item::JoinLine { .. } => panic!(rt; "a join"),
+    }
+    false
+}
+
+fn is_join(item: Item) -> bool {
+    matches!(&item, Item::JoinLine { .. })
+}
+
+#[test]
+fn calls_of_the_text_are_made_again(rt: HostRuntime) {
+    assert_eq!(rt; names_again(&rt, rt.alloc()).count(), 3);
+    assert_eq!(rt; commands_again(&rt, rt.alloc()), 9);
+    assert_eq!(rt; joins_again(&rt, rt.alloc()), 3);
+    let report = Report {
+        kind: Kind::Rga,
+        calls: 3,
+        labels: 2,
+        refused: 1,
+        fault: None,
+    };
+    let object = report_again(&rt, rt.alloc(), &report);
+    let wanted = "{\"calls\":3,\"kind\":\"rga\",\"labels\":2,\"refused\":1,\
+\"verdict\":\"yes\"}";
+    assert!(rt; object.as_str() == wanted);
+}
+
+// Gives ten bytes at a time, and keeps a copy of them.
+#[derive(Drop)]
+struct Keeping<'a> {
+    text: &'a [u8],
+    kept: Vec<u8>,
+    was_refused: bool,
+}
+
+impl Read for Keeping<'_> {
+    fn read(&mut self, buf: &mut [u8]) -> io::Result<usize> {
+        let count = buf.len().min(10).min(self.text.len());
+        let (now, left) = self.text.split_at(count);
+        if self.kept.extend_from_slice(now).is_err() {
+            self.was_refused = true;
+            return Err(io::Error::from(ErrorKind::Other));
+        }
+        self.text = left;
+        buf[..count].copy_from_slice(now);
+        Ok(count)
+    }
+}
+
+// Keeps what is written.
+#[derive(Drop)]
+struct Taking {
+    taken: Vec<u8>,
+    was_refused: bool,
+}
+
+impl Write for Taking {
+    fn write(&mut self, buf: &[u8]) -> io::Result<usize> {
+        if self.taken.extend_from_slice(buf).is_err() {
+            self.was_refused = true;
+            return Err(io::Error::from(ErrorKind::Other));
+        }
+        Ok(buf.len())
+    }
+
+    fn flush(&mut self) -> io::Result<()> {
+        Ok(())
+    }
+}
+
+// The reader's own growth is told as a failed read, the writer's as a failed write, and each other one as want of
+// memory. What was written is the beginning of the answer, in whole lines.
+#[test]
+fn a_check_tells_whose_growth_was_refused(rt: HostRuntime) {
+    let mut reader = Keeping {
+        text: SETS.as_bytes(),
+        kept: Vec::new(rt.alloc()),
+        was_refused: false,
+    };
+    let mut writer = Taking {
+        taken: Vec::new(rt.alloc()),
+        was_refused: false,
+    };
+    let fault = check(rt.alloc(), &mut reader, &mut writer).err();
+    let written = writer.taken.as_slice();
+    let is_whole = written == REPLIES.as_bytes();
+    match (fault, reader.was_refused, writer.was_refused) {
+        (Some(CheckFault::Read), true, false) => {}
+        (Some(CheckFault::Write), false, true) => {}
+        (Some(CheckFault::NoMemory), false, false) => {}
+        (None, false, false) => assert!(rt; is_whole),
+        _ => panic!(rt; "another fault"),
+    }
+    assert!(rt; REPLIES.as_bytes().starts_with(written));
+    assert!(rt; matches!(written.last(), None | Some(b'\n')));
+}
