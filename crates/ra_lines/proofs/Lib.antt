@@ -1,4 +1,5 @@
 pub mod Pieces
+pub mod Beginnings
 pub mod Numbers
 pub mod Lists
 pub mod Operations

@@ -6,7 +6,7 @@ use Rattle.std.specs.Borrow.{Bor}
 use Rattle.std.specs.Char.{is_ascii_lowercase, is_ascii_digit}
 use Rattle.std.specs.List.{list_all}
 use Rattle.std.specs.Str.{IsUtf8, IsAscii}
-use Rattle.std.proofs.lemmas.Bool.{and_parts, or_cases, eqb-false, leb-true}
+use Rattle.std.proofs.lemmas.Bool.{and_parts, or_cases, eqb-false, eqb-true, leb-true}
 use Rattle.std.proofs.lemmas.List.{length-map}
 use Rattle.std.proofs.lemmas.Str.{IsUtf8-from_ascii}
 use Rattle.std.proofs.lemmas.Str.Ascii.{IsAscii-nil, IsAscii-cons}
@@ -86,6 +86,16 @@ is_count names empty is full few =
     let texts : length (texts_of names) ≡ length names = length-map names (λ text. text.now) in
     let some : length names ≡ 0 → ⊥ = eqb-false (length names) 0 (sym is ∙ full) in
     (omega (arith, texts, some), omega (arith, texts, few))
+
+pub none_counted : (names : List (Bor (List ℕ))) (empty : Bool) → empty ≡ eqb (length names) 0 → empty ≡ true
+    → IsCount (length (texts_of names)) → ⊥
+none_counted names empty is none count =
+    let texts : length (texts_of names) ≡ length names = length-map names (λ text. text.now) in
+    let zero : length names ≡ 0 = eqb-true (length names) 0 (sym is ∙ none) in
+    omega (arith, texts, zero, count.0)
+
+pub many_counted : (names : List (Bor (List ℕ))) → 64 < length names → IsCount (length (texts_of names)) → ⊥
+many_counted names many count = omega (arith, length-map names (λ text. text.now), many, count.1)
 
 pub taken_names : (names : List (Bor (List ℕ))) → IsCount (length (texts_of names)) → AreDistinctNames (texts_of names)
     → AreNames Rah2 (texts_of names)

@@ -1,9 +1,9 @@
 -- The last labels of replicas, where those of one of them change.
-use Rattle.std.proofs.Common.{◌≡◌, ◌≢◌, ℕ, ◌<◌, cond, List, [], length, get_or, set, Option, Some, None, refl, sym, ap, ◌∙◌, subst, inl, inr, arith}
+use Rattle.std.proofs.Common.{◌≡◌, ◌≢◌, ℕ, ◌<◌, ◌+◌, cond, List, [], ◌∷◌, ◌++◌, length, replicate, get_or, set, Option, Some, None, refl, sym, ap, ◌∙◌, subst, inl, inr, arith}
 use Rattle.std.specs.Prelude.{◌==◌, ◌&&◌, IfSome, option_map}
 use Rattle.std.proofs.lemmas.Bool.{cases_eq, eq-eqb, ne_eqb}
 use Rattle.std.proofs.lemmas.Option.{slice_get_read, slice_get-map, get_or_from_slice_get}
-use Rattle.std.proofs.lemmas.List.{get_or_default, map-set, length-map, get_or-set_same, get_or-set_other}
+use Rattle.std.proofs.lemmas.List.{get_or_default, map-append, map-set, replicate_more, length-map, get_or-set_same, get_or-set_other}
 use Rattle.ra_witness.specs.declared.last.Last.{Last}
 use Rattle.ra_witness.specs.Last.{label_on}
 use Rattle.ra_witness.specs.declared.written.Written.{Written}
@@ -28,6 +28,23 @@ now_at lasts r new there =
 other_at : (lasts : List Last) (r q : ℕ) (new : Last) → q ≢ r → get_or (labels_in (set lasts r new)) q [] ≡ get_or (labels_in lasts) q []
 other_at lasts r q new other =
     ap (λ ls. get_or ls q []) (map-set labels_of lasts r new) ∙ get_or-set_other (labels_in lasts) r q (labels_of new) [] other
+
+-- one more replica, which had nothing
+pub lasts-more : (lasts : List Last) (new : Last) (n : ℕ) → labels_in lasts ≡ replicate n [] → new.labels.items ≡ []
+    → labels_in (lasts ++ new ∷ []) ≡ replicate (n + 1) []
+lasts-more lasts new n said none =
+    map-append labels_of lasts (new ∷ [])
+    ∙ ap (λ (ls : List (List (Option ℕ))). ls ++ labels_of new ∷ []) said
+    ∙ ap (λ (l : List (Option ℕ)). replicate n [] ++ l ∷ []) none
+    ∙ replicate_more n []
+
+-- one more replica, which has what this one has
+pub lasts-joined : (lasts : List Last) (r : ℕ) (old new : Last) → r < length lasts → old ≡ get_or lasts r old
+    → new.labels.items ≡ old.labels.items
+    → labels_in (lasts ++ new ∷ []) ≡ labels_in lasts ++ get_or (labels_in lasts) r [] ∷ []
+lasts-joined lasts r old new there is same =
+    map-append labels_of lasts (new ∷ [])
+    ∙ ap (λ (l : List (Option ℕ)). labels_in lasts ++ l ∷ []) (same ∙ sym (read_at lasts r old there is))
 
 pub lasts-same : (lasts : List Last) (r : ℕ) (old new : Last) → r < length lasts → old ≡ get_or lasts r old
     → ((c : ℕ) → label_on new.labels.items c ≡ label_on old.labels.items c)

@@ -8,6 +8,7 @@ ghost use Rattle.ra_witness.specs.Labels.{queries_in, cause_in};
 ghost use Rattle.ra_witness.specs.States.{state_at, update_at, after_step, CanStep, states_after, steps_of};
 
 use crate::asked;
+use crate::states::{copy_state, first_states};
 use ra_labels::{Cause, Kind, NoMemory, Update};
 use ra_rewrite::Parts;
 use ra_seqspec::State;
@@ -28,14 +29,13 @@ impl Commuting {
         ensures updates { IfOk result (λ kept. kept.updates.items ≡ []) }
         ensures states { IfOk result (λ kept. kept.states.items ≡ replicate replicas (start_of kind)) }
     {
-        let mut states = Vec::with_capacity(alloc, replicas as usize)?;
-        for _ in 0..replicas {
-            states.push(State::new(alloc, kind)?)?;
+        match first_states(alloc, kind, replicas) {
+            Ok(states) => Ok(Commuting {
+                updates: Vec::new(alloc),
+                states,
+            }),
+            Err(refused) => Err(refused),
         }
-        Ok(Commuting {
-            updates: Vec::new(alloc),
-            states,
-        })
     }
 
     /// Why a label of the replica fails that has these parts, if so: its query is not answered yes.
@@ -88,9 +88,7 @@ impl Commuting {
             ≡ self.old.states.items ++ state_at self.old.states.items from ∷ []) }
         ensures same_states { OnErr result (self.new.states.items ≡ self.old.states.items) }
     {
-        let state = self.states[from as usize].copy()?;
-        self.states.push(state)?;
-        Ok(())
+        copy_state(&mut self.states, from)
     }
 }
 

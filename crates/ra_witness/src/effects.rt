@@ -1,6 +1,7 @@
 //! What labels do and where replicas are by it, kept by what becomes of an update that comes late.
-ghost use Rattle.std.specs.Prelude.{◌≡◌, ℕ, ◌+◌, ◌≤◌, ◌++◌, ◌∷◌, [], true, List, length, Option, IfOk, OnOk, OnErr};
+ghost use Rattle.std.specs.Prelude.{◌≡◌, ℕ, ◌+◌, ◌≤◌, ◌++◌, ◌∷◌, [], true, List, length, Option, Some, None, IfOk, IfErr, OnOk, OnErr};
 ghost use Rattle.std.specs.List.{slice_get};
+ghost use Rattle.std.specs.Option.{option_to_list};
 ghost use Rattle.ra_labels.specs.declared.kind.Kind.{Kind};
 ghost use Rattle.ra_labels.specs.declared.kind.Kind.TheVariants as kinds;
 ghost use Rattle.ra_labels.specs.declared.label.Label.{Label};
@@ -15,7 +16,7 @@ ghost use Rattle.ra_labels.specs.Specification.{is_admitted};
 ghost use Rattle.ra_labels.specs.Insertion.{updates_among, updates_had};
 ghost use Rattle.ra_labels.specs.Situation.{Past, replicas_of, nothing_yet, past_with, Next, operate};
 ghost use Rattle.ra_rewrite.specs.Parts.{acts_in};
-ghost use Rattle.ra_witness.specs.Labels.{update_in, updates_by_number};
+ghost use Rattle.ra_witness.specs.Labels.{update_in, updates_in, updates_by_number};
 ghost use Rattle.ra_witness.specs.States.{steps_of};
 ghost use Rattle.ra_witness.specs.Sequence.{has_query_half};
 ghost use Rattle.ra_witness.specs.Offered.{IsOffered, IsTold, IsJoinedFrom};
@@ -55,8 +56,26 @@ impl Effects {
         }
     }
 
+    /// What the next label does, if anything, which has these parts; or the first condition but the order's that fails
+    /// with it. The parts are let go here, and not at each way out of what asks.
+    pub fn judge(&self, label: &Label, parts: Parts) -> Result<Option<Update>, Cause>
+        requires { MayMeet self.now label.now (acts_in parts) }
+        ensures cause { (past : Past) (next : Next) → AreEffectsOf self.now past → IsOffered past next label.now
+            → acts_in parts ≡ acts_of next.op
+            → IfErr result (λ cause. Some cause ≡ cause_of past.kind (operate next ∷ past.records)) }
+        ensures none { (past : Past) (next : Next) → AreEffectsOf self.now past → IsOffered past next label.now
+            → acts_in parts ≡ acts_of next.op
+            → OnOk result (None ≡ cause_of past.kind (operate next ∷ past.records)) }
+        ensures update { IfOk result (λ update. option_to_list update ≡ updates_in (acts_in parts)) }
+    {
+        match self.cause(label, &parts) {
+            Some(cause) => Err(cause),
+            None => Ok(parts.into_update()),
+        }
+    }
+
     /// The first condition but the order's that fails with the next label, which has these parts.
-    pub fn cause(&self, label: &Label, parts: &Parts) -> Option<Cause>
+    fn cause(&self, label: &Label, parts: &Parts) -> Option<Cause>
         requires { MayMeet self.now label.now (acts_in parts.now) }
         ensures { (past : Past) (next : Next) → AreEffectsOf self.now past → IsOffered past next label.now
             → acts_in parts.now ≡ acts_of next.op → result ≡ cause_of past.kind (operate next ∷ past.records) }

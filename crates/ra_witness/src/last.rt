@@ -1,6 +1,7 @@
 //! Of one replica, the last label on each element.
-ghost use Rattle.std.specs.Prelude.{◌≡◌, ◌<◌, ℕ, [], Some, vec_len, slice_set, IfOk, OnOk, OnErr};
+ghost use Rattle.std.specs.Prelude.{◌≡◌, ◌<◌, ℕ, [], Some, replicate, vec_len, slice_set, IfOk, OnOk, OnErr};
 ghost use Rattle.ra_witness.specs.Last.{label_on};
+ghost use Rattle.ra_witness.specs.Overriding.{labels_in};
 
 use ra_labels::NoMemory;
 use std::alloc::Global;
@@ -60,4 +61,15 @@ impl Last {
     {
         self.labels[element as usize] = Some(label);
     }
+}
+
+/// Of so many replicas, none of which had anything.
+pub fn no_lasts(alloc: Global, replicas: u8) -> Result<Vec<Last>, NoMemory>
+    ensures { IfOk result (λ lasts. labels_in lasts.items ≡ replicate replicas []) }
+{
+    let mut lasts = Vec::with_capacity(alloc, replicas as usize)?;
+    for _ in 0..replicas {
+        lasts.push(Last::new(alloc))?;
+    }
+    Ok(lasts)
 }

@@ -22,6 +22,7 @@ mod overriding;
 mod part_ref;
 mod rga;
 mod sequence;
+mod states;
 mod witness;
 mod written;
 

@@ -14,8 +14,9 @@ ghost use Rattle.ra_witness.specs.Overriding.{updates_of, write_of, write_at, la
 ghost use Rattle.ra_witness.specs.declared.written.Written.{Written};
 
 use crate::asked;
-use crate::last::Last;
+use crate::last::{Last, no_lasts};
 use crate::numbers::Numbers;
+use crate::states::{copy_state, first_states};
 use crate::written::Written;
 use ra_labels::{Cause, Kind, NoMemory, Stamp, Update};
 use ra_rewrite::Parts;
@@ -43,18 +44,19 @@ impl Overriding {
         ensures numbers { IfOk result (λ kept. (x : ℕ) → get nat_eq kept.numbers.numbers x ≡ None) }
         ensures none { IfOk result (λ kept. hash_map_len kept.numbers.numbers ≡ 0) }
     {
-        let mut states = Vec::with_capacity(alloc, replicas as usize)?;
-        let mut lasts = Vec::with_capacity(alloc, replicas as usize)?;
-        for _ in 0..replicas {
-            states.push(State::new(alloc, kind)?)?;
-            lasts.push(Last::new(alloc))?;
+        let lasts = match no_lasts(alloc, replicas) {
+            Ok(lasts) => lasts,
+            Err(refused) => return Err(refused),
+        };
+        match first_states(alloc, kind, replicas) {
+            Ok(states) => Ok(Overriding {
+                writes: Vec::new(alloc),
+                numbers: Numbers::new(alloc),
+                states,
+                lasts,
+            }),
+            Err(refused) => Err(refused),
         }
-        Ok(Overriding {
-            writes: Vec::new(alloc),
-            numbers: Numbers::new(alloc),
-            states,
-            lasts,
-        })
     }
 
     /// Why a label of the replica fails that has these parts, if so: its query is not answered yes.
@@ -163,12 +165,18 @@ impl Overriding {
         ensures same_states { OnErr result (self.new.states.items ≡ self.old.states.items) }
         ensures same_lasts { OnErr result (self.new.lasts.items ≡ self.old.lasts.items) }
     {
-        let state = self.states[from as usize].copy()?;
-        let last = self.lasts[from as usize].copy()?;
-        self.states.reserve(1)?;
-        self.lasts.push(last)?;
-        self.states.push_reserved(state);
-        Ok(())
+        let last = match self.lasts[from as usize].copy() {
+            Ok(last) => last,
+            Err(refused) => return Err(refused),
+        };
+        self.lasts.reserve(1)?;
+        match copy_state(&mut self.states, from) {
+            Ok(()) => {
+                self.lasts.push_reserved(last);
+                Ok(())
+            }
+            Err(refused) => Err(refused),
+        }
     }
 }
 

@@ -1,5 +1,5 @@
 //! The named sequence, put together from the order and the halves of its labels.
-ghost use Rattle.std.specs.Prelude.{◌≡◌, ◌<◌, ◌++◌, flat_map, vec_len, IfOk, OnOk};
+ghost use Rattle.std.specs.Prelude.{◌≡◌, ◌<◌, ◌++◌, flat_map, vec_len, Some, IfOk, OnOk};
 ghost use Rattle.std.specs.List.{slice_get};
 ghost use Rattle.ra_witness.specs.Sequence.{has_query_half, refs_at, ref_to};
 
@@ -61,7 +61,17 @@ fn has_halves(updates: &[Option<Update>], label: u32) -> bool
     ensures { result ≡ has_query_half (slice_get updates.now label) }
 {
     match updates.get(label as usize) {
-        Some(Some(Update::TakeOut { .. })) => true,
+        Some(update) => asks_first(update),
+        None => false,
+    }
+}
+
+// Does a label that does this ask before?
+fn asks_first(update: &Option<Update>) -> bool
+    ensures { result ≡ has_query_half (Some update.now) }
+{
+    match update {
+        Some(Update::TakeOut { .. }) => true,
         _ => false,
     }
 }

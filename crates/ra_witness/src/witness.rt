@@ -74,11 +74,12 @@ impl<O: NamedOrder> Witness<O> {
             return Ok(Some(Cause::Order));
         }
         let parts = parts(label)?;
-        if let Some(cause) = self.kept.cause(label, &parts) {
-            return Ok(Some(cause));
-        }
+        let update = match self.kept.judge(label, parts) {
+            Ok(update) => update,
+            Err(cause) => return Ok(Some(cause)),
+        };
         self.order.spare()?;
-        let steps = self.kept.take(label, parts.into_update())?;
+        let steps = self.kept.take(label, update)?;
         self.order.put(label, seen, place);
         self.steps = self.steps.saturating_add(steps);
         Ok(None)

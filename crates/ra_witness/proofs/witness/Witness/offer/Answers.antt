@@ -1,4 +1,4 @@
-use Rattle.std.proofs.Common.{◌∷◌, true, false, sym, ap, ◌∙◌, arith}
+use Rattle.std.proofs.Common.{◌∷◌, true, false, refl, ap, ◌∙◌, arith}
 use Rattle.ra_witness.specs.States.{steps_of}
 use Rattle.ra_witness.proofs.OfferedLabels.{from_not, is_offered, order_fails, listed_count, update_known, all_admitted, same_op, taken}
 use Rattle.ra_witness.proofs.witness.Witness.offer.Goals as goal
@@ -9,8 +9,8 @@ returns-then-not-place-clause-cause g c = λ past next stands comes.
     order_fails past.kind past.records next c.place-place.result stands.none (c.place-place.ensures past next stands.order comes)
     (from_not c.place-place.result.fits false c.if-not-place.true)
 
-pub cause-requires : goal.cause-requires
-cause-requires g c =
+pub judge-requires : goal.judge-requires
+judge-requires g c =
     let may = c.requires in
     let is = c.place-place.ensures may.past may.next may.stands.order may.comes in
     record {
@@ -22,15 +22,15 @@ cause-requires g c =
       acts_are = c.in_ok-parts.ensures.acts ∙ same_op c.args.label.now may.past.records may.next may.comes.becomes;
     }
 
-pub returns-in-Some-clause-cause : goal.returns-in-Some-clause-cause
-returns-in-Some-clause-cause g c = λ past next stands comes.
+pub returns-in-Err-clause-cause : goal.returns-in-Err-clause-cause
+returns-in-Err-clause-cause g c = λ past next stands comes.
     let may = c.requires in
     let order = c.args.self.now.order in
     let listed = g.O.NamedOrder.listed order in
     let count = listed_count past.kind past.records listed ((g.met.O.NamedOrder g.world.𝓛 g.world.𝓜 g.world.𝓡 ((λ s x. x), (λ x. x), (λ x. x), λ x. x)).lists order past stands.order) in
     let known = listed_count may.past.kind may.past.records listed ((g.met.O.NamedOrder g.world.𝓛 g.world.𝓜 g.world.𝓡 ((λ s x. x), (λ x. x), (λ x. x), λ x. x)).lists order may.past may.stands.order) in
     let is = c.place-place.ensures past next stands.order comes in
-    c.in-Some.ensures past next stands.kept
+    c.in-Err.ensures.cause past next stands.kept
     (is_offered g.O.NamedOrder.stands_for c.args.self.now past next c.args.label.now c.args.seen.now c.place-place.result stands comes is
     (from_not c.place-place.result.fits true c.if-not-place.false) (omega (arith, may.few, count, known)))
     (c.in_ok-parts.ensures.acts ∙ same_op c.args.label.now past.records next comes.becomes)
@@ -48,8 +48,8 @@ take-requires g c =
       stands = may.stands.kept;
       offered = offered;
       admitted = all_admitted may.past.kind (operate may.next ∷ may.past.records)
-          (sym c.in_default.is ∙ c.cause.ensures may.past may.next may.stands.kept offered acts);
-      update_is = update_known c.into_update.result _ may.next.op c.into_update.ensures acts;
+          (c.in-Ok.ensures.none may.past may.next may.stands.kept offered acts);
+      update_is = update_known c.in-Ok.update _ may.next.op c.in-Ok.ensures.update acts;
     }
 
 pub put-requires-clause-few : goal.put-requires-clause-few
@@ -71,7 +71,7 @@ returns-clause-cause g c = λ past next stands comes.
     let acts = c.in_ok-parts.ensures.acts ∙ same_op c.args.label.now past.records next comes.becomes in
     let offered = is_offered g.O.NamedOrder.stands_for c.args.self.now past next c.args.label.now c.args.seen.now c.place-place.result stands comes is
     (from_not c.place-place.result.fits true c.if-not-place.false) (omega (arith, may.few, count, known)) in
-    sym c.in_default.is ∙ c.cause.ensures past next stands.kept offered acts
+    c.in-Ok.ensures.none past next stands.kept offered acts
 
 pub returns-clause-taken : goal.returns-clause-taken
 returns-clause-taken g c = λ past next stands comes same.
@@ -84,14 +84,44 @@ returns-clause-taken g c = λ past next stands comes same.
     let acts = c.in_ok-parts.ensures.acts ∙ same_op c.args.label.now past.records next comes.becomes in
     let offered = is_offered g.O.NamedOrder.stands_for c.args.self.now past next c.args.label.now c.args.seen.now c.place-place.result stands comes is
     (from_not c.place-place.result.fits true c.if-not-place.false) (omega (arith, may.few, count, known)) in
-    let because = sym c.in_default.is ∙ c.cause.ensures past next stands.kept offered acts in
+    let because = c.in-Ok.ensures.none past next stands.kept offered acts in
     taken g.O.NamedOrder.stands_for c.args.self.now _ past next c.args.label.now c.args.seen.now stands comes because
     (c.put.ensures.stands past next (c.in_ok-spare.ensures.stands past stands.order) comes is)
-    (c.in_ok-steps.ensures.taken past next stands.kept offered (all_admitted past.kind (operate next ∷ past.records) because) (update_known c.into_update.result _ next.op c.into_update.ensures acts))
+    (c.in_ok-steps.ensures.taken past next stands.kept offered (all_admitted past.kind (operate next ∷ past.records) because) (update_known c.in-Ok.update _ next.op c.in-Ok.ensures.update acts))
 
 pub returns-clause-counted : goal.returns-clause-counted
 returns-clause-counted g c = λ past next stands comes other same few.
     let acts = c.in_ok-parts.ensures.acts ∙ same_op c.args.label.now past.records next comes.becomes in
     let count = c.in_ok-steps.ensures.counted past stands.kept other in
-    let known = ap steps_of (update_known c.into_update.result _ next.op c.into_update.ensures acts) in
+    let known = ap steps_of (update_known c.in-Ok.update _ next.op c.in-Ok.ensures.update acts) in
     omega (arith, count, known, few, c.in_ok-steps.ensures.step, c.saturating_add-self.ensures)
+
+pub returns-in_err-spare-clause-same : goal.returns-in_err-spare-clause-same
+returns-in_err-spare-clause-same g c = λ past stands failed. record {
+  order = c.spare.ensures.stands past stands.order;
+  kept = stands.kept;
+  causal = stands.causal;
+  none = stands.none;
+  fits = stands.fits;
+  stamps = stands.stamps;
+  identifiers = stands.identifiers;
+  beyond = stands.beyond;
+}
+
+pub returns-in_err-steps-clause-same : goal.returns-in_err-steps-clause-same
+returns-in_err-steps-clause-same g c = λ past stands failed. record {
+  order = c.in_ok-spare.ensures.stands past stands.order;
+  kept = c.in_err-steps.ensures.same past stands.kept;
+  causal = stands.causal;
+  none = stands.none;
+  fits = stands.fits;
+  stamps = stands.stamps;
+  identifiers = stands.identifiers;
+  beyond = stands.beyond;
+}
+
+pub returns-clause-same : goal.returns-clause-same
+returns-clause-same g c = λ past stands failed. absurd (failed refl)
+
+pub returns-clause-steps : goal.returns-clause-steps
+returns-clause-steps g c = λ failed. absurd (failed refl)
