@@ -51,7 +51,7 @@ impl History {
         let tracker = Tracker::new(alloc, setup.replicas)?;
         let taken = Taken::new(alloc, setup.replicas)?;
         let order = Order::of(alloc, setup.kind, setup.replicas)?;
-        // The witness comes last: what is let go where it gives up has fewer parts, each of which the proof goes through.
+        // The witness comes last: what is let go where it gives up has fewer parts, and the proof goes through each.
         let witness = Witness::new(alloc, setup.kind, setup.replicas, order)?;
         Ok(History {
             labels: 0,
