@@ -24,7 +24,7 @@ use Rattle.ra_labels.specs.Rewriting.{Part, parts_of, update_of, query_of, updat
 use Rattle.ra_labels.specs.Linearization.{is_earlier_there, is_query_half_of, extends, updates_admitted}
 use Rattle.ra_labels.specs.NamedOrder.{lowest_rank, stamp_cmp, greatest_stamp, rank_of, label_cmp, sort_by, named_labels, named_sequence}
 use Rattle.ra_labels.specs.Fault.{cause_of, fault_at, fault_of}
-use Rattle.ra_explain.specs.LastDeliveries.{without, last_got}
+use Rattle.ra_explain.specs.LastDeliveries.{without, labels_got_last}
 
 -- ---- labels
 
@@ -183,22 +183,22 @@ table true true false false false false a new same = refl
 table true true u false false true a new same = absurd (true≢false (same refl))
 
 pub had_there : (by : ℕ) (left : ℕ → Bool) (records : Records) (n : ℕ) → IsCausal records
-    → had (without by left records) by n ≡ (had records by n && stays left n (last_got by records))
+    → had (without by left records) by n ≡ (had records by n && stays left n (labels_got_last by records))
 had_there by left [] n causal = refl
 had_there by left (Operate o op clock ∷ before) n causal = either (o == by) refl (had_there by left before n causal)
   where
     older : Records
     older = without by left before
 
-    either : (b : Bool) → (o == by) ≡ b → had older by n ≡ (had before by n && stays left n (last_got by before))
+    either : (b : Bool) → (o == by) ≡ b → had older by n ≡ (had before by n && stays left n (labels_got_last by before))
         → had (cond b (Operate o op clock ∷ before) (Operate o op clock ∷ older)) by n
-        ≡ (had (Operate o op clock ∷ before) by n && stays left n (cond b [] (last_got by before)))
+        ≡ (had (Operate o op clock ∷ before) by n && stays left n (cond b [] (labels_got_last by before)))
     either true is same = sym (none_left (had (Operate o op clock ∷ before) by n) (left n))
     either false is same =
         ap (λ t. (t && n == label_count older && is_update op) || had older by n) is
         ∙ same
         ∙ sym (ap (λ t. ((t && n == label_count before && is_update op) || had before by n)
-        && stays left n (last_got by before)) is)
+        && stays left n (labels_got_last by before)) is)
 had_there by left (Deliver to m ∷ before) n causal =
     chosen (to == by && left m)
     ∙ ap (λ u. cond (to == by && left m) (had older by n) ((to == by && n == m && u) || had older by n))
@@ -206,7 +206,7 @@ had_there by left (Deliver to m ∷ before) n causal =
     ∙ ap (λ h. cond (to == by && left m) h ((to == by && n == m && is_update_at before n) || h))
     (had_there by left before n causal.2)
     ∙ table (to == by) (n == m) (is_update_at before n) (had before by n) (left n) (left m)
-    (is_among n (last_got by before)) is_new is_same
+    (is_among n (labels_got_last by before)) is_new is_same
     ∙ ap (λ a. had (Deliver to m ∷ before) by n && not (left n && a)) (sym (among (to == by)))
   where
     older : Records
@@ -217,8 +217,8 @@ had_there by left (Deliver to m ∷ before) n causal =
     chosen true = refl
     chosen false = refl
 
-    among : (t : Bool) → is_among n (cond t (m ∷ []) [] ++ last_got by before)
-        ≡ cond t ((n == m) || is_among n (last_got by before)) (is_among n (last_got by before))
+    among : (t : Bool) → is_among n (cond t (m ∷ []) [] ++ labels_got_last by before)
+        ≡ cond t ((n == m) || is_among n (labels_got_last by before)) (is_among n (labels_got_last by before))
     among true = refl
     among false = refl
 
@@ -235,15 +235,15 @@ had_there by left (Join joined from ∷ before) n causal =
     older = without by left before
 
     either : (b : Bool) → ((joined == by) || (from == by)) ≡ b
-        → had older by n ≡ (had before by n && stays left n (last_got by before))
+        → had older by n ≡ (had before by n && stays left n (labels_got_last by before))
         → had (cond b (Join joined from ∷ before) (Join joined from ∷ older)) by n
-        ≡ (had (Join joined from ∷ before) by n && stays left n (cond b [] (last_got by before)))
+        ≡ (had (Join joined from ∷ before) by n && stays left n (cond b [] (labels_got_last by before)))
     either true is same = sym (none_left (had (Join joined from ∷ before) by n) (left n))
     either false is same =
         let another : (joined == by) ≡ false = first_false (joined == by) (from == by) is in
         ap (λ t. (t && had older from n) || had older by n) another
         ∙ same
-        ∙ sym (ap (λ t. ((t && had before from n) || had before by n) && stays left n (last_got by before)) another)
+        ∙ sym (ap (λ t. ((t && had before from n) || had before by n) && stays left n (labels_got_last by before)) another)
 had_there by left (Verdict ∷ before) n causal = had_there by left before n causal
 
 -- ---- what labels see

@@ -5,10 +5,10 @@ use Rattle.ra_labels.specs.declared.command.Command.TheVariants.{Deliver}
 use Rattle.ra_labels.specs.Records.{Records}
 use Rattle.ra_explain.specs.Changes.{cuts_off}
 
--- is it the delivery to the replica of a label that is left out?
-abbrev pub is_left_out : ℕ → (ℕ → Bool) → Command → Bool
-is_left_out replica left (Deliver to label) = to == replica && left label
-is_left_out replica left command = false
+-- is it the delivery to the replica of a label that is left?
+abbrev pub is_taken_back : ℕ → (ℕ → Bool) → Command → Bool
+is_taken_back replica left (Deliver to label) = to == replica && left label
+is_taken_back replica left command = false
 
 -- the records without the deliveries to the replica of such labels, as far back as no other label or replica depends on
 -- them
@@ -16,7 +16,7 @@ abbrev pub without : ℕ → (ℕ → Bool) → Records → Records
 without replica left [] = []
 without replica left (command ∷ before) =
     if cuts_off replica command then command ∷ before
-    else if is_left_out replica left command then without replica left before
+    else if is_taken_back replica left command then without replica left before
     else command ∷ without replica left before
 
 -- the label that reaches the replica by the command, if one does
@@ -25,7 +25,7 @@ got_by replica (Deliver to label) = if to == replica then label ∷ [] else []
 got_by replica command = []
 
 -- the labels that reached the replica last, as far back as no other label or replica depends on them, the latest first
-abbrev pub last_got : ℕ → Records → List ℕ
-last_got replica [] = []
-last_got replica (command ∷ before) =
-    if cuts_off replica command then [] else got_by replica command ++ last_got replica before
+abbrev pub labels_got_last : ℕ → Records → List ℕ
+labels_got_last replica [] = []
+labels_got_last replica (command ∷ before) =
+    if cuts_off replica command then [] else got_by replica command ++ labels_got_last replica before

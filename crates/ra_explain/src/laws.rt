@@ -10,7 +10,7 @@ ghost use Rattle.ra_labels.specs.Records.{Records, label_count};
 ghost use Rattle.ra_labels.specs.Visibility.{had, sees, IsCausal};
 ghost use Rattle.ra_labels.specs.NamedOrder.{named_labels};
 ghost use Rattle.ra_labels.specs.Fault.{fault_of};
-ghost use Rattle.ra_explain.specs.LastDeliveries.{without, last_got};
+ghost use Rattle.ra_explain.specs.LastDeliveries.{without, labels_got_last};
 ghost use Rattle.ra_labels.specs.Specification.{Number, Written, Members, Pairs, Listed};
 ghost use Rattle.ra_seqspec.specs.Pairs.{distinct_elements};
 ghost use Rattle.ra_monitor.specs.declared.setup.Setup.{Setup};
@@ -75,5 +75,5 @@ pub fn what_a_replica_got_last_matters_to_it_alone()
         → fault_of kind (without by left records) ≡ fault_of kind records }
     ensures own { (by : ℕ) (left : ℕ → Bool) (records : Records) (n : ℕ) → IsCausal records
         → had (without by left records) by n
-        ≡ (had records by n && not (left n && is_among n (last_got by records))) }
+        ≡ (had records by n && not (left n && is_among n (labels_got_last by records))) }
 {}
