@@ -4,6 +4,7 @@ pub mod NumberedLabels
 pub mod NamedParts
 pub mod ReplicaStates
 pub mod Lasts
+pub mod NumberedElements
 pub mod DeliveredLasts
 pub mod DoneUpdates
 pub mod CountingUpdates

@@ -125,3 +125,12 @@ returns-clause-same g c = λ past stands failed. absurd (failed refl)
 
 pub returns-clause-steps : goal.returns-clause-steps
 returns-clause-steps g c = λ failed. absurd (failed refl)
+
+pub put-requires-clause-room : goal.put-requires-clause-room
+put-requires-clause-room g c = c.in_ok-spare.ensures.room
+
+pub returns-clause-grows : goal.returns-clause-grows
+returns-clause-grows g c = omega (arith, c.saturating_add-self.ensures)
+
+pub returns-clause-one_step : goal.returns-clause-one_step
+returns-clause-one_step g c = omega (arith, c.in_ok-steps.ensures.step, c.saturating_add-self.ensures)
