@@ -139,9 +139,15 @@ pub enum Outcome {
 pub fn outcome_of(answer: Answer) -> Outcome {
     match &answer {
         Ok(reply) => Outcome::Replied(*reply),
-        Err(CallFault::Full(Command::Verdict)) => Outcome::Full,
-        Err(CallFault::Worn(Command::Verdict)) => Outcome::Worn,
-        Err(_) => Outcome::HandedBack,
+        Err(fault) => handed_back_for(fault),
+    }
+}
+
+fn handed_back_for(fault: &CallFault<Command>) -> Outcome {
+    match fault {
+        CallFault::Full(Command::Verdict) => Outcome::Full,
+        CallFault::Worn(Command::Verdict) => Outcome::Worn,
+        _ => Outcome::HandedBack,
     }
 }
 

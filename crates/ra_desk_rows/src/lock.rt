@@ -173,11 +173,11 @@ fn passes_are_served_in_order(rt: HostRuntime) {
         assert_eq!(rt; passes.len(), usize::from(count));
         let mut served = Vec::new(rt.alloc());
         for pass in passes {
-            let before = u32::from(pass.number()) * calls;
+            let before = u32::from(pass.number()).wrapping_mul(calls);
             assert_eq!(rt; served.len(), before as usize);
             assert!(rt; replies(&rt, &lock, pass, calls, waits, &mut served).is_ok());
         }
-        let last = u32::from(count) * calls;
+        let last = u32::from(count).wrapping_mul(calls);
         assert_eq!(rt;
             served.as_slice(),
             counted(&rt, rt.alloc(), last).as_slice()

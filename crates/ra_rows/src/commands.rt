@@ -149,6 +149,11 @@ pub fn is_told(rt: &impl Abort, reporter: &mut Reporter, command: Command, want:
     assert_eq!(rt; reply, want);
 }
 
+/// Is a verdict handed back, since the log is full?
+pub fn is_full(answer: Result<Reply, StepFault<Command>>) -> bool {
+    matches!(&answer, Err(StepFault::Full(Command::Verdict)))
+}
+
 /// The parts of the monitor's labels in their order.
 pub fn sequence_of(rt: &impl Abort, monitor: &Monitor) -> Vec<PartRef> {
     for _attempt in 0..ATTEMPTS {

@@ -4,10 +4,9 @@ ghost use Rattle.std.specs.Prelude.{◌≡◌, true};
 ghost use Rattle.ra_seqspec.specs.Asked.{asks_rising};
 
 use crate::commands::{
-    bare, copy_of, counter_of, got, increment, is_told, read, reporter_of, stamped, state_of,
-    stepped,
+    bare, copy_of, counter_of, got, increment, is_full, is_told, read, reporter_of, stamped,
+    state_of, stepped,
 };
-use ra_journal::StepFault;
 use ra_labels::{
     Cause, Command, Elements, Kind, NoMemory, Op, Query, Refusal, Reply, Update, fits,
 };
@@ -91,11 +90,6 @@ fn a_reporter_is_answered_as_the_monitor(rt: HostRuntime) {
     for (place, entry) in reporter.into_monitor().log().iter().enumerate() {
         assert!(rt; entry.pass == 0 && entry.ticket == place as u64);
     }
-}
-
-// Is a verdict handed back, since the log is full?
-fn is_full(answer: Result<Reply, StepFault<Command>>) -> bool {
-    matches!(&answer, Err(StepFault::Full(Command::Verdict)))
 }
 
 #[test]

@@ -3,6 +3,7 @@
 use crate::commands::{got, increment, is_told, read, reporter_of};
 use crate::rows::{NO_AT_ONE, Row, Say, are_answered};
 use ra_labels::{Cause, Command, Fault, Kind, Refusal, Reply};
+use ra_monitor::Reporter;
 use std::process::Abort;
 
 const JOINS: [Row; 10] = [
@@ -220,15 +221,7 @@ const MOST: u8 = 64;
 fn two_replicas_become_sixty_four(rt: HostRuntime) {
     let mut reporter = reporter_of(&rt, rt.alloc(), Kind::Counter, 2, 1_048_576);
     for replica in 2..MOST {
-        let issuer = replica - 1;
-        let number = reporter.monitor().report().labels;
-        is_told(&rt, &mut reporter, increment(issuer), Reply::Ok(number));
-        let join = Command::Join {
-            replica,
-            from: issuer,
-        };
-        is_told(&rt, &mut reporter, join, Reply::Joined(replica));
-        assert_eq!(rt; reporter.monitor().replicas(), replica + 1);
+        joins(&rt, &mut reporter, replica, replica - 1);
     }
     // The replica from which it joins and the next number are asked for before there is no room.
     for (replica, from, why) in [
@@ -250,4 +243,13 @@ fn two_replicas_become_sixty_four(rt: HostRuntime) {
         Reply::Refused(Refusal::NotCausal(0)),
     );
     assert_eq!(rt; reporter.monitor().replicas(), 64);
+}
+
+// The last replica that is there increments, and the next one joins from it.
+fn joins(rt: &impl Abort, reporter: &mut Reporter, replica: u8, from: u8) {
+    let number = reporter.monitor().report().labels;
+    is_told(rt, reporter, increment(from), Reply::Ok(number));
+    let join = Command::Join { replica, from };
+    is_told(rt, reporter, join, Reply::Joined(replica));
+    assert!(rt; u32::from(reporter.monitor().replicas()) == u32::from(replica) + 1);
 }

@@ -1,6 +1,6 @@
 //! Tests that cross the libraries: worked histories as lists of commands, the text of a history, the two lists of an
-//! RGA, and each public call with ample memory. What goes through the lock is tested in `ra_desk_rows`. There is nothing
-//! else here.
+//! RGA, and each public call with ample memory. What goes through the lock is tested in `ra_desk_rows`. There is
+//! nothing else here.
 #![tactic(auto)]
 
 #[cfg(test)]

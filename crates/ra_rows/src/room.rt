@@ -1,6 +1,6 @@
 //! Room for entries: what a monitor has reserved, it answers with.
 
-use crate::commands::{got, increment, is_told, read, reply_to, reporter_of};
+use crate::commands::{got, increment, is_full, is_told, read, reporter_of};
 use ra_journal::Entry;
 use ra_labels::{Cause, Command, Kind, Refusal, Reply};
 use ra_monitor::Reporter;
@@ -42,7 +42,7 @@ fn what_is_reserved_is_answered(rt: HostRuntime) {
         is_answered(&rt, &mut reporter, Command::Verdict, Reply::Yes(0));
     }
     is_told(&rt, &mut reporter, increment(0), Reply::Ok(0));
-    assert_eq!(rt; reply_to(&rt, &mut reporter, read(1, 1)), no);
+    is_told(&rt, &mut reporter, read(1, 1), no);
     for command in [increment(0), increment(2), got(1, 0), Command::Verdict] {
         is_answered(&rt, &mut reporter, command, no);
     }
@@ -59,12 +59,16 @@ fn an_entry_has_its_size(rt: HostRuntime) {
 fn room_ends_at_the_limit(rt: HostRuntime) {
     let mut reporter = reporter_of(&rt, rt.alloc(), Kind::Rga, 1, 3);
     reserve(&rt, &mut reporter, 4_294_967_295);
-    assert_eq!(rt; reporter.monitor().room(), 3);
+    has_room(&rt, &reporter, 3);
     for left in [2, 1, 0] {
         is_answered(&rt, &mut reporter, Command::Verdict, Reply::Yes(0));
-        assert_eq!(rt; reporter.monitor().room(), left);
+        has_room(&rt, &reporter, left);
     }
     reserve(&rt, &mut reporter, 7);
-    assert_eq!(rt; reporter.monitor().room(), 0);
-    assert!(rt; reporter.tell(Command::Verdict).is_err());
+    has_room(&rt, &reporter, 0);
+    assert!(rt; is_full(reporter.tell(Command::Verdict)));
+}
+
+fn has_room(rt: &impl Abort, reporter: &Reporter, entries: u32) {
+    assert_eq!(rt; reporter.monitor().room(), entries);
 }

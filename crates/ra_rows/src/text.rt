@@ -68,8 +68,8 @@ ok 3
 end yes 4
 ";
 
-// A text has this fault, after so many reads or writes, or read so many bytes at a time. Faults are compared here, and bytes below: wherever they are
-// compared, with words where they differ, that is proved anew.
+// A text has this fault, after so many reads or writes, or read so many bytes at a time. Faults are compared here, and
+// bytes below: wherever they are compared, with words where they differ, that is proved anew.
 fn is_fault(rt: &impl Abort, fault: Option<CheckFault>, wanted: Option<CheckFault>, after: usize) {
     assert_eq!(rt; fault, wanted, "after {after}");
 }

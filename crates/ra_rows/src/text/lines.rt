@@ -71,11 +71,15 @@ const ONE: &str = "RAH 2 counter\nreplicas a\n";
 // The line joins this replica from that one, and gives its first name.
 fn joins(rt: &impl Abort, alloc: Global, line: &str, replica: u8, from: u8) {
     let mut reading = reading_of(rt, alloc, ONE);
+    let (command, name) = join_of(rt, &mut reading, line);
+    is_command(rt, &command, &Command::Join { replica, from });
+    assert!(rt; Some(name.as_bytes()) == line.as_bytes().get(5..6));
+}
+
+// The command of a line that joins a replica, and the name.
+fn join_of(rt: &impl Abort, reading: &mut Reading, line: &str) -> (Command, String) {
     match reading.line(line.as_bytes()) {
-        Ok(Item::JoinLine { command, name }) => {
-            is_command(rt, &command, &Command::Join { replica, from });
-            assert!(rt; Some(name.as_bytes()) == line.as_bytes().get(5..6));
-        }
+        Ok(Item::JoinLine { command, name }) => (command, name),
         _ => panic!(rt; "no join"),
     }
 }

@@ -73,11 +73,16 @@ fn commands_again(rt: &impl Abort, alloc: Global) -> u32 {
 
 fn is_command(rt: &impl Abort, item: Item) -> bool {
     match &item {
-        Item::KindLine(kind) => assert!(rt; *kind == Kind::OrSet),
-        Item::NamesLine(count) => assert!(rt; *count == 3),
-        Item::CommandLine(_) => return true,
+        Item::KindLine(kind) => is_right(rt, *kind == Kind::OrSet),
+        Item::NamesLine(count) => is_right(rt, *count == 3),
+        Item::CommandLine(_) => true,
         Item::JoinLine { .. } => panic!(rt; "a join"),
     }
+}
+
+// What a line before the commands says is right; it is no command.
+fn is_right(rt: &impl Abort, says: bool) -> bool {
+    assert!(rt; says);
     false
 }
 

@@ -2,27 +2,40 @@
 
 use super::{applies, bring, copy, hold, is_op, list, made, message, replica_of, shows};
 use ra_labels::{Elements, Kind, Op};
-use ra_replicas::Message;
+use ra_replicas::{Made, Message, Replica};
+use std::alloc::Global;
+use std::process::Abort;
 
-// a goes up, b has that and goes up, c gets b's message before a's.
-#[test]
-fn a_message_is_held_until_its_cause_came(rt: HostRuntime) {
-    let mut a = replica_of(&rt, rt.alloc(), Kind::Counter, 0, 3);
-    let mut b = replica_of(&rt, rt.alloc(), Kind::Counter, 1, 3);
-    let mut c = replica_of(&rt, rt.alloc(), Kind::Counter, 2, 3);
+// The replica that made this had applied so many updates of each.
+fn has_had(rt: &impl Abort, made: &Made, wanted: &[u32]) {
+    assert_eq!(rt; made.had.as_slice(), wanted);
+}
+
+// a goes up, and b has that and goes up: what they make.
+fn one_behind_another(rt: &impl Abort, alloc: Global) -> (Message, Message) {
+    let mut a = replica_of(rt, alloc, Kind::Counter, 0, 3);
+    let mut b = replica_of(rt, alloc, Kind::Counter, 1, 3);
     let first = Message {
         label: 40,
         from: 0,
-        made: made(&rt, &mut a, 0),
+        made: made(rt, &mut a, 0),
     };
-    hold(&rt, &mut b, copy(&rt, &first));
-    applies(&rt, &mut b, Some(40), 0);
+    hold(rt, &mut b, copy(rt, &first));
+    applies(rt, &mut b, Some(40), 0);
     let second = Message {
         label: 50,
         from: 1,
-        made: made(&rt, &mut b, 1),
+        made: made(rt, &mut b, 1),
     };
-    assert_eq!(rt; second.made.had.as_slice(), [1, 0, 0].as_slice());
+    (first, second)
+}
+
+// c gets b's message before a's.
+#[test]
+fn a_message_is_held_until_its_cause_came(rt: HostRuntime) {
+    let (first, second) = one_behind_another(&rt, rt.alloc());
+    has_had(&rt, &second.made, &[1, 0, 0]);
+    let mut c = replica_of(&rt, rt.alloc(), Kind::Counter, 2, 3);
     hold(&rt, &mut c, second);
     applies(&rt, &mut c, None, 1);
     shows(&rt, rt.alloc(), &c, "0");
@@ -54,7 +67,7 @@ fn the_first_that_can_be_applied_is(rt: HostRuntime) {
     }
     applies(&rt, &mut c, None, 0);
     let made = made(&rt, &mut c, 0);
-    assert_eq!(rt; made.had.as_slice(), [3, 2, 0].as_slice());
+    has_had(&rt, &made, &[3, 2, 0]);
 }
 
 // A clock is one more than the greatest that was seen, whatever came last.
@@ -62,10 +75,15 @@ fn the_first_that_can_be_applied_is(rt: HostRuntime) {
 fn clocks_go_on_from_the_greatest(rt: HostRuntime) {
     let mut b = replica_of(&rt, rt.alloc(), Kind::Register, 1, 2);
     bring(&rt, rt.alloc(), &mut b, 0, Op::Write(5), Some(9));
-    assert_eq!(rt; made(&rt, &mut b, 0).clock, Some(10));
+    makes_at(&rt, &mut b, 0, 10);
     bring(&rt, rt.alloc(), &mut b, 0, Op::Write(6), Some(4));
-    assert_eq!(rt; made(&rt, &mut b, 1).clock, Some(11));
+    makes_at(&rt, &mut b, 1, 11);
     shows(&rt, rt.alloc(), &b, "4");
+}
+
+// What the replica makes in the round has this clock.
+fn makes_at(rt: &impl Abort, replica: &mut Replica, round: u32, clock: u32) {
+    assert_eq!(rt; made(rt, replica, round).clock, Some(clock));
 }
 
 // A copy is as good as the message.
@@ -80,5 +98,5 @@ fn copies_are_equal(rt: HostRuntime) {
     let copy = copy(&rt, &message);
     assert_eq!(rt; (copy.label, copy.from, copy.made.clock), (8, 1, Some(6)));
     is_op(&rt, &copy.made.op, &message.made.op);
-    assert_eq!(rt; copy.made.had.as_slice(), [2, 7].as_slice());
+    has_had(&rt, &copy.made, &[2, 7]);
 }
