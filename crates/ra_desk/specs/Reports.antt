@@ -7,7 +7,7 @@ use Rattle.ra_labels.specs.declared.reply.Reply.{Reply}
 use Rattle.ra_monitor.specs.declared.monitor.Monitor.{Monitor}
 use Rattle.ra_monitor.specs.declared.setup.Setup.{Setup}
 use Rattle.ra_monitor.specs.contracts.monitor.MonitorJournal.TheImpl.{ghosts}
-use Rattle.ra_monitor.specs.Monitor.{MonitorEntry, answer_after}
+use Rattle.ra_monitor.specs.Monitor.{MonitorEntry}
 use Rattle.ra_ticket.specs.declared.pass.Pass.{Pass}
 use Rattle.ra_ticket.specs.Passes as pass
 use Rattle.ra_ticket.specs.declared.fault.CallFault.{CallFault}
