@@ -3,7 +3,7 @@
 use crate::rows::{NO_AT_ONE, Row, Say, are_answered};
 use ra_labels::{Cause, Fault, Kind, Refusal, Reply};
 
-const COUNTERS: [Row; 9] = [
+static COUNTERS: [Row; 9] = [
     Row {
         name: "everything was delivered",
         kind: Kind::Counter,

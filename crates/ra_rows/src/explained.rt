@@ -16,7 +16,7 @@ struct Row {
     right: Option<Say>,
 }
 
-const ROWS: [Row; 14] = [
+static ROWS: [Row; 14] = [
     Row {
         name: "a counter that was read before an increment counted",
         kind: Kind::Counter,

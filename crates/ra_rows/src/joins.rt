@@ -6,7 +6,7 @@ use ra_labels::{Cause, Command, Fault, Kind, Refusal, Reply};
 use ra_monitor::Reporter;
 use std::process::Abort;
 
-const JOINS: [Row; 10] = [
+static JOINS: [Row; 10] = [
     Row {
         name: "each refusal of a join, in its order",
         kind: Kind::Counter,

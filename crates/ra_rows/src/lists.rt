@@ -3,7 +3,7 @@
 use crate::rows::{Row, Say, are_answered};
 use ra_labels::{Cause, Fault, Kind, Refusal, Reply};
 
-const RGAS: [Row; 16] = [
+static RGAS: [Row; 16] = [
     Row {
         name: "of two behind one anchor the later stands first",
         kind: Kind::Rga,

@@ -3,7 +3,7 @@
 use crate::rows::{Row, Say, are_answered};
 use ra_labels::{Cause, Fault, Kind, Refusal, Reply};
 
-const OR_SETS: [Row; 8] = [
+static OR_SETS: [Row; 8] = [
     Row {
         name: "an element comes back under a new identifier",
         kind: Kind::OrSet,

@@ -3,7 +3,7 @@
 use crate::rows::{Row, Say, are_answered};
 use ra_labels::{Cause, Fault, Kind, Refusal, Reply};
 
-const STAMPED: [Row; 10] = [
+static STAMPED: [Row; 10] = [
     Row {
         name: "the greatest stamp is read, though it came first",
         kind: Kind::Register,

@@ -71,7 +71,7 @@ pub const OF_SIXTY_FOUR: &str =
     n43 n44 n45 n46 n47 n48 n49 n50 n51 n52 n53 n54 n55 n56 n57 n58 n59 n60 n61 n62 n63\n";
 
 // What is refused is left out, and so are verdicts, and all behind a no.
-const ROWS: [Row; 16] = [
+static ROWS: [Row; 16] = [
     Row {
         names: ABC,
         first: 3,

@@ -42,7 +42,7 @@ struct Row {
 }
 
 // At one clock the higher replica's update counts; a higher clock counts more than a higher replica.
-const TIES: [Row; 9] = [
+static TIES: [Row; 9] = [
     Row {
         kind: Kind::Register,
         came: &[(0, Some(1), Write(10)), (1, Some(1), Write(20))],
@@ -95,7 +95,7 @@ const TIES: [Row; 9] = [
 ];
 
 // What was never there is taken out, an addition comes behind it, or an update is of another kind.
-const NEVER_THERE: [Row; 10] = [
+static NEVER_THERE: [Row; 10] = [
     Row {
         kind: Kind::LwwSet,
         came: &[(0, Some(2), Remove(9))],
@@ -149,7 +149,7 @@ const NEVER_THERE: [Row; 10] = [
 ];
 
 // A removal leaves what it does not name; each element is shown once, the least first.
-const PAIRS: [Row; 5] = [
+static PAIRS: [Row; 5] = [
     Row {
         kind: Kind::OrSet,
         came: &[
@@ -191,7 +191,7 @@ const PAIRS: [Row; 5] = [
 
 // Of the children of one element that with the greatest stamp comes first, with all that is under it, also where an
 // older one comes late. What is removed keeps its place.
-const TREES: [Row; 6] = [
+static TREES: [Row; 6] = [
     Row {
         kind: Kind::Rga,
         came: &[(1, Some(1), After(0, 2)), (0, Some(1), After(0, 1))],

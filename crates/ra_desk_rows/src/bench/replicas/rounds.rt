@@ -14,7 +14,7 @@ struct Rounds {
     said: &'static [(&'static str, &'static str)],
 }
 
-const ROUNDS: [Rounds; 10] = [
+static ROUNDS: [Rounds; 10] = [
     Rounds {
         kind: Kind::Counter,
         number: 0,
