@@ -26,9 +26,9 @@ pub enum Change {
 /// it are told to a trial, but for those that the change leaves out, and then the label: with a yes it is accepted, and
 /// holds by the named order. A delivery that needs one that is left out is refused then, and so is left out too.
 ///
-/// The entries before are those before the first no. `NoMemory` where a growth is refused, or where so many commands
-/// are told that a trial takes no more. Costs what the steps of a monitor for the commands before cost, without their
-/// log; what is kept for them is let go afterwards.
+/// The entries before are those before the first no. `NoMemory` where a growth is refused, or where there are more
+/// labels than a log may have. Costs what the steps of a monitor for the commands before cost, without their log; what
+/// is kept for them is let go afterwards.
 pub fn would_hold(
     alloc: Global,
     setup: &Setup,

@@ -3,9 +3,9 @@
 //! The one contract for the layers above: `right_answer` tells the operation that the label at a monitor's fault had to
 //! be, where its query is what fails: the specification's answer after the updates that its replica had, in the named
 //! order (`specs/Right`). `changes_that_help` tells of changes to what that replica had those with which the label
-//! would have held (`specs/Changes`), since a monitor of its own says so. `Places` tells where in a monitor's log each
-//! label stands, and `labels_that` finds those of one sort. What is told is read off the log, the named sequence and
-//! the plain specification (`ra_seqspec`): no second witness is kept.
+//! would have held (`specs/Changes`), since a trial of `ra_monitor` says so. `Places` tells where in a monitor's log
+//! each label stands, and `labels_that` and `labels_with` find those of one sort. The right answer is read off the log,
+//! the named sequence and the plain specification (`ra_seqspec`): no second witness is kept.
 #![tactic(auto)]
 
 mod changes;

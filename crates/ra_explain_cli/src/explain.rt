@@ -10,7 +10,7 @@ use ra_labels::NoMemory;
 use ra_lines::Names;
 use ra_lines::reply::put_end;
 use ra_monitor::{Monitor, Report};
-use ra_pages::{Case, No, Told, put_json, put_sequence};
+use ra_pages::{Case, No, Purpose, Told, put_json, put_sequence};
 use ra_pictures::{put_html, put_page, put_svg};
 use ra_program::{Ending, stop};
 use ra_stops::Stop;
@@ -154,14 +154,16 @@ fn put_history(
     if form == Form::Sequence {
         return put_sequence(body, &monitor);
     }
-    let told = Told::by(*body.allocator(), &monitor, form == Form::Json)?;
-    let log = monitor.into_log();
-    let case = Case {
-        told: &told,
-        names,
-        log: &log,
-    };
-    put_case(body, form, &case, report)
+    let told = Told::by(*body.allocator(), monitor, purpose_of(form))?;
+    put_case(body, form, &Case::of(&told, names), report)
+}
+
+fn purpose_of(form: Form) -> Purpose {
+    match form {
+        Form::Page | Form::Html | Form::Sequence => Purpose::Words,
+        Form::Json => Purpose::Object,
+        Form::Svg => Purpose::Drawing,
+    }
 }
 
 fn put_case(

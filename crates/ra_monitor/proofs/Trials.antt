@@ -1,11 +1,11 @@
 -- What a trial was told of, with one command more.
 use Rattle.std.proofs.Common.{◌≡◌, ℕ, ◌+◌, ◌<◌, ◌≤◌, ◌∷◌, ◌++◌, [], List, arith}
-use Rattle.ra_journal.specs.declared.journal.TheConstants.{MOST_ENTRIES}
 use Rattle.ra_labels.specs.declared.command.Command.{Command}
 use Rattle.ra_labels.specs.declared.reply.Reply.{Reply}
 use Rattle.ra_labels.specs.Records.{Records}
 use Rattle.ra_labels.specs.Answer.{answer_of, records_after, records_after_all}
 use Rattle.ra_laws.proofs.TheLaws.{answers_in_turn-records}
+use Rattle.ra_visibility.specs.declared.limits.TheConstants.{MOST_LABELS}
 use Rattle.ra_monitor.specs.declared.trial.Trial.{Trial}
 use Rattle.ra_monitor.specs.History.{past_in, StandsFor}
 use Rattle.ra_monitor.specs.Trial.{IsToldOf}
@@ -18,18 +18,17 @@ Takes old new command reply = (records : Records) → StandsFor old.history (pas
 
 -- the reply is that to the command after these, and the trial is told of it too
 pub told_one : (old new : Trial) (commands : List Command) (command : Command) (reply : Reply)
-    → IsToldOf old commands → old.told < MOST_ENTRIES → Takes old new command reply
-    → new.setup ≡ old.setup → new.told ≡ old.told + 1 → new.history.labels ≤ old.history.labels + 1
+    → IsToldOf old commands → old.history.labels < MOST_LABELS → Takes old new command reply
+    → new.setup ≡ old.setup → new.history.labels ≤ old.history.labels + 1
     → (reply ≡ answer_of old.setup.kind old.setup.replicas
     (records_after_all old.setup.kind old.setup.replicas [] commands) command)
     × IsToldOf new (commands ++ command ∷ [])
-told_one old new commands command reply is room takes setup told labels =
+told_one old new commands command reply is room takes setup labels =
     let s = old.setup in
     let taken = takes (records_after_all s.kind s.replicas [] commands) is.history in (
       taken.0,
       record {
         history = rw (setup, answers_in_turn-records s.kind s.replicas [] commands (command ∷ [])) taken.1;
-        labels = omega (arith, told, labels, is.labels);
-        few = omega (arith, told, room);
+        few = omega (arith, labels, room);
       },
     )

@@ -1,8 +1,8 @@
 -- The commands that a trial was told of.
 use Rattle.std.specs.Prelude.{◌≤◌, List, []}
-use Rattle.ra_journal.specs.declared.journal.TheConstants.{MOST_ENTRIES}
 use Rattle.ra_labels.specs.declared.command.Command.{Command}
 use Rattle.ra_labels.specs.Answer.{records_after_all}
+use Rattle.ra_visibility.specs.declared.limits.TheConstants.{MOST_LABELS}
 use Rattle.ra_monitor.specs.declared.trial.Trial.{Trial}
 use Rattle.ra_monitor.specs.History.{past_in, StandsFor}
 
@@ -10,8 +10,7 @@ use Rattle.ra_monitor.specs.History.{past_in, StandsFor}
 pub record IsToldOf (trial : Trial) (commands : List Command) : Type 0 where
   pub history : StandsFor trial.history
       (past_in trial.setup (records_after_all trial.setup.kind trial.setup.replicas [] commands))
-  pub labels : trial.history.labels ≤ trial.told
-  pub few : trial.told ≤ MOST_ENTRIES
+  pub few : trial.history.labels ≤ MOST_LABELS
 
 -- it was told of some
 pub record IsToldOfSome (trial : Trial) : Type 0 where

@@ -6,15 +6,14 @@ ghost use Rattle.ra_monitor.specs.Trial.{IsToldOf, IsToldOfSome};
 
 use crate::history::History;
 use crate::setup::Setup;
-use ra_journal::MOST_ENTRIES;
 use ra_labels::{Command, NoMemory, Reply};
+use ra_visibility::MOST_LABELS;
 use std::alloc::Global;
 
 /// Answers commands as a monitor does, and logs nothing: for whoever asks what would have been answered to another
 /// course of a history. It takes what a monitor takes beside its log.
 pub struct Trial {
     setup: Setup,
-    told: u32,
     history: History,
 }
 
@@ -23,7 +22,6 @@ impl Drop for Trial {
     fn drop(self) {
         let Trial {
             setup: _,
-            told: _,
             history: _,
         } = self;
     }
@@ -37,15 +35,14 @@ impl Trial {
     {
         Ok(Trial {
             setup: *setup,
-            told: 0,
             history: History::new(alloc, setup)?,
         })
     }
 
     /// Tells it of a command, and answers what a monitor would that was told of the same.
     ///
-    /// `NoMemory` where a growth was refused, or where it was told of `MOST_ENTRIES` commands; then nothing changed. It
-    /// costs what `Monitor::step` does, but for the log.
+    /// `NoMemory` where a growth was refused, or where it has 1,048,576 labels, as many as a log may have; then nothing
+    /// changed. It costs what `Monitor::step` does, but for the log.
     pub fn tell(&mut self, command: Command) -> Result<Reply, NoMemory>
         requires { IsToldOfSome self.old }
         ensures told { (commands : List Command) → IsToldOf self.old commands → IfOk result (λ reply.
@@ -56,7 +53,7 @@ impl Trial {
             → OnErr result (IsToldOf self.new commands) }
         ensures same_setup { self.new.setup ≡ self.old.setup }
     {
-        if self.told == MOST_ENTRIES {
+        if self.history.labels == MOST_LABELS {
             return Err(NoMemory);
         }
         let mut command = command;
@@ -64,7 +61,6 @@ impl Trial {
         // Let go by a call: the proof goes through what a command may have there, and not at each return.
         drop(command);
         let reply = answer?;
-        self.told += 1;
         Ok(reply)
     }
 }

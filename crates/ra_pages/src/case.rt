@@ -7,15 +7,15 @@ use ra_journal::Entry;
 use ra_labels::{Command, Op, Reply};
 use ra_lines::Names;
 
-/// A history: what its monitor tells, the names of its replicas, and the monitor's log.
+/// A history: what its monitor tells, the monitor's log, and the names of its replicas.
 #[derive(Clone, Copy)]
 pub struct Case<'a> {
     /// What the monitor tells.
     pub told: &'a Told,
-    /// The names of the replicas.
-    pub names: &'a Names,
     /// The monitor's log.
     pub log: &'a [Entry<Command, Reply>],
+    /// The names of the replicas.
+    pub names: &'a Names,
 }
 
 /// An update of the history: who made it, and with which clock.
@@ -32,6 +32,17 @@ pub struct Source {
 }
 
 impl<'a> Case<'a> {
+    /// The history of the monitor that told this, whose replicas have these names.
+    pub fn of(told: &'a Told, names: &'a Names) -> Case<'a>
+        ensures { result.log.now ≡ told.now.log.items }
+    {
+        Case {
+            told,
+            log: &told.log,
+            names,
+        }
+    }
+
     /// The entry at this place of the log.
     pub fn entry(&self, place: u32) -> Option<&'a Entry<Command, Reply>>
         ensures { MatchOption result (slice_get self.now.log.now place ≡ None)

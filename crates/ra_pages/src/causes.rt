@@ -4,16 +4,28 @@ use crate::no::No;
 use crate::put::{put_label, put_line, put_name};
 use ra_explain::{LabelsWith, labels_with};
 use ra_labels::{Command, NoMemory, Op, Reply};
-use ra_layout::{put, put_head};
+use ra_layout::{put, put_count, put_head, small};
 use ra_lines::number::put_number;
 
-/// Puts the latest label that this one sees and whose clock is above its own, and how it came to be seen.
+/// The most labels that are told whose stamps are above this one's.
+const MOST_ABOVE: usize = 3;
+
+/// Puts the latest labels that this one sees and whose stamps are above its own, and how they came to be seen.
 pub fn put_order(out: &mut Vec<u8>, case: &Case<'_>, no: &No<'_>) -> Result<(), NoMemory> {
-    for other in &no.why.above {
-        let other = *other;
-        if other != no.fault.label {
-            put_above(out, case, no.replica, other)?;
+    let mut told: usize = 0;
+    for other in no.why.above.iter().rev() {
+        if told == MOST_ABOVE {
+            break;
         }
+        put_above(out, case, no.replica, *other)?;
+        told = told.saturating_add(1);
+    }
+    let others = no.why.above.len().saturating_sub(told);
+    if others > 0 {
+        put_head(out, "")?;
+        put(out, "and ")?;
+        put_count(out, small(others), " label", " labels")?;
+        put(out, " before them\n")?;
     }
     Ok(())
 }

@@ -32,4 +32,4 @@ pub use no::No;
 pub use page::put_words;
 pub use put::{put_line, put_name};
 pub use sequence::put_sequence;
-pub use told::Told;
+pub use told::{Purpose, Told};

@@ -1,12 +1,24 @@
 //! What a monitor tells of its history: of the end, and of the label at which it fails.
-ghost use Rattle.std.specs.Prelude.{◌≡◌};
+ghost use Rattle.std.specs.Prelude.{◌≡◌, IfOk};
 ghost use Rattle.ra_explain.specs.Places.{places_in};
 
 use crate::unmet::{Unmet, unmet_by};
 use ra_explain::{LabelsThat, Places, labels_that, right_answer};
-use ra_labels::{Cause, Command, Fault, NoMemory, Stamp};
+use ra_journal::Entry;
+use ra_labels::{Cause, Command, Fault, NoMemory, Reply, Stamp};
 use ra_monitor::{Monitor, Setup};
 use std::alloc::Global;
+
+/// What is made of what a monitor tells.
+#[derive(Clone, Copy, Debug, PartialEq, Eq)]
+pub enum Purpose {
+    /// Words: of a yes they tell what replicas lack, and of a no all that is in its way.
+    Words,
+    /// An object, which tells what replicas lack in any case, and of a no the right answer.
+    Object,
+    /// A drawing, which tells of a no the right answer.
+    Drawing,
+}
 
 /// How many updates a replica lacks at the end, and the oldest of them.
 #[derive(Clone, Copy)]
@@ -17,17 +29,19 @@ pub struct Lack {
     pub oldest: Option<u32>,
 }
 
-/// What a monitor tells. All is asked before the monitor is let go, whose memory is there then for the courses of the
-/// history that are tried.
+/// What a monitor tells. All is asked before the monitor is let go but for its log: its memory is there then for the
+/// courses of the history that are tried.
 #[derive(Drop)]
 pub struct Told {
     /// What the monitor was made with.
     pub setup: Setup,
+    /// Its log.
+    pub log: Vec<Entry<Command, Reply>>,
     /// How many replicas there are.
     pub replicas: u8,
     /// Where labels stand in its log.
     pub places: Places,
-    /// What each replica lacks at the end, by the replicas' numbers, where that was asked.
+    /// What each replica lacks at the end, by the replicas' numbers, where the purpose asks for it.
     pub lacks: Vec<Lack>,
     /// Of a history that is a no, why.
     pub why: Option<Why>,
@@ -42,34 +56,46 @@ pub struct Why {
     pub right: Option<Command>,
     /// The updates that the label's replica lacks, rising.
     pub lacking: Vec<u32>,
-    /// Where its clock is the cause, the labels that it sees and whose stamps are above its own, rising.
+    /// Where its clock is the cause and words are made, the labels that it sees and whose stamps are above its own,
+    /// rising.
     pub above: Vec<u32>,
-    /// Where no answer would do, the first update that it sees without what that needs.
+    /// Where no answer would do and words are made, the first update that it sees without what that needs.
     pub unmet: Option<Unmet>,
 }
 
 impl Told {
-    /// What the monitor tells; of a no, what replicas lack at the end only where that is asked for too. Costs a step
-    /// for each entry of the log, and a look-up for each label and each replica whose lack is told.
-    pub fn by(alloc: Global, monitor: &Monitor, lacks_of_a_no: bool) -> Result<Told, NoMemory> {
-        let places = Places::of(alloc, monitor)?;
+    /// What the monitor tells for this purpose. Costs a step for each entry of the log, a look-up for each label, and
+    /// where it is told what replicas lack, one for each label and replica.
+    pub fn by(alloc: Global, monitor: Monitor, purpose: Purpose) -> Result<Told, NoMemory>
+        ensures { IfOk result (λ told. told.log.items ≡ monitor.log) }
+    {
+        let places = Places::of(alloc, &monitor)?;
         let fault = monitor.report().fault;
-        let lacks = if fault.is_none() || lacks_of_a_no {
-            lacks_of(alloc, monitor, &places)?
+        let lacks = if tells_lacks(purpose, fault.is_none()) {
+            lacks_of(alloc, &monitor, &places)?
         } else {
             Vec::new(alloc)
         };
         let why = match fault {
-            Some(fault) => why_at(alloc, monitor, &places, fault)?,
+            Some(fault) => why_at(alloc, &monitor, &places, fault, purpose)?,
             None => None,
         };
         Ok(Told {
             setup: monitor.setup(),
             replicas: monitor.replicas(),
+            log: monitor.into_log(),
             places,
             lacks,
             why,
         })
+    }
+}
+
+fn tells_lacks(purpose: Purpose, is_yes: bool) -> bool {
+    match purpose {
+        Purpose::Words => is_yes,
+        Purpose::Object => true,
+        Purpose::Drawing => false,
     }
 }
 
@@ -94,6 +120,7 @@ fn why_at(
     monitor: &Monitor,
     places: &Places,
     fault: Fault,
+    purpose: Purpose,
 ) -> Result<Option<Why>, NoMemory>
     requires { places.now ≡ places_in monitor.now.log }
 {
@@ -106,13 +133,14 @@ fn why_at(
     let by = *replica;
     let right = right_for(alloc, monitor, by)?;
     let lacking = labels_that(alloc, monitor, places, LabelsThat::AreLackedBy(by))?;
-    let unmet = if fault.cause == Cause::Query && right.is_none() {
+    let words = purpose == Purpose::Words;
+    let unmet = if words && fault.cause == Cause::Query && right.is_none() {
         unmet_by(alloc, monitor, places, &lacking)?
     } else {
         None
     };
     let above = match stamp {
-        Some(clock) if fault.cause == Cause::Order => {
+        Some(clock) if words && fault.cause == Cause::Order => {
             let own = Stamp {
                 clock: *clock,
                 replica: by,
