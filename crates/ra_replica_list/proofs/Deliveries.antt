@@ -54,7 +54,7 @@ module _ {all : ElementList} {deeds : List (Option Deed)} {records : Records} wh
           greatest = greatest_alike (had later to) same (greatest_delivered to label top);
         },
         ap length (a_later_command_leaves_the_updates_that_pass-delivery Rga records to label after.settled)
-        ∙ after.count,
+            ∙ after.count,
       )
 
   -- the greatest stamp with the label

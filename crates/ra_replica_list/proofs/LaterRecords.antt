@@ -63,9 +63,9 @@ pub query-stays : (list : ReplicaList) (all : ElementList) (deeds : List (Option
 unfolding known_other
 query-stays list all deeds records replica by op clock stand held query = (
   known_other by op clock None (had (Operate by op clock ∷ records) replica) stand held (not_had records replica)
-  (had_no_query records by op clock replica query),
+      (had_no_query records by op clock replica query),
   ap length (a_later_command_leaves_the_updates_that_pass-operation Rga records by op clock held.settled
-  (not_settled held.kept (label_count records) (not_had records replica))),
+      (not_settled held.kept (label_count records) (not_had records replica))),
 )
 
 pub delivery-stays : (list : ReplicaList) (all : ElementList) (deeds : List (Option Deed)) (records : Records) (replica to n : ℕ) → AreElementsOf all deeds records → IsListOf list all.arrivals deeds records replica → ¬ (to ≡ replica)
