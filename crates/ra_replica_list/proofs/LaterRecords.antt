@@ -1,5 +1,5 @@
 -- What later labels, deliveries and joins leave of the list of a replica.
-use Rattle.std.proofs.Common.{◌≡◌, ℕ, Bool, true, false, List, [], ◌∷◌, ◌++◌, length, Option, Some, None, refl, sym}
+use Rattle.std.proofs.Common.{◌≡◌, ℕ, Bool, true, false, List, [], ◌∷◌, ◌++◌, length, Option, Some, None, refl, sym, ap}
 use Rattle.ra_labels.specs.declared.kind.Kind.TheVariants.{Rga}
 use Rattle.ra_labels.specs.declared.operation.Op.{Op}
 use Rattle.ra_labels.specs.declared.operation.Update.TheVariants.{After}
@@ -10,12 +10,12 @@ use Rattle.ra_labels.specs.Linearization.{updates_admitted}
 use Rattle.ra_labels.specs.NamedOrder.{named_sequence}
 use Rattle.ra_labels.specs.Laws.{NoneHadBeyond}
 use Rattle.ra_labels.specs.Insertion.{Makes}
-use Rattle.ra_laws.proofs.TheLaws.{a_new_replica_had_what_the_other_had-labels}
+use Rattle.ra_laws.proofs.TheLaws.{a_new_replica_had_what_the_other_had-labels, a_later_command_leaves_the_updates_that_pass-operation}
 use Rattle.ra_element_list.specs.ElementList.{Arrival, ElementList}
 use Rattle.ra_replica_list.specs.declared.deed.Deed.{Deed}
 use Rattle.ra_replica_list.specs.declared.deed.Deed.TheVariants.{PutsIn, Removes}
 use Rattle.ra_replica_list.specs.Deeds.{element_at, AreElementsOf}
-use Rattle.ra_replica_list.specs.ReplicaList.{ReplicaList, IsListOf, IsListBy}
+use Rattle.ra_replica_list.specs.ReplicaList.{ReplicaList, IsListOf, IsListBy, settled_count}
 use Rattle.ra_replica_list.proofs.Deeds.{deeds_stand}
 use Rattle.ra_replica_list.proofs.AlikeLists.{kept_alike, kept_delivered, kept_joined, greatest_alike, greatest_delivered, greatest_joined}
 use Rattle.ra_replica_list.proofs.TakenLabels.{not_settled}
@@ -35,7 +35,7 @@ module _ {list : ReplicaList} {all : ElementList} {deeds : List (Option Deed)} {
     greatest = greatest_alike more same (greatest_known by op clock held.greatest fresh);
   }
 
-  pub known_other : (d : Option Deed) (more : ℕ → Bool) → AreElementsOf all deeds records → IsListBy list all.arrivals deeds records test → test (label_count records) ≡ false → ((n : ℕ) → test n ≡ more n)
+  unfoldable pub known_other : (d : Option Deed) (more : ℕ → Bool) → AreElementsOf all deeds records → IsListBy list all.arrivals deeds records test → test (label_count records) ≡ false → ((n : ℕ) → test n ≡ more n)
       → IsListBy list all.arrivals (deeds ++ d ∷ []) (Operate by op clock ∷ records) more
   known_other d more stand held fresh same = record {
     settled = held.settled;
@@ -55,10 +55,18 @@ pub removal-stays : (list : ReplicaList) (all : ElementList) (deeds : List (Opti
 removal-stays list all deeds records replica by number op clock stand held other =
     known_other by op clock (Some (Removes number)) (had (Operate by op clock ∷ records) replica) stand held (not_had records replica) (had_by_other records by op clock replica other)
 
-pub query-stays : (list : ReplicaList) (all : ElementList) (deeds : List (Option Deed)) (records : Records) (replica by : ℕ) (op : Op) (clock : Option ℕ) → AreElementsOf all deeds records → IsListOf list all.arrivals deeds records replica
-    → is_update op ≡ false → IsListOf list all.arrivals (deeds ++ None ∷ []) (Operate by op clock ∷ records) replica
-query-stays list all deeds records replica by op clock stand held query =
-    known_other by op clock None (had (Operate by op clock ∷ records) replica) stand held (not_had records replica) (had_no_query records by op clock replica query)
+pub query-stays : (list : ReplicaList) (all : ElementList) (deeds : List (Option Deed)) (records : Records)
+    (replica by : ℕ) (op : Op) (clock : Option ℕ) → AreElementsOf all deeds records
+    → (was : IsListOf list all.arrivals deeds records replica) → is_update op ≡ false
+    → (is : IsListOf list all.arrivals (deeds ++ None ∷ []) (Operate by op clock ∷ records) replica)
+    × (settled_count is ≡ settled_count was)
+unfolding known_other
+query-stays list all deeds records replica by op clock stand held query = (
+  known_other by op clock None (had (Operate by op clock ∷ records) replica) stand held (not_had records replica)
+      (had_no_query records by op clock replica query),
+  ap length (a_later_command_leaves_the_updates_that_pass-operation Rga records by op clock held.settled
+      (not_settled held.kept (label_count records) (not_had records replica))),
+)
 
 pub delivery-stays : (list : ReplicaList) (all : ElementList) (deeds : List (Option Deed)) (records : Records) (replica to n : ℕ) → AreElementsOf all deeds records → IsListOf list all.arrivals deeds records replica → ¬ (to ≡ replica)
     → IsListOf list all.arrivals deeds (Deliver to n ∷ records) replica

@@ -1,5 +1,5 @@
 -- A label that the replica issues.
-use Rattle.std.proofs.Common.{◌≡◌, ℕ, ◌<◌, Bool, true, false, List, [], ◌∷◌, ◌++◌, length, Option, Some, None, refl, sym, ap, ◌∙◌, subst, arith}
+use Rattle.std.proofs.Common.{◌≡◌, ℕ, ◌+◌, ◌<◌, Bool, true, false, List, [], ◌∷◌, ◌++◌, length, Option, Some, None, refl, sym, ap, ◌∙◌, subst, arith}
 use Rattle.std.specs.Prelude.{Contains, unwrap_or, option_map}
 use Rattle.std.proofs.lemmas.Bool.{eqb-true, false_from_ne_true}
 use Rattle.ra_labels.specs.declared.kind.Kind.TheVariants.{Rga}
@@ -15,13 +15,13 @@ use Rattle.ra_labels.specs.Linearization.{extends_visibility, updates_admitted}
 use Rattle.ra_labels.specs.NamedOrder.{greater_of, named_sequence}
 use Rattle.ra_labels.specs.Insertion.{updates_passing, or_label, Makes}
 use Rattle.ra_labels.proofs.Members.{at_head}
-use Rattle.ra_laws.proofs.TheLaws.{what_is_settled_does_not_wait, an_operation_makes_one_update-exactly, a_replica_had_one_more-operation, a_label_behind_all_that_pass_is_one_step}
+use Rattle.ra_laws.proofs.TheLaws.{what_is_settled_does_not_wait, an_operation_makes_one_update-exactly, a_replica_had_one_more-operation, a_label_behind_all_that_pass_is_one_step, a_later_command_leaves_the_updates_that_pass-operation}
 use Rattle.ra_element_list.specs.ElementList.{Arrival, ElementList, is_marked}
 use Rattle.ra_replica_list.specs.declared.deed.Deed.{Deed}
 use Rattle.ra_replica_list.specs.declared.deed.Deed.TheVariants.{PutsIn}
 use Rattle.ra_replica_list.specs.Waiting.{labels_under}
 use Rattle.ra_replica_list.specs.Deeds.{deed_at, element_at, needed_number, AreElementsOf, AreDeedsOf}
-use Rattle.ra_replica_list.specs.ReplicaList.{ReplicaList, IsListWith, IsGreatestOf, IsListOf}
+use Rattle.ra_replica_list.specs.ReplicaList.{ReplicaList, IsListWith, IsGreatestOf, IsListOf, settled_count}
 use Rattle.ra_replica_list.specs.Freed.{IsListWithAfter}
 use Rattle.ra_replica_list.proofs.NoneTwice.{not_both}
 use Rattle.ra_replica_list.proofs.Deeds.{deeds_stand, needed_known, AreMarksWith}
@@ -43,18 +43,29 @@ none_in (x ∷ xs) none = absurd (none x (at_head x xs x refl))
 pub next_deed : (deeds : List (Option Deed)) (deed : Deed) (count : ℕ) → length deeds ≡ count → deed_at (deeds ++ Some deed ∷ []) count ≡ Some deed
 next_deed deeds deed count counted = get_or_at deeds (Some deed) [] None count counted
 
--- the list is that of the issuer, once it is kept with the label
-pub owned : {arrivals : List Arrival} {deeds : List (Option Deed)} (records : Records) (by : ℕ) (op : Op) (clock : Option ℕ) (u : Update) (next : ReplicaList) (older : ℕ → Bool) (steps : ℕ) → Makes op u
-    → let now = Operate by op clock ∷ records in IsListWithAfter next.state next.marks next.waiting arrivals deeds now (had records by) older (label_count records) steps
-    → IsGreatestOf now (or_label (had records by) (label_count records)) next.greatest → IsListOf next arrivals deeds now by
-owned records by op clock u next older steps makes after top =
+-- the list is that of the issuer, once it is kept with the label, and each step settles one label
+pub owned : {list : ReplicaList} {old_arrivals arrivals : List Arrival} {old_deeds deeds : List (Option Deed)}
+    {records : Records} {by : ℕ} (op : Op) (clock : Option ℕ) (u : Update) (next : ReplicaList)
+    (was : IsListOf list old_arrivals old_deeds records by) (steps : ℕ) → Makes op u
+    → let now = Operate by op clock ∷ records in
+    IsListWithAfter next.state next.marks next.waiting arrivals deeds now (had records by) was.settled
+    (label_count records) steps
+    → IsGreatestOf now (or_label (had records by) (label_count records)) next.greatest
+    → (is : IsListOf next arrivals deeds now by) × (settled_count is ≡ settled_count was + steps)
+owned {records = records} {by = by} op clock u next was steps makes after top =
     let now = Operate by op clock ∷ records in
-    let same : (m : ℕ) → or_label (had records by) (label_count records) m ≡ had now by m = λ m. sym (a_replica_had_one_more-operation records by op clock m ((an_operation_makes_one_update-exactly op).1 (u, makes))) in
-    record {
-      settled = after.settled;
-      kept = kept_alike (had now by) same after.kept;
-      greatest = greatest_alike (had now by) same top;
-    }
+    let same : (m : ℕ) → or_label (had records by) (label_count records) m ≡ had now by m = λ m.
+    sym (a_replica_had_one_more-operation records by op clock m
+    ((an_operation_makes_one_update-exactly op).1 (u, makes))) in
+    let older = a_later_command_leaves_the_updates_that_pass-operation Rga records by op clock was.settled
+    (not_settled was.kept (label_count records) (not_had records by)) in (
+      record {
+        settled = after.settled;
+        kept = kept_alike (had now by) same after.kept;
+        greatest = greatest_alike (had now by) same top;
+      },
+      after.count ∙ ap (λ us. length us + steps) older,
+    )
 
 -- the greatest stamp with it
 pub own_stamp : {records : Records} {by : ℕ} {greatest : Stamp} (op : Op) (clock : Option ℕ) (stamp : Stamp) → IsGreatestOf records (had records by) greatest → option_map (stamp_at by) clock ≡ Some stamp

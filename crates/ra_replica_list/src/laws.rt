@@ -15,7 +15,7 @@ ghost use Rattle.ra_element_list.specs.ElementList.{Arrival, ElementList};
 ghost use Rattle.ra_replica_list.specs.declared.deed.Deed.{Deed};
 ghost use Rattle.ra_replica_list.specs.declared.deed.Deed.TheVariants.{PutsIn, Removes};
 ghost use Rattle.ra_replica_list.specs.Deeds.{element_at, AreElementsOf};
-ghost use Rattle.ra_replica_list.specs.ReplicaList.{ReplicaList, IsListOf};
+ghost use Rattle.ra_replica_list.specs.ReplicaList.{ReplicaList, IsListOf, settled_count};
 
 /// A label of another replica leaves the list of a replica, whatever it does, and so does a label of its own that does
 /// nothing; and so does a delivery to another one, and another one that joins.
@@ -34,8 +34,9 @@ pub fn a_list_stays_with_what_others_do()
         → IsListOf list all.arrivals (deeds ++ Some (Removes number) ∷ []) (Operate by op clock ∷ records) replica }
     ensures query { (list : ReplicaList) (all : ElementList) (deeds : List (Option Deed)) (records : Records)
         (replica by : ℕ) (op : Op) (clock : Option ℕ) → AreElementsOf all deeds records
-        → IsListOf list all.arrivals deeds records replica → is_update op ≡ false
-        → IsListOf list all.arrivals (deeds ++ None ∷ []) (Operate by op clock ∷ records) replica }
+        → (was : IsListOf list all.arrivals deeds records replica) → is_update op ≡ false
+        → (is : IsListOf list all.arrivals (deeds ++ None ∷ []) (Operate by op clock ∷ records) replica)
+        × (settled_count is ≡ settled_count was) }
     ensures delivery { (list : ReplicaList) (all : ElementList) (deeds : List (Option Deed)) (records : Records)
         (replica to n : ℕ) → AreElementsOf all deeds records → IsListOf list all.arrivals deeds records replica
         → ¬ (to ≡ replica) → IsListOf list all.arrivals deeds (Deliver to n ∷ records) replica }

@@ -1,4 +1,4 @@
-use Rattle.std.proofs.Common.{◌≡◌, ℕ, true, false, [], ◌∷◌, ◌++◌, Some, length, sym, ap, ◌∙◌, subst}
+use Rattle.std.proofs.Common.{◌≡◌, ℕ, ◌+◌, true, false, [], ◌∷◌, ◌++◌, Some, length, sym, ap, ◌∙◌, subst}
 use Rattle.std.specs.Prelude.{unwrap_or, ◌==◌, ◌||◌}
 use Rattle.ra_labels.specs.declared.operation.Update.TheVariants.{After}
 use Rattle.ra_labels.specs.declared.command.Command.TheVariants.{Operate}
@@ -10,7 +10,7 @@ use Rattle.ra_element_list.specs.ElementList.{Arrival, is_marked}
 use Rattle.ra_replica_list.specs.declared.deed.Deed.TheVariants.{PutsIn}
 use Rattle.ra_replica_list.specs.Waiting.{labels_under}
 use Rattle.ra_replica_list.specs.Deeds.{element_at}
-use Rattle.ra_replica_list.specs.ReplicaList.{ReplicaList, IsGreatestOf, IsListOf}
+use Rattle.ra_replica_list.specs.ReplicaList.{ReplicaList, IsGreatestOf, IsListOf, settled_count}
 use Rattle.ra_replica_list.specs.Freed.{AreAlike}
 use Rattle.ra_replica_list.proofs.AlikeLists.{kept_in, list_alike, unadded}
 use Rattle.ra_replica_list.proofs.Deeds.{AreMarksWith}
@@ -41,8 +41,12 @@ returns-then-not-has-clause-put c = λ deeds records by op clock stand held labe
     let next : ReplicaList = record { state = inside.state; marks = inside.there.marks.items; greatest = greater_of inside.greatest c.args.stamp; waiting = c.add.new.self } in
     let after = own_waits op clock new c.add.new.self stand kept makes c.requires.anchor admitted missing added in
     let top = subst (λ (l : ReplicaList). IsGreatestOf records (had records by) l.greatest) (sym c.self.view_is) held.greatest in
-    subst (λ (l : ReplicaList). IsListOf l (all.arrivals ++ new ∷ []) (deeds ++ Some (PutsIn (length all.arrivals)) ∷ []) (Operate by op clock ∷ records) by) (sym c.saw.ensures)
-    (owned records by op clock (After (element_at all.arrivals c.args.anchor) c.args.element) next held.settled 0 makes after (own_stamp op clock c.args.stamp top stamped))
+    subst
+    (λ (l : ReplicaList). (is : IsListOf l (all.arrivals ++ new ∷ []) (deeds ++ Some (PutsIn (length all.arrivals)) ∷ [])
+    (Operate by op clock ∷ records) by) × (settled_count is ≡ settled_count held + 0))
+    (sym c.saw.ensures)
+    (owned op clock (After (element_at all.arrivals c.args.anchor) c.args.element) next held 0 makes after
+    (own_stamp op clock c.args.stamp top stamped))
 
 pub returns-clause-put : goal.returns-clause-put
 returns-clause-put c = λ deeds records by op clock stand held label_is makes stamped extended admitted.
@@ -58,5 +62,9 @@ returns-clause-put c = λ deeds records by op clock stand held label_is makes st
     let after = own_put op clock new c.put_in.new.state c.put_in.new.there.marks.items stand kept makes c.requires.anchor extended admitted there
     (c.in_ok-put_in.ensures.step ∙ ap (λ (x : ℕ). unwrap_or (step_of state (After x c.args.element)) state) c.element.ensures) with_it in
     let top = subst (λ (l : ReplicaList). IsGreatestOf records (had records by) l.greatest) (sym c.self.view_is) held.greatest in
-    subst (λ (l : ReplicaList). IsListOf l (all.arrivals ++ new ∷ []) (deeds ++ Some (PutsIn (length all.arrivals)) ∷ []) (Operate by op clock ∷ records) by) (sym c.saw-2.ensures)
-    (owned records by op clock (After (element_at all.arrivals c.args.anchor) c.args.element) next held.settled 1 makes after (own_stamp op clock c.args.stamp top stamped))
+    subst
+    (λ (l : ReplicaList). (is : IsListOf l (all.arrivals ++ new ∷ []) (deeds ++ Some (PutsIn (length all.arrivals)) ∷ [])
+    (Operate by op clock ∷ records) by) × (settled_count is ≡ settled_count held + 1))
+    (sym c.saw-2.ensures)
+    (owned op clock (After (element_at all.arrivals c.args.anchor) c.args.element) next held 1 makes after
+    (own_stamp op clock c.args.stamp top stamped))
