@@ -1,9 +1,9 @@
 -- Records that are given again, the oldest first, are accepted again, and have lines.
-use Rattle.std.proofs.Common.{◌≡◌, ℕ, ◌+◌, ◌<◌, ◌≤◌, Bool, true, false, not, ltb, List, [], ◌∷◌, ◌++◌, Option, Some, None, refl, sym, ap, subst, ◌∙◌, arith, inl, inr}
+use Rattle.std.proofs.Common.{◌≡◌, ℕ, ◌+◌, ◌<◌, ◌≤◌, Bool, true, false, not, ltb, List, [], ◌∷◌, ◌++◌, Option, Some, None, refl, sym, ap, subst, ◌∙◌, arith}
 use Rattle.std.specs.Prelude.{reverse, ◌||◌, if◌then◌else◌}
 use Rattle.std.specs.Option.{option_or}
 use Rattle.std.specs.List.{list_any}
-use Rattle.std.proofs.lemmas.Bool.{cases_Bool, ltb-true, ltb-false, lt-ltb, not-false}
+use Rattle.std.proofs.lemmas.Bool.{ltb-true, ltb-false, lt-ltb, le-ltb, not-false, or_parts}
 use Rattle.std.proofs.lemmas.List.{reverse-append}
 use Rattle.ra_labels.specs.declared.kind.Kind.{Kind}
 use Rattle.ra_labels.specs.declared.kind.Kind.TheVariants.{Rga}
@@ -109,10 +109,6 @@ misfit_none kind by op clock later e =
     (or_none (misfit_of kind (Operate by op clock)) later e) in
     not-false (is_kind kind (kind_of op)) own.0
 
-or_parts : (a b : Bool) → (a || b) ≡ false → (a ≡ false) × (b ≡ false)
-or_parts true b e = absurd cc
-or_parts false b e = (refl, e)
-
 pub spelled : (format : Format) (kind : Kind) (n : ℕ) (records : Records) (c : Command)
     → refusal_of kind n records c ≡ None → (is_join c ≡ true → format ≡ Rah2)
     → HasLine format kind (replica_count n records) c
@@ -178,15 +174,8 @@ count_first n [] = omega arith
 count_first n (Join replica from ∷ records) = omega (arith, count_first n records)
 count_first n (_ ∷ records) = count_first n records
 
-no_less_than : (n m : ℕ) → m ≤ n → ltb n m ≡ false
-no_less_than n m most =
-    elim (cases_Bool (ltb n m)) [
-      | inl less ↦ absurd (omega (arith, most, ltb-true n m less))
-      | inr other ↦ other
-    ]
-
 pub none_joined : (n : ℕ) (records : Records) → list_any is_join records ≡ ltb n (replica_count n records)
-none_joined n [] = sym (no_less_than n n (omega arith))
+none_joined n [] = sym (le-ltb n n (omega arith))
 none_joined n (Join replica from ∷ records) =
     sym (lt-ltb n (replica_count n records + 1) (omega (arith, count_first n records)))
 none_joined n (_ ∷ records) = none_joined n records
@@ -216,5 +205,5 @@ pub few_older : (n : ℕ) (records : Records) → replica_count n records ≤ n 
     → Rah1 ≡ (if list_any is_join records || ltb 16 n then Rah2 else Rah1)
 few_older n records none few =
     let any : list_any is_join records ≡ false = none_joined n records
-    ∙ no_less_than n (replica_count n records) none in
-    rw (any, no_less_than 16 n few) refl
+    ∙ le-ltb n (replica_count n records) none in
+    rw (any, le-ltb 16 n few) refl
