@@ -1,4 +1,3 @@
-use Rattle.std.proofs.lemmas.Result.{err_from_is_err_and}
 use Rattle.ra_history_text.specs.Sessions.{StopsInside}
 use Rattle.ra_history_text.proofs.Halts.{passed_on}
 use Rattle.ra_history_text.proofs.FedPieces.{fed_none, fed_line, feed_taken, feed_replied, feed_stops, stop_line}
@@ -37,11 +36,9 @@ returns-clause-fault c =
 
 pub returns-in_err-close_line-clause-fault : goal.returns-in_err-close_line-clause-fault
 returns-in_err-close_line-clause-fault c =
-    let stops = stop_line c.args.self.now c.loop-front.self c.args.piece.now c.loop-front.rest.now c.in-Some.front.now
-    c.in-Some.behind.now
-    c.args.out.now.items c.loop-front.out.items c.close_line.new.out.items c.in_err-close_line.field-0.0
-    c.loop-front.invariant c.in-Some.ensures c.in_err-close_line.ensures.fault c.in_err-close_line.ensures.err in
-    let passed = err_from_is_err_and c.from_residual.result c.from_residual.ensures.1 in
     passed_on c.from_residual.result
-    (StopsInside c.args.self.now c.args.piece.now c.args.out.now.items c.close_line.new.out.items)
-    _ passed.0 passed.1 passed.2 stops
+    (StopsInside c.args.self.now c.args.piece.now c.args.out.now.items c.close_line.new.out.items) _
+    c.from_residual.ensures.1
+    (stop_line c.args.self.now c.loop-front.self c.args.piece.now c.loop-front.rest.now c.in-Some.front.now
+    c.in-Some.behind.now c.args.out.now.items c.loop-front.out.items c.close_line.new.out.items _
+    c.loop-front.invariant c.in-Some.ensures c.in_err-close_line.ensures.fault c.in_err-close_line.ensures.err)
