@@ -8,7 +8,7 @@ use Rattle.std.proofs.lemmas.Bool.{cond-true, cond-false}
 use Rattle.ra_labels.specs.declared.operation.Op.{Op}
 use Rattle.ra_labels.specs.declared.label.Label.{Label}
 use Rattle.ra_labels.specs.declared.command.Command.{Command}
-use Rattle.ra_labels.specs.declared.command.Command.TheVariants.{Operate, Deliver, Join, Verdict}
+use Rattle.ra_labels.specs.declared.command.Command.TheVariants.{Operate}
 use Rattle.ra_labels.specs.Records.{Records, label_count, labels_of}
 use Rattle.ra_monitor.specs.declared.setup.Setup.{Setup}
 use Rattle.ra_monitor.specs.Monitor.{MonitorEntry, records_of, IsLegalLog}
@@ -90,14 +90,8 @@ operations_counted (Operate by op clock ∷ before) =
     let both = length-append (operations_in before) (Operate by op clock ∷ []) in
     let same = operations_counted before in
     omega (arith, longer, both, same)
-operations_counted (Deliver to n ∷ before) =
-    ap length (sym (append-nil (operations_in (Deliver to n ∷ before))) ∙ none_more (Deliver to n) before [] refl ∙ append-nil (operations_in before))
-    ∙ operations_counted before
-operations_counted (Join joined from ∷ before) =
-    ap length (sym (append-nil (operations_in (Join joined from ∷ before))) ∙ none_more (Join joined from) before [] refl ∙ append-nil (operations_in before))
-    ∙ operations_counted before
-operations_counted (Verdict ∷ before) =
-    ap length (sym (append-nil (operations_in (Verdict ∷ before))) ∙ none_more Verdict before [] refl ∙ append-nil (operations_in before))
+operations_counted (c ∷ before) =
+    ap length (sym (append-nil (operations_in (c ∷ before))) ∙ none_more c before [] refl ∙ append-nil (operations_in before))
     ∙ operations_counted before
 
 -- the newest operation stands at its number
@@ -121,15 +115,9 @@ labels_stand (Operate by op clock ∷ before) more count few =
       subst (λ (cs : List Command). AllByRecursion (IsAmong cs count) (labels_of before)) (sym same)
           (labels_stand before (c ∷ more) count (omega (arith, few))),
     )
-labels_stand (Deliver to n ∷ before) more count few =
+labels_stand (c ∷ before) more count few =
     subst (λ (cs : List Command). AllByRecursion (IsAmong cs count) (labels_of before))
-    (sym (none_more (Deliver to n) before more refl)) (labels_stand before more count few)
-labels_stand (Join joined from ∷ before) more count few =
-    subst (λ (cs : List Command). AllByRecursion (IsAmong cs count) (labels_of before))
-    (sym (none_more (Join joined from) before more refl)) (labels_stand before more count few)
-labels_stand (Verdict ∷ before) more count few =
-    subst (λ (cs : List Command). AllByRecursion (IsAmong cs count) (labels_of before))
-    (sym (none_more Verdict before more refl)) (labels_stand before more count few)
+    (sym (none_more c before more refl)) (labels_stand before more count few)
 
 -- in a legal log, the command of a label is the operation at its number
 pub command_found : (setup : Setup) (log : List MonitorEntry) → IsLegalLog setup log → (n : ℕ)

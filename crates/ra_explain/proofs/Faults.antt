@@ -2,12 +2,12 @@
 use Rattle.std.proofs.Common.{◌≡◌, ℕ, ◌+◌, ◌<◌, ◌≤◌, Bool, true, false, List, [], ◌∷◌, inl, inr, length, Option, Some, None, refl, sym, ap, ◌∙◌, subst, arith}
 use Rattle.std.specs.Prelude.{◌==◌, ◌&&◌, ◌||◌, is_some, is_none, option_map}
 use Rattle.std.specs.Option.{option_or}
-use Rattle.std.proofs.lemmas.Bool.{cond-true, cond-false, ne_eqb, cases_Bool}
+use Rattle.std.proofs.lemmas.Bool.{cond-true, cond-false, ne_eqb, cases_Bool, or_parts}
 use Rattle.std.proofs.lemmas.List.{length-map}
 use Rattle.ra_labels.specs.declared.kind.Kind.{Kind}
 use Rattle.ra_labels.specs.declared.operation.Op.{Op}
 use Rattle.ra_labels.specs.declared.command.Command.{Command}
-use Rattle.ra_labels.specs.declared.command.Command.TheVariants.{Operate, Deliver, Join, Verdict}
+use Rattle.ra_labels.specs.declared.command.Command.TheVariants.{Operate, Verdict}
 use Rattle.ra_labels.specs.declared.reply.Cause.{Cause}
 use Rattle.ra_labels.specs.declared.reply.Fault.{Fault}
 use Rattle.ra_labels.specs.Records.{Records, label_count}
@@ -25,20 +25,14 @@ abbrev IsSoundBefore : Kind → Records → Type 0
 IsSoundBefore kind [] = Unit {0}
 IsSoundBefore kind (c ∷ before) = fault_of kind before ≡ None
 
-none_is : {A : Type 0} (o : Option A) → is_some o ≡ false → o ≡ None
+pub none_is : {A : Type 0} (o : Option A) → is_some o ≡ false → o ≡ None
 none_is None is = refl
 none_is (Some x) is = absurd (cc is)
 
-left_false : (a b : Bool) → (a || b) ≡ false → a ≡ false
-left_false false b is = refl
-left_false true b is = absurd (cc is)
-
 with_one : (kind : Kind) (records : Records) (c : Command) → IsSoundBefore kind records → fault_of kind records ≡ None
     → IsSoundBefore kind (with_accepted records c)
-with_one kind records (Operate by op clock) sound none = none
-with_one kind records (Deliver to n) sound none = none
-with_one kind records (Join joined from) sound none = none
 with_one kind records Verdict sound none = sound
+with_one kind records _ sound none = none
 
 after_one : (kind : Kind) (n : ℕ) (records : Records) (c : Command) → IsSoundBefore kind records
     → IsSoundBefore kind (records_after kind n records c)
@@ -47,7 +41,8 @@ after_one kind n records c sound =
     elim (cases_Bool stays) [
       | inl is ↦ subst (IsSoundBefore kind) (sym (cond-true stays records (with_accepted records c) is)) sound
       | inr is ↦
-          let none = none_is (fault_of kind records) (left_false (is_some (fault_of kind records)) (is_some (refusal_of kind n records c)) is) in
+          let none = none_is (fault_of kind records)
+          (or_parts (is_some (fault_of kind records)) (is_some (refusal_of kind n records c)) is).0 in
           subst (IsSoundBefore kind) (sym (cond-false stays records (with_accepted records c) is))
           (with_one kind records c sound none)
     ]
@@ -77,9 +72,6 @@ label_is n (Some why) fault is = let same : fault_at n why ≡ fault = cc is in 
 ends : (kind : Kind) (records : Records) (fault : Fault) → IsSoundBefore kind records
     → fault_of kind records ≡ Some fault → Ends kind records fault
 ends kind [] fault sound is = absurd (cc is)
-ends kind (Deliver to n ∷ before) fault sound is = absurd (cc (sym sound ∙ is))
-ends kind (Join joined from ∷ before) fault sound is = absurd (cc (sym sound ∙ is))
-ends kind (Verdict ∷ before) fault sound is = absurd (cc (sym sound ∙ is))
 ends kind (Operate by op clock ∷ before) fault sound is =
     let records : Records = Operate by op clock ∷ before in
     let newest = option_map (fault_at (label_count before)) (cause_of kind records) in
@@ -97,6 +89,7 @@ ends kind (Operate by op clock ∷ before) fault sound is =
             ∙ records_before_fault_have_none-all kind before sound;
       },
     )
+ends kind (_ ∷ before) fault sound is = absurd (cc (sym sound ∙ is))
 
 pub log_ends : (setup : Setup) (log : List MonitorEntry) (fault : Fault)
     → fault_of setup.kind (records_of setup log) ≡ Some fault → Ends setup.kind (records_of setup log) fault
@@ -137,10 +130,8 @@ few_one kind n records c =
     ]
   where
     few_more : (c : Command) → label_count (with_accepted records c) ≤ label_count records + 1
-    few_more (Operate by op clock) = omega arith
-    few_more (Deliver to m) = omega arith
-    few_more (Join joined from) = omega arith
     few_more Verdict = omega arith
+    few_more _ = omega arith
 
 few_all : (kind : Kind) (n : ℕ) (records : Records) (cs : List Command)
     → label_count (records_after_all kind n records cs) ≤ label_count records + length cs

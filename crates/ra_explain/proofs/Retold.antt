@@ -2,7 +2,7 @@
 use Rattle.std.proofs.Common.{◌≡◌, ℕ, suc, ◌+◌, ◌<◌, true, false, List, length, drop, get_or, arith, [], ◌∷◌, ◌++◌, Option, Some, None, refl, sym, ap, ◌∙◌, subst}
 use Rattle.std.proofs.Math.Seq.{drop-cons}
 use Rattle.std.proofs.lemmas.Bool.{cond-true, cond-false}
-use Rattle.std.proofs.lemmas.List.{append-nil, append_assoc}
+use Rattle.std.proofs.lemmas.List.{append_assoc}
 use Rattle.std.specs.Option.{option_map_or}
 use Rattle.ra_labels.specs.declared.command.Command.{Command}
 use Rattle.ra_labels.specs.declared.command.Command.TheVariants.{Operate}
@@ -26,11 +26,6 @@ pub record IsToldSo (trial : Trial) (change : Change) (replica place : ℕ) (res
   pub commands : List Command
   pub told : IsToldOf trial commands
   pub same : commands ++ kept_from change replica place rest ≡ kept_from change replica 0 whole
-
--- at first it was told of nothing
-pub told_nothing : (trial : Trial) (change : Change) (replica : ℕ) (whole : List MonitorEntry) → IsToldOf trial []
-    → IsToldSo trial change replica 0 whole whole
-told_nothing trial change replica whole told = record { commands = []; told = told; same = refl }
 
 -- then of one entry's command more, which is kept
 pub told_more : (old new : Trial) (change : Change) (replica place : ℕ) (entry : MonitorEntry)
@@ -62,12 +57,6 @@ told_same trial change replica place entry rest whole so kept =
       told = so.told;
       same = sym (ap (λ (cs : List Command). so.commands ++ (cs ++ behind)) none) ∙ so.same;
     }
-
--- in the end of all that are kept
-pub told_all : (trial : Trial) (change : Change) (replica place : ℕ) (whole : List MonitorEntry)
-    → IsToldSo trial change replica place [] whole → IsToldOf trial (kept_from change replica 0 whole)
-told_all trial change replica place whole so =
-    subst (λ (cs : List Command). IsToldOf trial cs) (sym (append-nil so.commands) ∙ so.same) so.told
 
 -- the first of the rest is the entry at its place
 next_one : (i : ℕ) (log : List MonitorEntry) (entry : MonitorEntry) → i < length log → entry ≡ get_or log i entry

@@ -1,12 +1,12 @@
 -- One part after another: the state after the updates that the replica had of them.
-use Rattle.std.proofs.Common.{◌≡◌, ℕ, ◌+◌, ◌<◌, ◌≤◌, Bool, true, false, cond, List, [], ◌∷◌, ◌++◌, take, drop, filter, map, length, get_or, Option, Some, None, refl, sym, ap, ◌∙◌, arith}
+use Rattle.std.proofs.Common.{◌≡◌, ℕ, ◌+◌, ◌<◌, ◌≤◌, true, false, List, [], ◌∷◌, ◌++◌, take, drop, filter, map, length, get_or, Option, Some, None, refl, sym, ap, ◌∙◌, arith}
 use Rattle.std.specs.Prelude.{option_and_then, is_some, unwrap_or, fold, IfSome}
 use Rattle.std.specs.Option.{option_to_list}
 use Rattle.std.specs.List.{cons_option}
-use Rattle.std.proofs.lemmas.List.{append-nil, take_more, take_all, take-append-drop, length-map, get_or-map}
-use Rattle.std.proofs.lemmas.Option.{slice_get-get_or}
+use Rattle.std.proofs.lemmas.List.{append-nil, take_more, take-append-drop, length-map, get_or-map, get_or_default}
 use Rattle.std.proofs.lemmas.List.Elements.{filter-append, filter_map-append, All-get_or}
-use Rattle.std.proofs.lemmas.Bool.{cond-true, cond-false}
+use Rattle.std.proofs.lemmas.List.Sums.{fold-append}
+use Rattle.std.proofs.lemmas.Bool.{cond-true}
 use Rattle.ra_labels.specs.declared.kind.Kind.{Kind}
 use Rattle.ra_labels.specs.declared.operation.Update.{Update}
 use Rattle.ra_labels.specs.Records.{Records, label_count}
@@ -26,6 +26,7 @@ use Rattle.ra_witness.specs.declared.part_ref.PartRef.{PartRef}
 use Rattle.ra_witness.proofs.TheLaws.{what_first_updates_lead_to_is_in_range}
 use Rattle.ra_explain.specs.Places.{places_in}
 use Rattle.ra_explain.specs.Seen.{IsKnown, update_at, updates_among, after_one}
+use Rattle.ra_explain.proofs.Faults.{none_is}
 use Rattle.ra_explain.proofs.Labels.{parts_known}
 
 -- the updates that the replica had of the first parts lead to this state
@@ -60,16 +61,9 @@ none_left : (us : List Update) → fold (λ state update. option_and_then (λ s.
 none_left [] = refl
 none_left (u ∷ us) = none_left us
 
-folded : (o : Option State) (us vs : List Update)
-    → fold (λ state update. option_and_then (λ s. step_of s update) state) o (us ++ vs)
-    ≡ fold (λ state update. option_and_then (λ s. step_of s update) state)
-    (fold (λ state update. option_and_then (λ s. step_of s update) state) o us) vs
-folded o [] vs = refl
-folded o (u ∷ us) vs = folded (option_and_then (λ s. step_of s u) o) us vs
-
 pub none_stays : (kind : Kind) (us vs : List Update) → state_after kind us ≡ None → state_after kind (us ++ vs) ≡ None
 none_stays kind us vs none =
-    folded _ us vs
+    fold-append _ _ us vs
     ∙ ap (λ (o : Option State). fold (λ state update. option_and_then (λ s. step_of s update) state) o vs) none
     ∙ none_left vs
 
@@ -103,10 +97,6 @@ some_is : {A : Type 0} (o : Option A) (x y : A) → y ≡ unwrap_or o x → true
 some_is None x y is some = absurd (cc some)
 some_is (Some z) x y is some = ap Some (sym is)
 
-none_is : {A : Type 0} (o : Option A) → false ≡ is_some o → o ≡ None
-none_is None is = refl
-none_is (Some x) is = absurd (cc is)
-
 pub made_one : (kind : Kind) (records : Records) (replica i : ℕ) (p : Part) (state next : State) (o : Option Update)
     → i < length (named_sequence kind records)
     → option_to_list o ≡ updates_among records replica (get_or (named_sequence kind records) i p ∷ [])
@@ -124,14 +114,7 @@ made_no_more kind records replica i p state o below does not made =
     let parts = named_sequence kind records in
     sym (ap (state_after kind) (rest_is records replica parts (i + 1))
     ∙ none_stays kind (updates_among records replica (take (i + 1) parts)) (updates_among records replica (drop (i + 1) parts))
-    (stepped kind records replica i p state o below does made ∙ none_is (after_one state o) not))
-
-pub made_all : (kind : Kind) (records : Records) (replica i : ℕ) (state : State)
-    → length (named_sequence kind records) ≤ i → HasMade kind records replica i state
-    → Some state ≡ state_after kind (updates_had kind records replica)
-made_all kind records replica i state past made =
-    sym made ∙ ap (λ (parts : List Part). state_after kind (updates_among records replica parts))
-    (take_all i (named_sequence kind records) past)
+    (stepped kind records replica i p state o below does made ∙ none_is (after_one state o) (sym not)))
 
 -- the next step stays in range
 pub may_step : (kind : Kind) (records : Records) (replica i : ℕ) (p : Part) (state : State) (o : Option Update)
@@ -167,37 +150,12 @@ does setup log replica p u known whole has is =
     ap option_to_list same ∙ one_listed (update_of p.act)
     ∙ ap updates_of (sym (cond-true (had before replica p.label.number) (p ∷ []) [] (sym known.had ∙ has)))
 
--- a query half does nothing
-pub query_does_nothing : (setup : Setup) (log : List MonitorEntry) (replica : ℕ) (p : Part)
-    → IsKnown setup log replica p → half_of p.half ≡ QueryHalf
-    → [] ≡ updates_among (records_before_fault_in setup log) replica (p ∷ [])
-query_does_nothing setup log replica p known half =
-    either (had (records_before_fault_in setup log) replica p.label.number)
-  where
-    either : (b : Bool) → [] ≡ updates_of (cond b (p ∷ []) [])
-    either true = ap (λ (o : Option Update). cons_option o []) (sym (known.fine.query half))
-    either false = refl
-
--- nor is anything done that the replica had not
-pub nothing_had : (setup : Setup) (log : List MonitorEntry) (replica : ℕ) (p : Part)
-    → IsKnown setup log replica p → had (records_of setup log) replica p.label.number ≡ false
-    → [] ≡ updates_among (records_before_fault_in setup log) replica (p ∷ [])
-nothing_had setup log replica p known lacks =
-    ap updates_of (sym (cond-false (had (records_before_fault_in setup log) replica p.label.number) (p ∷ []) []
-    (sym known.had ∙ lacks)))
-
 -- the part at a position of the named sequence
 pub record StandsAt (setup : Setup) (log : List MonitorEntry) (replica i : ℕ) (r : PartRef) (p : Part) : Type 0 where
   pub known : IsKnown setup log replica p
   pub same : ref_of p ≡ r
   pub below : i < length (named_sequence setup.kind (records_before_fault_in setup log))
   pub at : p ≡ get_or (named_sequence setup.kind (records_before_fault_in setup log)) i p
-
-one_default : (parts : List Part) (i : ℕ) (p q : Part) → i < length parts → get_or parts i p ≡ get_or parts i q
-one_default parts i p q below =
-    let both : Some (get_or parts i p) ≡ Some (get_or parts i q) =
-    sym (slice_get-get_or parts i p below) ∙ slice_get-get_or parts i q below in
-    cc both
 
 pub stands : (setup : Setup) (log : List MonitorEntry) (replica : ℕ) (refs : List PartRef) (i : ℕ) (r : PartRef)
     → IsLegalLog setup log
@@ -220,7 +178,7 @@ stands setup log replica refs i r legal are within = by_parts parts refl
             known = All-get_or (IsKnown setup log replica) parts i first below (parts_known setup log replica legal);
             same = sym (ap (λ (rs : List PartRef). get_or rs i r) are ∙ get_or-map ref_of parts i first r below);
             below = below;
-            at = one_default parts i first p below;
+            at = get_or_default parts i first p below;
           },
         )
 
