@@ -1,4 +1,4 @@
--- What is left of a lock when it is taken apart.
+-- What is left of a lock when its table is closed.
 use Rattle.std.proofs.Common.{◌≡◌, ℕ, List, ◌∷◌, Option, Some, refl, sym, ap, ◌∙◌, subst}
 use mathlib.Core.Option.{some, some-injective}
 use lib.ListN.{get_elem?}

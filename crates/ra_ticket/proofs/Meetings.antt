@@ -1,4 +1,4 @@
--- An idle seat takes in another one, and looks at the log: both keep the rule of the lock.
+-- An idle seat is joined to another one, which looks at the log: both keep the rule of the lock.
 use Rattle.std.proofs.Common.{◌≡◌, ◌≢◌, ◌⊎◌, ℕ, zero, suc, ◌+◌, ◌<◌, ◌≤◌, List, [], ◌∷◌, ◌++◌, length, set, get_or, max}
 use Rattle.std.proofs.Common.{Option, Some, None, refl, sym, ap, ◌∙◌, subst, ⊎_elim, inl, inr, le_refl, arith}
 use mathlib.Core.Option.{some, some-ne-none, some-injective}
@@ -153,7 +153,7 @@ module _ {M C R S : Type 0} (j : Readings M C R S) (opened : S) where
           home_set_up = r.home_set_up;
         }
 
-  -- an idle seat takes in another one
+  -- an idle seat is joined to another one
   pub joins : (id : ℕ) (v : View C R S) (other : ℕ) (w : View C R S) → stage_of v ≡ Some Idle → stage_of w ≡ Some Idle
       → Joins Rule id v other w (met v w) Spent
   joins id Spent other w idle idle_too s r here apart there = absurd (cc)
@@ -177,7 +177,7 @@ module _ {M C R S : Type 0} (j : Readings M C R S) (opened : S) where
         seen = log;
       }
 
-  -- a seat that took in another one looks at `mark`
+  -- a seat to which another was joined looks at `mark`
   pub looks_together : (slots id : ℕ) (k l : Known C R S) (v : View C R S) (c : List (ℕ × Option M))
       (st : Step (Option M)) → v ≡ Met k l → Allows Rule slots id (v, c) 2 (λ n. n) (looked_together j st (v, c))
   looks_together slots id k l v c st is s r deep at fits = subst

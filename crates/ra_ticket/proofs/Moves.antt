@@ -158,7 +158,7 @@ module _ {M C R S : Type 0} (j : Readings M C R S) (opened : S) where
         ),
       )))
 
-  -- an idle seat that has seen the ticket t served draws it and takes the journal
+  -- an idle seat that has seen the ticket t served draws it and gets the slot
   pub draws_served : (slots id : ℕ) (v : View C R S) (c : Slots) (t : ℕ) (st : Step (Option M)) → st.first ≡ t
       → st.second ≡ t + 1 → t + 1 < 2 ^ 64 → stage_of v ≡ Some Idle → serving_of v ≡ t
       → Allows Rule slots id (v, c) 0 (λ n. either (eqb n t) (t + 1) n) (drew_served j st (v, c))
@@ -192,7 +192,7 @@ module _ {M C R S : Type 0} (j : Readings M C R S) (opened : S) where
         ),
       )))
 
-  -- a waiting seat looks at `serving`, and takes the journal where its ticket is served
+  -- a waiting seat looks at `serving`, and gets the slot where its ticket is served
   pub looks : (slots id : ℕ) (v : View C R S) (c : Slots) (t : ℕ) (st : Step (Option M)) → stage_of v ≡ Some (Waiting t)
       → Allows Rule slots id (v, c) 1 (λ n. n) (looked j st (v, c))
   looks slots id Spent c t st waits s r deep at fits = absurd (cc)

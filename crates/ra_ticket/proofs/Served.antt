@@ -11,7 +11,7 @@ use Rattle.ra_ticket.specs.Views.{stage_of, setup_of, seen_of}
 use Rattle.ra_journal.specs.declared.journal.Journal.{Ghosts}
 use Rattle.ra_ticket.specs.declared.pass.Pass.{Pass}
 use Rattle.ra_ticket.specs.Passes.{number_of, seen, IsSamePass}
-use Rattle.ra_ticket.specs.Steps.{Stays, KeepsOwn, HasEntered, Carries, HasTaken}
+use Rattle.ra_ticket.specs.Steps.{Stays, KeepsOwn, HasEntered, Carries, HasLifted}
 use Rattle.ra_ticket.proofs.Logs.{begins_same, begins_trans}
 use Rattle.ra_ticket.proofs.Slots.{carries_one}
 use Rattle.ra_ticket.proofs.OwnPasses.{own_push}
@@ -33,12 +33,12 @@ module _ {C R S : Type 0} where
       (subst (λ log. IfSome (setup_of v) (λ s. IsLegal (reply_of s) log)) (sym seen) legal)
 
 module _ {M C R S : Type 0} (j : Readings M C R S) where
-  -- a seat that carries the journal, once that is taken out
-  pub taken : (s held t : Seat (Option M) (View C R S)) (ticket : ℕ) (journal : M)
+  -- a seat that carries the journal, once that is lifted out
+  pub lifted : (s held t : Seat (Option M) (View C R S)) (ticket : ℕ) (journal : M)
       → stage_of held.me.0 ≡ Some (Holding ticket) → Carries j held ticket
       → BeginsWith (seen_of held.me.0) (seen_of s.me.0) → KeepsOwn s.me.0 held.me.0
-      → held.me.1 ≡ (0, Some journal) ∷ [] → t.me ≡ (held.me.0, (0, None) ∷ []) → HasTaken j s t ticket journal
-  taken s held t ticket journal holds carries begins own found left = record {
+      → held.me.1 ≡ (0, Some journal) ∷ [] → t.me ≡ (held.me.0, (0, None) ∷ []) → HasLifted j s t ticket journal
+  lifted s held t ticket journal holds carries begins own found left = record {
     holds = ap (λ m. stage_of m.0) left ∙ holds;
     slot = ap (λ m. m.1) left;
     entered = subst (λ m. HasEntered j m.0 ticket journal) (sym left)

@@ -139,8 +139,8 @@ module _ {M C R S : Type 0} (j : Readings M C R S) (opened : S) where
       ),
     )
 
-    -- the journal is at home, and the seat takes it by the ticket that is served
-    taking : (n next' t : ℕ) → next' < 2 ^ 64 → r.next ≤ next' → n ≤ next' → t ≡ r.serving → t < next'
+    -- the journal is at home, and the seat gets it by the ticket that is served
+    carrying : (n next' t : ℕ) → next' < 2 ^ 64 → r.next ≤ next' → n ≤ next' → t ≡ r.serving → t < next'
         → ((seat : ℕ) → seat ≢ id → At ticket_of s.views seat t → ⊥)
         → (journal : M) → s.homes ≡ some (Some journal) ∷ [] → NobodyHolds s.views
         → Rule record {
@@ -149,7 +149,7 @@ module _ {M C R S : Type 0} (j : Readings M C R S) (opened : S) where
           views =
               set s.views id (holding k n r.serving t r.front);
         }
-    taking n next' t fits up low served below alone journal home nobody =
+    carrying n next' t fits up low served below alone journal home nobody =
         changes.changed j opened s r id (Knows k) (holding k n r.serving t r.front) here next' r.serving r.mark
         (set s.homes 0 none) r.front record {
           order = le_trans r.order up;
@@ -168,25 +168,25 @@ module _ {M C R S : Type 0} (j : Readings M C R S) (opened : S) where
                 let is : t ≡ u = cc in sym is ∙ served)
                 (λ (h : (seat ≢ id) × At held_of s.views seat u). absurd (nobody seat u h.1))
                 (at_after held_of s.views id (Knows k) (holding k n r.serving t r.front) here seat u a),
-            taken,
+            gone_out,
           );
           home = λ none_holds. absurd
               (none_holds id t (at_new held_of s.views id (Knows k) (holding k n r.serving t r.front) here t refl));
           grows = begins_same r.front r.front refl;
           others_held = λ seat u v _ at e. absurd (nobody seat u (v, at, e));
           held = λ u e. refl;
-          rests = λ other there. let gone = taken in absurd (cc);
+          rests = λ other there. let gone = gone_out in absurd (cc);
           served = r.served;
           legal = r.legal;
           told = r.told;
           begun = begins_same r.front r.front refl;
           own = λ a n at. refl;
           others_own = λ seat u _ at. r.own seat u at;
-          home_set_up = λ other there. let gone = taken in absurd (cc);
+          home_set_up = λ other there. let gone = gone_out in absurd (cc);
         }
       where
-        taken : set s.homes 0 none ≡ none ∷ []
-        taken = ap (λ (hs : changes.Homes j opened). set hs 0 none) home
+        gone_out : set s.homes 0 none ≡ none ∷ []
+        gone_out = ap (λ (hs : changes.Homes j opened). set hs 0 none) home
 
     -- what the seat then knows of it
     entered : (n t : ℕ) → t ≡ r.serving → (journal : M) → s.homes ≡ some (Some journal) ∷ []
@@ -207,7 +207,7 @@ module _ {M C R S : Type 0} (j : Readings M C R S) (opened : S) where
           holding k k.next r.serving t r.front,
           takes 0 (Some found.0),
           ap (λ (hs : changes.Homes j opened). get_elem? hs 0) found.1,
-          taking k.next r.next t r.fits (le_refl r.next) low.0 served
+          carrying k.next r.next t r.fits (le_refl r.next) low.0 served
               (r.drawn id t (Knows k, here, ap ticket_at waits)).1
               (λ seat other a. other (r.tickets_apart seat id t a (Knows k, here, ap ticket_at waits)))
               found.0 found.1 nobody,
@@ -237,7 +237,7 @@ module _ {M C R S : Type 0} (j : Readings M C R S) (opened : S) where
           holding k (t + 1) r.serving t r.front,
           takes 0 (Some found.0),
           ap (λ (hs : changes.Homes j opened). get_elem? hs 0) found.1,
-          taking (t + 1) (t + 1) t room (omega arith) (le_refl (t + 1)) served (omega arith)
+          carrying (t + 1) (t + 1) t room (omega arith) (le_refl (t + 1)) served (omega arith)
               (λ seat _ a. let b = (r.drawn seat t a).1 in omega arith) found.0 found.1 nobody,
           λ _ _. (
             record { numbers = refl; setup = refl; next = above; serving = low.1 },

@@ -110,7 +110,8 @@ module _ {M C R S : Type 0} where
       × (found ≡ step.first → (stage_of m'.0 ≡ Some (Waiting step.first)) × (step.second ≡ step.first + 1))
       × (found ≢ step.first → (stage_of m'.0 ≡ Some Idle) × (next_of m'.0 ≡ found))
 
-  -- an idle seat draws the ticket that it has seen served, where `next` was it, takes the journal and sees its log
+  -- an idle seat draws the ticket that it has seen served, where `next` was it. It gets the slot, and sees the log of
+  -- the journal in it
   abbrev pub drew_served : Readings M C R S → Step (Option M) → Sat M C R S → ℕ → Sat M C R S → Type 0
   drew_served j step m found m' = stage_of m.0 ≡ Some Idle → serving_of m.0 ≡ step.first
       → Stays m.0 m'.0 × SeesMore m.0 m'.0
@@ -120,7 +121,7 @@ module _ {M C R S : Type 0} where
       × (found ≢ step.first → (stage_of m'.0 ≡ Some Idle) × (m'.1 ≡ m.1) × (seen_of m'.0 ≡ seen_of m.0)
       × (serving_of m'.0 ≡ step.first) × (next_of m'.0 ≡ found) × (step.first < found))
 
-  -- a waiting seat takes the journal and sees its log, where its ticket is served
+  -- a waiting seat gets the slot, and sees the log of the journal in it, where its ticket is served
   abbrev pub looked : Readings M C R S → Step (Option M) → Sat M C R S → ℕ → Sat M C R S → Type 0
   looked j step m found m' = (t : ℕ) → stage_of m.0 ≡ Some (Waiting t)
       → Stays m.0 m'.0 × SeesMore m.0 m'.0
@@ -170,16 +171,16 @@ module _ {M C R S : Type 0} (j : Readings M C R S) where
       × ((journal : M) × (s.me.1 ≡ (0, Some journal) ∷ []) × IsAhead j s.me.0 ticket journal
       × IsMarkOf j (j.setup journal) (j.log journal) mark)
 
-  -- the seat has entered with this ticket, and this journal is out of its slot, which is empty. It has seen the log
+  -- the seat has entered with this ticket and lifted this journal out of its slot, which is empty. It has seen the log
   -- of the journal, which begins with what it had seen before and has no new entry of its own pass
-  pub record HasTaken (s t : Seat (Option M) (View C R S)) (ticket : ℕ) (journal : M) : Type 0 where
+  pub record HasLifted (s t : Seat (Option M) (View C R S)) (ticket : ℕ) (journal : M) : Type 0 where
     pub holds : stage_of t.me.0 ≡ Some (Holding ticket)
     pub slot : t.me.1 ≡ (0, None) ∷ []
     pub entered : HasEntered j t.me.0 ticket journal
     pub begins : BeginsWith (seen_of t.me.0) (seen_of s.me.0)
     pub own : KeepsOwn s.me.0 t.me.0
 
-  -- the lock was taken apart by an idle seat with this view: these are the words and what its slot has. Where both
+  -- an idle seat with this view closed the table: these are the words and what its slot has. Where both
   -- words are one number, each ticket that was drawn is served, and the slot has a journal with the setup and all that
   -- the seat had seen, whose tickets are below that number
   pub record IsLeft (v : View C R S) (next serving : ℕ) (slot : Option M) : Type 0 where

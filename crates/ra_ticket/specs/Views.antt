@@ -124,7 +124,7 @@ module _ {C R S : Type 0} where
   other_passes (Knows k) = Knows record k { numbers = others_only k.numbers }
   other_passes (Met k l) = Met k l
 
-  -- a view takes in another one
+  -- a view is joined with another one
   abbrev pub met : View C R S → View C R S → View C R S
   met (Knows k) (Knows l) = Met k l
   met v w = v

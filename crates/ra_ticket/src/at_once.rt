@@ -1,15 +1,15 @@
 //! How a pass enters with a ticket that is served at once.
 ghost use Rattle.std.specs.Prelude.{◌≡◌, ◌≢◌, ◌≤◌, ◌<◌, [], Some, IfSome, IfNone, IfOk, IfErr};
 ghost use Rattle.ra_journal.specs.Log.{readings, BeginsWith};
-ghost use Rattle.ra_ticket.specs.Steps.{IsSeated, IsSameSeat, Carries, HasTaken, KeepsOwn};
+ghost use Rattle.ra_ticket.specs.Steps.{IsSeated, IsSameSeat, Carries, HasLifted, KeepsOwn};
 ghost use Rattle.ra_ticket.specs.Views.{stage_of, next_of, serving_of, seen_of};
 ghost use Rattle.ra_ticket.specs.declared.board.Stage.TheVariants.{Idle, Holding};
 
 use crate::backoff::Backoff;
 use crate::board::{Board, LockSeat, NEXT, SERVING};
 use crate::draw::{GREATEST_TICKET, learn_next};
-use crate::enter::take_out;
 use crate::plays::{DrawServed, LearnServing};
+use crate::slot::lift_out;
 use ra_journal::Journal;
 
 // How often a call tries for a ticket that is served at once, before it draws one to wait with.
@@ -59,14 +59,14 @@ pub(crate) fn enter_served<M: Journal>(
     requires served { serving_of seat.old.me.0 ≡ ticket }
     requires room { ticket ≤ GREATEST_TICKET }
     ensures seat { IsSameSeat seat.old seat.new }
-    ensures entered { IfOk result (HasTaken (readings M.setup M.log M.reply_of M.fault_of) seat.old seat.new ticket) }
+    ensures entered { IfOk result (HasLifted (readings M.setup M.log M.reply_of M.fault_of) seat.old seat.new ticket) }
     ensures missed { IfErr result (λ found. (stage_of seat.new.me.0 ≡ Some Idle) × (seat.new.me.1 ≡ [])
         × (seen_of seat.new.me.0 ≡ seen_of seat.old.me.0) × (serving_of seat.new.me.0 ≡ ticket)
         × (next_of seat.new.me.0 ≡ found) × (ticket < found)) }
 {
     let found = try_draw_served(board, seat, ticket);
     if found == ticket {
-        Ok(take_out(board, seat))
+        Ok(lift_out(board, seat))
     } else {
         Err(found)
     }
@@ -83,7 +83,7 @@ pub(crate) fn enter_at_once<M: Journal>(
     requires idle { (stage_of seat.old.me.0 ≡ Some Idle) × (seat.old.me.1 ≡ []) }
     ensures seat { IsSameSeat seat.old seat.new }
     ensures entered { IfSome result
-        (λ r. HasTaken (readings M.setup M.log M.reply_of M.fault_of) seat.old seat.new r.0 r.1) }
+        (λ r. HasLifted (readings M.setup M.log M.reply_of M.fault_of) seat.old seat.new r.0 r.1) }
     ensures else_idle { IfNone result ((stage_of seat.new.me.0 ≡ Some Idle) × (seat.new.me.1 ≡ [])
         × (seen_of seat.new.me.0 ≡ seen_of seat.old.me.0)) }
 {

@@ -49,11 +49,11 @@ pub struct Known<C, R, S> {
 
 /// The view of a seat at the table. No value of it is made.
 pub enum View<C, R, S> {
-    /// Another seat has taken in what it knew.
+    /// Its seat was joined to another one, which knows what it knew.
     Spent,
     /// It knows this.
     Knows(Known<C, R, S>),
-    /// It has taken in another seat, and knows what each of the two knew, until it looks at the log.
+    /// Another seat was joined to it, and it knows what each of the two knew, until it looks at the log.
     Met(Known<C, R, S>, Known<C, R, S>),
 }
 

@@ -19,8 +19,8 @@ pub struct Unsettled {
     pub next: u64,
 }
 
-// What a table has when it is taken apart: the words `next` and `serving`, and what the slot of the journal has.
-fn take_apart<M: Journal>(table: LockTable<M>, seat: LockSeat<M>) -> (u64, u64, Option<M>)
+// What a table has when it is closed: the words `next` and `serving`, and what the slot of the journal has.
+fn close_table<M: Journal>(table: LockTable<M>, seat: LockSeat<M>) -> (u64, u64, Option<M>)
     requires table { seat.table_id ≡ table.shared.table_id }
     requires idle { stage_of seat.me.0 ≡ Some Idle }
     requires sized { (table.shared.table_id.words ≡ 3) × (table.shared.table_id.slots ≡ 1) }
@@ -53,7 +53,7 @@ impl<M: Journal> TicketLock<M> {
     {
         let TicketLock { table } = self;
         let Pass { number: _, seat } = pass;
-        let (next, serving, slot) = take_apart(table, seat);
+        let (next, serving, slot) = close_table(table, seat);
         if next == serving {
             Ok(slot.unwrap())
         } else {

@@ -1,15 +1,16 @@
-//! How a pass waits for its turn and takes the journal.
-ghost use Rattle.std.specs.Prelude.{◌≡◌, ◌+◌, [], ◌∷◌, Some, None, IfSome, IfNone, MatchBool};
+//! How a pass enters: with a ticket that is served at once, or by waiting for its turn.
+ghost use Rattle.std.specs.Prelude.{◌≡◌, ◌+◌, [], Some, IfSome, IfNone, MatchBool};
 ghost use Rattle.ra_journal.specs.Log.{readings, BeginsWith};
-ghost use Rattle.ra_ticket.specs.Steps.{IsSeated, IsSameSeat, Carries, HasTaken, KeepsOwn};
+ghost use Rattle.ra_ticket.specs.Steps.{IsSeated, IsSameSeat, Carries, HasLifted, KeepsOwn};
 ghost use Rattle.ra_ticket.specs.Views.{stage_of, next_of, seen_of};
 ghost use Rattle.ra_ticket.specs.declared.board.Stage.TheVariants.{Idle, Waiting, Holding};
 
 use crate::at_once::enter_at_once;
 use crate::backoff::Backoff;
-use crate::board::{Board, JOURNAL, LockSeat, SERVING};
+use crate::board::{Board, LockSeat, SERVING};
 use crate::draw::{GREATEST_TICKET, draw_ticket};
 use crate::plays::Look;
+use crate::slot::lift_out;
 use ra_journal::Journal;
 use std::sync::Wait;
 
@@ -30,29 +31,23 @@ fn look<M: Journal>(board: &Board<M>, seat: &mut LockSeat<M>, ticket: u64) -> bo
     board.load::<Look<M>>(seat, SERVING) == ticket
 }
 
-/// Takes the journal out of the slot that the seat has.
-pub(crate) fn take_out<M: Journal>(board: &Board<M>, seat: &mut LockSeat<M>) -> M
-    requires table { IsSeated seat.old.table_id board.now.table_id }
-    requires full { (journal : M) × (seat.old.me.1 ≡ (0, Some journal) ∷ []) }
-    ensures journal { seat.old.me.1 ≡ (0, Some result) ∷ [] }
-    ensures seat { (seat.new.table_id ≡ seat.old.table_id) × (seat.new.id ≡ seat.old.id) }
-    ensures slot { seat.new.me ≡ (seat.old.me.0, (0, None) ∷ []) }
-{
-    board.exchange(seat, JOURNAL, None).unwrap()
-}
-
-// Waits until the ticket is served, and takes the journal. It looks at `serving` after each wait, and each wait is
-// longer, until it yields the processor.
-fn enter<M: Journal, R: Wait>(rt: &R, board: &Board<M>, seat: &mut LockSeat<M>, ticket: u64) -> M
+// Waits until the ticket is served, and lifts the journal out of its slot. It looks at `serving` after each wait, and
+// each wait is longer, until it yields the processor.
+fn wait_for_turn<M: Journal, R: Wait>(
+    rt: &R,
+    board: &Board<M>,
+    seat: &mut LockSeat<M>,
+    ticket: u64,
+) -> M
     requires table { IsSeated seat.old.table_id board.now.table_id }
     requires waits { (stage_of seat.old.me.0 ≡ Some (Waiting ticket)) × (seat.old.me.1 ≡ []) }
     ensures seat { IsSameSeat seat.old seat.new }
-    ensures entered { HasTaken (readings M.setup M.log M.reply_of M.fault_of) seat.old seat.new ticket result }
+    ensures entered { HasLifted (readings M.setup M.log M.reply_of M.fault_of) seat.old seat.new ticket result }
 {
     let mut backoff = Backoff::new();
     for _ in rt.forever() {
         if look(board, seat, ticket) {
-            return take_out(board, seat);
+            return lift_out(board, seat);
         }
         backoff.wait();
     }
@@ -61,7 +56,7 @@ fn enter<M: Journal, R: Wait>(rt: &R, board: &Board<M>, seat: &mut LockSeat<M>, 
 
 /// Enters with a ticket that is served at once, or else draws the next one and waits until it is served: the ticket and
 /// the journal. None where all tickets are drawn.
-pub(crate) fn take_turn<M: Journal, R: Wait>(
+pub(crate) fn enter<M: Journal, R: Wait>(
     rt: &R,
     board: &Board<M>,
     seat: &mut LockSeat<M>,
@@ -70,7 +65,7 @@ pub(crate) fn take_turn<M: Journal, R: Wait>(
     requires idle { (stage_of seat.old.me.0 ≡ Some Idle) × (seat.old.me.1 ≡ []) }
     ensures seat { IsSameSeat seat.old seat.new }
     ensures entered { IfSome result
-        (λ r. HasTaken (readings M.setup M.log M.reply_of M.fault_of) seat.old seat.new r.0 r.1) }
+        (λ r. HasLifted (readings M.setup M.log M.reply_of M.fault_of) seat.old seat.new r.0 r.1) }
     ensures worn { IfNone result ((stage_of seat.new.me.0 ≡ Some Idle) × (seat.new.me.1 ≡ [])
         × (seen_of seat.new.me.0 ≡ seen_of seat.old.me.0) × (next_of seat.new.me.0 ≡ GREATEST_TICKET + 1)) }
 {
@@ -78,5 +73,5 @@ pub(crate) fn take_turn<M: Journal, R: Wait>(
         return Some(entered);
     }
     let ticket = draw_ticket(rt, board, seat)?;
-    Some((ticket, enter(rt, board, seat, ticket)))
+    Some((ticket, wait_for_turn(rt, board, seat, ticket)))
 }

@@ -38,6 +38,7 @@ mod pass;
 mod plays;
 mod release;
 mod serve;
+mod slot;
 
 pub use caller::{Caller, CloseFault};
 pub use close::Unsettled;

@@ -4,7 +4,7 @@ ghost use Rattle.std.specs.Prelude.{◌≡◌};
 use crate::at_once::{enter_served, learn_serving};
 use crate::board::LockTable;
 use crate::draw::{GREATEST_TICKET, learn_next};
-use crate::enter::take_turn;
+use crate::enter::enter;
 use crate::fault::CallFault;
 use crate::pass::Pass;
 use crate::serve::serve;
@@ -61,7 +61,7 @@ impl<M: Journal> TicketLock<M> {
         ensures never_busy { IfErr result (λ f. ¬ (IsBusy f)) }
     {
         let board = &self.table.shared;
-        match take_turn(rt, board, &mut pass.seat) {
+        match enter(rt, board, &mut pass.seat) {
             Some((ticket, journal)) => serve(
                 board,
                 &mut pass.seat,

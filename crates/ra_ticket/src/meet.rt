@@ -15,7 +15,7 @@ use crate::pass::Pass;
 use crate::plays::{LookTogether, Meet};
 use ra_journal::Journal;
 
-// Joins two seats of one pass each: the first takes in the second.
+// Joins the second of two seats, of one pass each, to the first.
 fn join<M: Journal>(board: &Board<M>, seat: &mut LockSeat<M>, other: LockSeat<M>)
     requires tables { IsSeated seat.old.table_id board.now.table_id × IsSeated other.table_id board.now.table_id }
     requires idle { (stage_of seat.old.me.0 ≡ Some Idle) × (stage_of other.me.0 ≡ Some Idle) }
@@ -26,7 +26,7 @@ fn join<M: Journal>(board: &Board<M>, seat: &mut LockSeat<M>, other: LockSeat<M>
     board.join_seat::<Meet>(seat, other);
 }
 
-// A load of `mark` by a seat that has taken in another: it has then seen the log that it tells.
+// A load of `mark` by a seat to which another was joined: it has then seen the log that it tells.
 fn look_together<M: Journal>(board: &Board<M>, seat: &mut LockSeat<M>) -> u64
     requires table { IsSeated seat.old.table_id board.now.table_id }
     requires both { (k l : Known M.Command M.Reply M.Setup) × (seat.old.me.0 ≡ Met k l) }

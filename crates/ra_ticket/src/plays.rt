@@ -33,7 +33,7 @@ impl<M: Journal> Play<Option<M>, JournalView<M>> for LookAtMark<M> {
     ghost then = { glanced (readings M.setup M.log M.reply_of M.fault_of) };
 }
 
-/// A load of `mark` by a seat that has taken in another.
+/// A load of `mark` by a seat to which another was joined.
 pub(crate) struct LookTogether<M> {
     journal: PhantomData<M>,
 }
@@ -92,7 +92,7 @@ impl<C, R, S> Split<View<C, R, S>> for CutFirst {
     ghost right = { first_pass };
 }
 
-/// A seat takes in another one.
+/// A seat is joined to another one.
 pub(crate) struct Meet;
 
 impl<C, R, S> Join<View<C, R, S>> for Meet {

@@ -5,20 +5,11 @@ ghost use Rattle.ra_ticket.specs.Steps.{IsSeated, IsSameSeat, HoldsPublished, Ho
 ghost use Rattle.ra_ticket.specs.Views.{stage_of, serving_of, seen_of};
 ghost use Rattle.ra_ticket.specs.declared.board.Stage.TheVariants.{Idle, Holding};
 
-use crate::board::{Board, JOURNAL, LockSeat, MARK, SERVING};
+use crate::board::{Board, LockSeat, MARK, SERVING};
 use crate::mark::pack;
 use crate::plays::{Publish, Release};
+use crate::slot::put_back;
 use ra_journal::Journal;
-
-/// Puts the journal back into the slot that the seat has.
-pub(crate) fn put_back<M: Journal>(board: &Board<M>, seat: &mut LockSeat<M>, journal: M)
-    requires table { IsSeated seat.old.table_id board.now.table_id }
-    requires empty { seat.old.me.1 ≡ (0, None) ∷ [] }
-    ensures seat { (seat.new.table_id ≡ seat.old.table_id) × (seat.new.id ≡ seat.old.id) }
-    ensures slot { seat.new.me ≡ (seat.old.me.0, (0, Some journal) ∷ []) }
-{
-    let _ = board.exchange(seat, JOURNAL, Some(journal));
-}
 
 // A store of `mark`: the log of the journal in the slot becomes the front.
 fn store_mark<M: Journal>(board: &Board<M>, seat: &mut LockSeat<M>, mark: u64)

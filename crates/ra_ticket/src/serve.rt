@@ -8,11 +8,12 @@ ghost use Rattle.ra_ticket.specs.declared.board.Stage.TheVariants.{Idle, Holding
 
 use crate::board::{Board, LockSeat};
 use crate::fault::CallFault;
-use crate::release::{publish, put_back, release};
+use crate::release::{publish, release};
+use crate::slot::put_back;
 use ra_journal::Journal;
 
-/// Lets the journal, which the seat has taken with this ticket, answer the command, publishes the answer and gives the
-/// journal back.
+/// Lets the journal, which the seat has lifted out with this ticket, answer the command, publishes the answer and gives
+/// the journal back.
 pub(crate) fn serve<M: Journal>(
     board: &Board<M>,
     seat: &mut LockSeat<M>,

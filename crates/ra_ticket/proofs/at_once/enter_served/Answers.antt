@@ -1,13 +1,13 @@
 use Rattle.ra_ticket.proofs.Journals.{of_journal}
-use Rattle.ra_ticket.proofs.Served.{taken}
+use Rattle.ra_ticket.proofs.Served.{lifted}
 use Rattle.ra_ticket.proofs.at_once.enter_served.Goals as goal
 
-pub take_out-requires-clause-full : goal.take_out-requires-clause-full
-take_out-requires-clause-full g c κs within =
+pub lift_out-requires-clause-full : goal.lift_out-requires-clause-full
+lift_out-requires-clause-full g c κs within =
     let held = (c.try_draw_served-found.ensures.drawn c.if-found-ticket.true).1 in (held.0, held.1)
 
 pub returns-then-found-ticket-clause-entered : goal.returns-then-found-ticket-clause-entered
 returns-then-found-ticket-clause-entered g c = let drew = c.try_draw_served-found.ensures in
     let drawn = drew.drawn c.if-found-ticket.true in
-    taken (of_journal g.M.Journal) _ c.try_draw_served-found.new.seat _ c.args.ticket _ drawn.0 drawn.1 drew.seen drew.own
-    c.take_out.ensures.journal c.take_out.ensures.slot
+    lifted (of_journal g.M.Journal) _ c.try_draw_served-found.new.seat _ c.args.ticket _ drawn.0 drawn.1 drew.seen drew.own
+    c.lift_out.ensures.journal c.lift_out.ensures.slot

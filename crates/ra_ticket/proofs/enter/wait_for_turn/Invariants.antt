@@ -2,7 +2,7 @@ use Rattle.std.proofs.Common.{◌≡◌, [], Some}
 use Rattle.ra_ticket.specs.Steps.{IsSameSeat}
 use Rattle.ra_ticket.specs.Views.{stage_of, seen_of}
 use Rattle.ra_ticket.specs.declared.board.Stage.TheVariants.{Waiting}
-use Rattle.ra_ticket.proofs.enter.enter.Given as goal
+use Rattle.ra_ticket.proofs.enter.wait_for_turn.Given as goal
 
 abbrev pub invariant-loop : goal.invariant-loop
 invariant-loop g l = record {

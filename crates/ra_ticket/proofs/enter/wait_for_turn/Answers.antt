@@ -1,8 +1,8 @@
 use Rattle.std.proofs.Common.{ap, ◌∙◌, subst}
 use Rattle.ra_journal.specs.Log.{BeginsWith, entries_of}
 use Rattle.ra_ticket.proofs.Journals.{of_journal}
-use Rattle.ra_ticket.proofs.Served.{stays_on, taken}
-use Rattle.ra_ticket.proofs.enter.enter.Goals as goal
+use Rattle.ra_ticket.proofs.Served.{stays_on, lifted}
+use Rattle.ra_ticket.proofs.enter.wait_for_turn.Goals as goal
 
 pub loop-preserved : goal.loop-preserved
 loop-preserved g c = let was = c.loop.invariant in let looked = c.look.ensures in let missed = c.if-look.ensures in
@@ -19,7 +19,7 @@ loop-preserved g c = let was = c.loop.invariant in let looked = c.look.ensures i
 
 pub returns-then-look-clause-entered : goal.returns-then-look-clause-entered
 returns-then-look-clause-entered g c = let was = c.loop.invariant in let looked = c.if-look.ensures in
-    taken (of_journal g.M.Journal) _ c.look.new.seat _ c.args.ticket _ looked.served.0 looked.served.1
+    lifted (of_journal g.M.Journal) _ c.look.new.seat _ c.args.ticket _ looked.served.0 looked.served.1
     (subst (BeginsWith _) was.seen looked.seen)
     (λ n of. looked.own n (was.seat.2.numbers ∙ of) ∙ ap (entries_of n) was.seen)
-    c.take_out.ensures.journal c.take_out.ensures.slot
+    c.lift_out.ensures.journal c.lift_out.ensures.slot

@@ -1,6 +1,6 @@
 use Rattle.std.proofs.Common.{rules, ◌∷◌, Some, sym, ap, ◌∙◌}
 use Rattle.atomic_table.specs.Table.{rest}
-use Rattle.ra_ticket.proofs.enter.take_out.Goals as goal
+use Rattle.ra_ticket.proofs.slot.lift_out.Goals as goal
 
 pub exchange-requires : goal.exchange-requires
 exchange-requires g c = let full = c.requires.full in
