@@ -137,19 +137,15 @@ all_stops all read front later p stop parts is stops =
     ap (taken text_start) parts
     ∙ stopped_then text_start stop (read ++ front) later (taken_then text_start p read front is ∙ stops)
 
--- the output of a text that stops
-stop_output : (text : List ℕ) (said : Said) (e : Ending) → last_line_at e said ≡ []
-    → taken text_start text ≡ Err (stop_at said e) → output_of text ≡ replies_of said
-stop_output text said e none is =
-    ap (λ r. replies_of (end_of r).said ++ last_line_at (end_of r).ending (end_of r).said) is
-    ∙ ap (λ (bs : List ℕ). replies_of said ++ bs) none ∙ append-nil (replies_of said)
-
+-- what is written for a text that stops
 stop_written : (text : List ℕ) (said : Said) (e : Ending) (old new : Option (List ℕ)) → last_line_at e said ≡ []
     → taken text_start text ≡ Err (stop_at said e)
     → Appends old new (replies_of said) → WritesUpTo text old new e
 stop_written text said e old new none is written = record {
   ends = ap (λ r. (end_of r).ending) is;
-  written = subst (Appends old new) (sym (stop_output text said e none is)) written;
+  written = subst (Appends old new) (sym (
+      ap (λ r. replies_of (end_of r).said ++ last_line_at (end_of r).ending (end_of r).said) is
+      ∙ ap (λ (bs : List ℕ). replies_of said ++ bs) none ∙ append-nil (replies_of said))) written;
 }
 
 -- why the check stops where the piece does

@@ -10,35 +10,22 @@ pub close_line-requires : goal.close_line-requires
 close_line-requires c = c.in-Some.ensures.first
 
 pub loop-front-preserved : goal.loop-front-preserved
-loop-front-preserved c =
-    fed_line c.args.self.now c.loop-front.self c.close_line.new.self c.args.piece.now c.loop-front.rest.now
-    c.in-Some.front.now c.in-Some.behind.now
-    c.args.out.now.items c.loop-front.out.items c.close_line.new.out.items c.loop-front.invariant c.in-Some.ensures
+loop-front-preserved c = fed_line _ _ _ _ _ _ _ _ _ _ c.loop-front.invariant c.in-Some.ensures
     c.in_ok-close_line.ensures.taken c.in_ok-close_line.ensures.replied
 
 pub returns-clause-taken : goal.returns-clause-taken
-returns-clause-taken c =
-    feed_taken c.extend.result c.args.self.now c.loop-front.self c.extend.new.self c.args.piece.now
-    c.loop-front.rest.now c.args.out.now.items c.loop-front.out.items
-    c.loop-front.invariant c.extend.ensures.taken
+returns-clause-taken c = feed_taken c.extend.result _ _ _ _ _ _ _ c.loop-front.invariant c.extend.ensures.taken
 
 pub returns-clause-replied : goal.returns-clause-replied
-returns-clause-replied c =
-    feed_replied c.extend.result c.args.self.now c.loop-front.self c.extend.new.self c.args.piece.now
-    c.loop-front.rest.now c.args.out.now.items c.loop-front.out.items
-    c.loop-front.invariant c.extend.ensures.said
+returns-clause-replied c = feed_replied c.extend.result _ _ c.extend.new.self _ _ _ _ c.loop-front.invariant c.extend.ensures.said
 
 pub returns-clause-fault : goal.returns-clause-fault
-returns-clause-fault c =
-    feed_stops c.extend.result c.args.self.now c.loop-front.self c.args.piece.now c.loop-front.rest.now
-    c.args.out.now.items c.loop-front.out.items
-    c.loop-front.invariant c.extend.ensures.fault
+returns-clause-fault c = feed_stops c.extend.result _ _ _ _ _ _ c.loop-front.invariant c.extend.ensures.fault
 
 pub returns-in_err-close_line-clause-fault : goal.returns-in_err-close_line-clause-fault
 returns-in_err-close_line-clause-fault c =
     passed_on c.from_residual.result
     (StopsInside c.args.self.now c.args.piece.now c.args.out.now.items c.close_line.new.out.items) _
     c.from_residual.ensures.1
-    (stop_line c.args.self.now c.loop-front.self c.args.piece.now c.loop-front.rest.now c.in-Some.front.now
-    c.in-Some.behind.now c.args.out.now.items c.loop-front.out.items c.close_line.new.out.items _
-    c.loop-front.invariant c.in-Some.ensures c.in_err-close_line.ensures.fault c.in_err-close_line.ensures.err)
+    (stop_line _ _ _ _ _ _ _ _ _ _ c.loop-front.invariant c.in-Some.ensures c.in_err-close_line.ensures.fault
+    c.in_err-close_line.ensures.err)
