@@ -71,17 +71,13 @@ few_first false n few =
 
 -- ---- the whole text
 
--- what is written is cut like this
-record IsSpelled (monitor : Monitor) (names : List (List ℕ)) (text : List ℕ) : Type 0 where
-  says : Says text (format_of monitor) monitor.setup.kind (take monitor.setup.replicas names)
-      (drop monitor.setup.replicas names) (records_in_order monitor)
-
 text_spelled : (monitor : Monitor) (names : List (List ℕ)) (text : List ℕ) → AreNamesSoFar names → 0 < length names
     → AreAsMany monitor names → length (records_in_order monitor) ≤ 1048576
     → text ≡ bytes_of (first_line (format_of monitor) monitor.setup.kind
     ∷ names_line (take monitor.setup.replicas names) ∷ map (line_of names) (records_in_order monitor))
     → AreShort names (records_in_order monitor) → AllByRecursion AreSmall (records_in_order monitor)
-    → IsSpelled monitor names text
+    → Says text (format_of monitor) monitor.setup.kind (take monitor.setup.replicas names)
+    (drop monitor.setup.replicas names) (records_in_order monitor)
 text_spelled monitor names text so_far some as_many fits whole short small =
     let kind : Kind = monitor.setup.kind in
     let n : ℕ = monitor.setup.replicas in
@@ -117,11 +113,8 @@ text_spelled monitor names text so_far some as_many fits whole short small =
     let spelled : text ≡ text_of format kind first joined commands = whole
     ∙ ap (λ (ns : List (List ℕ)). bytes_of (first_line format kind ∷ names_line first ∷ map (line_of ns) commands))
     (sym all) in
-    record {
-      says =
-          written-says format kind first joined commands text are distinct named have
-          (subst (λ (ns : List (List ℕ)). AreShort ns commands) (sym all) short) small fits spelled;
-    }
+    written-says format kind first joined commands text are distinct named have
+    (subst (λ (ns : List (List ℕ)). AreShort ns commands) (sym all) short) small fits spelled
 
 pub says_history : (monitor : Monitor) (names : List (List ℕ)) (heads text : List ℕ) → AreNamesSoFar names
     → 0 < length names → AreAsMany monitor names
@@ -145,5 +138,5 @@ says_history monitor names heads text so_far some as_many legal fits first last 
     let few : length commands ≤ 1048576 = omega (arith, as_few false monitor.log, fits, ap length same) in
     let spelled = text_spelled monitor names text so_far some as_many few whole short
     (subst (AllByRecursion AreSmall) same small) in
-    let only = says_only text format kind (take n names) (drop n names) commands spelled.says in
+    let only = says_only text format kind (take n names) (drop n names) commands spelled in
     record { ends = only.0; says = only.1 }
