@@ -3,7 +3,7 @@ use Rattle.std.proofs.Common.{◌≡◌, ℕ, ◌+◌, ◌<◌, ◌≤◌, true,
 use Rattle.std.specs.Prelude.{option_and_then, is_some, unwrap_or, fold, IfSome}
 use Rattle.std.specs.Option.{option_to_list}
 use Rattle.std.specs.List.{cons_option}
-use Rattle.std.proofs.lemmas.List.{append-nil, take_more, take-append-drop, length-map, get_or-map, get_or_default}
+use Rattle.std.proofs.lemmas.List.{append-nil, take_more, take-append-drop, length-map, get_or-map}
 use Rattle.std.proofs.lemmas.List.Elements.{filter-append, filter_map-append, All-get_or}
 use Rattle.std.proofs.lemmas.List.Sums.{fold-append}
 use Rattle.std.proofs.lemmas.Bool.{cond-true}
@@ -67,70 +67,70 @@ none_stays kind us vs none =
     ∙ ap (λ (o : Option State). fold (λ state update. option_and_then (λ s. step_of s update) state) o vs) none
     ∙ none_left vs
 
+-- at this place of the named sequence stands a part that does this, if the replica had it
+pub record DoesAt (kind : Kind) (records : Records) (replica i : ℕ) (o : Option Update) : Type 0 where
+  pub first : Part
+  pub below : i < length (named_sequence kind records)
+  pub does : option_to_list o ≡ updates_among records replica (get_or (named_sequence kind records) i first ∷ [])
+
 -- one part more is at most one step more
-pub stepped : (kind : Kind) (records : Records) (replica i : ℕ) (p : Part) (state : State) (o : Option Update)
-    → i < length (named_sequence kind records)
-    → option_to_list o ≡ updates_among records replica (get_or (named_sequence kind records) i p ∷ [])
-    → HasMade kind records replica i state
+stepped : (kind : Kind) (records : Records) (replica i : ℕ) (state : State) (o : Option Update)
+    → DoesAt kind records replica i o → HasMade kind records replica i state
     → state_after kind (updates_among records replica (take (i + 1) (named_sequence kind records))) ≡ after_one state o
-stepped kind records replica i p state o below does made = by_update o does
+stepped kind records replica i state o next made = by_update o next
   where
-    first : List Update
-    first = updates_among records replica (take i (named_sequence kind records))
+    before : List Update
+    before = updates_among records replica (take i (named_sequence kind records))
 
-    more : (us : List Update)
-        → us ≡ updates_among records replica (get_or (named_sequence kind records) i p ∷ [])
+    more : (o : Option Update) → DoesAt kind records replica i o
         → state_after kind (updates_among records replica (take (i + 1) (named_sequence kind records)))
-        ≡ state_after kind (first ++ us)
-    more us is = ap (state_after kind)
-        (made_more records replica (named_sequence kind records) i p below ∙ ap (λ (vs : List Update). first ++ vs) (sym is))
+        ≡ state_after kind (before ++ option_to_list o)
+    more o next = ap (state_after kind)
+        (made_more records replica (named_sequence kind records) i next.first next.below
+        ∙ ap (λ (us : List Update). before ++ us) (sym next.does))
 
-    by_update : (o : Option Update)
-        → option_to_list o ≡ updates_among records replica (get_or (named_sequence kind records) i p ∷ [])
+    by_update : (o : Option Update) → DoesAt kind records replica i o
         → state_after kind (updates_among records replica (take (i + 1) (named_sequence kind records)))
         ≡ after_one state o
-    by_update None is = more [] is ∙ ap (state_after kind) (append-nil first) ∙ made
-    by_update (Some u) is =
-        more (u ∷ []) is ∙ one_more_update_is_one_more_step kind first u ∙ ap (option_and_then (λ s. step_of s u)) made
+    by_update None next = more None next ∙ ap (state_after kind) (append-nil before) ∙ made
+    by_update (Some u) next =
+        more (Some u) next ∙ one_more_update_is_one_more_step kind before u
+        ∙ ap (option_and_then (λ s. step_of s u)) made
 
 some_is : {A : Type 0} (o : Option A) (x y : A) → y ≡ unwrap_or o x → true ≡ is_some o → o ≡ Some y
 some_is None x y is some = absurd (cc some)
 some_is (Some z) x y is some = ap Some (sym is)
 
-pub made_one : (kind : Kind) (records : Records) (replica i : ℕ) (p : Part) (state next : State) (o : Option Update)
-    → i < length (named_sequence kind records)
-    → option_to_list o ≡ updates_among records replica (get_or (named_sequence kind records) i p ∷ [])
-    → true ≡ is_some (after_one state o) → next ≡ unwrap_or (after_one state o) state
-    → HasMade kind records replica i state → HasMade kind records replica (i + 1) next
-made_one kind records replica i p state next o below does admitted is made =
-    stepped kind records replica i p state o below does made ∙ some_is (after_one state o) state next is admitted
+pub made_one : (kind : Kind) (records : Records) (replica i : ℕ) (state made : State) (o : Option Update)
+    → DoesAt kind records replica i o
+    → true ≡ is_some (after_one state o) → made ≡ unwrap_or (after_one state o) state
+    → HasMade kind records replica i state → HasMade kind records replica (i + 1) made
+made_one kind records replica i state made o next admitted is so_far =
+    stepped kind records replica i state o next so_far ∙ some_is (after_one state o) state made is admitted
 
-pub made_no_more : (kind : Kind) (records : Records) (replica i : ℕ) (p : Part) (state : State) (o : Option Update)
-    → i < length (named_sequence kind records)
-    → option_to_list o ≡ updates_among records replica (get_or (named_sequence kind records) i p ∷ [])
-    → false ≡ is_some (after_one state o) → HasMade kind records replica i state
+pub made_no_more : (kind : Kind) (records : Records) (replica i : ℕ) (state : State) (o : Option Update)
+    → DoesAt kind records replica i o → false ≡ is_some (after_one state o) → HasMade kind records replica i state
     → None ≡ state_after kind (updates_had kind records replica)
-made_no_more kind records replica i p state o below does not made =
+made_no_more kind records replica i state o next not made =
     let parts = named_sequence kind records in
     sym (ap (state_after kind) (rest_is records replica parts (i + 1))
     ∙ none_stays kind (updates_among records replica (take (i + 1) parts)) (updates_among records replica (drop (i + 1) parts))
-    (stepped kind records replica i p state o below does made ∙ none_is (after_one state o) (sym not)))
+    (stepped kind records replica i state o next made ∙ none_is (after_one state o) (sym not)))
 
 -- the next step stays in range
-pub may_step : (kind : Kind) (records : Records) (replica i : ℕ) (p : Part) (state : State) (o : Option Update)
-    → label_count records ≤ FARTHEST_COUNT → i < length (named_sequence kind records)
-    → option_to_list o ≡ updates_among records replica (get_or (named_sequence kind records) i p ∷ [])
+pub may_step : (kind : Kind) (records : Records) (replica i : ℕ) (state : State) (o : Option Update)
+    → label_count records ≤ FARTHEST_COUNT → DoesAt kind records replica i o
     → HasMade kind records replica i state → IfSome (after_one state o) IsInRange
-may_step kind records replica i p state o few below does made = either (after_one state o) refl
+may_step kind records replica i state o few next made = either (after_one state o) refl
   where
     parts : List Part
     parts = named_sequence kind records
 
     either : (after : Option State) → after_one state o ≡ after → IfSome after IsInRange
     either None is = tt
-    either (Some next) is = what_first_updates_lead_to_is_in_range kind records replica
-        (updates_among records replica (take (i + 1) parts)) (updates_among records replica (drop (i + 1) parts)) next few
-        (rest_is records replica parts (i + 1)) (stepped kind records replica i p state o below does made ∙ is)
+    either (Some last) is = what_first_updates_lead_to_is_in_range kind records replica
+        (updates_among records replica (take (i + 1) parts)) (updates_among records replica (drop (i + 1) parts)) last few
+        (rest_is records replica parts (i + 1)) (stepped kind records replica i state o next made ∙ is)
 
 -- ---- one part
 
@@ -150,18 +150,14 @@ does setup log replica p u known whole has is =
     ap option_to_list same ∙ one_listed (update_of p.act)
     ∙ ap updates_of (sym (cond-true (had before replica p.label.number) (p ∷ []) [] (sym known.had ∙ has)))
 
--- the part at a position of the named sequence
-pub record StandsAt (setup : Setup) (log : List MonitorEntry) (replica i : ℕ) (r : PartRef) (p : Part) : Type 0 where
-  pub known : IsKnown setup log replica p
-  pub same : ref_of p ≡ r
-  pub below : i < length (named_sequence setup.kind (records_before_fault_in setup log))
-  pub at : p ≡ get_or (named_sequence setup.kind (records_before_fault_in setup log)) i p
-
-pub stands : (setup : Setup) (log : List MonitorEntry) (replica : ℕ) (refs : List PartRef) (i : ℕ) (r : PartRef)
-    → IsLegalLog setup log
+-- what the part at a place does, where that is told of each known part
+pub does_at : (setup : Setup) (log : List MonitorEntry) (replica : ℕ) (refs : List PartRef) (i : ℕ) (r : PartRef)
+    (o : Option Update) → IsLegalLog setup log
     → refs ≡ map ref_of (named_sequence setup.kind (records_before_fault_in setup log)) → i < length refs
-    → (p : Part) × StandsAt setup log replica i (get_or refs i r) p
-stands setup log replica refs i r legal are within = by_parts parts refl
+    → ((p : Part) → IsKnown setup log replica p → ref_of p ≡ get_or refs i r
+    → option_to_list o ≡ updates_among (records_before_fault_in setup log) replica (p ∷ []))
+    → DoesAt setup.kind (records_before_fault_in setup log) replica i o
+does_at setup log replica refs i r o legal are within told = by_parts parts refl
   where
     parts : List Part
     parts = named_sequence setup.kind (records_before_fault_in setup log)
@@ -169,24 +165,12 @@ stands setup log replica refs i r legal are within = by_parts parts refl
     below : i < length parts
     below = omega (arith, within, ap length are, length-map parts ref_of)
 
-    by_parts : (list : List Part) → parts ≡ list → (p : Part) × StandsAt setup log replica i (get_or refs i r) p
+    by_parts : (list : List Part) → parts ≡ list → DoesAt setup.kind (records_before_fault_in setup log) replica i o
     by_parts [] is = absurd (omega (arith, below, ap length is))
-    by_parts (first ∷ rest) is =
-        let p = get_or parts i first in (
-          p,
-          record {
-            known = All-get_or (IsKnown setup log replica) parts i first below (parts_known setup log replica legal);
-            same = sym (ap (λ (rs : List PartRef). get_or rs i r) are ∙ get_or-map ref_of parts i first r below);
-            below = below;
-            at = get_or_default parts i first p below;
-          },
-        )
-
--- what its update does
-pub found_one : (setup : Setup) (log : List MonitorEntry) (replica i : ℕ) (r : PartRef) (p : Part) (us : List Update)
-    → StandsAt setup log replica i r p
-    → us ≡ updates_among (records_before_fault_in setup log) replica (p ∷ [])
-    → us ≡ updates_among (records_before_fault_in setup log) replica
-    (get_or (named_sequence setup.kind (records_before_fault_in setup log)) i p ∷ [])
-found_one setup log replica i r p us at is =
-    is ∙ ap (λ (q : Part). updates_among (records_before_fault_in setup log) replica (q ∷ [])) at.at
+    by_parts (first ∷ rest) is = record {
+      first = first;
+      below = below;
+      does = told (get_or parts i first)
+          (All-get_or (IsKnown setup log replica) parts i first below (parts_known setup log replica legal))
+          (sym (ap (λ (rs : List PartRef). get_or rs i r) are ∙ get_or-map ref_of parts i first r below));
+    }

@@ -115,7 +115,7 @@ none_any : (word : List ℕ) (words : List (List ℕ)) → AllByRecursion (λ y.
 none_any word [] all = refl
 none_any word (other ∷ words) all = rw all.0 (none_any word words all.1)
 
-no_words : IsDistinct bytes_eq []
+pub no_words : IsDistinct bytes_eq []
 unfolding IsDistinct
 no_words = tt
 

@@ -18,7 +18,7 @@ use Rattle.ra_labels.specs.declared.kind.Kind.{Kind}
 use Rattle.ra_labels.specs.declared.command.Command.{Command}
 use Rattle.ra_lines.specs.Reading.{replica_read, replica_command_read, command_read}
 use Rattle.ra_lines.specs.NamesKept.{NamesKept}
-use Rattle.ra_lines.proofs.Heads.{distinct_found, distinct_only}
+use Rattle.ra_lines.proofs.Heads.{no_words, distinct_found, distinct_only}
 use Rattle.ra_lines.specs.declared.fault.LineFault.{LineFault}
 use Rattle.ra_lines.specs.Names.{bytes_of_each, texts_of, is_bad_behind, AreDistinctNames, IsFirstBad, MayJoin, AreNamesSoFar, ListsSoFar}
 
@@ -154,12 +154,6 @@ new_among (own ∷ names) rest name distinct =
     let turned : bytes_eq name own ≡ false = nat_list_eq_equiv.symm name own ∙ other in
     rw turned (omega (arith, later))
 
-list_all-middle : (p : List ℕ → Bool) (front rest : List (List ℕ)) (x : List ℕ) → list_all p (front ++ x ∷ rest) ≡ true
-    → p x ≡ true
-list_all-middle p front rest x all =
-    let behind = and_parts (list_all p front) (list_all p (x ∷ rest)) (sym (list_all-append p front (x ∷ rest)) ∙ all) in
-    (and_parts (p x) (list_all p rest) behind.1).0
-
 list_all-push : (p : List ℕ → Bool) (front : List (List ℕ)) (x : List ℕ) → list_all p front ≡ true → p x ≡ true
     → list_all p (front ++ x ∷ []) ≡ true
 list_all-push p front x all here = list_all-append p front (x ∷ [])
@@ -179,7 +173,8 @@ pub MayJoin-from_names : (format : Format) (names rest : List (List ℕ)) (name 
     → MayJoin format names name
 MayJoin-from_names format names rest name are = record {
   room = omega (arith, are.few, length-append names (name ∷ rest));
-  form = list_all-middle is_name names rest name are.each;
+  form = (and_parts (is_name name) (list_all is_name rest) (and_parts (list_all is_name names)
+      (list_all is_name (name ∷ rest)) (sym (list_all-append is_name names (name ∷ rest)) ∙ are.each)).1).0;
   new = new_among names rest name are.distinct;
 }
 
@@ -188,10 +183,6 @@ pub in_any : (format : Format) (names : List (List ℕ)) (name : List ℕ) → M
     → MayJoin Rah2 names name
 in_any Rah1 names name may = record { room = omega (arith, may.room); form = may.form; new = may.new }
 in_any Rah2 names name may = may
-
-nothing : IsDistinct bytes_eq []
-unfolding IsDistinct
-nothing = tt
 
 pub as_many : (keys : List (global.Vec ℕ)) (names : List (List ℕ)) → bytes_of_each keys ≡ names
     → length names ≡ length keys
@@ -229,7 +220,7 @@ new_is keys names word place are found form =
 -- ---- words that are given as names
 
 pub none_yet : AreDistinctNames []
-none_yet = record { each = refl; distinct = nothing }
+none_yet = record { each = refl; distinct = no_words }
 
 -- no bad word behind names: one name more
 pub name_more : (before : List (List ℕ)) (word : List ℕ) → AreDistinctNames before → is_bad_behind before word ≡ false
@@ -254,18 +245,14 @@ words_cut (word ∷ words) zero d there = refl
 words_cut (word ∷ words) (suc i) d there =
     ap (λ (ws : List (List ℕ)). word.now ∷ ws) (words_cut words i d (omega arith))
 
-words_more : (words : List (Bor (List ℕ))) (i : ℕ) (d : Bor (List ℕ)) → i < length words
-    → texts_of (take (i + 1) words) ≡ texts_of (take i words) ++ (get_or words i d).now ∷ []
-words_more words i d there = ap texts_of (take_more words i d there)
-    ∙ map-append (λ (text : Bor (List ℕ)). text.now) (take i words) (get_or words i d ∷ [])
-
 -- one word more that is not bad
 pub names_more_at : (words : List (Bor (List ℕ))) (i : ℕ) (d : Bor (List ℕ)) → i < length words
     → AreDistinctNames (texts_of (take i words))
     → is_bad_behind (texts_of (take i words)) (get_or words i d).now ≡ false
     → AreDistinctNames (texts_of (take (i + 1) words))
 names_more_at words i d there so_far good =
-    subst AreDistinctNames (sym (words_more words i d there))
+    subst AreDistinctNames (sym (ap texts_of (take_more words i d there)
+    ∙ map-append (λ (text : Bor (List ℕ)). text.now) (take i words) (get_or words i d ∷ [])))
     (name_more (texts_of (take i words)) (get_or words i d).now so_far good)
 
 pub first_bad_at : (words : List (Bor (List ℕ))) (i : ℕ) (d : Bor (List ℕ)) → i < length words
@@ -304,7 +291,7 @@ so_far_first format line word fields cut is =
       parts = cut ∙ ap (λ (x : List ℕ). x ∷ fields) is;
       few = omega arith;
       so_far =
-          record { few = omega arith; each = refl; distinct = nothing };
+          record { few = omega arith; each = refl; distinct = no_words };
     }
 
 pub so_far_next : (format : Format) (line : List ℕ) (names : List (List ℕ)) (name : List ℕ) (fields : List (List ℕ))
