@@ -1,8 +1,7 @@
 -- Runs that stop before a regular end.
-use Rattle.std.proofs.Common.{◌≡◌, ◌⊎◌, inl, inr, ℕ, Bool, eqb, cond, List, [], ◌++◌, Option, Some, None, IfSome}
+use Rattle.std.proofs.Common.{◌≡◌, inl, inr, ℕ, eqb, List, [], ◌++◌, Option, Some, None, IfSome}
 use Rattle.std.proofs.Common.{Result, Ok, Err, IfErr, refl, sym, ap, subst, ◌∙◌, ◌+◌, ◌<◌, ◌≤◌, take, length, arith}
 use Rattle.std.specs.Prelude.{OnOk, IsErrAnd, is_ok, ◌&&◌}
-use Rattle.std.proofs.lemmas.Bool.{cases_Bool}
 use Rattle.std.specs.Io.KnownBytes.{Appends, Consumes, IsAtEnd, Keeps}
 use Rattle.std.proofs.lemmas.List.{append_assoc, append-nil, length-append, length-take-le}
 use Rattle.ra_monitor.specs.declared.report.Report.{Report}
@@ -18,6 +17,7 @@ use Rattle.ra_history_text.specs.Text.{has_names, next_line, text_start, stop_at
 use Rattle.ra_history_text.specs.Written.{HasWritten}
 use Rattle.ra_history_text.proofs.ReplyLines.{output_begins}
 use Rattle.ra_history_text.proofs.Runs.{where_known, where_whole, Appends-then, put_alone, written_replies, ends_at, said_at_end, output_at_end, output_regular}
+use Rattle.ra_lines.proofs.TheLaws.{chosen}
 use Rattle.ra_history_text.proofs.TakenBytes.{taken_then, stopped_then}
 
 -- ---- in the midst of a text
@@ -57,21 +57,6 @@ cut_short text p n old new is ending written =
     ∙ append-nil (replies_of p.said) in
     record { ends = ends_at text p is ∙ ending; written = subst (Appends old new) (sym nothing) written }
 
--- a text that ends here has its regular end, or is cut short
-ending_cases : (p : Progress) → (ending_at p ≡ Regular) ⊎ ((n : ℕ) × (ending_at p ≡ Truncated n))
-ending_cases p =
-    elim (cases_Bool (has_names p.said && eqb (length p.partial) 0)) [
-      | inl regular ↦ inl (ap (λ (b : Bool). cond b Regular (Truncated (next_line p.said))) regular)
-      | inr short ↦ inr (next_line p.said, ap (λ (b : Bool). cond b Regular (Truncated (next_line p.said))) short)
-    ]
-
-is_no_fault : (p : Progress) (e : Ending) → ending_at p ≡ e → (Regular ≡ e → ⊥) → ((n : ℕ) → Truncated n ≡ e → ⊥) → ⊥
-is_no_fault p e is regular short =
-    elim (ending_cases p) [
-      | inl here ↦ regular (sym here ∙ is)
-      | inr here ↦ short here.0 (sym here.1 ∙ is)
-    ]
-
 why_ending : (text : List ℕ) (p : Progress) (old new : Option (List ℕ)) (left : Option (List ℕ)) (fault : CheckFault)
     → taken text_start text ≡ Ok p → StopsEnding p fault
     → Appends old new (replies_of p.said) → StopsCheck text left old new fault
@@ -81,7 +66,11 @@ why_ending text p old new left check_fault.NoMemory is stops written =
 why_ending text p old new left check_fault.Read is stops written = absurd (let other = stops.0 in cc)
 why_ending text p old new left check_fault.Write is stops written = absurd (let other = stops.0 in cc)
 why_ending text p old new left check_fault.Endless is stops written = absurd (let other = stops.0 in cc)
-why_ending text p old new left _ is stops written = absurd (is_no_fault p _ stops (λ e. cc) (λ m e. cc))
+why_ending text p old new left _ is stops written =
+    elim (chosen (has_names p.said && eqb (length p.partial) 0) Regular (Truncated (next_line p.said)) _ stops) [
+      | inl regular ↦ absurd (let never = regular.1 in cc)
+      | inr short ↦ absurd (let never = short.1 in cc)
+    ]
 
 pub halts_ending : (r0 r1 r2 w0 w1 : Option (List ℕ)) (p : Progress) (out : List ℕ) (fault : CheckFault)
     → IsRunning r0 r1 w0 w1 p out → Consumes r1 r2 [] × IsAtEnd r2

@@ -20,7 +20,7 @@ use Rattle.ra_history_text.specs.Output.{answers_in, replies_of, last_line_of, l
 use Rattle.ra_lines.specs.Fields.{BeginsWith}
 use Rattle.ra_history_text.specs.Laws.{line_feeds, IsOfReader, IsLess, GrowsByPart, GrowsByReplies, AnswersEach}
 use Rattle.ra_lines.specs.Reading.{head_read, names_read, command_read}
-use Rattle.ra_history_text.specs.Run.{WritesUpTo, WritesReplies, StopsCheck}
+use Rattle.ra_history_text.specs.Run.{WritesReplies, StopsCheck}
 use Rattle.ra_history_text.specs.Text.{Said, Nothing, OfKind, OfHistory, Progress, Stop, Ending, Regular}
 use Rattle.ra_history_text.specs.Text.{next_line, records_in, with_command, of_head, said_behind, has_names}
 use Rattle.ra_history_text.specs.Text.{text_start, byte_taken, taken, end_of, ending_of, said_by, does_not_stop}
@@ -92,10 +92,6 @@ part_of_text text front back old new parts writes regular =
           (λ (t : List ℕ). IsLess (replies_of (said_by front)) (output_of t)) (sym parts) less,
     )
 
-other_end : (text : List ℕ) (e : Ending) (old new : Option (List ℕ)) → WritesUpTo text old new e
-    → ending_of text ≡ Regular → (Regular ≡ e → ⊥) → ⊥
-other_end text e old new writes regular apart = apart (sym regular ∙ writes.ends)
-
 pub unwritten : (text left old new : List ℕ) (fault : CheckFault) → ending_of text ≡ Regular
     → StopsCheck text (Some left) (Some old) (Some new) fault
     → GrowsByPart old new (output_of text)
@@ -108,7 +104,7 @@ unwritten text left old new check_fault.NoMemory regular stops =
 unwritten text left old new check_fault.Write regular stops =
     (stops.part, stops.written, (stops.more, stops.parts, stops.short))
 unwritten text left old new _ regular stops =
-    absurd (other_end text _ (Some old) (Some new) stops regular (λ e. cc))
+    absurd (let both = sym regular ∙ stops.ends in cc)
 
 -- ---- reply lines
 

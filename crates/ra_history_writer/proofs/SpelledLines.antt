@@ -49,13 +49,14 @@ plain-digits (d ∷ ds) all = let i = digit_from_value d all.0 in (omega (arith,
 plain-decimal : (n : ℕ) → n < 2 ^ 64 → IsPlain (decimal n)
 plain-decimal n small = plain-digits (decimal n) (decimal_is_IsNumeral n small).0.1
 
-no_low : (byte : ℕ) (bytes : List ℕ) → byte ≤ 32 → IsPlain bytes → AllByRecursion (λ b. eqb b byte ≡ false) bytes
-no_low byte [] low plain = tt
-no_low byte (b ∷ bytes) low plain =
-    (ne_eqb b byte (λ same. absurd (omega (arith, plain.0, same, low))), no_low byte bytes low plain.1)
+each-weaker : {X : Type 0} (P Q : X → Type 0) → ((x : X) → P x → Q x) → (xs : List X) → AllByRecursion P xs
+    → AllByRecursion Q xs
+each-weaker P Q leads [] all = tt
+each-weaker P Q leads (x ∷ xs) all = (leads x all.0, each-weaker P Q leads xs all.1)
 
 no_space : (bytes : List ℕ) → IsPlain bytes → All (λ b. eqb b 32 ≡ false) bytes
-no_space bytes plain = All-from_recursion (λ b. eqb b 32 ≡ false) bytes (no_low 32 bytes (omega arith) plain)
+no_space bytes plain = All-from_recursion (λ b. eqb b 32 ≡ false) bytes (each-weaker (λ b. 32 < b)
+    (λ b. eqb b 32 ≡ false) (λ b above. ne_eqb b 32 (λ same. omega (arith, above, same))) bytes plain)
 
 -- fields with spaces before them are cut at the spaces again
 pub fields-spaced : (first : List ℕ) (fields : List (List ℕ)) → IsPlain first → ArePlain fields
@@ -68,8 +69,7 @@ fields-spaced first (field ∷ fields) plain each =
 
 -- no line feed
 no_feed : (bytes : List ℕ) → IsPlain bytes → AllByRecursion (λ b. b ≢ 10) bytes
-no_feed [] plain = tt
-no_feed (b ∷ bytes) plain = ((λ same. absurd (omega (arith, plain.0, same))), no_feed bytes plain.1)
+no_feed = each-weaker (λ b. 32 < b) (λ b. b ≢ 10) (λ b above same. omega (arith, above, same))
 
 no_feed_spaced : (fields : List (List ℕ)) → ArePlain fields → AllByRecursion (λ b. b ≢ 10) (spaced fields)
 no_feed_spaced [] each = tt
@@ -142,12 +142,10 @@ plain_clock (Some at) small = ((omega arith, plain_number at small), tt)
 
 -- ---- names
 
-letters_are_plain : (bytes : List ℕ) → AllByRecursion (λ b. (48 ≤ b) × (b ≤ 122)) bytes → IsPlain bytes
-letters_are_plain [] all = tt
-letters_are_plain (b ∷ bytes) all = (omega (arith, all.0.0), letters_are_plain bytes all.1)
-
 pub plain_name : (name : List ℕ) → is_name name ≡ true → IsPlain name
-plain_name name is = letters_are_plain name (name_bytes name is).1
+plain_name name is =
+    each-weaker (λ b. (48 ≤ b) × (b ≤ 122)) (λ b. 32 < b) (λ b in_range. omega (arith, in_range.0)) name
+    (name_bytes name is).1
 
 -- what holds of each holds in a place
 apart_from : (names : List (List ℕ)) (n : ℕ) (P : List ℕ → Type 0) → n < length names → AllByRecursion P names
@@ -177,7 +175,8 @@ named_at (name ∷ names) (suc n) there each distinct =
 
 -- ---- a command
 
-index_of_name-append : (names later : List (List ℕ)) (name : List ℕ) → index_of_name (names ++ later) name < length names
+index_of_name-append : (names later : List (List ℕ)) (name : List ℕ)
+    → index_of_name (names ++ later) name < length names
     → index_of_name names name ≡ index_of_name (names ++ later) name
 index_of_name-append [] later name there = absurd (omega (arith, there))
 index_of_name-append (own ∷ names) later name there =
@@ -189,7 +188,8 @@ index_of_name-append (own ∷ names) later name there =
     ]
 
 -- one that stands behind the names has no place among them
-index_of_name-behind : (names later : List (List ℕ)) (name : List ℕ) → length names ≤ index_of_name (names ++ later) name
+index_of_name-behind : (names later : List (List ℕ)) (name : List ℕ)
+    → length names ≤ index_of_name (names ++ later) name
     → index_of_name names name ≡ length names
 index_of_name-behind [] later name behind = refl
 index_of_name-behind (own ∷ names) later name behind =

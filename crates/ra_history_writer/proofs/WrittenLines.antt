@@ -1,31 +1,29 @@
 -- The lines that are written of a history are the lines of a text that says it.
 use Rattle.std.proofs.Common.{◌≡◌, ◌≢◌, ℕ, ◌*◌, ◌≤◌, Bool, true, false, not, eqb, List, [], ◌∷◌, ◌++◌}
-use Rattle.std.proofs.Common.{length, map, All, Option, Some, None, refl, sym, ap, subst, ◌∙◌, arith}
+use Rattle.std.proofs.Common.{length, map, All, refl, sym, ap, subst, ◌∙◌, arith}
 use Rattle.std.specs.Prelude.{codes, is_some, ◌||◌, if◌then◌else◌}
 use Rattle.std.specs.List.{list_all, AllByRecursion}
-use Rattle.std.specs.Option.{option_map_or}
-use Rattle.std.proofs.lemmas.Bool.{and_parts, not-true, eqb-false}
+use Rattle.std.proofs.lemmas.Bool.{and_parts, not-true, eqb-false, false≢true}
+use Rattle.std.proofs.lemmas.List.Sums.{AllPass-from_list_all}
 use Rattle.std.proofs.lemmas.List.{append_assoc, append-nil, length-append, length_push}
-use Rattle.std.proofs.lemmas.List.Elements.{All-from_recursion}
 use Rattle.ra_labels.specs.declared.kind.Kind.{Kind}
 use Rattle.ra_labels.specs.declared.kind.Kind.TheVariants.{Counter}
 use Rattle.ra_labels.specs.declared.command.Command.{Command}
-use Rattle.ra_labels.specs.declared.command.Command.TheVariants.{Operate, Join}
-use Rattle.ra_labels.specs.declared.refusal.Refusal.{Refusal}
-use Rattle.ra_labels.specs.declared.reply.Fault.{Fault}
+use Rattle.ra_labels.specs.declared.command.Command.TheVariants.{Join}
 use Rattle.ra_labels.specs.declared.reply.Reply.{Reply}
 use Rattle.ra_labels.specs.declared.reply.Reply.TheVariants as reply
-use Rattle.ra_labels.specs.Answer.{no_at, refusal_of, answer_of, answer_to_accepted, with_accepted, records_after}
+use Rattle.ra_labels.specs.Answer.{refusal_of, answer_of, with_accepted, records_after}
 use Rattle.ra_labels.specs.Answer.{records_after_all}
 use Rattle.ra_labels.specs.Fault.{fault_of}
-use Rattle.ra_labels.specs.Laws.{is_join}
-use Rattle.ra_labels.specs.Records.{Records, label_count, replica_count}
+use Rattle.ra_labels.specs.Laws.{is_join, ReplySays}
+use Rattle.ra_labels.specs.Records.{Records, replica_count}
 use Rattle.ra_lines.specs.declared.format.Format.{Format}
 use Rattle.ra_lines.specs.declared.format.Format.TheVariants.{Rah1, Rah2}
 use Rattle.ra_lines.specs.Grammar.{IsLine, first_line, is_name}
 use Rattle.ra_lines.specs.Grammar.{most_names, AreNames, ListsNames, Spells, SpellEach, Says}
 use Rattle.ra_lines.specs.Grammar.{second_of, new_name, joined_by, names_behind}
 use Rattle.ra_lines.specs.Names.{AreDistinctNames}
+use Rattle.ra_laws.proofs.TheLaws.{what_a_reply_says}
 use Rattle.ra_lines.proofs.TheLaws.{name_bytes}
 use Rattle.ra_history_text.proofs.TheLaws.{counts_grow}
 use Rattle.ra_history_writer.specs.Spelling.{spaced, name_of, line_of, names_line, text_of, AreSmall, IsShort, AreShort, HasLine}
@@ -35,14 +33,8 @@ use Rattle.ra_history_writer.proofs.SpelledLines.{line_fields, line_cut, line_sp
 
 -- ---- lines
 
-no_feeds : (bytes : List ℕ) → list_all (λ b. not (eqb b 10)) bytes ≡ true → AllByRecursion (λ b. b ≢ 10) bytes
-no_feeds [] all = tt
-no_feeds (b ∷ bytes) all =
-    let parts = and_parts (not (eqb b 10)) (list_all (λ x. not (eqb x 10)) bytes) all in
-    (eqb-false b 10 (not-true (eqb b 10) parts.0), no_feeds bytes parts.1)
-
 one_of : (bytes : List ℕ) → list_all (λ b. not (eqb b 10)) bytes ≡ true → All (λ b. b ≢ 10) bytes
-one_of bytes all = All-from_recursion (λ b. b ≢ 10) bytes (no_feeds bytes all)
+one_of bytes all k d below = eqb-false _ 10 (not-true _ (AllPass-from_list_all _ bytes all k d below))
 
 first_is_line : (format : Format) (kind : Kind) → IsLine (first_line format kind)
 first_is_line Rah1 Counter = record { one = one_of (first_line Rah1 Counter) refl; short = omega arith }
@@ -91,45 +83,30 @@ one_command format kind names later command are has new small =
 
 -- ---- how many replicas there are, and which of them have names
 
--- an accepted join is one of the records, and no other command adds a replica
-joined_after : (fault : Option Fault) (refusal : Option Refusal) (replica : ℕ) (before after : Records)
-    → option_map_or no_at fault (option_map_or reply.Refused refusal (reply.Joined replica)) ≡ reply.Joined replica
-    → (if is_some fault || is_some refusal then before else after) ≡ after
-joined_after (Some fault) refusal replica before after e = absurd cc
-joined_after None (Some refusal) replica before after e = absurd cc
-joined_after None None replica before after e = refl
-
+-- no command but a join adds a replica, and an accepted join is one of the records
 same_count : (n : ℕ) (records : Records) (c : Command) (b : Bool) → is_join c ≡ false
     → replica_count n (if b then records else with_accepted records c) ≡ replica_count n records
 same_count n records c true other = refl
 same_count n records (Join replica from) false other = absurd cc
 same_count n records _ false other = refl
 
--- names stay with any other reply
-unnamed : (fault : Option Fault) (refusal : Option Refusal) (accepted : Reply) (joined : List (List ℕ)) (line : List ℕ)
-    → joined_by accepted joined line ≡ joined
-    → joined_by (option_map_or no_at fault (option_map_or reply.Refused refusal accepted)) joined line ≡ joined
-unnamed (Some fault) refusal accepted joined line e = refl
-unnamed None (Some refusal) accepted joined line e = refl
-unnamed None None accepted joined line e = e
-
-unnamed_no : (fault : Option Fault) (label : ℕ) (joined : List (List ℕ)) (line : List ℕ)
-    → joined_by (option_map_or no_at fault (reply.Ok label)) joined line ≡ joined
-unnamed_no (Some fault) label joined line = refl
-unnamed_no None label joined line = refl
-
-accepted_unnamed : (kind : Kind) (records : Records) (c : Command) (joined : List (List ℕ)) (line : List ℕ)
-    → is_join c ≡ false → joined_by (answer_to_accepted kind records c) joined line ≡ joined
-accepted_unnamed kind records (Operate by op clock) joined line other =
-    unnamed_no (fault_of kind (Operate by op clock ∷ records)) (label_count records) joined line
-accepted_unnamed kind records (Join replica from) joined line other = absurd cc
-accepted_unnamed kind records _ joined line other = refl
-
+-- names stay with any other command
 names_stay : (kind : Kind) (n : ℕ) (records : Records) (joined : List (List ℕ)) (line : List ℕ) (c : Command)
     → is_join c ≡ false → names_behind kind n records joined line c ≡ joined
-names_stay kind n records joined line c other =
-    unnamed (fault_of kind records) (refusal_of kind n records c) (answer_to_accepted kind records c) joined line
-    (accepted_unnamed kind records c joined line other)
+names_stay kind n records joined line c other = by_reply (answer_of kind n records c)
+    (what_a_reply_says kind n records c)
+  where
+    by_reply : (reply : Reply) → ReplySays kind n records c reply → joined_by reply joined line ≡ joined
+    by_reply (reply.Joined replica) says = absurd (false≢true (sym other ∙ ap is_join says.3.1))
+    by_reply _ says = refl
+
+-- what an accepted join leaves
+join_leaves : (kind : Kind) (n : ℕ) (records : Records) (replica from : ℕ)
+    → answer_of kind n records (Join replica from) ≡ reply.Joined replica
+    → records_after kind n records (Join replica from) ≡ Join replica from ∷ records
+join_leaves kind n records replica from joins =
+    (subst (ReplySays kind n records (Join replica from)) joins
+    (what_a_reply_says kind n records (Join replica from))).1
 
 no_new_name : (later : List (List ℕ)) (c : Command) → is_join c ≡ false → HasNewName later c
 no_new_name later (Join replica from) other = absurd cc
@@ -157,15 +134,12 @@ new_comes : (kind : Kind) (first joined before rest : List (List ℕ)) (records 
     → IsJoined c (answer_of kind (length first) records c) → HasNewName rest c
 new_comes kind first joined before rest records (Join replica from) commands among joins =
     let n : ℕ = length first in
-    let after : records_after kind n records (Join replica from) ≡ Join replica from ∷ records =
-    joined_after (fault_of kind records) (refusal_of kind n records (Join replica from)) replica records
-    (Join replica from ∷ records) joins in
     omega (
       arith,
       among.now,
       among.last,
       counts_grow kind n (records_after kind n records (Join replica from)) commands,
-      ap (replica_count n) after,
+      ap (replica_count n) (join_leaves kind n records replica from joins),
       ap length (parted first joined before rest among.all),
       length-append (first ++ before) rest,
     )
@@ -195,15 +169,12 @@ goes_on : (kind : Kind) (first joined before rest : List (List ℕ)) (name : Lis
     (records_after kind (length first) records (Join replica from)) commands
 goes_on kind first joined before rest name records replica from commands joins among =
     let n : ℕ = length first in
-    let after : records_after kind n records (Join replica from) ≡ Join replica from ∷ records =
-    joined_after (fault_of kind records) (refusal_of kind n records (Join replica from)) replica records
-    (Join replica from ∷ records) joins in
     record {
       all = among.all ∙ sym (append_assoc before (name ∷ []) rest);
       now = omega (
         arith,
         among.now,
-        ap (replica_count n) after,
+        ap (replica_count n) (join_leaves kind n records replica from joins),
         length-append first before,
         length-append first (before ++ name ∷ []),
         length_push before name,
@@ -226,7 +197,8 @@ join_names format kind first joined before rest name replica from all are has =
     let distinct = subst AreDistinctNames parts are in
     let one : List ℕ = name_of (names ++ name ∷ rest) replica in
     let new : new_name (line_of (names ++ name ∷ rest) (Join replica from)) ≡ one =
-    ap second_of (line_cut _ (line_fields format kind names (name ∷ rest) (Join replica from) distinct has (omega arith) tt)) in
+    ap second_of (line_cut _ (line_fields format kind names (name ∷ rest) (Join replica from) distinct has
+    (omega arith) tt)) in
     ap (λ (ns : List (List ℕ)). new_name (line_of ns (Join replica from))) parts ∙ new
     ∙ ap (name_of (names ++ name ∷ rest)) has.1 ∙ at_end names rest name
 

@@ -28,9 +28,6 @@ returns-then-count-eq0-clause-taken g c =
     comes_as_far _ _ _ _ c.loop.invariant.0.read
     (read_none_left _ _ _ _ c.if-count-eq0.true (omega arith) c.in-Ok.ensures.bytes)
 
-pub returns-then-count-eq0-clause-reported : goal.returns-then-count-eq0-clause-reported
-returns-then-count-eq0-clause-reported g c = c.in_ok-report.ensures.ended.reported
-
 pub loop-preserved : goal.loop-preserved
 loop-preserved g c = (
   run_next _ _ _ _ _ _ _ _ _ _ _ _ c.loop.invariant.0 c.in-Ok.ensures.bytes.0 c.in_ok-fed.ensures.taken

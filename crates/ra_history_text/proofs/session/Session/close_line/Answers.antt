@@ -51,5 +51,6 @@ returns-in_err-take_line-clause-fault c =
 
 pub returns-clause-taken : goal.returns-clause-taken
 returns-clause-taken c =
-    gathered_takes c.args.self.now _ _ c.args.last.now _ _ _ c.in_ok-extend.ensures.taken c.self-2.view_is c.deref.ensures.value
+    gathered_takes c.args.self.now _ _ c.args.last.now _ _ _ c.in_ok-extend.ensures.taken c.self-2.view_is
+    c.deref.ensures.value
     c.in_ok-take_line.ensures.taken c.clear.ensures.items

@@ -6,9 +6,6 @@ use Rattle.ra_history_text.proofs.session.Session.feed.Goals as goal
 pub loop-front-init : goal.loop-front-init
 loop-front-init c = fed_none c.args.self.now c.args.piece.now c.args.out.now.items
 
-pub close_line-requires : goal.close_line-requires
-close_line-requires c = c.in-Some.ensures.first
-
 pub loop-front-preserved : goal.loop-front-preserved
 loop-front-preserved c = fed_line _ _ _ _ _ _ _ _ _ _ c.loop-front.invariant c.in-Some.ensures
     c.in_ok-close_line.ensures.taken c.in_ok-close_line.ensures.replied
@@ -17,7 +14,8 @@ pub returns-clause-taken : goal.returns-clause-taken
 returns-clause-taken c = feed_taken c.extend.result _ _ _ _ _ _ _ c.loop-front.invariant c.extend.ensures.taken
 
 pub returns-clause-replied : goal.returns-clause-replied
-returns-clause-replied c = feed_replied c.extend.result _ _ c.extend.new.self _ _ _ _ c.loop-front.invariant c.extend.ensures.said
+returns-clause-replied c = feed_replied c.extend.result _ _ c.extend.new.self _ _ _ _
+    c.loop-front.invariant c.extend.ensures.said
 
 pub returns-clause-fault : goal.returns-clause-fault
 returns-clause-fault c = feed_stops c.extend.result _ _ _ _ _ _ c.loop-front.invariant c.extend.ensures.fault
