@@ -25,7 +25,7 @@ use Rattle.ra_labels.specs.Fault.{cause_of, fault_at, fault_of}
 use Rattle.ra_explain.specs.Changes.{cuts_off}
 use Rattle.ra_explain.specs.LastDeliveries.{is_taken_back, without, labels_got_last}
 
--- what holds of no records, and with each command more, whatever becomes of it: all stays from it on, or it is left out,
+-- what holds of no records, and with each command more, whatever becomes of it: all stays from it on, it is left out,
 -- or it stays alone
 of_what_is_left : (by : ℕ) (left : ℕ → Bool) (P : Records → Records → Type 0) → P [] []
     → ((command : Command) (before : Records) → cuts_off by command ≡ true → P (command ∷ before) (command ∷ before))
@@ -82,7 +82,8 @@ same_order : (kind : Kind) (one other : Records) → sight_of one ≡ sight_of o
     → named_labels kind one ≡ named_labels kind other
 same_order kind one other same =
     ap (λ cmp. sort_by cmp (labels_of one)) (fun_ext (λ (l : Label). fun_ext (λ (m : Label).
-    ap (λ r. ordering_then (stamp_cmp r (rank_of kind one m)) (nat_cmp l.number m.number)) (same_rank kind one other l same)
+    ap (λ r. ordering_then (stamp_cmp r (rank_of kind one m)) (nat_cmp l.number m.number))
+    (same_rank kind one other l same)
     ∙ ap (λ r. ordering_then (stamp_cmp (rank_of kind other l) r) (nat_cmp l.number m.number))
     (same_rank kind one other m same))))
     ∙ ap (λ (s : Sight). sort_by (label_cmp kind other) s.labels) same
@@ -101,7 +102,8 @@ same_cause : (kind : Kind) (one other : Records) → sight_of one ≡ sight_of o
     → cause_of kind one ≡ cause_of kind other
 same_cause kind one other same =
     ap (λ (s : Sight). cause_by kind s.sees (named_sequence kind one)) same
-    ∙ ap (λ (ls : List Label). cause_by kind (λ n m. sees other n m) (flat_map parts_of ls)) (same_order kind one other same)
+    ∙ ap (λ (ls : List Label). cause_by kind (λ n m. sees other n m) (flat_map parts_of ls))
+    (same_order kind one other same)
 
 -- ---- all but what the replica itself had
 
@@ -113,11 +115,13 @@ record AreAlike (by : ℕ) (older before : Records) : Type 0 where
 alike_itself : (by : ℕ) (records : Records) → AreAlike by records records
 alike_itself by records = record { sight = refl; others = λ x n other. refl; fault = λ kind. refl }
 
-alike_without : (by n : ℕ) (older before : Records) → AreAlike by older before → AreAlike by older (Deliver by n ∷ before)
+alike_without : (by n : ℕ) (older before : Records) → AreAlike by older before
+    → AreAlike by older (Deliver by n ∷ before)
 alike_without by n older before same = record {
   sight = same.sight;
   others = λ x m other.
-      let elsewhere : (by == x) ≡ false = ne_eqb by x (λ here. other (sym here)) in rw elsewhere (same.others x m other);
+      let elsewhere : (by == x) ≡ false = ne_eqb by x (λ here. other (sym here)) in
+      rw elsewhere (same.others x m other);
   fault = same.fault;
 }
 
@@ -154,7 +158,8 @@ alike_with by (Join joined from) older before goes_on same = record {
       rw (same.others from n source, same.others x n other) refl;
   fault = same.fault;
 }
-alike_with by Verdict older before goes_on same = record { sight = same.sight; others = same.others; fault = same.fault }
+alike_with by Verdict older before goes_on same =
+    record { sight = same.sight; others = same.others; fault = same.fault }
 
 alike : (by : ℕ) (left : ℕ → Bool) (records : Records) → AreAlike by (without by left records) records
 alike by left = of_what_is_left by left (AreAlike by) (alike_itself by [])
@@ -195,8 +200,8 @@ none_left true true = refl
 none_left true false = refl
 none_left false a = refl
 
--- what the replica had with one delivery more that stays, by cases: is one to it, of this label, which is an update, had
--- it that before, is this label left out, and the delivered one, and did this one reach it last before
+-- what the replica had with one delivery more that stays, by cases: is it to it, of this label, an update, had it that
+-- before, is this label left out, and the delivered one, and did this one reach it last before
 with_delivery : (t e u h l lm a : Bool) → (t && lm) ≡ false → (e ≡ true → lm ≡ l)
     → ((t && e && u) || (h && not (l && a))) ≡ (((t && e && u) || h) && not (l && cond t (e || a) a))
 with_delivery false e u h l lm a off same = refl

@@ -36,7 +36,8 @@ HasMade kind records replica count state =
 
 -- the updates of one part more
 among_more : (records : Records) (replica : ℕ) (parts more : List Part)
-    → updates_among records replica (parts ++ more) ≡ updates_among records replica parts ++ updates_among records replica more
+    → updates_among records replica (parts ++ more)
+    ≡ updates_among records replica parts ++ updates_among records replica more
 among_more records replica parts more =
     let keeps = λ (p : Part). had records replica p.label.number in
     ap updates_of (filter-append keeps parts more)
@@ -54,7 +55,8 @@ rest_is : (records : Records) (replica : ℕ) (parts : List Part) (n : ℕ)
     → updates_among records replica parts
     ≡ updates_among records replica (take n parts) ++ updates_among records replica (drop n parts)
 rest_is records replica parts n =
-    ap (updates_among records replica) (sym (take-append-drop n parts)) ∙ among_more records replica (take n parts) (drop n parts)
+    ap (updates_among records replica) (sym (take-append-drop n parts))
+    ∙ among_more records replica (take n parts) (drop n parts)
 
 -- an update that is not admitted leaves no state
 none_left : (us : List Update) → fold (λ state update. option_and_then (λ s. step_of s update) state) None us ≡ None
@@ -114,7 +116,8 @@ pub made_no_more : (kind : Kind) (records : Records) (replica i : ℕ) (state : 
 made_no_more kind records replica i state o next not made =
     let parts = named_sequence kind records in
     sym (ap (state_after kind) (rest_is records replica parts (i + 1))
-    ∙ none_stays kind (updates_among records replica (take (i + 1) parts)) (updates_among records replica (drop (i + 1) parts))
+    ∙ none_stays kind (updates_among records replica (take (i + 1) parts))
+    (updates_among records replica (drop (i + 1) parts))
     (stepped kind records replica i state o next made ∙ none_is (after_one state o) (sym not)))
 
 -- the next step stays in range
@@ -129,7 +132,8 @@ may_step kind records replica i state o few next made = either (after_one state 
     either : (after : Option State) → after_one state o ≡ after → IfSome after IsInRange
     either None is = tt
     either (Some last) is = what_first_updates_lead_to_is_in_range kind records replica
-        (updates_among records replica (take (i + 1) parts)) (updates_among records replica (drop (i + 1) parts)) last few
+        (updates_among records replica (take (i + 1) parts))
+        (updates_among records replica (drop (i + 1) parts)) last few
         (rest_is records replica parts (i + 1)) (stepped kind records replica i state o next made ∙ is)
 
 -- ---- one part

@@ -255,7 +255,8 @@ same_replica names name other replica p q there =
     same_name names name other (sym p.place ∙ q.place) (subst (λ (r : ℕ). r < length names) p.place there)
 
 same_fields : (format : Format) (kind : Kind) (names : List (List ℕ)) (line other : List ℕ) (c : Command)
-    → IsAtNamedReplica names c → Spells format kind names line c → Spells format kind names other c → NameAlike c line other
+    → IsAtNamedReplica names c → Spells format kind names line c → Spells format kind names other c
+    → NameAlike c line other
     → fields_of line ≡ fields_of other
 same_fields format kind names line other Verdict there p q alike = p ∙ sym q
 same_fields format kind names line other (Deliver replica label) there p q alike =
@@ -272,7 +273,8 @@ same_fields format kind names line other (Join replica from) there p q alike =
     ∙ ap (λ (n : List ℕ). codes "join" ∷ q.name ∷ n ∷ []) source ∙ sym q.words
 
 pub one_spelling : (format : Format) (kind : Kind) (names : List (List ℕ)) (line other : List ℕ) (c : Command)
-    → IsAtNamedReplica names c → Spells format kind names line c → Spells format kind names other c → NameAlike c line other
+    → IsAtNamedReplica names c → Spells format kind names line c → Spells format kind names other c
+    → NameAlike c line other
     → line ≡ other
 one_spelling format kind names line other c there p q alike =
     same_line line other (same_fields format kind names line other c there p q alike)

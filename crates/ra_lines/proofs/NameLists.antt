@@ -1,5 +1,5 @@
 -- Names that join others, one after another.
-use Rattle.std.proofs.Common.{◌≡◌, ℕ, ◌+◌, ◌<◌, Bool, true, false, ◌≤◌, ltb, List, [], ◌∷◌, ◌++◌, length, take, drop, eqb, ◌≢◌}
+use Rattle.std.proofs.Common.{◌≡◌, ℕ, ◌+◌, ◌<◌, Bool, true, false, cond, ◌≤◌, ltb, List, [], ◌∷◌, ◌++◌, length, take, drop, eqb, ◌≢◌}
 use Rattle.std.proofs.Common.{get_or, zero, suc, Some, None, Result, Err, refl, sym, ap, subst, ◌∙◌, arith, inl, inr}
 use Rattle.std.specs.Prelude.{bytes_eq, codes, position, Option, unwrap_or, IfOk, not, ◌||◌, ◌&&◌, if◌then◌else◌}
 use Rattle.std.specs.Borrow.{Bor}
@@ -10,6 +10,7 @@ use Rattle.std.proofs.lemmas.Cmp.{nat_list_eq_equiv}
 use Rattle.std.proofs.lemmas.List.{append_assoc, length_push, length-append, length-map, length-take-le, map-append, take_more}
 use Rattle.std.proofs.lemmas.Slice.Eq.{bytes_eq-Decides}
 use Rattle.std.proofs.lemmas.List.Folds.{list_all-append}
+use Rattle.std.proofs.lemmas.List.Recursion.{is_position_or_len}
 use Rattle.std.proofs.lemmas.Map.Keys.{IsDistinct-head, IsDistinct-tail, IsDistinct-push}
 use Rattle.ra_lines.specs.Grammar.{is_name, index_of_name, fields_of, most_names, AreNames, ListsNames}
 use Rattle.ra_lines.specs.declared.format.Format.{Format}
@@ -86,12 +87,8 @@ is_key name key = bytes_eq name key.items
 
 place_is : (keys : List (global.Vec ℕ)) (name : List ℕ)
     → position_or_len (is_key name) keys ≡ index_of_name (bytes_of_each keys) name
-place_is [] name = refl
-place_is (key ∷ keys) name =
-    elim (cases_Bool (bytes_eq name key.items)) [
-      | inl same ↦ rw same refl
-      | inr other ↦ rw other (omega (arith, place_is keys name))
-    ]
+place_is keys name = sym (is_position_or_len (λ (ks : List (global.Vec ℕ)). index_of_name (bytes_of_each ks) name)
+    (is_key name) refl (λ key ks. ap (cond (bytes_eq name key.items) 0) (omega arith)) keys)
 
 pub place_found : (keys : List (global.Vec ℕ)) (name : List ℕ) (at : ℕ) → Some at ≡ position (is_key name) keys
     → at ≡ index_of_name (bytes_of_each keys) name

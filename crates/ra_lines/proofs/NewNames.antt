@@ -39,7 +39,10 @@ name_bytes (first ∷ more) is =
     let parts = and_parts (is_ascii_lowercase first && ltb (length more) 16) (list_all may_follow more) form in
     let head = and_parts (is_ascii_lowercase first) (ltb (length more) 16) parts.0 in (
       omega (arith, ltb-true (length more) 16 head.1),
-      (letter_or_digit first (or_left (is_ascii_lowercase first) (is_ascii_digit first) head.0), each_follows more parts.1),
+      (
+        letter_or_digit first (or_left (is_ascii_lowercase first) (is_ascii_digit first) head.0),
+        each_follows more parts.1,
+      ),
     )
 
 ascii : (bytes : List ℕ) → AllByRecursion (λ b. (48 ≤ b) × (b ≤ 122)) bytes → IsAscii bytes
@@ -53,7 +56,8 @@ name_is_text P name (Err fault) is read = absurd (read.0 (IsUtf8-from_ascii name
 
 -- ---- a name that is added
 
-pub new_may_join : (format : Format) (keys : List (global.Vec ℕ)) (names : List (List ℕ)) (word : List ℕ) (tested : Bool)
+pub new_may_join : (format : Format) (keys : List (global.Vec ℕ)) (names : List (List ℕ)) (word : List ℕ)
+    (tested : Bool)
     → bytes_of_each keys ≡ names → length keys < most_names format → tested ≡ not (is_bad_behind names word)
     → tested ≡ true → MayJoin format names word
 new_may_join format keys names word tested are room is passed =

@@ -10,7 +10,8 @@ make-requires c =
     may_step _ _ _ _ _ _ (few_enough m.setup m.log c.log-log.ensures.fits.0 c.log-log.ensures.fits.1)
     (does_at m.setup m.log c.args.replica c.as_slice-part-items.result.now c.loop-part.part-index
     (record { label = 0; half = Whole }) _ c.log-log.ensures.legal
-    (c.as_slice-part-items.ensures.value ∙ c.in_ok-parts.ensures.named) c.loop-part-test.true c.in_ok-update.ensures) c.loop-part.invariant
+    (c.as_slice-part-items.ensures.value ∙ c.in_ok-parts.ensures.named) c.loop-part-test.true c.in_ok-update.ensures)
+    c.loop-part.invariant
 
 pub returns-then-not-branch : goal.returns-then-not-branch
 returns-then-not-branch c =
