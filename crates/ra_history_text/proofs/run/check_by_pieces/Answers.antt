@@ -1,7 +1,5 @@
-use Rattle.std.proofs.Common.{rules, ℕ, List, arith, subst}
-use Rattle.std.specs.Io.KnownBytes.{Appends}
+use Rattle.std.proofs.Common.{rules, arith}
 use Rattle.ra_history_text.proofs.Runs.{read_none_left, comes_as_far, run_first, run_next, run_last}
-use Rattle.ra_history_text.specs.Written.{HasWritten}
 use Rattle.ra_history_text.proofs.Halts.{halts_between, none_consumed, kept_whole, halts_ending, halts_writing_end, halts_writing}
 use Rattle.ra_history_text.proofs.Halts.{halts_feeding, passed_on, given_none, given_more, given_less}
 use Rattle.ra_history_text.proofs.run.check_by_pieces.Goals as goal
@@ -20,8 +18,7 @@ pub returns-then-count-eq0-clause-answered : goal.returns-then-count-eq0-clause-
 returns-then-count-eq0-clause-answered g c =
     let ended = read_none_left _ _ _ _ c.if-count-eq0.true (omega arith) c.in-Ok.ensures.bytes in
     run_last _ _ _ _ _ _ _ _ _ c.in_ok-report.report c.loop.invariant.0 ended c.in_ok-report.ensures.ended
-    (subst (Appends (g.W.Write.contents c.loop.writer) (g.W.Write.contents c.write_out.new.writer))
-    c.as_slice.ensures.value c.in_ok-write_out.ensures.written)
+    (rw c.as_slice.ensures.value at c.in_ok-write_out.ensures.written)
 
 pub returns-then-count-eq0-clause-taken : goal.returns-then-count-eq0-clause-taken
 returns-then-count-eq0-clause-taken g c =
@@ -31,9 +28,8 @@ returns-then-count-eq0-clause-taken g c =
 pub loop-preserved : goal.loop-preserved
 loop-preserved g c = (
   run_next _ _ _ _ _ _ _ _ _ _ _ _ c.loop.invariant.0 c.in-Ok.ensures.bytes.0 c.in_ok-fed.ensures.taken
-      c.in_ok-fed.ensures.replied
-      (subst (Appends (g.W.Write.contents c.loop.writer) (g.W.Write.contents c.write_out-in-loop.new.writer))
-      c.as_slice-in-loop.ensures.value c.in_ok-write_out-2.ensures.written) c.clear.ensures.items,
+      c.in_ok-fed.ensures.replied (rw c.as_slice-in-loop.ensures.value at c.in_ok-write_out-2.ensures.written)
+      c.clear.ensures.items,
   given_more _ _ _ c.loop.counter c.in-Ok.count c.read.new.buf c.loop.invariant.1 c.in-Ok.ensures.bytes.0
       (search rules) (search rules),
 )
@@ -54,32 +50,24 @@ returns-in_err-report-clause-stopped g c =
 pub returns-in_err-write_out-clause-stopped : goal.returns-in_err-write_out-clause-stopped
 returns-in_err-write_out-clause-stopped g c =
     let unwritten = c.in_err-write_out.ensures.part in
-    let written : HasWritten (g.W.Write.contents c.loop.writer) (g.W.Write.contents c.write_out.new.writer)
-    c.finish.new.out.items unwritten.0 =
-    subst (λ (bs : List ℕ). HasWritten (g.W.Write.contents c.loop.writer) (g.W.Write.contents c.write_out.new.writer)
-    bs unwritten.0) c.as_slice.ensures.value unwritten.2 in
     passed_on c.from_residual-in_err-write_out.result _ _ c.from_residual-in_err-write_out.ensures.1
     (halts_writing_end _ _ _ _ _ _ _ _ _ _ c.in_ok-report.report unwritten.1 c.loop.invariant.0
     (read_none_left _ _ _ _ c.if-count-eq0.true (omega arith) c.in-Ok.ensures.bytes) c.in_ok-report.ensures.ended
-    written)
+    (rw c.as_slice.ensures.value at unwritten.2))
 
 pub returns-in_err-write_out-2-clause-stopped : goal.returns-in_err-write_out-2-clause-stopped
 returns-in_err-write_out-2-clause-stopped g c =
     let unwritten = c.in_err-write_out-2.ensures.part in
-    let written : HasWritten (g.W.Write.contents c.loop.writer) (g.W.Write.contents c.write_out-in-loop.new.writer)
-    c.feed-fed.new.out.items unwritten.0 =
-    subst (λ (bs : List ℕ). HasWritten (g.W.Write.contents c.loop.writer)
-    (g.W.Write.contents c.write_out-in-loop.new.writer) bs unwritten.0) c.as_slice-in-loop.ensures.value unwritten.2 in
     passed_on c.from_residual-in_err-write_out-2.result _ _ c.from_residual-in_err-write_out-2.ensures.1
     (halts_writing c.feed-fed.result _ _ _ _ _ _ _ _ _ _ _ _ unwritten.1 c.loop.invariant.0 c.in-Ok.ensures.bytes.0
-    c.feed-fed.ensures.taken c.feed-fed.ensures.replied c.feed-fed.ensures.fault written)
+    c.feed-fed.ensures.taken c.feed-fed.ensures.replied c.feed-fed.ensures.fault
+    (rw c.as_slice-in-loop.ensures.value at unwritten.2))
 
 pub returns-in_err-fed-clause-stopped : goal.returns-in_err-fed-clause-stopped
 returns-in_err-fed-clause-stopped g c =
     passed_on c.from_residual-in_err-fed.result _ _ c.from_residual-in_err-fed.ensures.1
     (halts_feeding _ _ _ _ _ _ _ _ _ _ _ c.loop.invariant.0 c.in-Ok.ensures.bytes.0 c.in_err-fed.ensures.fault
-    (subst (Appends (g.W.Write.contents c.loop.writer) (g.W.Write.contents c.write_out-in-loop.new.writer))
-    c.as_slice-in-loop.ensures.value c.in_ok-write_out-2.ensures.written))
+    (rw c.as_slice-in-loop.ensures.value at c.in_ok-write_out-2.ensures.written))
 
 pub returns-clause-endless : goal.returns-clause-endless
 returns-clause-endless g c same = given_less (g.R.Read.remaining c.args.reader.now)

@@ -20,11 +20,10 @@ returns-then-len-most_names-clause-syntax c is_syntax may =
     ]
 
 pub push-requires : goal.push-requires
-push-requires c = in_any c.args.format c.args.self.now c.args.name.now
-    (new_may_join c.args.format c.self.inside.set.keys c.args.self.now c.args.name.now c.is_new.result c.self.view_is
-    (search rules steps 100000) c.is_new.ensures c.if-not-is_new.false)
+push-requires c = in_any c.args.format _ _
+    (new_may_join c.args.format c.self.inside.set.keys _ _ _ c.self.view_is (search rules steps 100000)
+    c.is_new.ensures c.if-not-is_new.false)
 
 pub returns-in-Ok-clause-may : goal.returns-in-Ok-clause-may
-returns-in-Ok-clause-may c =
-    new_may_join c.args.format c.self.inside.set.keys c.args.self.now c.args.name.now c.is_new.result c.self.view_is
+returns-in-Ok-clause-may c = new_may_join c.args.format c.self.inside.set.keys _ _ _ c.self.view_is
     (search rules steps 100000) c.is_new.ensures c.if-not-is_new.false
