@@ -2,7 +2,7 @@
 use Rattle.std.proofs.Common.{◌≡◌, ℕ, ◌+◌, ◌<◌, List, [], ◌∷◌, ◌++◌, length, take, get_or, sym, ap, ◌∙◌, subst, inl, inr, arith, suc, map, Option}
 use Rattle.std.specs.Prelude.{set, Contains}
 use Rattle.std.proofs.lemmas.Bool.{cases_eq}
-use Rattle.std.proofs.lemmas.List.{length-set, get_or-set_same, get_or-set_other, map_more, ext_get_or, length-map, get_or-map}
+use Rattle.std.proofs.lemmas.List.{length-set, get_or-set_same, get_or-set_other, map_more, ext_get_or, length-map, get_or-map, take_at}
 use Rattle.std.proofs.lemmas.List.Elements.{Contains-push, Contains-push_cases, Contains-append_left}
 use Rattle.ra_element_list.specs.declared.entry.Entry.{Entry}
 use Rattle.ra_element_list.specs.declared.element.Element.{Element}
@@ -123,3 +123,11 @@ module _ (elements new : List Element) (same : AreSameButGroups elements new) wh
   elements_same entries =
       map_same (λ n. (element_at new n).element) (λ n. (element_at elements n).element) (numbers_in entries)
       (λ n among. name_same n)
+
+-- a slice of the elements leaves them in its vector, but for their groups
+pub slice_left : (old slice new : List Element) (len : ℕ) → slice ≡ old → AreSameButGroups slice new
+    → length slice ≡ len → AreSameButGroups old new × ((more : List Element) → take len (new ++ more) ≡ new)
+slice_left old slice new len is same long = (
+  subst (λ es. AreSameButGroups es new) is same,
+  (λ more. take_at new more len (same.same ∙ long)),
+)

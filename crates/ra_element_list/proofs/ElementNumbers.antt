@@ -1,12 +1,12 @@
 -- The numbers with a new element, and room.
-use Rattle.std.proofs.Common.{◌≡◌, ℕ, zero, suc, ◌<◌, true, List, [], ◌∷◌, length, map, cond, refl, sym, ap, ◌∙◌, subst, inl, inr, arith, Option, Some}
+use Rattle.std.proofs.Common.{◌≡◌, ℕ, zero, suc, ◌<◌, true, List, [], ◌∷◌, length, map, get_or, cond, refl, sym, ap, ◌∙◌, subst, inl, inr, arith, Option, Some}
 use Rattle.std.specs.Prelude.{◌==◌, nat_lt}
 use Rattle.std.proofs.lemmas.Bool.{cases_Bool, cases_lt, cond-true, cond-false, eqb-true, eq-eqb, ne_eqb, and_parts, and_from, lt-ltb, ltb-true}
-use Rattle.std.proofs.lemmas.List.{length-map}
+use Rattle.std.proofs.lemmas.List.{length-map, get_or_read}
 use Rattle.ra_element_list.specs.declared.element.Element.{Element}
 use Rattle.ra_element_list.specs.Chunk.{Chunk}
 use Rattle.ra_element_list.specs.Chunks.{chunk_at}
-use Rattle.ra_element_list.specs.Groups.{element_at}
+use Rattle.ra_element_list.specs.Groups.{no_element, element_at}
 use Rattle.ra_element_list.specs.Links.{IsLinked}
 use Rattle.ra_element_list.specs.ElementList.{Arrival, arrival_at}
 use Rattle.ra_element_list.specs.Kept.{arrival_of, have_room, AreNumbers}
@@ -86,6 +86,22 @@ fresh_among elements arrivals x came fresh n low same =
     (ap (λ xs. (arrival_at xs n).element) (sym came)
     ∙ ap (λ (a : Arrival). a.element) (arrival_is elements n low) ∙ same)
 
+-- as many came as there are elements
 pub length_came : (elements : List Element) (arrivals : List Arrival) → map arrival_of elements ≡ arrivals
     → length elements ≡ length arrivals
 length_came elements arrivals came = sym (length-map elements arrival_of) ∙ ap (λ (xs : List Arrival). length xs) came
+
+-- a number that came is that of an element
+pub known_as : (elements : List Element) (arrivals : List Arrival) (n : ℕ) → map arrival_of elements ≡ arrivals
+    → n < length arrivals → n < length elements
+known_as elements arrivals n came there = omega (arith, there, length_came elements arrivals came)
+
+-- and what is read of the element is what came
+pub read_as : (elements : List Element) (arrivals : List Arrival) (n : ℕ) (read : Element)
+    → map arrival_of elements ≡ arrivals → n < length arrivals → read ≡ get_or elements n read
+    → arrival_of read ≡ arrival_at arrivals n
+read_as elements arrivals n read came there reads =
+    let known : n < length elements = known_as elements arrivals n came there in
+    ap arrival_of (get_or_read elements n read known reads no_element)
+    ∙ sym (arrival_is elements n known)
+    ∙ ap (λ xs. arrival_at xs n) came

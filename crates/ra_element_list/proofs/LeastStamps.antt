@@ -2,23 +2,19 @@
 use Rattle.std.proofs.Common.{◌≡◌, ℕ, ◌+◌, ◌<◌, ◌≤◌, false, List, ◌∷◌, length, take, drop, get_or, sym, subst, inl, inr}
 use Rattle.std.specs.List.{insert}
 use Rattle.std.specs.Ordering.{is_lt}
-use Rattle.std.specs.Cmp.{IsTotalOrder, IsStrictWeakOrder}
+use Rattle.std.specs.Cmp.{IsStrictWeakOrder}
 use Rattle.std.proofs.lemmas.Bool.{cases_Bool, cond-true, cond-false}
-use Rattle.std.proofs.lemmas.Cmp.{on_total, then_total, nat_cmp_total}
 use Rattle.std.proofs.lemmas.List.MinMax.{ranks_by}
 use Rattle.std.proofs.lemmas.List.{take_all}
 use Rattle.std.proofs.lemmas.List.Elements.{All-cons, All-append, All-take, All-drop, All-more, All-weaker, All-same}
 use Rattle.ra_labels.specs.declared.label.Stamp.{Stamp}
 use Rattle.ra_labels.specs.NamedOrder.{stamp_cmp}
+use Rattle.ra_labels.proofs.StampOrder.{stamp_cmp-total}
 use Rattle.ra_element_list.specs.declared.entry.Entry.{Entry}
 use Rattle.ra_element_list.specs.Entries.{lesser_of, AllAtLeast}
 
-stamps_total : IsTotalOrder stamp_cmp
-stamps_total = then_total (on_total (λ (s : Stamp). s.clock) nat_cmp_total)
-    (on_total (λ (s : Stamp). s.replica) nat_cmp_total)
-
 stamps_ranked : IsStrictWeakOrder (λ (s t : Stamp). is_lt (stamp_cmp s t))
-stamps_ranked = ranks_by stamps_total (λ (s : Stamp). s)
+stamps_ranked = ranks_by stamp_cmp-total (λ (s : Stamp). s)
 
 -- the lesser of two is below neither
 pub lesser_first : (s t : Stamp) → is_lt (stamp_cmp s (lesser_of s t)) ≡ false

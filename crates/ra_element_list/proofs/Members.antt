@@ -1,5 +1,5 @@
 -- What a list has once one more is put in.
-use Rattle.std.proofs.Common.{◌≡◌, ℕ, zero, suc, ◌+◌, ◌-◌, ◌<◌, ◌≤◌, List, [], ◌∷◌, ◌++◌, length, take, drop, get_or}
+use Rattle.std.proofs.Common.{◌≡◌, ℕ, suc, ◌+◌, ◌-◌, ◌<◌, ◌≤◌, List, [], ◌∷◌, ◌++◌, length, take, drop, get_or}
 use Rattle.std.proofs.Common.{map, refl, sym, ap, ◌∙◌, subst, inl, inr, arith}
 use Rattle.std.specs.Prelude.{◌⊎◌, Contains}
 use Rattle.std.specs.List.{insert}
@@ -7,6 +7,7 @@ use Rattle.std.proofs.lemmas.Bool.{cases_lt, cases_eq}
 use Rattle.std.proofs.lemmas.List.{map-append, take-append-drop, take-map, drop-map}
 use Rattle.std.proofs.lemmas.List.Edits.{length-insert, get_or-insert_below, get_or-insert_at, get_or-insert_above}
 use Rattle.std.proofs.lemmas.List.Elements.{Contains-append_left, Contains-append_right, Contains-append_cases}
+use Rattle.ra_labels.proofs.Members.{head_or_behind, at_head, behind_head}
 
 module _ {A : Type 0} where
   -- what stands at an index of a list with one more: what stood there, the new one, or what stood one before
@@ -31,32 +32,22 @@ module _ {A : Type 0} where
     ]
   ]
 
-  head_there : (x : A) (ys : List A) → Contains (x ∷ ys) x
-  head_there x ys = (0, omega arith, refl)
-
-  behind_head : (x y : A) (ys : List A) → Contains ys y → Contains (x ∷ ys) y
-  behind_head x y ys (k, high, is) = (suc k, omega arith, is)
-
-  pub head_or_behind : (x y : A) (ys : List A) → Contains (x ∷ ys) y → (x ≡ y) ⊎ Contains ys y
-  head_or_behind x y ys (zero, high, is) = inl is
-  head_or_behind x y ys (suc k, high, is) = inr (k, omega arith, is)
-
   pub new_in_insert : (xs : List A) (i : ℕ) (x : A) → Contains (insert xs i x) x
-  new_in_insert xs i x = Contains-append_right (take i xs) (x ∷ drop i xs) x (head_there x (drop i xs))
+  new_in_insert xs i x = Contains-append_right (take i xs) (x ∷ drop i xs) x (at_head x (drop i xs) x refl)
 
   pub old_in_insert : (xs : List A) (i : ℕ) (x y : A) → Contains xs y → Contains (insert xs i x) y
   old_in_insert xs i x y there =
       elim (Contains-append_cases (take i xs) (drop i xs) y
       (subst (λ ys. Contains ys y) (sym (take-append-drop i xs)) there)) [
         | inl left ↦ Contains-append_left (take i xs) (x ∷ drop i xs) y left
-        | inr right ↦ Contains-append_right (take i xs) (x ∷ drop i xs) y (behind_head x y (drop i xs) right)
+        | inr right ↦ Contains-append_right (take i xs) (x ∷ drop i xs) y (behind_head x (drop i xs) y right)
       ]
 
   pub insert_cases : (xs : List A) (i : ℕ) (x y : A) → Contains (insert xs i x) y → Contains xs y ⊎ (x ≡ y)
   insert_cases xs i x y there = elim (Contains-append_cases (take i xs) (x ∷ drop i xs) y there) [
     | inl left ↦
         inl (subst (λ ys. Contains ys y) (take-append-drop i xs) (Contains-append_left (take i xs) (drop i xs) y left))
-    | inr right ↦ elim (head_or_behind x y (drop i xs) right) [
+    | inr right ↦ elim (head_or_behind x (drop i xs) y right) [
       | inl now ↦ inr now
       | inr behind ↦ inl
           (subst (λ ys. Contains ys y) (take-append-drop i xs) (Contains-append_right (take i xs) (drop i xs) y behind))
@@ -74,5 +65,5 @@ map-insert f xs i x =
 pub map_same : {A B : Type 0} (f g : A → B) (xs : List A) → ((x : A) → Contains xs x → f x ≡ g x) → map f xs ≡ map g xs
 map_same f g [] same = refl
 map_same f g (x ∷ xs) same =
-    ap (λ y. y ∷ map f xs) (same x (head_there x xs))
-    ∙ ap (λ ys. g x ∷ ys) (map_same f g xs (λ y there. same y (behind_head x y xs there)))
+    ap (λ y. y ∷ map f xs) (same x (at_head x xs x refl))
+    ∙ ap (λ ys. g x ∷ ys) (map_same f g xs (λ y there. same y (behind_head x xs y there)))

@@ -158,71 +158,50 @@ module _ (number_of : ℕ → Option ℕ) (elements : List Element) (chunks : Li
       (omega (arith, at.1, long number_of elements entries numbers of all listed)) (ap keep is_p ∙ kept_p)
       (λ k low high. absurd (omega arith))))
 
+  -- it stands somewhere behind its anchor
+  somewhere_behind : (all : List (ℕ × Bool)) → elements_in all ≡ names → IsSomewhereBehind all x p
+  somewhere_behind all listed =
+      let at = number_before in
+      let i = at.0 in
+      let old = kept.behind (suc i) (omega arith) at.1 in
+      let name = at_index number_of elements entries numbers kept.entries all listed in
+      let is_x : (get_or all (suc i) nothing).0 ≡ x = name (suc i) at.1
+      ∙ ap (λ n. (element_at elements n).element) at.2 in
+      let is_p : (get_or all old.0 nothing).0 ≡ p = name old.0 (omega (arith, old.1, at.1))
+      ∙ ap (λ n. (element_at elements n).element) (old.2 ∙ ap (λ n. (element_at elements n).anchor) at.2) in
+      subst (λ y. IsSomewhereBehind all y p) is_x
+      (subst (λ y. IsSomewhereBehind all (get_or all (suc i) nothing).0 y) is_p
+      (further_at nothing all old.0 (suc i) old.1
+      (omega (arith, at.1, long number_of elements entries numbers kept.entries all listed))))
+
   -- the same of what contracts see
-  own_name : (arrivals : List Arrival) → map arrival_of elements ≡ arrivals → x ≡ (arrival_at arrivals number).element
-  own_name arrivals came = own_element elements arrivals number known came
+  module _ (listed : List ℕ) (arrivals : List Arrival) (same : names ≡ listed)
+      (came : map arrival_of elements ≡ arrivals) where
+    abbrev own : Arrival
+    own = arrival_at arrivals number
 
-  anchor_name : (arrivals : List Arrival) → map arrival_of elements ≡ arrivals
-      → p ≡ (arrival_at arrivals (arrival_at arrivals number).anchor).element
-  anchor_name arrivals came = anchor_element elements arrivals number known (kept.anchored number known) came
+    abbrev anchor : Arrival
+    anchor = arrival_at arrivals own.anchor
 
-  pub stands_exactly : (listed : List ℕ) (arrivals : List Arrival) → names ≡ listed → map arrival_of elements ≡ arrivals
-      → IsTrue (read.before == read.anchor) ↔ StandsBehind listed (arrival_at arrivals number).element
-      (arrival_at arrivals (arrival_at arrivals number).anchor).element
-  stands_exactly listed arrivals same came =
-      let own = own_name arrivals came in
-      let anchor = anchor_name arrivals came in (
-        (λ holds. subst
-            (λ ns. StandsBehind ns (arrival_at arrivals number).element
-            (arrival_at arrivals (arrival_at arrivals number).anchor).element) same
-            (subst (λ y. StandsBehind names y (arrival_at arrivals (arrival_at arrivals number).anchor).element) own
-            (subst (λ q. StandsBehind names x q) anchor (stands_behind (eqb-true read.before read.anchor holds))))),
-        (λ stands. eq-eqb read.before read.anchor (behind_stands
-            (subst (λ q. StandsBehind names x q) (sym anchor)
-            (subst (λ y. StandsBehind names y (arrival_at arrivals (arrival_at arrivals number).anchor).element)
-            (sym own)
-            (subst (λ ns. StandsBehind ns (arrival_at arrivals number).element
-            (arrival_at arrivals (arrival_at arrivals number).anchor).element) (sym same) stands))))),
-      )
+    seen : (P : List ℕ → ℕ → ℕ → Type 0) → P names x p → P listed own.element anchor.element
+    seen P holds =
+        subst (λ ns. P ns own.element anchor.element) same
+        (subst (λ y. P names y anchor.element) (own_element elements arrivals number known came)
+        (subst (P names x) (anchor_element elements arrivals number known (kept.anchored number known) came) holds))
 
-  pub nearest_exactly : (listed : List ℕ) (arrivals : List Arrival) → names ≡ listed
-      → map arrival_of elements ≡ arrivals → IsTrue (read.before == read.anchor)
-      → (keep : ℕ → Bool) (all : List (ℕ × Bool)) → elements_in all ≡ listed
-      → keep (arrival_at arrivals (arrival_at arrivals number).anchor).element ≡ true
-      → IsNearestBefore keep all (arrival_at arrivals number).element
-      (arrival_at arrivals (arrival_at arrivals number).anchor).element
-  nearest_exactly listed arrivals same came holds keep all lists keeps =
-      let anchor = anchor_name arrivals came in
-      subst (λ y. IsNearestBefore keep all y (arrival_at arrivals (arrival_at arrivals number).anchor).element)
-      (own_name arrivals came)
-      (subst (λ q. IsNearestBefore keep all x q) anchor
-      (youngest_nearest (eqb-true read.before read.anchor holds) keep all (lists ∙ sym same) (ap keep anchor ∙ keeps)))
+    pub stands_exactly : IsTrue (read.before == read.anchor) ↔ StandsBehind listed own.element anchor.element
+    stands_exactly = seen (λ ns y q. IsTrue (read.before == read.anchor) ↔ StandsBehind ns y q) (
+      (λ holds. stands_behind (eqb-true read.before read.anchor holds)),
+      (λ stands. eq-eqb read.before read.anchor (behind_stands stands)),
+    )
 
--- each element but the root stands somewhere behind its anchor
-pub anchor_behind : (number_of : ℕ → Option ℕ) (elements : List Element) (chunks : List Chunk) (places : List ℕ)
-    (newest number : ℕ) → AreNumbers number_of elements
-    → ChunksKept elements chunks places newest → 0 < number → number < length elements
-    → (listed : List ℕ) (arrivals : List Arrival) → elements_by elements (joined chunks) ≡ listed
-    → map arrival_of elements ≡ arrivals → (all : List (ℕ × Bool)) → elements_in all ≡ listed
-    → IsSomewhereBehind all (arrival_at arrivals number).element
-    (arrival_at arrivals (arrival_at arrivals number).anchor).element
-anchor_behind number_of elements chunks places newest number numbers kept some known listed arrivals same
-    came all lists =
-    let entries = joined chunks in
-    let at = index_of elements chunks places number kept.placed known in
-    let back = behind_root elements entries at.0 number kept.entries some at.2 in
-    let old = kept.behind at.0 (omega (arith, back.1)) at.1 in
-    let here : old.0 < length entries = omega (arith, old.1, at.1) in
-    let lists_them = lists ∙ sym same in
-    let name : (k : ℕ) → k < length entries
-    → (get_or all k nothing).0 ≡ (element_at elements (entry_at entries k).number).element =
-    λ k low. at_index number_of elements entries numbers kept.entries all lists_them k low in
-    let x_is = name at.0 at.1 ∙ ap (λ n. (element_at elements n).element) at.2
-    ∙ own_element elements arrivals number known came in
-    let p_is =
-    name old.0 here ∙ ap (λ n. (element_at elements n).element) (old.2 ∙ ap (λ n. (element_at elements n).anchor) at.2)
-    ∙ anchor_element elements arrivals number known (kept.anchored number known) came in
-    subst (λ y. IsSomewhereBehind all y (arrival_at arrivals (arrival_at arrivals number).anchor).element) x_is
-    (subst (λ q. IsSomewhereBehind all (get_or all at.0 nothing).0 q) p_is
-    (further_at nothing all old.0 at.0 old.1
-    (omega (arith, at.1, long number_of elements entries numbers kept.entries all lists_them))))
+    pub nearest_exactly : IsTrue (read.before == read.anchor) → (keep : ℕ → Bool) (all : List (ℕ × Bool))
+        → elements_in all ≡ listed → keep anchor.element ≡ true
+        → IsNearestBefore keep all own.element anchor.element
+    nearest_exactly holds keep all =
+        seen (λ ns y q. elements_in all ≡ ns → keep q ≡ true → IsNearestBefore keep all y q)
+        (youngest_nearest (eqb-true read.before read.anchor holds) keep all)
+
+    pub anchor_behind : (all : List (ℕ × Bool)) → elements_in all ≡ listed
+        → IsSomewhereBehind all own.element anchor.element
+    anchor_behind all = seen (λ ns y q. elements_in all ≡ ns → IsSomewhereBehind all y q) (somewhere_behind all)

@@ -9,7 +9,6 @@ pub mod Entries
 pub mod SettledStates
 pub mod EmptyLists
 pub mod FreedLabels
-pub mod Fewer
 pub mod Followers
 pub mod LastFollowers
 pub mod Nearness

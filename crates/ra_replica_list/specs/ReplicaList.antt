@@ -68,6 +68,11 @@ pub record IsListBy (list : ReplicaList) (arrivals : List Arrival) (deeds : List
 abbrev pub IsListOf : ReplicaList → List Arrival → List (Option Deed) → Records → ℕ → Type 0
 IsListOf list arrivals deeds records replica = IsListBy list arrivals deeds records (had records replica)
 
+-- how many of these labels' updates do not wait
+abbrev pub settled_count : {list : ReplicaList} {arrivals : List Arrival} {deeds : List (Option Deed)}
+    {records : Records} {had : ℕ → Bool} → IsListBy list arrivals deeds records had → ℕ
+settled_count {records = records} held = length (updates_passing Rga records held.settled)
+
 -- the label's deed is this one, and in some records for which list and elements stand it was not had
 pub record MayReceive (list : ReplicaList) (all : ElementList) (deeds : List (Option Deed)) (label : ℕ)
     (deed : Deed) : Type 0 where

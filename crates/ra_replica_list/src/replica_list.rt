@@ -1,12 +1,11 @@
 //! The list of one replica of an RGA, after those of its updates that do not wait for another one.
-ghost use Rattle.std.specs.Prelude.{◌≡◌, ℕ, ◌+◌, ◌<◌, ◌≤◌, ◌^◌, Bool, true, false, List, ◌++◌, ◌∷◌, [], length, Option, Some, None, option_map, IfOk, OnOk, OnErr, if◌then◌else◌};
+ghost use Rattle.std.specs.Prelude.{◌≡◌, ℕ, ◌+◌, ◌<◌, ◌≤◌, ◌^◌, Bool, true, false, List, ◌++◌, ◌∷◌, [], length, Option, Some, None, IfOk, OnOk, OnErr, if◌then◌else◌};
 ghost use Rattle.std.specs.Option.{option_copied};
 ghost use Rattle.ra_labels.specs.declared.kind.Kind.TheVariants.{Rga};
-ghost use Rattle.ra_labels.specs.declared.operation.Op.{Op};
 ghost use Rattle.ra_labels.specs.declared.operation.Update.TheVariants.{After, RgaRemove};
 ghost use Rattle.ra_labels.specs.declared.label.Label.{Label};
-ghost use Rattle.ra_labels.specs.declared.command.Command.TheVariants.{Operate, Deliver};
-ghost use Rattle.ra_labels.specs.Records.{Records, label_count, stamp_at};
+ghost use Rattle.ra_labels.specs.declared.command.Command.TheVariants.{Deliver};
+ghost use Rattle.ra_labels.specs.Records.{Records, label_count};
 ghost use Rattle.ra_labels.specs.Visibility.{had};
 ghost use Rattle.ra_labels.specs.Rewriting.{updates_of};
 ghost use Rattle.ra_labels.specs.Specification.{Listed, state_after, is_admitted};
@@ -14,12 +13,13 @@ ghost use Rattle.ra_labels.specs.Linearization.{extends_visibility, updates_admi
 ghost use Rattle.ra_labels.specs.NamedOrder.{greater_of, named_labels, named_sequence};
 ghost use Rattle.ra_labels.specs.Laws.{StampsAreOneLabels, elements_in};
 ghost use Rattle.ra_labels.specs.Insertion.{updates_passing, updates_had, updates_among, Makes};
+ghost use Rattle.ra_labels.specs.Situation.{Next, operate, label_of};
 ghost use Rattle.ra_labels.specs.Waiting.{is_there};
 ghost use Rattle.ra_element_list.specs.ElementList.{Arrival, ElementList, root, arrival_at, is_marked, IsNearestBefore};
 ghost use Rattle.ra_replica_list.specs.declared.deed.Deed.{Deed};
 ghost use Rattle.ra_replica_list.specs.declared.deed.Deed.TheVariants.{PutsIn, Removes};
 ghost use Rattle.ra_replica_list.specs.Deeds.{deed_at, element_at, AreElementsOf, AreDeedsOf};
-ghost use Rattle.ra_replica_list.specs.ReplicaList.{IsListBy, IsListOf, MayReceive};
+ghost use Rattle.ra_replica_list.specs.ReplicaList.{IsListBy, IsListOf, MayReceive, settled_count};
 ghost use Rattle.ra_replica_list.specs.Freed.{IsListWithAfter, LeadsTo, AreAlike};
 
 use crate::deed::Deed;
@@ -122,19 +122,19 @@ impl ReplicaList {
     ) -> Result<u64, NoMemory>
         requires few { length all.now.arrivals < 2 ^ 32 }
         requires anchor { anchor < length all.now.arrivals }
-        ensures put { OnOk result ((deeds : List (Option Deed)) (records : Records) (by : ℕ) (op : Op)
-            (clock : Option ℕ) → AreElementsOf all.now deeds records
-            → IsListOf self.old all.now.arrivals deeds records by
-            → label ≡ label_count records → Makes op (After (element_at all.now.arrivals anchor) element)
-            → option_map (stamp_at by) clock ≡ Some stamp
-            → let now = Operate by op clock ∷ records in
+        ensures put { IfOk result (λ steps. (deeds : List (Option Deed)) (records : Records) (next : Next)
+            → AreElementsOf all.now deeds records
+            → (was : IsListOf self.old all.now.arrivals deeds records next.by)
+            → label ≡ label_count records → Makes next.op (After (element_at all.now.arrivals anchor) element)
+            → (label_of records next).stamp ≡ Some stamp
+            → let now = operate next ∷ records in
             extends_visibility now (named_sequence Rga now) ≡ true
             → updates_admitted Rga (named_sequence Rga now) ≡ true
-            → IsListOf self.new
+            → (is : IsListOf self.new
             (all.now.arrivals ++ record { element = element; stamp = stamp; anchor = anchor } ∷ [])
-            (deeds ++ Some (PutsIn (length all.now.arrivals)) ∷ []) now by) }
+            (deeds ++ Some (PutsIn (length all.now.arrivals)) ∷ []) now next.by)
+            × (settled_count is ≡ settled_count was + steps)) }
         ensures steps { IfOk result (λ steps. steps ≤ 1) }
-        ensures counted { IfOk result (λ steps. steps ≡ (if is_marked self.old.marks anchor then 1 else 0)) }
         ensures err { OnErr result ((arrivals : List Arrival) (deeds : List (Option Deed)) (records : Records)
             (replica : ℕ) → IsListOf self.old arrivals deeds records replica
             → IsListOf self.new arrivals deeds records replica) }
@@ -165,17 +165,17 @@ impl ReplicaList {
         number: u32,
     ) -> Result<u64, NoMemory>
         requires number { number < length all.now.arrivals }
-        ensures removed { OnOk result ((deeds : List (Option Deed)) (records : Records) (by : ℕ) (op : Op)
-            (clock : Option ℕ) → AreElementsOf all.now deeds records
-            → IsListOf self.old all.now.arrivals deeds records by
-            → label ≡ label_count records → Makes op (RgaRemove (element_at all.now.arrivals number))
-            → clock ≡ None
-            → let now = Operate by op clock ∷ records in
+        ensures removed { IfOk result (λ steps. (deeds : List (Option Deed)) (records : Records) (next : Next)
+            → AreElementsOf all.now deeds records
+            → (was : IsListOf self.old all.now.arrivals deeds records next.by)
+            → label ≡ label_count records → Makes next.op (RgaRemove (element_at all.now.arrivals number))
+            → next.clock ≡ None
+            → let now = operate next ∷ records in
             extends_visibility now (named_sequence Rga now) ≡ true
             → updates_admitted Rga (named_sequence Rga now) ≡ true
-            → IsListOf self.new all.now.arrivals (deeds ++ Some (Removes number) ∷ []) now by) }
+            → (is : IsListOf self.new all.now.arrivals (deeds ++ Some (Removes number) ∷ []) now next.by)
+            × (settled_count is ≡ settled_count was + steps)) }
         ensures steps { IfOk result (λ steps. steps ≤ 1) }
-        ensures counted { IfOk result (λ steps. steps ≡ (if is_marked self.old.marks number then 1 else 0)) }
         ensures err { OnErr result ((arrivals : List Arrival) (deeds : List (Option Deed)) (records : Records)
             (replica : ℕ) → IsListOf self.old arrivals deeds records replica
             → IsListOf self.new arrivals deeds records replica) }
@@ -195,29 +195,11 @@ impl ReplicaList {
         deed: Deed,
     ) -> Result<u64, NoMemory>
         requires { MayReceive self.old all.now deeds.now label deed }
-        ensures got { OnOk result ((records : Records) (to : ℕ) → AreElementsOf all.now deeds.now records
-            → IsListOf self.old all.now.arrivals deeds.now records to
-            → deed_at deeds.now label ≡ Some deed → had records to label ≡ false → StampsAreOneLabels records
-            → IsListOf self.new all.now.arrivals deeds.now (Deliver to label ∷ records) to) }
-        ensures steps { IfOk result (λ steps. (records : Records) (to : ℕ) (before behind : List Label) (it : Label)
-            → AreElementsOf all.now deeds.now records → IsListOf self.old all.now.arrivals deeds.now records to
-            → deed_at deeds.now label ≡ Some deed → had records to label ≡ false
-            → named_labels Rga records ≡ before ++ it ∷ behind → it.number ≡ label
-            → steps ≤ 1 + length (updates_among (had records to) behind)) }
-        ensures counted { IfOk result (λ steps. (records : Records) (to : ℕ) → AreElementsOf all.now deeds.now records
+        ensures got { IfOk result (λ steps. (records : Records) (to : ℕ) → AreElementsOf all.now deeds.now records
             → (was : IsListOf self.old all.now.arrivals deeds.now records to)
-            → (now : IsListOf self.new all.now.arrivals deeds.now (Deliver to label ∷ records) to)
-            → deed_at deeds.now label ≡ Some deed → had records to label ≡ false
-            → length (updates_passing Rga records now.settled)
-            ≡ length (updates_passing Rga records was.settled) + steps) }
-        ensures some_step { IfOk result (λ steps. (records : Records) (to : ℕ) → AreElementsOf all.now deeds.now records
-            → IsListOf self.old all.now.arrivals deeds.now records to → deed_at deeds.now label ≡ Some deed
-            → had records to label ≡ false
-            → is_admitted Rga (updates_had Rga (Deliver to label ∷ records) to) ≡ true → 1 ≤ steps) }
-        ensures one_step { IfOk result (λ steps. (records : Records) (to : ℕ) → AreElementsOf all.now deeds.now records
-            → IsListOf self.old all.now.arrivals deeds.now records to → deed_at deeds.now label ≡ Some deed
-            → had records to label ≡ false → is_admitted Rga (updates_had Rga records to) ≡ true
-            → is_admitted Rga (updates_had Rga (Deliver to label ∷ records) to) ≡ true → steps ≡ 1) }
+            → deed_at deeds.now label ≡ Some deed → had records to label ≡ false → StampsAreOneLabels records
+            → (is : IsListOf self.new all.now.arrivals deeds.now (Deliver to label ∷ records) to)
+            × (settled_count is ≡ settled_count was + steps)) }
         ensures err { OnErr result ((arrivals : List Arrival) (deeds : List (Option Deed)) (records : Records)
             (replica : ℕ) → IsListOf self.old arrivals deeds records replica
             → IsListOf self.new arrivals deeds records replica) }

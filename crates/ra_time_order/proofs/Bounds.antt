@@ -11,14 +11,15 @@ use Rattle.ra_labels.specs.Records.{Records, label_count, labels_of, next_label}
 use Rattle.ra_labels.specs.Visibility.{had, sees, is_update, is_update_at, IsCausal}
 use Rattle.ra_labels.proofs.Counted.{numbers_below_count}
 use Rattle.ra_labels.specs.Situation.{Next, operate, label_of}
+use Rattle.ra_labels.proofs.Members.{head_or_behind, behind_head, kept-there, there-kept}
 use Rattle.ra_laws.proofs.TheLaws.{causal_records_leave_nothing_out-had}
 use Rattle.ra_visibility.specs.Order.{must_stand_before}
 use Rattle.ra_time_order.specs.Stamps.{AtMost}
-use Rattle.ra_time_order.proofs.Ranks.{lowest_at_most, head_or_behind, behind, IsGreatestOf, greatest_of}
-use Rattle.ra_time_order.proofs.SeenStamps.{kept_is, is_kept}
+use Rattle.ra_time_order.proofs.Ranks.{lowest_at_most, IsGreatestOf, greatest_of}
 
 -- a replica had its own updates
-own_had : (records : Records) (l : Label) → Contains (labels_of records) l → is_update l.op ≡ true → had records l.replica l.number ≡ true
+own_had : (records : Records) (l : Label) → Contains (labels_of records) l → is_update l.op ≡ true
+    → had records l.replica l.number ≡ true
 own_had [] l found is = absurd (omega (arith, found.1))
 own_had (Operate by op clock ∷ before) l found is =
     let own = by == l.replica && l.number == label_count before && is_update op in
@@ -28,33 +29,44 @@ own_had (Operate by op clock ∷ before) l found is =
           let number : l.number ≡ label_count before = sym (ap (λ (m : Label). m.number) newest) in
           or_left own (had before l.replica l.number)
           (and_from (by == l.replica && l.number == label_count before) (is_update op)
-          (and_from (by == l.replica) (l.number == label_count before) (eq-eqb by l.replica replica) (eq-eqb l.number (label_count before) number))
+          (and_from (by == l.replica) (l.number == label_count before) (eq-eqb by l.replica replica)
+          (eq-eqb l.number (label_count before) number))
           (ap (λ (m : Label). is_update m.op) newest ∙ is))
       | inr older ↦ or_right own (had before l.replica l.number) (own_had before l older is)
     ]
 own_had (Deliver to label ∷ before) l found is =
-    or_right (to == l.replica && l.number == label && is_update_at before l.number) (had before l.replica l.number) (own_had before l found is)
+    or_right (to == l.replica && l.number == label && is_update_at before l.number) (had before l.replica l.number)
+    (own_had before l found is)
 own_had (Join joined from ∷ before) l found is =
-    or_right (joined == l.replica && had before from l.number) (had before l.replica l.number) (own_had before l found is)
+    or_right (joined == l.replica && had before from l.number) (had before l.replica l.number)
+    (own_had before l found is)
 own_had (Verdict ∷ before) l found is = own_had before l found is
 
 -- a replica had what its labels see
-seen_had : (records : Records) (m : Label) (k : ℕ) → Contains (labels_of records) m → sees records m.number k ≡ true → had records m.replica k ≡ true
+seen_had : (records : Records) (m : Label) (k : ℕ) → Contains (labels_of records) m → sees records m.number k ≡ true
+    → had records m.replica k ≡ true
 seen_had [] m k found is = absurd (omega (arith, found.1))
 seen_had (Operate by op clock ∷ before) m k found is =
     let own = by == m.replica && k == label_count before && is_update op in
     elim (head_or_behind (next_label before by op clock) (labels_of before) m found) [
       | inl newest ↦
           let number : m.number ≡ label_count before = sym (ap (λ (l : Label). l.number) newest) in
-          let known : had before by k ≡ true = sym (cond-true (m.number == label_count before) (had before by k) (sees before m.number k) (eq-eqb m.number (label_count before) number)) ∙ is in
-          or_right own (had before m.replica k) (subst (λ r. had before r k ≡ true) (ap (λ (l : Label). l.replica) newest) known)
+          let known : had before by k ≡ true =
+          sym (cond-true (m.number == label_count before) (had before by k) (sees before m.number k)
+          (eq-eqb m.number (label_count before) number)) ∙ is in
+          or_right own (had before m.replica k) (subst (λ r. had before r k ≡ true)
+          (ap (λ (l : Label). l.replica) newest) known)
       | inr older ↦
-          let below = All-contains (λ l. l.number < label_count before) (labels_of before) m (numbers_below_count before) older in
-          let known : sees before m.number k ≡ true = sym (cond-false (m.number == label_count before) (had before by k) (sees before m.number k) (ne_eqb m.number (label_count before) (λ e. omega (arith, e, below)))) ∙ is in
+          let below = All-contains (λ l. l.number < label_count before) (labels_of before) m
+          (numbers_below_count before) older in
+          let known : sees before m.number k ≡ true =
+          sym (cond-false (m.number == label_count before) (had before by k) (sees before m.number k)
+          (ne_eqb m.number (label_count before) (λ e. omega (arith, e, below)))) ∙ is in
           or_right own (had before m.replica k) (seen_had before m k older known)
     ]
 seen_had (Deliver to label ∷ before) m k found is =
-    or_right (to == m.replica && k == label && is_update_at before k) (had before m.replica k) (seen_had before m k found is)
+    or_right (to == m.replica && k == label && is_update_at before k) (had before m.replica k)
+    (seen_had before m k found is)
 seen_had (Join joined from ∷ before) m k found is =
     or_right (joined == m.replica && had before from k) (had before m.replica k) (seen_had before m k found is)
 seen_had (Verdict ∷ before) m k found is = seen_had before m k found is
@@ -78,30 +90,42 @@ module _ (records : Records) (next : Next) where
   -- what the replica had is among what the new label sees
   had_seen : (l : Label) → Contains (labels_of records) l → had records next.by l.number ≡ true → Contains all_seen l
   had_seen l found is =
-      is_kept (λ (other : Label). sees now n other.number) (labels_of now) l (behind x (labels_of records) l found) (sees_had l.number ∙ is)
+      kept-there (λ (other : Label). sees now n other.number) (labels_of now) l
+      (behind_head x (labels_of records) l found)
+      (sees_had l.number ∙ is)
 
-  module _ (causal : IsCausal records) (stamped : (label : Label) (stamp : Stamp) → Contains (labels_of records) label → label.stamp ≡ Some stamp → is_update label.op ≡ true)
+  module _ (causal : IsCausal records) (stamped : (label : Label) (stamp : Stamp) → Contains (labels_of records) label
+      → label.stamp ≡ Some stamp → is_update label.op ≡ true)
       (greatest : Stamp) (is : IsGreatestOf all_seen greatest) where
     -- the replica had an update that must stand before
-    update_had : (m : Label) → Contains (labels_of records) m → must_stand_before now m x ≡ true → is_update m.op ≡ true → had records next.by m.number ≡ true
-    update_had m found must update = elim (or_cases (sees now n m.number) (m.replica == next.by && nat_lt m.number n) must) [
-      | inl seen ↦ sym (sees_had m.number) ∙ seen
-      | inr earlier ↦
-          let same = eqb-true m.replica next.by (and_parts (m.replica == next.by) (nat_lt m.number n) earlier).0 in
-          subst (λ r. had records r m.number ≡ true) same (own_had records m found update)
-    ]
+    update_had : (m : Label) → Contains (labels_of records) m → must_stand_before now m x ≡ true → is_update m.op ≡ true
+        → had records next.by m.number ≡ true
+    update_had m found must update =
+        elim (or_cases (sees now n m.number) (m.replica == next.by && nat_lt m.number n) must) [
+          | inl seen ↦ sym (sees_had m.number) ∙ seen
+          | inr earlier ↦
+              let same = eqb-true m.replica next.by (and_parts (m.replica == next.by) (nat_lt m.number n) earlier).0 in
+              subst (λ r. had records r m.number ≡ true) same (own_had records m found update)
+        ]
 
     -- and what a label sees that must
-    through_had : (m : Label) (k : ℕ) → Contains (labels_of records) m → must_stand_before now m x ≡ true → sees records m.number k ≡ true → had records next.by k ≡ true
-    through_had m k found must sees_k = elim (or_cases (sees now n m.number) (m.replica == next.by && nat_lt m.number n) must) [
-      | inl seen ↦ causal_records_leave_nothing_out-had records causal next.by m.number k (sym (sees_had m.number) ∙ seen) sees_k
-      | inr earlier ↦
-          let same = eqb-true m.replica next.by (and_parts (m.replica == next.by) (nat_lt m.number n) earlier).0 in
-          subst (λ r. had records r k ≡ true) same (seen_had records m k found sees_k)
-    ]
+    through_had : (m : Label) (k : ℕ) → Contains (labels_of records) m → must_stand_before now m x ≡ true
+        → sees records m.number k ≡ true → had records next.by k ≡ true
+    through_had m k found must sees_k =
+        elim (or_cases (sees now n m.number) (m.replica == next.by && nat_lt m.number n) must) [
+          | inl seen ↦
+              causal_records_leave_nothing_out-had records causal next.by m.number k (sym (sees_had m.number) ∙ seen)
+              sees_k
+          | inr earlier ↦
+              let same = eqb-true m.replica next.by (and_parts (m.replica == next.by) (nat_lt m.number n) earlier).0 in
+              subst (λ r. had records r k ≡ true) same (seen_had records m k found sees_k)
+        ]
 
-    bounded_at : (m : Label) (own : Option Stamp) → m.stamp ≡ own → Contains (labels_of records) m → must_stand_before now m x ≡ true
-        → AtMost (unwrap_or own (greatest_stamp (filter (λ other. sees records m.number other.number) (labels_of records)))) greatest
+    bounded_at : (m : Label) (own : Option Stamp) → m.stamp ≡ own → Contains (labels_of records) m
+        → must_stand_before now m x ≡ true
+        → AtMost
+        (unwrap_or own (greatest_stamp (filter (λ other. sees records m.number other.number) (labels_of records))))
+        greatest
     bounded_at m (Some stamp) has found must =
         is.above m stamp (had_seen m found (update_had m found must (stamped m stamp found has))) has
     bounded_at m None has found must =
@@ -110,9 +134,11 @@ module _ (records : Records) (next : Next) where
         elim (its.own) [
           | inl lowest ↦ subst (λ s. AtMost s greatest) (sym lowest) (lowest_at_most greatest)
           | inr one ↦
-              let kept = kept_is seen_by (labels_of records) one.0 one.1 in
-              is.above one.0 (greatest_stamp (filter seen_by (labels_of records))) (had_seen one.0 kept.0 (through_had m one.0.number found must kept.1)) one.2
+              let kept = there-kept seen_by (labels_of records) one.0 one.1 in
+              is.above one.0 (greatest_stamp (filter seen_by (labels_of records)))
+              (had_seen one.0 kept.0 (through_had m one.0.number found must kept.1)) one.2
         ]
 
-    pub bounded : (m : Label) → Contains (labels_of records) m → must_stand_before now m x ≡ true → AtMost (timestamp_of records m) greatest
+    pub bounded : (m : Label) → Contains (labels_of records) m → must_stand_before now m x ≡ true
+        → AtMost (timestamp_of records m) greatest
     bounded m found must = bounded_at m m.stamp refl found must

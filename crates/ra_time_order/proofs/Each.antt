@@ -36,6 +36,7 @@ module _ {A : Type 0} (P : A → Type 0) where
   each_set (x ∷ xs) zero e each this = (this, each.1)
   each_set (x ∷ xs) (suc p) e each this = (each.0, each_set xs p e each.1 this)
 
-pub each_weaker : {A : Type 0} (P Q : A → Type 0) → ((x : A) → P x → Q x) → (xs : List A) → AllByRecursion P xs → AllByRecursion Q xs
+pub each_weaker : {A : Type 0} (P Q : A → Type 0) → ((x : A) → P x → Q x) → (xs : List A) → AllByRecursion P xs
+    → AllByRecursion Q xs
 each_weaker P Q weaker [] each = tt
 each_weaker P Q weaker (x ∷ xs) each = (weaker x each.0, each_weaker P Q weaker xs each.1)

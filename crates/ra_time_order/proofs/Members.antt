@@ -14,11 +14,13 @@ use Rattle.ra_time_order.specs.Stamps.{stamps_at, greatest_in}
 use Rattle.ra_time_order.specs.Replicas.{stamps_of, have_room, ReplicasKept}
 use Rattle.ra_time_order.proofs.Ranks.{greater_lowest}
 
-stamps_there : (members : List Greatest) (q : ℕ) (had : Greatest) → q < length members → had ≡ get_or members q had → stamps_at (stamps_of members) q ≡ had.stamps
+stamps_there : (members : List Greatest) (q : ℕ) (had : Greatest) → q < length members → had ≡ get_or members q had
+    → stamps_at (stamps_of members) q ≡ had.stamps
 stamps_there members q had there is =
     get_or-map (λ (m : Greatest). m.stamps) members q had [] there ∙ ap (λ (m : Greatest). m.stamps) (sym is)
 
-pub stamps_pushed : (members : List Greatest) (q : ℕ) (new had : Greatest) (own : Option Stamp) → q < length members → had ≡ get_or members q had
+pub stamps_pushed : (members : List Greatest) (q : ℕ) (new had : Greatest) (own : Option Stamp) → q < length members
+    → had ≡ get_or members q had
     → new.stamps ≡ with_stamp had.stamps own
     → stamps_of (set members q new) ≡ set (stamps_of members) q (with_stamp (stamps_at (stamps_of members) q) own)
 stamps_pushed members q new had own there is made =
@@ -26,8 +28,10 @@ stamps_pushed members q new had own there is made =
     ∙ ap (set (stamps_of members) q) (made ∙ ap (λ row. with_stamp row own) (sym (stamps_there members q had there is)))
 
 -- of the first so many replicas one more
-pub greatest_more : (members : List Greatest) (n : ℕ) (stamps : List (List Stamp)) (count : ℕ → ℕ) (q : ℕ) (g new : Stamp) (had : Greatest)
-    → stamps_of members ≡ stamps → q < length (take n members) → had ≡ get_or (take n members) q had → g ≡ greatest_in stamps count q
+pub greatest_more : (members : List Greatest) (n : ℕ) (stamps : List (List Stamp)) (count : ℕ → ℕ) (q : ℕ)
+    (g new : Stamp) (had : Greatest)
+    → stamps_of members ≡ stamps → q < length (take n members) → had ≡ get_or (take n members) q had
+    → g ≡ greatest_in stamps count q
     → new ≡ greater_of g (greatest_among had.stamps (count q)) → new ≡ greatest_in stamps count (q + 1)
 greatest_more members n stamps count q g new had same first is so_far made =
     let there : q < length members = omega (arith, first, length-take n members, min-le_right n (length members)) in
@@ -40,7 +44,8 @@ greatest_more members n stamps count q g new had same first is so_far made =
     ∙ ap (greatest_in stamps count) (sym (add-one q))
 
 -- replicas without stamps add nothing
-pub greatest_without : (stamps : List (List Stamp)) (count : ℕ → ℕ) (used q : ℕ) → ((k : ℕ) → used ≤ k → stamps_at stamps k ≡ []) → used ≤ q
+pub greatest_without : (stamps : List (List Stamp)) (count : ℕ → ℕ) (used q : ℕ)
+    → ((k : ℕ) → used ≤ k → stamps_at stamps k ≡ []) → used ≤ q
     → greatest_in stamps count used ≡ greatest_in stamps count q
 greatest_without stamps count used zero none over = let is : used ≡ 0 = omega arith in ap (greatest_in stamps count) is
 greatest_without stamps count used (suc q) none over = elim (cases_lt q used) [
@@ -53,7 +58,8 @@ greatest_without stamps count used (suc q) none over = elim (cases_lt q used) [
       ∙ greater_lowest before)
 ]
 
-pub stamps_spared : (members : List Greatest) (q : ℕ) (new had : Greatest) → had ≡ get_or members q had → new.stamps ≡ had.stamps
+pub stamps_spared : (members : List Greatest) (q : ℕ) (new had : Greatest) → had ≡ get_or members q had
+    → new.stamps ≡ had.stamps
     → stamps_of (set members q new) ≡ stamps_of members
 stamps_spared members q new had is same =
     map-set_same (λ (m : Greatest). m.stamps) members q new had (same ∙ ap (λ (m : Greatest). m.stamps) is)
@@ -68,7 +74,8 @@ pub kept_at_first : (members : List Greatest) (n : ℕ) → stamps_of members �
     → All (λ (m : Greatest). 0 < m.room) members → ReplicasKept members 0 0
 kept_at_first members n are some few room =
     let long : length members ≡ n =
-    sym (length-map members (λ (m : Greatest). m.stamps)) ∙ ap (λ (ss : List (List Stamp)). length ss) are ∙ length-replicate n [] in
+    sym (length-map members (λ (m : Greatest). m.stamps)) ∙ ap (λ (ss : List (List Stamp)). length ss) are
+    ∙ length-replicate n [] in
     record {
       few = omega (arith, few, long);
       there = omega (arith, some, long);
@@ -78,17 +85,20 @@ kept_at_first members n are some few room =
     }
 
 module _ (members : List Greatest) (newest used : ℕ) (kept : ReplicasKept members newest used) (new : Greatest) where
-  pub kept_spared : (had : Greatest) → had ≡ get_or members newest had → new.stamps ≡ had.stamps → ReplicasKept (set members newest new) newest used
+  pub kept_spared : (had : Greatest) → had ≡ get_or members newest had → new.stamps ≡ had.stamps
+      → ReplicasKept (set members newest new) newest used
   kept_spared had is same =
       let long = length-set members newest new in
       record {
         few = omega (arith, kept.few, long);
         there = omega (arith, kept.there, long);
         room = λ k d below other.
-            let one : get_or (set members newest new) k d ≡ get_or members k d = get_or-set_other members newest k new d other in
+            let one : get_or (set members newest new) k d ≡ get_or members k d =
+            get_or-set_other members newest k new d other in
             omega (arith, ap (λ (m : Greatest). m.room) one, kept.room k d (omega (arith, below, long)) other);
         within = omega (arith, kept.within, long);
-        unused = λ k over. ap (λ ss. stamps_at ss k) (stamps_spared members newest new had is same) ∙ kept.unused k over;
+        unused =
+            λ k over. ap (λ ss. stamps_at ss k) (stamps_spared members newest new had is same) ∙ kept.unused k over;
       }
 
   -- with room for the newest one there is room for each
@@ -102,11 +112,13 @@ module _ (members : List Greatest) (newest used : ℕ) (kept : ReplicasKept memb
             ap (λ i. get_or (set members newest new) i d) here ∙ get_or-set_same members newest new d kept.there in
             omega (arith, ap (λ (m : Greatest). m.room) one, some)
         | inr other ↦
-            let one : get_or (set members newest new) k d ≡ get_or members k d = get_or-set_other members newest k new d other in
+            let one : get_or (set members newest new) k d ≡ get_or members k d =
+            get_or-set_other members newest k new d other in
             omega (arith, ap (λ (m : Greatest). m.room) one, kept.room k d there other)
       ]))
 
-  pub kept_pushed : (q now : ℕ) → q < length members → have_room members ≡ true → used ≤ now → q < now → now ≤ length members
+  pub kept_pushed : (q now : ℕ) → q < length members → have_room members ≡ true → used ≤ now → q < now
+      → now ≤ length members
       → ReplicasKept (set members q new) q now
   kept_pushed q now there all no_less further within =
       let long = length-set members q new in
@@ -116,7 +128,8 @@ module _ (members : List Greatest) (newest used : ℕ) (kept : ReplicasKept memb
         room = λ k d below other.
             let one : get_or (set members q new) k d ≡ get_or members k d = get_or-set_other members q k new d other in
             let old : k < length members = omega (arith, below, long) in
-            let some = ltb-true 0 (get_or members k d).room (AllPass-from_list_all (λ (m : Greatest). nat_lt 0 m.room) members all k d old) in
+            let some = ltb-true 0 (get_or members k d).room (AllPass-from_list_all (λ (m : Greatest). nat_lt 0 m.room)
+            members all k d old) in
             omega (arith, ap (λ (m : Greatest). m.room) one, some);
         within = omega (arith, long, within);
         unused = λ k over.

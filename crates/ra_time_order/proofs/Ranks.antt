@@ -1,5 +1,5 @@
 -- Stamps in their order, and the greatest of some.
-use Rattle.std.proofs.Common.{◌≡◌, zero, suc, true, false, List, [], ◌∷◌, Option, Some, None, refl, sym, ap, ◌∙◌, subst, inl, inr, arith}
+use Rattle.std.proofs.Common.{◌≡◌, true, false, List, [], ◌∷◌, Option, Some, None, refl, sym, ap, ◌∙◌, subst, inl, inr, arith}
 use Rattle.std.specs.Prelude.{◌⊎◌, Contains}
 use Rattle.std.specs.Option.{option_map_or}
 use Rattle.std.specs.Ordering.{is_lt}
@@ -9,6 +9,7 @@ use Rattle.ra_labels.specs.declared.label.Label.{Label}
 use Rattle.ra_labels.specs.NamedOrder.{lowest_rank, stamp_cmp, greater_of, greatest_stamp}
 use Rattle.ra_labels.specs.Laws.{IsStampBelow}
 use Rattle.ra_labels.proofs.StampOrder.{below_tested}
+use Rattle.ra_labels.proofs.Members.{head_or_behind, behind_head}
 use Rattle.ra_laws.proofs.TheLaws.{stamps_by_clock_and_then_by_replica-less}
 use Rattle.ra_time_order.specs.Stamps.{AtMost}
 
@@ -111,20 +112,14 @@ pub greater_lowest : (s : Stamp) → greater_of s lowest_rank ≡ s
 greater_lowest s =
     cond-false (is_lt (stamp_cmp s lowest_rank)) lowest_rank s (not_below s lowest_rank (lowest_at_most s))
 
--- an element of a list is its head, or stands behind it
-pub head_or_behind : (x : Label) (xs : List Label) (y : Label) → Contains (x ∷ xs) y → (x ≡ y) ⊎ Contains xs y
-head_or_behind x xs y (zero, within, is) = inl is
-head_or_behind x xs y (suc k, within, is) = inr (k, omega arith, is)
-
-pub behind : (x : Label) (xs : List Label) (y : Label) → Contains xs y → Contains (x ∷ xs) y
-behind x xs y (k, within, is) = (suc k, omega arith, is)
-
-own_behind : (x : Label) (xs : List Label) (s : Stamp) → (s ≡ lowest_rank) ⊎ ((l : Label) × Contains xs l × (l.stamp ≡ Some s))
+own_behind : (x : Label) (xs : List Label) (s : Stamp)
+    → (s ≡ lowest_rank) ⊎ ((l : Label) × Contains xs l × (l.stamp ≡ Some s))
     → (s ≡ lowest_rank) ⊎ ((l : Label) × Contains (x ∷ xs) l × (l.stamp ≡ Some s))
 own_behind x xs s (inl lowest) = inl lowest
-own_behind x xs s (inr found) = inr (found.0, behind x xs found.0 found.1, found.2)
+own_behind x xs s (inr found) = inr (found.0, behind_head x xs found.0 found.1, found.2)
 
-greatest_with : (label : Label) (labels : List Label) (own : Option Stamp) → own ≡ label.stamp → IsGreatestOf labels (greatest_stamp labels)
+greatest_with : (label : Label) (labels : List Label) (own : Option Stamp) → own ≡ label.stamp
+    → IsGreatestOf labels (greatest_stamp labels)
     → IsGreatestOf (label ∷ labels) (option_map_or (greater_of (greatest_stamp labels)) own (greatest_stamp labels))
 greatest_with label labels None is older = record {
   above = λ l t found stamped. elim (head_or_behind label labels l found) [
@@ -144,7 +139,9 @@ greatest_with label labels (Some stamp) is older =
         | inr further ↦ at_most_through t before (greater_of before stamp) (older.above l t further stamped) above.0
       ];
       own = elim (greater_is_one before stamp) [
-        | inl older_one ↦ subst (λ r. (r ≡ lowest_rank) ⊎ ((l : Label) × Contains (label ∷ labels) l × (l.stamp ≡ Some r))) (sym older_one) (own_behind label labels before older.own)
+        | inl older_one ↦
+            subst (λ r. (r ≡ lowest_rank) ⊎ ((l : Label) × Contains (label ∷ labels) l × (l.stamp ≡ Some r)))
+            (sym older_one) (own_behind label labels before older.own)
         | inr newer ↦ inr (label, (0, omega arith, refl), sym is ∙ ap Some (sym newer))
       ];
     }

@@ -12,7 +12,7 @@ use Rattle.ra_time_order.specs.declared.entry.Entry.{Entry}
 use Rattle.ra_time_order.specs.declared.run.Run.{Run}
 use Rattle.ra_time_order.specs.Positions.{not_above, IsPositionOf}
 use Rattle.ra_time_order.specs.Stamps.{AtMost}
-use Rattle.ra_time_order.specs.Sorted.{joined, AreBetween, IsRunOf}
+use Rattle.ra_time_order.specs.Sorted.{joined, AreBetween, IsRunOf, UpTo, From, StartsFrom}
 use Rattle.ra_time_order.proofs.Ranks.{at_most_below, at_most_through, below_to}
 use Rattle.ra_time_order.proofs.Each.{each_append, each_left, each_right, each_at, each_from, each_insert, each_set, each_weaker}
 use Rattle.ra_time_order.proofs.RisingRanks.{under_to, position_left, position_right}
@@ -23,16 +23,20 @@ offset [] at = 0
 offset (run ∷ runs) zero = 0
 offset (run ∷ runs) (suc at) = length run.chunk.entries + offset runs at
 
-pub offset_rest : (runs : List Run) (at : ℕ) → at ≤ length runs → offset runs at + length (joined (drop at runs)) ≡ length (joined runs)
+pub offset_rest : (runs : List Run) (at : ℕ) → at ≤ length runs
+    → offset runs at + length (joined (drop at runs)) ≡ length (joined runs)
 unfolding offset
 offset_rest [] zero few = refl
 offset_rest [] (suc at) few = absurd (omega arith)
 offset_rest (run ∷ runs) zero few = omega arith
-offset_rest (run ∷ runs) (suc at) few = omega (arith, offset_rest runs at (omega arith), length-append run.chunk.entries (joined runs))
+offset_rest (run ∷ runs) (suc at) few =
+    omega (arith, offset_rest runs at (omega arith), length-append run.chunk.entries (joined runs))
 
 -- a label put into a run is put among all
-pub joined_set : (runs : List Run) (at p : ℕ) (new d : Run) (e : Entry) → at < length runs → new.chunk.entries ≡ insert (get_or runs at d).chunk.entries p e
-    → p ≤ length (get_or runs at d).chunk.entries → joined (set runs at new) ≡ insert (joined runs) (offset runs at + p) e
+pub joined_set : (runs : List Run) (at p : ℕ) (new d : Run) (e : Entry) → at < length runs
+    → new.chunk.entries ≡ insert (get_or runs at d).chunk.entries p e
+    → p ≤ length (get_or runs at d).chunk.entries → joined (set runs at new)
+    ≡ insert (joined runs) (offset runs at + p) e
 unfolding offset
 joined_set [] at p new d e there made few = absurd (omega arith)
 joined_set (run ∷ runs) zero p new d e there made few =
@@ -48,19 +52,23 @@ joined_set (run ∷ runs) (suc at) p new d e there made few =
     ∙ sym (insert-append_right run.chunk.entries (joined runs) long (long + offset runs at + p) e refl (omega arith))
 
 -- no label before a run is above its first rank
-pub before_first : (before : List Entry) (runs : List Run) (at : ℕ) (d : Run) → AreBetween before runs → at < length runs
-    → AllByRecursion (λ earlier. AtMost earlier.rank (get_or runs at d).first) before
+pub before_first : (before : List Entry) (runs : List Run) (at : ℕ) (d : Run) → AreBetween before runs
+    → at < length runs
+    → AllByRecursion (UpTo (get_or runs at d).first) before
 before_first before [] at d between there = absurd (omega arith)
 before_first before (run ∷ runs) zero d between there = between.0
 before_first before (run ∷ runs) (suc at) d between there =
-    each_left (λ (earlier : Entry). AtMost earlier.rank (get_or runs at d).first) before run.chunk.entries (before_first (before ++ run.chunk.entries) runs at d between.3 (omega arith))
+    each_left (UpTo (get_or runs at d).first) before run.chunk.entries
+    (before_first (before ++ run.chunk.entries) runs at d between.3 (omega arith))
 
 -- and none of the run is below it
 pub own_first : (before : List Entry) (runs : List Run) (at : ℕ) (d : Run) → AreBetween before runs → at < length runs
-    → AllByRecursion (λ later. AtMost (get_or runs at d).first later.rank) (get_or runs at d).chunk.entries
+    → AllByRecursion (From (get_or runs at d).first) (get_or runs at d).chunk.entries
 own_first before [] at d between there = absurd (omega arith)
-own_first before (run ∷ runs) zero d between there = each_left (λ (later : Entry). AtMost run.first later.rank) run.chunk.entries (joined runs) between.1
-own_first before (run ∷ runs) (suc at) d between there = own_first (before ++ run.chunk.entries) runs at d between.3 (omega arith)
+own_first before (run ∷ runs) zero d between there =
+    each_left (From run.first) run.chunk.entries (joined runs) between.1
+own_first before (run ∷ runs) (suc at) d between there =
+    own_first (before ++ run.chunk.entries) runs at d between.3 (omega arith)
 
 -- below what is at most another is below that one
 less_through : (r s t : Stamp) → is_lt (stamp_cmp r s) ≡ true → AtMost s t → is_lt (stamp_cmp r t) ≡ true
@@ -75,25 +83,31 @@ less_through r s t less most = elim (below_tested r s less) [
   ]
 ]
 
-over_all : (rank : Stamp) (entry : Entry) (first : Stamp) → is_lt (stamp_cmp rank first) ≡ true → AtMost first entry.rank → not_above rank entry ≡ false
-over_all rank entry first less most = not_from_true (is_lt (stamp_cmp rank entry.rank)) (less_through rank first entry.rank less most)
+over_all : (rank : Stamp) (entry : Entry) (first : Stamp) → is_lt (stamp_cmp rank first) ≡ true
+    → AtMost first entry.rank → not_above rank entry ≡ false
+over_all rank entry first less most =
+    not_from_true (is_lt (stamp_cmp rank entry.rank)) (less_through rank first entry.rank less most)
 
-next_run : (rank : Stamp) (run : Run) (runs : List Run) (at : ℕ) → IsRunOf (run ∷ runs) rank (suc at) → IsRunOf runs rank at
+next_run : (rank : Stamp) (run : Run) (runs : List Run) (at : ℕ) → IsRunOf (run ∷ runs) rank (suc at)
+    → IsRunOf runs rank at
 next_run rank run runs at is = record {
   there = omega (arith, is.there);
   under = λ d. is.under d;
   over = λ k d low high. is.over (suc k) d (omega arith) (omega arith);
 }
 
-behind_over : (before : List Entry) (run : Run) (runs : List Run) (rank : Stamp) → AreBetween before (run ∷ runs) → IsRunOf (run ∷ runs) rank zero
+behind_over : (before : List Entry) (run : Run) (runs : List Run) (rank : Stamp) → AreBetween before (run ∷ runs)
+    → IsRunOf (run ∷ runs) rank zero
     → AllByRecursion (λ later. not_above rank later ≡ false) (joined runs)
 behind_over before run [] rank between is = tt
 behind_over before run (next ∷ runs) rank between is =
-    each_weaker (λ (later : Entry). AtMost next.first later.rank) (λ (later : Entry). not_above rank later ≡ false)
-    (λ later most. over_all rank later next.first (is.over 1 run (omega arith) (omega arith)) most) (next.chunk.entries ++ joined runs) between.3.1
+    each_weaker (From next.first) (λ (later : Entry). not_above rank later ≡ false)
+    (λ later most. over_all rank later next.first (is.over 1 run (omega arith) (omega arith)) most)
+    (next.chunk.entries ++ joined runs) between.3.1
 
 -- a position in the run is one among all
-pub position_joined : (before : List Entry) (runs : List Run) (at p : ℕ) (d : Run) (rank : Stamp) → AreBetween before runs → IsRunOf runs rank at
+pub position_joined : (before : List Entry) (runs : List Run) (at p : ℕ) (d : Run) (rank : Stamp)
+    → AreBetween before runs → IsRunOf runs rank at
     → IsPositionOf rank (get_or runs at d).chunk.entries p → IsPositionOf rank (joined runs) (offset runs at + p)
 unfolding offset
 position_joined before [] at p d rank between of is = absurd (omega (arith, of.there))
@@ -104,18 +118,21 @@ position_joined before (run ∷ runs) zero p d rank between of is =
 position_joined before (run ∷ runs) (suc at) p d rank between of is =
     let later = next_run rank run runs at of in
     let rest = position_joined (before ++ run.chunk.entries) runs at p d rank between.3 later is in
-    let under = each_right (λ (earlier : Entry). AtMost earlier.rank (get_or runs at d).first) before run.chunk.entries (before_first (before ++ run.chunk.entries) runs at d between.3 later.there) in
-    let same : length run.chunk.entries + (offset runs at + p) ≡ length run.chunk.entries + offset runs at + p = omega arith in
+    let under = each_right (UpTo (get_or runs at d).first) before run.chunk.entries
+    (before_first (before ++ run.chunk.entries) runs at d between.3 later.there) in
+    let same : length run.chunk.entries + (offset runs at + p) ≡ length run.chunk.entries + offset runs at + p =
+    omega arith in
     subst (IsPositionOf rank (run.chunk.entries ++ joined runs)) same
     (position_right rank run.chunk.entries (joined runs) (offset runs at + p)
-    (each_weaker (λ (earlier : Entry). AtMost earlier.rank (get_or runs at d).first) (λ (earlier : Entry). not_above rank earlier ≡ true)
-    (λ earlier most. under_to rank earlier (at_most_through earlier.rank (get_or runs at d).first rank most (later.under d))) run.chunk.entries under)
+    (each_weaker (UpTo (get_or runs at d).first) (λ (earlier : Entry). not_above rank earlier ≡ true)
+    (λ earlier most. under_to rank earlier (at_most_through earlier.rank (get_or runs at d).first rank most
+    (later.under d))) run.chunk.entries under)
     rest)
 
 -- one more label before runs
 between_more : (before more : List Entry) (e : Entry) (runs : List Run)
-    → ((s : Stamp) → AllByRecursion (λ earlier. AtMost earlier.rank s) before → AtMost e.rank s → AllByRecursion (λ earlier. AtMost earlier.rank s) more)
-    → AllByRecursion (λ run. AtMost e.rank run.first) runs → AreBetween before runs → AreBetween more runs
+    → ((s : Stamp) → AllByRecursion (UpTo s) before → AtMost e.rank s → AllByRecursion (UpTo s) more)
+    → AllByRecursion (StartsFrom e.rank) runs → AreBetween before runs → AreBetween more runs
 between_more before more e [] grows under between = tt
 between_more before more e (run ∷ runs) grows under between = (
   grows run.first between.0 under.0,
@@ -123,44 +140,48 @@ between_more before more e (run ∷ runs) grows under between = (
   between.2,
   between_more (before ++ run.chunk.entries) (more ++ run.chunk.entries) e runs
       (λ s each less.
-      each_append (λ (earlier : Entry). AtMost earlier.rank s) more run.chunk.entries
-      (grows s (each_left (λ (earlier : Entry). AtMost earlier.rank s) before run.chunk.entries each) less)
-      (each_right (λ (earlier : Entry). AtMost earlier.rank s) before run.chunk.entries each))
+      each_append (UpTo s) more run.chunk.entries
+      (grows s (each_left (UpTo s) before run.chunk.entries each) less)
+      (each_right (UpTo s) before run.chunk.entries each))
       under.1 between.3,
 )
 
 -- and in one of them
-pub between_set : (before : List Entry) (runs : List Run) (at p : ℕ) (new d : Run) (e : Entry) → AreBetween before runs → IsRunOf runs e.rank at
-    → new.first ≡ (get_or runs at d).first → new.chunk.entries ≡ insert (get_or runs at d).chunk.entries p e → p ≤ length (get_or runs at d).chunk.entries
+pub between_set : (before : List Entry) (runs : List Run) (at p : ℕ) (new d : Run) (e : Entry) → AreBetween before runs
+    → IsRunOf runs e.rank at
+    → new.first ≡ (get_or runs at d).first → new.chunk.entries ≡ insert (get_or runs at d).chunk.entries p e
+    → p ≤ length (get_or runs at d).chunk.entries
     → AreBetween before (set runs at new)
 between_set before [] at p new d e between of first made few = absurd (omega (arith, of.there))
 between_set before (run ∷ runs) zero p new d e between of first made few = (
-  subst (λ s. AllByRecursion (λ (earlier : Entry). AtMost earlier.rank s) before) (sym first) between.0,
-  subst (λ s. AllByRecursion (λ (later : Entry). AtMost s later.rank) (new.chunk.entries ++ joined runs)) (sym first)
-      (subst (λ xs. AllByRecursion (λ (later : Entry). AtMost run.first later.rank) (xs ++ joined runs)) (sym made)
-      (each_append (λ (later : Entry). AtMost run.first later.rank) (insert run.chunk.entries p e) (joined runs)
-      (each_insert (λ (later : Entry). AtMost run.first later.rank) run.chunk.entries p e (each_left (λ (later : Entry). AtMost run.first later.rank) run.chunk.entries (joined runs) between.1) (of.under d))
-      (each_right (λ (later : Entry). AtMost run.first later.rank) run.chunk.entries (joined runs) between.1))),
-  subst (λ s. AllByRecursion (λ (later : Run). AtMost s later.first) runs) (sym first) between.2,
+  subst (λ s. AllByRecursion (UpTo s) before) (sym first) between.0,
+  subst (λ s. AllByRecursion (From s) (new.chunk.entries ++ joined runs)) (sym first)
+      (subst (λ xs. AllByRecursion (From run.first) (xs ++ joined runs)) (sym made)
+      (each_append (From run.first) (insert run.chunk.entries p e) (joined runs)
+      (each_insert (From run.first) run.chunk.entries p e (each_left (From run.first) run.chunk.entries (joined runs)
+      between.1) (of.under d))
+      (each_right (From run.first) run.chunk.entries (joined runs) between.1))),
+  subst (λ s. AllByRecursion (StartsFrom s) runs) (sym first) between.2,
   between_more (before ++ run.chunk.entries) (before ++ new.chunk.entries) e runs
       (λ s each less.
-      each_append (λ (earlier : Entry). AtMost earlier.rank s) before new.chunk.entries
-      (each_left (λ (earlier : Entry). AtMost earlier.rank s) before run.chunk.entries each)
-      (subst (AllByRecursion (λ (earlier : Entry). AtMost earlier.rank s)) (sym made)
-      (each_insert (λ (earlier : Entry). AtMost earlier.rank s) run.chunk.entries p e (each_right (λ (earlier : Entry). AtMost earlier.rank s) before run.chunk.entries each) less)))
-      (each_from (λ (later : Run). AtMost e.rank later.first) runs (λ k d' there. at_most_below e.rank (get_or runs k d').first (of.over (suc k) d' (omega arith) (omega arith))))
+      each_append (UpTo s) before new.chunk.entries
+      (each_left (UpTo s) before run.chunk.entries each)
+      (subst (AllByRecursion (UpTo s)) (sym made)
+      (each_insert (UpTo s) run.chunk.entries p e (each_right (UpTo s) before run.chunk.entries each) less)))
+      (each_from (StartsFrom e.rank) runs (λ k d' there. at_most_below e.rank (get_or runs k d').first
+      (of.over (suc k) d' (omega arith) (omega arith))))
       between.3,
 )
 between_set before (run ∷ runs) (suc at) p new d e between of first made few =
     let later = next_run e.rank run runs at of in
-    let its = each_at (λ (later : Run). AtMost run.first later.first) runs at d between.2 later.there in (
+    let its = each_at (StartsFrom run.first) runs at d between.2 later.there in (
       between.0,
-      each_append (λ (l : Entry). AtMost run.first l.rank) run.chunk.entries (joined (set runs at new))
-          (each_left (λ (l : Entry). AtMost run.first l.rank) run.chunk.entries (joined runs) between.1)
-          (subst (AllByRecursion (λ (l : Entry). AtMost run.first l.rank)) (sym (joined_set runs at p new d e later.there made few))
-          (each_insert (λ (l : Entry). AtMost run.first l.rank) (joined runs) (offset runs at + p) e
-          (each_right (λ (l : Entry). AtMost run.first l.rank) run.chunk.entries (joined runs) between.1)
+      each_append (From run.first) run.chunk.entries (joined (set runs at new))
+          (each_left (From run.first) run.chunk.entries (joined runs) between.1)
+          (subst (AllByRecursion (From run.first)) (sym (joined_set runs at p new d e later.there made few))
+          (each_insert (From run.first) (joined runs) (offset runs at + p) e
+          (each_right (From run.first) run.chunk.entries (joined runs) between.1)
           (at_most_through run.first (get_or runs at d).first e.rank its (later.under d)))),
-      each_set (λ (l : Run). AtMost run.first l.first) runs at new between.2 (subst (AtMost run.first) (sym first) its),
+      each_set (StartsFrom run.first) runs at new between.2 (subst (AtMost run.first) (sym first) its),
       between_set (before ++ run.chunk.entries) runs at p new d e between.3 later first made few,
     )

@@ -13,21 +13,24 @@ use Rattle.ra_labels.specs.Records.{Records, label_count, labels_of}
 use Rattle.ra_labels.specs.Visibility.{is_update}
 use Rattle.ra_labels.proofs.Counted.{numbers_below_count}
 use Rattle.ra_labels.specs.Situation.{Next, operate, label_of}
+use Rattle.ra_labels.proofs.Members.{head_or_behind, behind_head}
 use Rattle.ra_time_order.specs.Greatest.{last_of, greatest_among, with_stamp}
 use Rattle.ra_time_order.specs.Stamps.{AtMost, stamps_at, IsAmong, AreGreatestOf, stamps_with}
-use Rattle.ra_time_order.proofs.Ranks.{at_most_itself, at_most_through, greater_above, greater_is_one, head_or_behind, behind}
+use Rattle.ra_time_order.proofs.Ranks.{at_most_itself, at_most_through, greater_above, greater_is_one}
 
 -- the greatest of all, with one more
 abbrev next_of : List Stamp → Option Stamp → Stamp
 next_of row own = option_map_or (greater_of (last_of row)) own (last_of row)
 
-among_before : (row : List Stamp) (own : Option Stamp) (k : ℕ) → k ≤ length row → greatest_among (with_stamp row own) k ≡ greatest_among row k
+among_before : (row : List Stamp) (own : Option Stamp) (k : ℕ) → k ≤ length row
+    → greatest_among (with_stamp row own) k ≡ greatest_among row k
 among_before row own k few = ap last_of (take-append-le k row (next_of row own ∷ []) few)
 
 among_all : (row : List Stamp) (k : ℕ) → length row ≤ k → greatest_among row k ≡ last_of row
 among_all row k many = ap last_of (take_all k row many)
 
-among_with : (row : List Stamp) (own : Option Stamp) (k : ℕ) → length row < k → greatest_among (with_stamp row own) k ≡ next_of row own
+among_with : (row : List Stamp) (own : Option Stamp) (k : ℕ) → length row < k
+    → greatest_among (with_stamp row own) k ≡ next_of row own
 among_with row own k many =
     let long = length-append row (next_of row own ∷ []) in
     among_all (with_stamp row own) k (omega (arith, long))
@@ -38,23 +41,28 @@ next_above row None = at_most_itself (last_of row)
 next_above row (Some stamp) = (greater_above (last_of row) stamp).0
 
 -- a further stamp lessens none
-row_above : (row : List Stamp) (own : Option Stamp) (k : ℕ) → AtMost (greatest_among row k) (greatest_among (with_stamp row own) k)
+row_above : (row : List Stamp) (own : Option Stamp) (k : ℕ)
+    → AtMost (greatest_among row k) (greatest_among (with_stamp row own) k)
 row_above row own k = elim (cases_lt (length row) k) [
   | inl many ↦
       subst (AtMost (greatest_among row k)) (sym (among_with row own k many))
       (subst (λ s. AtMost s (next_of row own)) (sym (among_all row k (omega arith))) (next_above row own))
-  | inr few ↦ subst (AtMost (greatest_among row k)) (sym (among_before row own k few)) (at_most_itself (greatest_among row k))
+  | inr few ↦
+      subst (AtMost (greatest_among row k)) (sym (among_before row own k few)) (at_most_itself (greatest_among row k))
 ]
 
 -- and is itself no greater than what is kept
-row_own : (row : List Stamp) (own : Option Stamp) (k : ℕ) (t : Stamp) → own ≡ Some t → length row < k → AtMost t (greatest_among (with_stamp row own) k)
+row_own : (row : List Stamp) (own : Option Stamp) (k : ℕ) (t : Stamp) → own ≡ Some t → length row < k
+    → AtMost t (greatest_among (with_stamp row own) k)
 row_own row None k t is many = absurd (cc is)
 row_own row (Some stamp) k t is many =
     let same : stamp ≡ t = cc is in
-    subst (AtMost t) (sym (among_with row (Some stamp) k many)) (subst (λ s. AtMost s (greater_of (last_of row) stamp)) same (greater_above (last_of row) stamp).1)
+    subst (AtMost t) (sym (among_with row (Some stamp) k many))
+    (subst (λ s. AtMost s (greater_of (last_of row) stamp)) same (greater_above (last_of row) stamp).1)
 
 grows_at_end : (row : List Stamp) (own : Option Stamp) (k : ℕ) → length row < k
-    → (greatest_among (with_stamp row own) k ≡ greatest_among row k) ⊎ ((length row < k) × (own ≡ Some (greatest_among (with_stamp row own) k)))
+    → (greatest_among (with_stamp row own) k ≡ greatest_among row k)
+    ⊎ ((length row < k) × (own ≡ Some (greatest_among (with_stamp row own) k)))
 grows_at_end row None k many = inl (among_with row None k many ∙ sym (among_all row k (omega arith)))
 grows_at_end row (Some stamp) k many = elim (greater_is_one (last_of row) stamp) [
   | inl older ↦ inl (among_with row (Some stamp) k many ∙ older ∙ sym (among_all row k (omega arith)))
@@ -63,7 +71,8 @@ grows_at_end row (Some stamp) k many = elim (greater_is_one (last_of row) stamp)
 
 -- what is kept was kept before, or is the new one
 row_grows : (row : List Stamp) (own : Option Stamp) (k : ℕ)
-    → (greatest_among (with_stamp row own) k ≡ greatest_among row k) ⊎ ((length row < k) × (own ≡ Some (greatest_among (with_stamp row own) k)))
+    → (greatest_among (with_stamp row own) k ≡ greatest_among row k)
+    ⊎ ((length row < k) × (own ≡ Some (greatest_among (with_stamp row own) k)))
 row_grows row own k = elim (cases_lt (length row) k) [
   | inl many ↦ grows_at_end row own k many
   | inr few ↦ inl (among_before row own k few)
@@ -79,20 +88,26 @@ module _ (records : Records) (next : Next) where
   -- the place of a label before, and of the new one
   pub place_before : (l : Label) → Contains (labels_of records) l → place_of now l.number ≡ place_of records l.number
   place_before l found =
-      let below = All-contains (λ m. m.number < label_count records) (labels_of records) l (numbers_below_count records) found in
-      cond-false (l.number == label_count records) (updates_of records next.by) (place_of records l.number) (ne_eqb l.number (label_count records) (λ e. omega (arith, e, below)))
+      let below = All-contains (λ m. m.number < label_count records) (labels_of records) l (numbers_below_count records)
+      found in
+      cond-false (l.number == label_count records) (updates_of records next.by) (place_of records l.number)
+      (ne_eqb l.number (label_count records) (λ e. omega (arith, e, below)))
 
   place_new : place_of now (label_count records) ≡ updates_of records next.by
-  place_new = cond-true (label_count records == label_count records) (updates_of records next.by) (place_of records (label_count records)) (eq-eqb (label_count records) (label_count records) refl)
+  place_new =
+      cond-true (label_count records == label_count records) (updates_of records next.by)
+      (place_of records (label_count records)) (eq-eqb (label_count records) (label_count records) refl)
 
   -- who is among the first updates now
   among_older : (q k : ℕ) (l : Label) → Contains (labels_of records) l → IsAmong now q k l → IsAmong records q k l
   among_older q k l found among = (found, among.1, among.2, omega (arith, among.3, place_before l found))
 
   among_still : (q k : ℕ) (l : Label) → IsAmong records q k l → IsAmong now q k l
-  among_still q k l among = (behind x (labels_of records) l among.0, among.1, among.2, omega (arith, among.3, place_before l among.0))
+  among_still q k l among =
+      (behind_head x (labels_of records) l among.0, among.1, among.2, omega (arith, among.3, place_before l among.0))
 
-  among_newest : (q k : ℕ) (l : Label) → x ≡ l → IsAmong now q k l → (is_update next.op ≡ true) × (next.by ≡ q) × (updates_of records next.by < k)
+  among_newest : (q k : ℕ) (l : Label) → x ≡ l → IsAmong now q k l
+      → (is_update next.op ≡ true) × (next.by ≡ q) × (updates_of records next.by < k)
   among_newest q k l is among =
       let number : l.number ≡ label_count records = sym (ap (λ (m : Label). m.number) is) in (
         ap (λ (m : Label). is_update m.op) is ∙ among.1,
@@ -103,14 +118,18 @@ module _ (records : Records) (next : Next) where
   -- whether the label is an update of the replica
   updates_now : (q : ℕ) → next.by ≡ q → is_update next.op ≡ true → updates_of now q ≡ updates_of records q + 1
   updates_now q same is =
-      cond-true (next.by == q && is_update next.op) (updates_of records q + 1) (updates_of records q) (and_from (next.by == q) (is_update next.op) (eq-eqb next.by q same) is)
+      cond-true (next.by == q && is_update next.op) (updates_of records q + 1) (updates_of records q)
+      (and_from (next.by == q) (is_update next.op) (eq-eqb next.by q same) is)
 
   updates_same : (q : ℕ) → (next.by ≡ q → is_update next.op ≡ true → ⊥) → updates_of now q ≡ updates_of records q
   updates_same q not_own =
       cond-false (next.by == q && is_update next.op) (updates_of records q + 1) (updates_of records q)
-      (false_from_ne_true (next.by == q && is_update next.op) (λ both. let parts = and_parts (next.by == q) (is_update next.op) both in not_own (eqb-true next.by q parts.0) parts.1))
+      (false_from_ne_true (next.by == q && is_update next.op)
+      (λ both. let parts = and_parts (next.by == q) (is_update next.op) both in
+      not_own (eqb-true next.by q parts.0) parts.1))
 
-  module _ (stamps : List (List Stamp)) (first : ℕ) (are : AreGreatestOf stamps first records) (known : next.by < length stamps) where
+  module _ (stamps : List (List Stamp)) (first : ℕ) (are : AreGreatestOf stamps first records)
+      (known : next.by < length stamps) where
     abbrev with_it : List (List Stamp)
     with_it = stamps_with stamps next.by (is_update next.op) x.stamp
 
@@ -119,15 +138,18 @@ module _ (records : Records) (next : Next) where
     length_with false = refl
 
     -- the replica's stamps have one more, and others have not
-    own_with : (q : ℕ) (update : Bool) → next.by ≡ q → update ≡ true → stamps_at (stamps_with stamps next.by update x.stamp) q ≡ with_stamp (stamps_at stamps q) x.stamp
+    own_with : (q : ℕ) (update : Bool) → next.by ≡ q → update ≡ true
+        → stamps_at (stamps_with stamps next.by update x.stamp) q ≡ with_stamp (stamps_at stamps q) x.stamp
     own_with q true same is =
         ap (stamps_at (stamps_with stamps next.by true x.stamp)) (sym same)
         ∙ get_or-set_same stamps next.by (with_stamp (stamps_at stamps next.by) x.stamp) [] known
         ∙ ap (λ p. with_stamp (stamps_at stamps p) x.stamp) same
     own_with q false same is = absurd (false≢true is)
 
-    else_with : (q : ℕ) (update : Bool) → (next.by ≡ q → update ≡ true → ⊥) → stamps_at (stamps_with stamps next.by update x.stamp) q ≡ stamps_at stamps q
-    else_with q true not_own = get_or-set_other stamps next.by q (with_stamp (stamps_at stamps next.by) x.stamp) [] (λ e. not_own (sym e) refl)
+    else_with : (q : ℕ) (update : Bool) → (next.by ≡ q → update ≡ true → ⊥)
+        → stamps_at (stamps_with stamps next.by update x.stamp) q ≡ stamps_at stamps q
+    else_with q true not_own =
+        get_or-set_other stamps next.by q (with_stamp (stamps_at stamps next.by) x.stamp) [] (λ e. not_own (sym e) refl)
     else_with q false not_own = refl
 
     -- by cases on whether the label is an update of the replica
@@ -149,10 +171,13 @@ module _ (records : Records) (next : Next) where
               ∙ length-append (stamps_at stamps q) (next_of (stamps_at stamps q) x.stamp ∷ [])
               ∙ ap (λ n. n + 1) (are.updates q old)
               ∙ sym (updates_now q own.0 own.1)
-          | inr other ↦ ap (λ row. length row) (else_with q (is_update next.op) other) ∙ are.updates q old ∙ sym (updates_same q other)
+          | inr other ↦
+              ap (λ row. length row) (else_with q (is_update next.op) other) ∙ are.updates q old
+              ∙ sym (updates_same q other)
         ]
 
-    above_with : (q k : ℕ) (label : Label) (stamp : Stamp) → q < length with_it → IsAmong now q k label → label.stamp ≡ Some stamp → AtMost stamp (greatest_among (stamps_at with_it q) k)
+    above_with : (q k : ℕ) (label : Label) (stamp : Stamp) → q < length with_it → IsAmong now q k label
+        → label.stamp ≡ Some stamp → AtMost stamp (greatest_among (stamps_at with_it q) k)
     above_with q k label stamp there among stamped =
         let old : q < length stamps = omega (arith, there, length_with (is_update next.op)) in
         let row = stamps_at stamps q in
@@ -160,21 +185,25 @@ module _ (records : Records) (next : Next) where
           | inl newest ↦
               let is = among_newest q k label newest among in
               subst (λ r. AtMost stamp (greatest_among r k)) (sym (own_with q (is_update next.op) is.1 is.0))
-              (row_own row x.stamp k stamp (ap (λ (m : Label). m.stamp) newest ∙ stamped) (omega (arith, is.2, are.updates q old, ap (updates_of records) is.1)))
+              (row_own row x.stamp k stamp (ap (λ (m : Label). m.stamp) newest ∙ stamped)
+              (omega (arith, is.2, are.updates q old, ap (updates_of records) is.1)))
           | inr older ↦
               let before = are.above q k label stamp old (among_older q k label older among) stamped in
               elim (own_or_not q) [
                 | inl own ↦
                     subst (λ r. AtMost stamp (greatest_among r k)) (sym (own_with q (is_update next.op) own.0 own.1))
-                    (at_most_through stamp (greatest_among row k) (greatest_among (with_stamp row x.stamp) k) before (row_above row x.stamp k))
-                | inr other ↦ subst (λ r. AtMost stamp (greatest_among r k)) (sym (else_with q (is_update next.op) other)) before
+                    (at_most_through stamp (greatest_among row k) (greatest_among (with_stamp row x.stamp) k) before
+                    (row_above row x.stamp k))
+                | inr other ↦
+                    subst (λ r. AtMost stamp (greatest_among r k)) (sym (else_with q (is_update next.op) other)) before
               ]
         ]
 
     abbrev IsOwnAmong : ℕ → ℕ → Stamp → Type 0
     IsOwnAmong q k s = (s ≡ lowest_rank) ⊎ ((label : Label) × IsAmong now q k label × (label.stamp ≡ Some s))
 
-    own_still : (q k : ℕ) (s : Stamp) → (s ≡ lowest_rank) ⊎ ((label : Label) × IsAmong records q k label × (label.stamp ≡ Some s)) → IsOwnAmong q k s
+    own_still : (q k : ℕ) (s : Stamp) → (s ≡ lowest_rank)
+        ⊎ ((label : Label) × IsAmong records q k label × (label.stamp ≡ Some s)) → IsOwnAmong q k s
     own_still q k s (inl lowest) = inl lowest
     own_still q k s (inr found) = inr (found.0, among_still q k found.0 found.1, found.2)
 
@@ -188,9 +217,21 @@ module _ (records : Records) (next : Next) where
               (elim (row_grows row x.stamp k) [
                 | inl same ↦ subst (IsOwnAmong q k) (sym same) (own_still q k (greatest_among row k) (are.own q k old))
                 | inr new ↦
-                    inr (x, ((0, omega arith, refl), own.1, own.0, omega (arith, new.0, are.updates q old, place_new, ap (updates_of records) own.0)), new.1)
+                    inr (
+                      x,
+                      (
+                        (0, omega arith, refl),
+                        own.1,
+                        own.0,
+                        omega
+                            (arith, new.0, are.updates q old, place_new, ap (updates_of records) own.0),
+                      ),
+                      new.1,
+                    )
               ])
-          | inr other ↦ subst (λ r. IsOwnAmong q k (greatest_among r k)) (sym (else_with q (is_update next.op) other)) (own_still q k (greatest_among row k) (are.own q k old))
+          | inr other ↦
+              subst (λ r. IsOwnAmong q k (greatest_among r k)) (sym (else_with q (is_update next.op) other))
+              (own_still q k (greatest_among row k) (are.own q k old))
         ]
 
     known_with : (label : Label) → Contains (labels_of now) label → label.replica < length with_it

@@ -14,9 +14,19 @@ pub record Sorted : Type 0 where
   -- how many more there is room for
   pub room : ℕ
 
--- no run
-abbrev pub no_run : Run
-no_run = record { first = lowest_rank; chunk = record { entries = []; room = 0 } }
+-- the entry's rank is no greater than this one, or no less
+abbrev pub UpTo : Stamp → Entry → Type 0
+UpTo rank entry = AtMost entry.rank rank
+
+abbrev pub From : Stamp → Entry → Type 0
+From rank entry = AtMost rank entry.rank
+
+-- the run's first rank is no less than this one
+abbrev pub StartsFrom : Stamp → Run → Type 0
+StartsFrom rank run = AtMost rank run.first
+
+abbrev pub HasRoom : Run → Type 0
+HasRoom run = 0 < run.chunk.room
 
 -- the labels of the runs, one run behind the other
 abbrev pub joined : List Run → List Entry
@@ -33,16 +43,16 @@ sorted_of runs = record {
 -- no rank is greater than that of a later label
 abbrev pub Rise : List Entry → Type 0
 Rise [] = Unit {0}
-Rise (entry ∷ entries) = AllByRecursion (λ later. AtMost entry.rank later.rank) entries × Rise entries
+Rise (entry ∷ entries) = AllByRecursion (From entry.rank) entries × Rise entries
 
 -- behind these labels, each run's first rank is between those of the labels before the run and those from it on, and
 -- is no greater than that of a later run
 abbrev pub AreBetween : List Entry → List Run → Type 0
 AreBetween before [] = Unit {0}
 AreBetween before (run ∷ runs) =
-    AllByRecursion (λ earlier. AtMost earlier.rank run.first) before
-    × AllByRecursion (λ later. AtMost run.first later.rank) (run.chunk.entries ++ joined runs)
-    × AllByRecursion (λ later. AtMost run.first later.first) runs
+    AllByRecursion (UpTo run.first) before
+    × AllByRecursion (From run.first) (run.chunk.entries ++ joined runs)
+    × AllByRecursion (StartsFrom run.first) runs
     × AreBetween (before ++ run.chunk.entries) runs
 
 -- it is the last run whose first rank is not above this one
@@ -77,4 +87,4 @@ pub record RunsKept (runs : List Run) (labels newest : ℕ) : Type 0 where
 -- and no label has a rank above the last one
 pub record SortedKept (runs : List Run) (labels newest : ℕ) (last : Stamp) : Type 0 where
   pub kept : RunsKept runs labels newest
-  pub under : AllByRecursion (λ entry. AtMost entry.rank last) (joined runs)
+  pub under : AllByRecursion (UpTo last) (joined runs)

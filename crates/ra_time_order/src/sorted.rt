@@ -1,9 +1,8 @@
 //! Labels sorted by rank, in runs, so that a late one moves few others.
-ghost use Rattle.std.specs.Prelude.{◌≡◌, ℕ, ◌+◌, ◌<◌, ◌≤◌, true, [], length, get_or, not, vec_len, IfOk, OnOk, OnErr, option_map};
+ghost use Rattle.std.specs.Prelude.{◌≡◌, ℕ, ◌+◌, ◌<◌, ◌≤◌, true, [], length, get_or, vec_len, IfOk, OnOk, OnErr, option_map};
 ghost use Rattle.std.specs.List.{insert, slice_get};
 ghost use Rattle.std.specs.List.Sorted.{IsPartitionedBy};
-ghost use Rattle.std.specs.Ordering.{is_lt};
-ghost use Rattle.ra_labels.specs.NamedOrder.{lowest_rank, stamp_cmp};
+ghost use Rattle.ra_labels.specs.NamedOrder.{lowest_rank};
 ghost use Rattle.ra_time_order.specs.declared.run.Run.{Run};
 ghost use Rattle.ra_time_order.specs.Positions.{not_above, IsPositionOf};
 ghost use Rattle.ra_time_order.specs.Sorted.{joined, IsRunOf, IsSplit};

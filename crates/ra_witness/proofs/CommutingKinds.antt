@@ -1,6 +1,6 @@
 -- What is kept, kind by kind, with one label or delivery more: of a counter and an OR-Set, and what all kinds share.
 use Rattle.std.proofs.Common.{◌≡◌, ℕ, ◌<◌, ◌≤◌, true, List, [], ◌∷◌, ◌++◌, length, Option, Some, None, sym, ap, ◌∙◌, subst, inl, inr, arith}
-use Rattle.std.specs.Prelude.{◌⊎◌, Result, OnOk, Ok, Err, IfSome}
+use Rattle.std.specs.Prelude.{◌⊎◌, Result, IfOk, OnOk, Ok, Err, IfSome}
 use Rattle.std.proofs.lemmas.Option.{none-some}
 use Rattle.ra_labels.specs.declared.kind.Kind.{Kind}
 use Rattle.ra_labels.specs.declared.kind.Kind.TheVariants as variant
@@ -33,6 +33,10 @@ use Rattle.ra_witness.proofs.Forms.{of_its_kind, is_of_kind, its_replica, has_st
 pub on_ok_two : {T E : Type 0} {P Q R : Type 0} (r : Result T E) → OnOk r P → OnOk r Q → (P → Q → R) → OnOk r R
 on_ok_two (Ok x) p q f = f p q
 on_ok_two (Err e) p q f = tt
+
+pub if_ok_on : {T E : Type 0} {P : T → Type 0} {Q : Type 0} (r : Result T E) → IfOk r P → ((x : T) → P x → Q) → OnOk r Q
+if_ok_on (Ok x) p f = f x p
+if_ok_on (Err e) p f = tt
 
 pub if_some_use : {A : Type 0} (o : Option A) (x : A) (P : A → Type 0) → o ≡ Some x → IfSome o P → P x
 if_some_use o x P is p = subst (λ a. IfSome a P) is p

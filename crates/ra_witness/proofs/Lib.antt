@@ -1,6 +1,7 @@
 pub mod Newest
 pub mod Causes
 pub mod NumberedLabels
+pub mod SettledUpdates
 pub mod NamedParts
 pub mod ReplicaStates
 pub mod Lasts

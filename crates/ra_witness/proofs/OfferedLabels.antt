@@ -1,5 +1,5 @@
 -- What a witness stands for with one label, delivery or replica more.
-use Rattle.std.proofs.Common.{◌≡◌, ℕ, ◌<◌, Bool, true, false, cond, List, ◌∷◌, length, Option, Some, None, refl, sym, ap, ◌∙◌}
+use Rattle.std.proofs.Common.{◌≡◌, ℕ, ◌<◌, Bool, true, false, cond, List, ◌∷◌, length, Option, Some, None, refl, sym, ap, ◌∙◌, arith}
 use Rattle.std.specs.Prelude.{◌&&◌, ◌||◌, not, is_some, option_map}
 use Rattle.std.specs.Option.{option_or, option_to_list}
 use Rattle.std.proofs.lemmas.List.{length-map}
@@ -31,7 +31,7 @@ use Rattle.ra_witness.specs.declared.witness.Witness.{Witness}
 use Rattle.ra_witness.specs.Labels.{updates_in, first_of, update_in}
 use Rattle.ra_witness.specs.Offered.{IsOffered, IsTold, IsJoinedFrom}
 use Rattle.ra_witness.specs.Effects.{AreEffectsOf}
-use Rattle.ra_witness.specs.Witness.{IsWitnessOf}
+use Rattle.ra_witness.specs.Witness.{IsWitnessOf, MayOffer}
 
 pub from_not : (b c : Bool) → not b ≡ not c → b ≡ c
 from_not true true e = refl
@@ -118,6 +118,18 @@ module _ {O : Type 0} (stands_for : O → Past → Type 0) where
         stamps = rw (accepted_after past (operate next) stands.none comes.accepted) at (stamps_are_given_once-one past.kind past.first past.records (operate next) stands.stamps);
         few = few;
       }
+
+  -- after each past of which the witness is that, since these have equally many labels
+  pub comes_offered : (listed : O → List ℕ)
+      → ((order : O) (past : Past) → stands_for order past → listed order ≡ numbers_in past.kind past.records)
+      → (w : Witness O) (label : Label) (seen : Seen) (place : Place) → MayOffer stands_for w label seen
+      → (past : Past) (next : Next) → IsWitnessOf stands_for w past → ComesNext past next label seen
+      → IsPlaceOf past.kind past.records next place → place.fits ≡ true → IsOffered past next label
+  comes_offered listed lists w label seen place may past next stands comes is fits =
+      let count = λ (p : Past) (held : IsWitnessOf stands_for w p).
+      listed_count p.kind p.records (listed w.order) (lists w.order p held.order) in
+      is_offered w past next label seen place stands comes is fits
+      (omega (arith, may.few, count past stands, count may.past may.stands))
 
   -- and a delivery that is not refused is told
   pub is_told : (w : Witness O) (past : Past) (to n : ℕ) → IsWitnessOf stands_for w past

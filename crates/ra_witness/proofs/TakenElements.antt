@@ -1,5 +1,7 @@
 -- What is kept of an RGA with one more label.
-use Rattle.std.proofs.Common.{◌≡◌, ℕ, ◌<◌, Bool, true, false, List, [], ◌∷◌, ◌++◌, length, set, Option, Some, None, refl, sym, ap, ◌∙◌, subst, arith, length-append}
+use Rattle.std.proofs.Common.{◌≡◌, ℕ, ◌<◌, Bool, true, false, List, [], ◌∷◌, ◌++◌, length, set, Option, Some, None, refl, sym, ap, ◌∙◌, subst, inl, inr, arith, length-append}
+use Rattle.std.specs.List.{slice_get}
+use Rattle.std.proofs.lemmas.Option.{slice_get_cases}
 use Rattle.std.proofs.lemmas.List.{length-set}
 use Rattle.ra_labels.specs.declared.kind.Kind.TheVariants as variant
 use Rattle.ra_labels.specs.declared.operation.Op.{Op}
@@ -23,6 +25,7 @@ use Rattle.ra_replica_list.specs.ReplicaList.{ReplicaList, IsListOf}
 use Rattle.ra_replica_list.proofs.TheLaws.{a_list_stays_with_what_others_do-insertion, a_list_stays_with_what_others_do-removal, a_list_stays_with_what_others_do-query}
 use Rattle.ra_witness.specs.declared.rga.Rga.{Rga}
 use Rattle.ra_witness.specs.Rga.{IsRgaOf}
+use Rattle.ra_witness.specs.Settled.{SettlesMore}
 use Rattle.ra_witness.specs.Offered.{IsOffered}
 use Rattle.ra_witness.proofs.Forms.{its_clock}
 use Rattle.ra_witness.proofs.AdmittedElements.{makes_after, makes_removal, some_clock}
@@ -33,24 +36,41 @@ use Rattle.ra_witness.proofs.NewElement.{adds_insertion}
 module _ (old next : Rga) (first : ℕ) (records : Records) (by : ℕ) (clock : Option ℕ) (label : Label) (stands : IsRgaOf old first records) where
   -- with a label that does nothing
   pub rga_asked : (op : Op) → IsOffered (past_of variant.Rga first records) (next_of by op clock) label → is_update op ≡ false
-      → next.deeds.items ≡ old.deeds.items ++ None ∷ [] → next.all ≡ old.all → next.lists ≡ old.lists → IsRgaOf next first (Operate by op clock ∷ records)
+      → next.deeds.items ≡ old.deeds.items ++ None ∷ [] → next.all ≡ old.all → next.lists ≡ old.lists
+      → IsRgaOf next first (Operate by op clock ∷ records) × SettlesMore records (Operate by op clock) by 0
   rga_asked op offered asks its_deeds same_all same_lists =
       let now = Operate by op clock ∷ records in
       let deeds = old.deeds.items in
       let elements = elements_more old.all old.all deeds records by op clock None stands.elements (adds_nothing old.all deeds records by op clock stands.elements asks) in
+      let asked = λ (q : ℕ) (list : ReplicaList) (at : slice_get old.lists.items q ≡ Some list).
+      a_list_stays_with_what_others_do-query list old.all deeds records q (next_of by op clock) stands.elements (stands.lists q list at) asks in
       let lists : AreListsOf old.lists.items old.all.arrivals (deeds ++ None ∷ []) now =
-      λ q list at. a_list_stays_with_what_others_do-query list old.all deeds records q by op clock stands.elements (stands.lists q list at) asks in
-      record {
-        elements =
-            subst (λ ds. AreElementsOf next.all ds now) (sym its_deeds)
-            (subst (λ a. AreElementsOf a (deeds ++ None ∷ []) now) (sym same_all) elements);
-        replicas = ap (λ ls. length ls.items) same_lists ∙ stands.replicas;
-        lists =
-            subst (λ ds. AreListsOf next.lists.items next.all.arrivals ds now) (sym its_deeds)
-            (subst (λ a. AreListsOf next.lists.items a.arrivals (deeds ++ None ∷ []) now) (sym same_all)
-            (subst (λ ls. AreListsOf ls.items old.all.arrivals (deeds ++ None ∷ []) now) (sym same_lists) lists));
-        few = omega (arith, stands.few, ap (λ (a : ElementList). length a.arrivals) same_all);
-      }
+      λ q list at. (asked q list at).0 in
+      let settles : SettlesMore records (Operate by op clock) by 0 = elim (slice_get_cases old.lists.items by).1 [
+        | inl (list, within, at, same) ↦
+            let (is, count) = asked by list at in
+            record {
+              settled = (stands.lists by list at).settled;
+              now = is.settled;
+              before = (stands.lists by list at).kept.settles;
+              after = is.kept.settles;
+              count = omega (arith, count);
+            }
+        | inr (beyond, none) ↦ absurd (omega (arith, beyond, stands.replicas, offered.replica))
+      ] in (
+        record {
+          elements =
+              subst (λ ds. AreElementsOf next.all ds now) (sym its_deeds)
+              (subst (λ a. AreElementsOf a (deeds ++ None ∷ []) now) (sym same_all) elements);
+          replicas = ap (λ ls. length ls.items) same_lists ∙ stands.replicas;
+          lists =
+              subst (λ ds. AreListsOf next.lists.items next.all.arrivals ds now) (sym its_deeds)
+              (subst (λ a. AreListsOf next.lists.items a.arrivals (deeds ++ None ∷ []) now) (sym same_all)
+              (subst (λ ls. AreListsOf ls.items old.all.arrivals (deeds ++ None ∷ []) now) (sym same_lists) lists));
+          few = omega (arith, stands.few, ap (λ (a : ElementList). length a.arrivals) same_all);
+        },
+        settles,
+      )
 
   -- with one that removes the element of this number
   pub rga_removed : (x number : ℕ) (list : ReplicaList) → let op = ops.RgaRemove x in let now = Operate by op clock ∷ records in
@@ -69,7 +89,7 @@ module _ (old next : Rga) (first : ℕ) (records : Records) (by : ℕ) (clock : 
       (adds_removal old.all deeds records by op clock number stands.elements removes within unclocked admitted) in
       let lists : AreListsOf (set old.lists.items by list) old.all.arrivals with_it now =
       lists_with old.lists.items by list old.all.arrivals with_it now (omega (arith, stands.replicas, offered.replica)) own
-      (λ q other differ at. a_list_stays_with_what_others_do-removal other old.all deeds records q by number op clock stands.elements (stands.lists q other at) differ removes) in
+      (λ q other differ at. a_list_stays_with_what_others_do-removal other old.all deeds records q number (next_of by op clock) stands.elements (stands.lists q other at) differ removes) in
       record {
         elements =
             subst (λ ds. AreElementsOf next.all ds now) (sym its_deeds)
@@ -107,7 +127,7 @@ module _ (old next : Rga) (first : ℕ) (records : Records) (by : ℕ) (clock : 
       (adds_insertion old.all next.all deeds records by op clock m x stamp stands.elements makes within new own_stamp clocked offered.stamps admitted its_arrivals its_elements) in
       let lists : AreListsOf (set old.lists.items by list) (old.all.arrivals ++ newest ∷ []) with_it now =
       lists_with old.lists.items by list (old.all.arrivals ++ newest ∷ []) with_it now (omega (arith, stands.replicas, offered.replica)) own
-      (λ q other differ at. a_list_stays_with_what_others_do-insertion other old.all newest deeds records q by op clock stands.elements (stands.lists q other at) differ makes admitted) in
+      (λ q other differ at. a_list_stays_with_what_others_do-insertion other old.all newest deeds records q (next_of by op clock) stands.elements (stands.lists q other at) differ makes admitted) in
       record {
         elements = subst (λ ds. AreElementsOf next.all ds now) (sym its_deeds) elements;
         replicas = ap length its_lists ∙ length-set old.lists.items by list ∙ stands.replicas;

@@ -7,6 +7,7 @@ pub mod Last
 pub mod Overriding
 pub mod Overridden
 pub mod Rga
+pub mod Settled
 pub mod Offered
 pub mod Effects
 pub mod Witness

@@ -18,6 +18,7 @@ ghost use Rattle.ra_labels.specs.Situation.{Past, replicas_of, nothing_yet, past
 ghost use Rattle.ra_rewrite.specs.Parts.{acts_in};
 ghost use Rattle.ra_witness.specs.Labels.{update_in, updates_in, updates_by_number};
 ghost use Rattle.ra_witness.specs.States.{steps_of};
+ghost use Rattle.ra_witness.specs.Settled.{SettlesMore};
 ghost use Rattle.ra_witness.specs.Sequence.{has_query_half};
 ghost use Rattle.ra_witness.specs.Offered.{IsOffered, IsTold, IsJoinedFrom};
 ghost use Rattle.ra_witness.specs.Effects.{AreEffectsOf, IsOverridingOf, MayMeet, MayTake, MayWrite, MayTell, MayShare};
@@ -96,6 +97,9 @@ impl Effects {
         ensures step { IfOk result (λ steps. steps ≤ 1) }
         ensures counted { (past : Past) → AreEffectsOf self.old past → ¬ (past.kind ≡ kinds.Rga)
             → IfOk result (λ steps. steps ≡ steps_of update) }
+        ensures settled { (past : Past) (next : Next) → AreEffectsOf self.old past → IsOffered past next label.now
+            → updates_admitted past.kind (named_sequence past.kind (operate next ∷ past.records)) ≡ true
+            → past.kind ≡ kinds.Rga → IfOk result (SettlesMore past.records (operate next) next.by) }
         ensures same { (past : Past) → AreEffectsOf self.old past → OnErr result (AreEffectsOf self.new past) }
     {
         match self {
@@ -123,6 +127,8 @@ impl Effects {
             → IfOk result (λ steps. steps ≡ 1) }
         ensures counted { (past : Past) → AreEffectsOf self.old past → IsTold past replica label
             → ¬ (past.kind ≡ kinds.Rga) → IfOk result (λ steps. steps ≡ 1) }
+        ensures settled { (past : Past) → AreEffectsOf self.old past → IsTold past replica label
+            → past.kind ≡ kinds.Rga → IfOk result (SettlesMore past.records (Deliver replica label) replica) }
         ensures same { (past : Past) → AreEffectsOf self.old past → OnErr result (AreEffectsOf self.new past) }
     {
         match self {

@@ -20,6 +20,7 @@ ghost use Rattle.ra_seqspec.specs.Asked.{asks_rising};
 ghost use Rattle.std.specs.List.{list_all};
 ghost use Rattle.ra_replica_list.specs.Deeds.{element_at};
 ghost use Rattle.ra_witness.specs.Labels.{queries_in, cause_in};
+ghost use Rattle.ra_witness.specs.Settled.{SettlesMore};
 ghost use Rattle.ra_witness.specs.Rga.{IsRgaOf, MayGrow, MayHear};
 ghost use Rattle.ra_witness.specs.Offered.{IsOffered, IsTold, IsJoinedFrom};
 
@@ -122,7 +123,8 @@ impl Rga {
         ensures taken { (first : ℕ) (records : Records) (next : Next) → IsRgaOf self.old first records
             → IsOffered (past_of kinds.Rga first records) next label.now
             → updates_admitted kinds.Rga (named_sequence kinds.Rga (operate next ∷ records)) ≡ true
-            → OnOk result (IsRgaOf self.new first (operate next ∷ records)) }
+            → IfOk result (λ steps. IsRgaOf self.new first (operate next ∷ records)
+            × SettlesMore records (operate next) next.by steps) }
         ensures step { IfOk result (λ steps. steps ≤ 1) }
         ensures same { (first : ℕ) (records : Records) → IsRgaOf self.old first records
             → OnErr result (IsRgaOf self.new first records) }
@@ -149,7 +151,8 @@ impl Rga {
         ensures taken { (first : ℕ) (records : Records) (next : Next) → IsRgaOf self.old first records
             → IsOffered (past_of kinds.Rga first records) next label.now
             → updates_admitted kinds.Rga (named_sequence kinds.Rga (operate next ∷ records)) ≡ true
-            → next.op ≡ ops.After anchor element → OnOk result (IsRgaOf self.new first (operate next ∷ records)) }
+            → next.op ≡ ops.After anchor element → IfOk result (λ steps. IsRgaOf self.new first (operate next ∷ records)
+            × SettlesMore records (operate next) next.by steps) }
         ensures step { IfOk result (λ steps. steps ≤ 1) }
         ensures same { (first : ℕ) (records : Records) → IsRgaOf self.old first records
             → OnErr result (IsRgaOf self.new first records) }
@@ -177,7 +180,8 @@ impl Rga {
         ensures taken { (first : ℕ) (records : Records) (next : Next) → IsRgaOf self.old first records
             → IsOffered (past_of kinds.Rga first records) next label.now
             → updates_admitted kinds.Rga (named_sequence kinds.Rga (operate next ∷ records)) ≡ true
-            → next.op ≡ ops.RgaRemove element → OnOk result (IsRgaOf self.new first (operate next ∷ records)) }
+            → next.op ≡ ops.RgaRemove element → IfOk result (λ steps. IsRgaOf self.new first (operate next ∷ records)
+            × SettlesMore records (operate next) next.by steps) }
         ensures step { IfOk result (λ steps. steps ≤ 1) }
         ensures same { (first : ℕ) (records : Records) → IsRgaOf self.old first records
             → OnErr result (IsRgaOf self.new first records) }
@@ -196,20 +200,8 @@ impl Rga {
         requires { MayHear self.old replica label }
         ensures delivered { (first : ℕ) (records : Records) → IsRgaOf self.old first records
             → IsTold (past_of kinds.Rga first records) replica label
-            → OnOk result (IsRgaOf self.new first (Deliver replica label ∷ records)) }
-        ensures few_steps { (first : ℕ) (records : Records) (before behind : List Label) (it : Label)
-            → IsRgaOf self.old first records → IsTold (past_of kinds.Rga first records) replica label
-            → named_labels kinds.Rga records ≡ before ++ it ∷ behind → it.number ≡ label
-            → IfOk result (λ steps. steps ≤ 1 + length (updates_among (had records replica) behind)) }
-        ensures some_step { (first : ℕ) (records : Records) → IsRgaOf self.old first records
-            → IsTold (past_of kinds.Rga first records) replica label
-            → is_admitted kinds.Rga (updates_had kinds.Rga (Deliver replica label ∷ records) replica) ≡ true
-            → IfOk result (λ steps. 1 ≤ steps) }
-        ensures one_step { (first : ℕ) (records : Records) → IsRgaOf self.old first records
-            → IsTold (past_of kinds.Rga first records) replica label
-            → is_admitted kinds.Rga (updates_had kinds.Rga records replica) ≡ true
-            → is_admitted kinds.Rga (updates_had kinds.Rga (Deliver replica label ∷ records) replica) ≡ true
-            → IfOk result (λ steps. steps ≡ 1) }
+            → IfOk result (λ steps. IsRgaOf self.new first (Deliver replica label ∷ records)
+            × SettlesMore records (Deliver replica label) replica steps) }
         ensures same { (first : ℕ) (records : Records) → IsRgaOf self.old first records
             → OnErr result (IsRgaOf self.new first records) }
     {

@@ -1,5 +1,5 @@
 //! The one kept witness: an order of labels, and the state of each replica.
-ghost use Rattle.std.specs.Prelude.{◌≡◌, ◌+◌, ◌<◌, ◌≤◌, ◌++◌, ◌∷◌, [], true, List, length, map, Option, None, Ok, IfOk, OnOk, OnErr};
+ghost use Rattle.std.specs.Prelude.{◌≡◌, ℕ, ◌+◌, ◌<◌, ◌≤◌, ◌++◌, ◌∷◌, [], true, List, length, map, min, Option, None, Ok, IfOk, OnOk, OnErr};
 ghost use Rattle.ra_labels.specs.declared.kind.Kind.{Kind};
 ghost use Rattle.ra_labels.specs.declared.kind.Kind.TheVariants as kinds;
 ghost use Rattle.ra_labels.specs.declared.label.Label.{Label};
@@ -12,6 +12,7 @@ ghost use Rattle.ra_labels.specs.Insertion.{updates_among, updates_had};
 ghost use Rattle.ra_labels.specs.Situation.{Past, replicas_of, nothing_yet, past_with, IsAccepted, Next, operate};
 ghost use Rattle.ra_witness.specs.Labels.{update_in};
 ghost use Rattle.ra_witness.specs.States.{steps_of};
+ghost use Rattle.ra_witness.specs.Settled.{SettlesMore};
 ghost use Rattle.ra_witness.specs.Sequence.{ref_of};
 ghost use Rattle.ra_witness.specs.Witness.{IsWitnessOf, MayOffer, MayDeliver, MayJoin};
 ghost use Rattle.ra_visibility.specs.Order.{ComesNext};
@@ -68,6 +69,10 @@ impl<O: NamedOrder> Witness<O> {
         ensures counted { (past : Past) (next : Next) → IsWitnessOf O.stands_for self.old past
             → ComesNext past next label.now seen.now → ¬ (past.kind ≡ kinds.Rga) → result ≡ Ok None
             → self.old.steps < 18446744073709551615 → self.new.steps ≡ self.old.steps + steps_of (update_in next.op) }
+        ensures settled { (past : Past) (next : Next) → IsWitnessOf O.stands_for self.old past
+            → ComesNext past next label.now seen.now → past.kind ≡ kinds.Rga → result ≡ Ok None
+            → (more : ℕ) × SettlesMore past.records (operate next) next.by more
+            × (self.new.steps ≡ min (self.old.steps + more) 18446744073709551615) }
     {
         let place = self.order.place(label, seen);
         if !place.fits {
@@ -116,6 +121,10 @@ impl<O: NamedOrder> Witness<O> {
         ensures counted { (past : Past) → IsWitnessOf O.stands_for self.old past
             → IsAccepted past (Deliver replica label) → ¬ (past.kind ≡ kinds.Rga)
             → self.old.steps < 18446744073709551615 → OnOk result (self.new.steps ≡ self.old.steps + 1) }
+        ensures settled { (past : Past) → IsWitnessOf O.stands_for self.old past
+            → IsAccepted past (Deliver replica label) → past.kind ≡ kinds.Rga
+            → OnOk result ((more : ℕ) × SettlesMore past.records (Deliver replica label) replica more
+            × (self.new.steps ≡ min (self.old.steps + more) 18446744073709551615)) }
         ensures some_step { (past : Past) → IsWitnessOf O.stands_for self.old past
             → IsAccepted past (Deliver replica label)
             → is_admitted past.kind (updates_had past.kind (Deliver replica label ∷ past.records) replica) ≡ true

@@ -7,9 +7,5 @@ pub invariant_of-self : goal.invariant_of-self
 invariant_of-self c =
     let made : c.insert.new.self.items ≡ insert c.self.inside.entries.items c.args.position c.args.entry =
     search rules in
-    let wide : 1 < vec_capacity c.insert.new.self = search rules in (
-      wide,
-      least_insert c.self.inside.entries.items c.insert.new.self.items c.args.position c.args.entry c.self.inside.least
-          c.lesser-self-inside.result
-          c.self.invariant.1 made c.lesser-self-inside.ensures,
-    )
+    let wide : 1 < vec_capacity c.insert.new.self = search rules in
+    (wide, least_insert _ _ _ _ _ _ c.self.invariant.1 made c.lesser-self-inside.ensures)

@@ -8,6 +8,4 @@ use Rattle.ra_element_list.proofs.element_list.ElementList.number_of.Goals as go
 pub returns : goal.returns
 returns c = λ n.
     let is : c.copied.result ≡ get nat_eq c.self.inside.numbers c.args.element = search rules in
-    numbers_exactly (get nat_eq c.self.inside.numbers) c.self.inside.elements.items c.args.self.now.arrivals
-    c.args.element c.copied.result c.self.invariant.numbers
-    (ap (λ (l : ElementList). l.arrivals) c.self.view_is) is n
+    numbers_exactly _ _ _ _ _ c.self.invariant.numbers (ap (λ (l : ElementList). l.arrivals) c.self.view_is) is n

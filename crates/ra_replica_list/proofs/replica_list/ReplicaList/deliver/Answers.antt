@@ -1,4 +1,5 @@
-use Rattle.std.proofs.Common.{◌≡◌, Some, sym, ap, ◌∙◌, subst, ◌∷◌}
+use Rattle.std.proofs.Common.{◌≡◌, ◌+◌, Some, sym, ap, ◌∙◌, subst, ◌∷◌}
+use Rattle.std.proofs.lemmas.Result.{IfOk-weaker}
 use Rattle.ra_labels.specs.declared.label.Stamp.{Stamp}
 use Rattle.ra_labels.specs.declared.command.Command.TheVariants.{Deliver}
 use Rattle.ra_labels.specs.NamedOrder.{greater_of}
@@ -7,89 +8,55 @@ use Rattle.ra_labels.proofs.Results.{on_err, on_err_any}
 use Rattle.ra_replica_list.specs.declared.deed.Deed.{Deed}
 use Rattle.ra_replica_list.specs.declared.deed.Deed.TheVariants.{PutsIn, Removes}
 use Rattle.ra_replica_list.specs.Deeds.{deed_at}
-use Rattle.ra_replica_list.specs.ReplicaList.{ReplicaList, IsGreatestOf, IsListOf}
+use Rattle.ra_replica_list.specs.ReplicaList.{ReplicaList, IsGreatestOf, IsListOf, settled_count}
 use Rattle.ra_replica_list.proofs.Deeds.{deeds_stand}
 use Rattle.ra_replica_list.proofs.AlikeLists.{list_alike}
-use Rattle.ra_replica_list.proofs.Deliveries.{if_ok_on, if_ok_map, delivered, few_steps, counted, some_step, one_step, with_stamp, with_none}
+use Rattle.ra_replica_list.proofs.Deliveries.{delivered, with_stamp, with_none}
 use Rattle.ra_replica_list.proofs.replica_list.ReplicaList.deliver.Goals as goal
 
 pub returns-in_err-steps-in-PutsIn-clause-err : goal.returns-in_err-steps-in-PutsIn-clause-err
 returns-in_err-steps-in-PutsIn-clause-err c = on_err_any c.from_residual.result
-    (λ arrivals deeds records replica held. list_alike c.args.self.now c.put_in.new.self c.in_err-steps-in-PutsIn.ensures.err held)
+    (λ arrivals deeds records replica held. list_alike c.args.self.now c.put_in.new.self
+    c.in_err-steps-in-PutsIn.ensures.err held)
 
 pub stamp-requires : goal.stamp-requires
-stamp-requires c = c.requires.elements.known c.args.label (PutsIn c.in-PutsIn.number) (c.requires.deed_of ∙ ap (λ (d : Deed). Some d) c.in-PutsIn.is)
+stamp-requires c =
+    c.requires.elements.known c.args.label (PutsIn c.in-PutsIn.number)
+    (c.requires.deed_of ∙ ap (λ (d : Deed). Some d) c.in-PutsIn.is)
 
 pub remove-requires : goal.remove-requires
-remove-requires c = c.requires.elements.known c.args.label (Removes c.in-Removes.number) (c.requires.deed_of ∙ ap (λ (d : Deed). Some d) c.in-Removes.is)
+remove-requires c =
+    c.requires.elements.known c.args.label (Removes c.in-Removes.number)
+    (c.requires.deed_of ∙ ap (λ (d : Deed). Some d) c.in-Removes.is)
 
 pub returns-in_ok-steps-in-PutsIn-clause-got : goal.returns-in_ok-steps-in-PutsIn-clause-got
 returns-in_ok-steps-in-PutsIn-clause-got c = λ records to stand held is new once.
     let all = c.args.all.now in
     let now = c.put_in.new.self in
-    let puts : deed_at c.args.deeds.now c.args.label ≡ Some (PutsIn c.in-PutsIn.number) = is ∙ ap (λ (d : Deed). Some d) c.in-PutsIn.is in
+    let puts : deed_at c.args.deeds.now c.args.label ≡ Some (PutsIn c.in-PutsIn.number) =
+    is ∙ ap (λ (d : Deed). Some d) c.in-PutsIn.is in
     let after = c.in_ok-steps-in-PutsIn.ensures.got records (had records to) stand held puts new in
     let next : ReplicaList = record now { greatest = greater_of now.greatest c.stamp.result } in
-    let top = subst (λ (s : Stamp). IsGreatestOf records (had records to) s) (sym c.in_ok-steps-in-PutsIn.ensures.greatest) held.greatest in
-    subst (λ (l : ReplicaList). IsListOf l all.arrivals c.args.deeds.now (Deliver to c.args.label ∷ records) to) (sym c.saw.ensures)
-    (delivered next held.settled to c.args.label c.in_ok-steps-in-PutsIn.steps (PutsIn c.in-PutsIn.number) stand puts after
+    let top = subst (λ (s : Stamp). IsGreatestOf records (had records to) s)
+    (sym c.in_ok-steps-in-PutsIn.ensures.greatest) held.greatest in
+    subst
+    (λ (l : ReplicaList). (is : IsListOf l all.arrivals c.args.deeds.now (Deliver to c.args.label ∷ records) to)
+    × (settled_count is ≡ settled_count held + c.in_ok-steps-in-PutsIn.steps))
+    (sym c.saw.ensures)
+    (delivered next held c.args.label c.in_ok-steps-in-PutsIn.steps (PutsIn c.in-PutsIn.number) stand puts after
     (with_stamp c.args.label c.in-PutsIn.number c.stamp.result stand top puts c.stamp.ensures))
 
-pub returns-in_ok-steps-in-PutsIn-clause-steps : goal.returns-in_ok-steps-in-PutsIn-clause-steps
-returns-in_ok-steps-in-PutsIn-clause-steps c = λ records to before behind it stand held is new named it_num.
-    let puts : deed_at c.args.deeds.now c.args.label ≡ Some (PutsIn c.in-PutsIn.number) = is ∙ ap (λ (d : Deed). Some d) c.in-PutsIn.is in
-    let after = c.in_ok-steps-in-PutsIn.ensures.got records (had records to) stand held puts new in
-    few_steps c.put_in.new.self to c.args.label c.in_ok-steps-in-PutsIn.steps (PutsIn c.in-PutsIn.number) before behind it stand held puts after named it_num
-
-pub returns-in_ok-steps-in-PutsIn-clause-counted : goal.returns-in_ok-steps-in-PutsIn-clause-counted
-returns-in_ok-steps-in-PutsIn-clause-counted c = λ records to stand was now is new.
-    let puts : deed_at c.args.deeds.now c.args.label ≡ Some (PutsIn c.in-PutsIn.number) = is ∙ ap (λ (d : Deed). Some d) c.in-PutsIn.is in
-    let after = c.in_ok-steps-in-PutsIn.ensures.got records (had records to) stand was puts new in
-    counted c.put_in.new.self to c.args.label c.in_ok-steps-in-PutsIn.steps (PutsIn c.in-PutsIn.number) stand was now puts after
-
 pub returns-in-Removes-clause-got : goal.returns-in-Removes-clause-got
-returns-in-Removes-clause-got c = if_ok_on c.remove.result c.remove.ensures.got (λ steps got records to stand held is new once.
-    let removes : deed_at c.args.deeds.now c.args.label ≡ Some (Removes c.in-Removes.number) = is ∙ ap (λ (d : Deed). Some d) c.in-Removes.is in
+returns-in-Removes-clause-got c = IfOk-weaker c.remove.result _ _ (λ steps got records to stand held is new once.
+    let removes : deed_at c.args.deeds.now c.args.label ≡ Some (Removes c.in-Removes.number) =
+    is ∙ ap (λ (d : Deed). Some d) c.in-Removes.is in
     let after = got c.args.deeds.now records (had records to) (deeds_stand stand) held removes new in
-    let top = subst (λ (s : Stamp). IsGreatestOf records (had records to) s) (sym c.remove.ensures.greatest) held.greatest in
-    delivered c.remove.new.self held.settled to c.args.label steps (Removes c.in-Removes.number) stand removes after (with_none c.args.label c.in-Removes.number stand top removes))
-
-pub returns-in-Removes-clause-steps : goal.returns-in-Removes-clause-steps
-returns-in-Removes-clause-steps c = if_ok_map c.remove.result c.remove.ensures.got (λ steps got records to before behind it stand held is new named it_num.
-    let removes : deed_at c.args.deeds.now c.args.label ≡ Some (Removes c.in-Removes.number) = is ∙ ap (λ (d : Deed). Some d) c.in-Removes.is in
-    let after = got c.args.deeds.now records (had records to) (deeds_stand stand) held removes new in
-    few_steps c.remove.new.self to c.args.label steps (Removes c.in-Removes.number) before behind it stand held removes after named it_num)
-
-pub returns-in-Removes-clause-counted : goal.returns-in-Removes-clause-counted
-returns-in-Removes-clause-counted c = if_ok_map c.remove.result c.remove.ensures.got (λ steps got records to stand was now is new.
-    let removes : deed_at c.args.deeds.now c.args.label ≡ Some (Removes c.in-Removes.number) = is ∙ ap (λ (d : Deed). Some d) c.in-Removes.is in
-    let after = got c.args.deeds.now records (had records to) (deeds_stand stand) was removes new in
-    counted c.remove.new.self to c.args.label steps (Removes c.in-Removes.number) stand was now removes after)
+    let top = subst (λ (s : Stamp). IsGreatestOf records (had records to) s) (sym c.remove.ensures.greatest)
+    held.greatest in
+    delivered c.remove.new.self held c.args.label steps (Removes c.in-Removes.number) stand removes after
+    (with_none c.args.label c.in-Removes.number stand top removes))
+    c.remove.ensures.got
 
 pub returns-in-Removes-clause-err : goal.returns-in-Removes-clause-err
 returns-in-Removes-clause-err c = on_err c.remove.result c.remove.ensures.err
     (λ alike arrivals deeds records replica held. list_alike c.args.self.now c.remove.new.self alike held)
-
-pub returns-in_ok-steps-in-PutsIn-clause-some_step : goal.returns-in_ok-steps-in-PutsIn-clause-some_step
-returns-in_ok-steps-in-PutsIn-clause-some_step c = λ records to stand held is new none_waits.
-    let puts : deed_at c.args.deeds.now c.args.label ≡ Some (PutsIn c.in-PutsIn.number) = is ∙ ap (λ (d : Deed). Some d) c.in-PutsIn.is in
-    let after = c.in_ok-steps-in-PutsIn.ensures.got records (had records to) stand held puts new in
-    some_step c.put_in.new.self to c.args.label c.in_ok-steps-in-PutsIn.steps (PutsIn c.in-PutsIn.number) stand held puts new after none_waits
-
-pub returns-in-Removes-clause-some_step : goal.returns-in-Removes-clause-some_step
-returns-in-Removes-clause-some_step c = if_ok_map c.remove.result c.remove.ensures.got (λ steps got records to stand held is new none_waits.
-    let removes : deed_at c.args.deeds.now c.args.label ≡ Some (Removes c.in-Removes.number) = is ∙ ap (λ (d : Deed). Some d) c.in-Removes.is in
-    let after = got c.args.deeds.now records (had records to) (deeds_stand stand) held removes new in
-    some_step c.remove.new.self to c.args.label steps (Removes c.in-Removes.number) stand held removes new after none_waits)
-
-pub returns-in_ok-steps-in-PutsIn-clause-one_step : goal.returns-in_ok-steps-in-PutsIn-clause-one_step
-returns-in_ok-steps-in-PutsIn-clause-one_step c = λ records to stand held is new none_waited none_waits.
-    let puts : deed_at c.args.deeds.now c.args.label ≡ Some (PutsIn c.in-PutsIn.number) = is ∙ ap (λ (d : Deed). Some d) c.in-PutsIn.is in
-    let after = c.in_ok-steps-in-PutsIn.ensures.got records (had records to) stand held puts new in
-    one_step c.put_in.new.self to c.args.label c.in_ok-steps-in-PutsIn.steps (PutsIn c.in-PutsIn.number) stand held puts new after none_waited none_waits
-
-pub returns-in-Removes-clause-one_step : goal.returns-in-Removes-clause-one_step
-returns-in-Removes-clause-one_step c = if_ok_map c.remove.result c.remove.ensures.got (λ steps got records to stand held is new none_waited none_waits.
-    let removes : deed_at c.args.deeds.now c.args.label ≡ Some (Removes c.in-Removes.number) = is ∙ ap (λ (d : Deed). Some d) c.in-Removes.is in
-    let after = got c.args.deeds.now records (had records to) (deeds_stand stand) held removes new in
-    one_step c.remove.new.self to c.args.label steps (Removes c.in-Removes.number) stand held removes new after none_waited none_waits)

@@ -16,7 +16,8 @@ loop-replica-preserved c =
     c.loop-replica.greatest c.greater-greatest.result c.member-item.result
     (ap stamps_of c.as_slice.ensures.value ∙ ap (λ (r : Replicas). r.stamps) c.self.view_is)
     c.loop-replica-test.true c.member-item.is c.loop-replica.invariant
-    (c.greater-greatest.ensures ∙ ap (greater_of c.loop-replica.greatest) (c.among.ensures ∙ ap (greatest_among c.member-item.result.stamps) c.count.ensures))
+    (c.greater-greatest.ensures ∙ ap (greater_of c.loop-replica.greatest)
+    (c.among.ensures ∙ ap (greatest_among c.member-item.result.stamps) c.count.ensures))
 
 pub returns : goal.returns
 returns c =
@@ -26,9 +27,16 @@ returns c =
     let long = ap (λ (ms : List Greatest). length ms) c.as_slice.ensures.value in
     let short = length-take-le used members (omega (arith, c.self.invariant.within, long)) in
     let is : stamps_of c.self.inside.members.items ≡ stamps = ap (λ (r : Replicas). r.stamps) c.self.view_is in
-    let last : c.loop-replica.replica ≡ used = omega (arith, c.loop-replica-test.false, c.loop-replica.auto.replica-end, short) in
+    let last : c.loop-replica.replica ≡ used =
+    omega (arith, c.loop-replica-test.false, c.loop-replica.auto.replica-end, short) in
     c.loop-replica.invariant
     ∙ ap (greatest_in stamps (count_in c.args.seen.now)) last
     ∙ greatest_without stamps (count_in c.args.seen.now) used (length stamps)
     (λ k over. ap (λ ss. stamps_at ss k) (sym is) ∙ c.self.invariant.unused k over)
-    (omega (arith, c.self.invariant.within, ap (λ (ss : List (List Stamp)). length ss) is, length-map c.self.inside.members.items (λ (m : Greatest). m.stamps)))
+    (omega (
+      arith,
+      c.self.invariant.within,
+      ap (λ (ss : List (List Stamp)). length ss) is,
+      length-map
+          c.self.inside.members.items (λ (m : Greatest). m.stamps),
+    ))

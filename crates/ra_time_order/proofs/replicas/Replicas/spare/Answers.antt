@@ -5,16 +5,12 @@ use Rattle.ra_time_order.proofs.Members.{stamps_spared, kept_spared, room_for_al
 use Rattle.ra_time_order.proofs.replicas.Replicas.spare.Goals as goal
 
 pub returns-clause-stamps : goal.returns-clause-stamps
-returns-clause-stamps c =
-    stamps_spared c.self.inside.members.items c.self.inside.newest c.spare.new.self c.index_mut.result.now c.index_mut.ensures.value c.spare.ensures.stamps
+returns-clause-stamps c = stamps_spared _ _ _ _ c.index_mut.ensures.value c.spare.ensures.stamps
     ∙ ap (λ (r : Replicas). r.stamps) c.self.view_is
 
 pub returns-clause-room : goal.returns-clause-room
-returns-clause-room c = on_ok_weaker c.spare.result
-    (room_for_all c.self.inside.members.items c.self.inside.newest c.self.inside.used c.self.invariant c.spare.new.self)
-    c.spare.ensures.room
+returns-clause-room c =
+    on_ok_weaker c.spare.result (room_for_all _ _ _ c.self.invariant c.spare.new.self) c.spare.ensures.room
 
 pub invariant_of-self : goal.invariant_of-self
-invariant_of-self c =
-    kept_spared c.self.inside.members.items c.self.inside.newest c.self.inside.used c.self.invariant c.spare.new.self
-    c.index_mut.result.now c.index_mut.ensures.value c.spare.ensures.stamps
+invariant_of-self c = kept_spared _ _ _ c.self.invariant _ _ c.index_mut.ensures.value c.spare.ensures.stamps

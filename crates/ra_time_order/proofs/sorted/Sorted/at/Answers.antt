@@ -8,11 +8,13 @@ use Rattle.ra_time_order.proofs.sorted.Sorted.at.Goals as goal
 
 pub returns-then-rest-len : goal.returns-then-rest-len
 returns-then-rest-len c =
-    let here = label_here c.deref-run-items.result.now c.loop-run.run-index c.loop-run.rest c.run-item.result c.loop-run-test.true c.run-item.is (omega (arith, c.if-rest-len.true, c.len.ensures)) in
-    c.at.ensures ∙ ap (option_map (λ (entry : Entry). entry.label)) (sym here ∙ c.loop-run.invariant)
+    c.at.ensures ∙ ap (option_map (λ (entry : Entry). entry.label))
+    (sym (label_here _ _ c.loop-run.rest _ c.loop-run-test.true c.run-item.is
+    (omega (arith, c.if-rest-len.true, c.len.ensures))) ∙ c.loop-run.invariant)
 
 pub loop-run-preserved : goal.loop-run-preserved
 loop-run-preserved c =
     let items = c.deref-run-items.result.now in
-    let further = label_further items c.loop-run.run-index c.loop-run.rest c.run-item.result c.loop-run-test.true c.run-item.is (omega (arith, c.if-rest-len.false, c.len.ensures)) in
-    ap (λ k. slice_get (joined (drop (c.loop-run.run-index + 1) items)) (c.loop-run.rest - k)) c.len-rest.ensures ∙ sym further ∙ c.loop-run.invariant
+    ap (λ k. slice_get (joined (drop (c.loop-run.run-index + 1) items)) (c.loop-run.rest - k)) c.len-rest.ensures
+    ∙ sym (label_further _ _ c.loop-run.rest _ c.loop-run-test.true c.run-item.is
+    (omega (arith, c.if-rest-len.false, c.len.ensures))) ∙ c.loop-run.invariant

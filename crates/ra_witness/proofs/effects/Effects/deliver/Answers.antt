@@ -1,18 +1,13 @@
-use Rattle.std.proofs.Common.{◌≡◌, ◌++◌, ◌∷◌, true, ap, subst, arith}
+use Rattle.std.proofs.Common.{ap, arith}
 use Rattle.std.proofs.lemmas.Result.{IfOk-weaker}
-use Rattle.ra_labels.specs.declared.command.Command.TheVariants.{Deliver}
-use Rattle.ra_labels.specs.Specification.{is_admitted}
-use Rattle.ra_labels.specs.Insertion.{updates_had}
 use Rattle.std.specs.Prelude.{nat_eq}
 use Rattle.std.specs.HashMap.{get, hash_map_len}
-use Rattle.ra_labels.specs.NamedOrder.{named_labels}
 use Rattle.ra_labels.proofs.Results.{on_ok, on_err, on_err_any}
-use Rattle.ra_labels.specs.Situation.{past_of}
-use Rattle.ra_witness.specs.Offered.{IsTold}
 use Rattle.ra_witness.specs.Overriding.{write_at}
 use Rattle.ra_witness.proofs.Lasts.{if_some_at}
-use Rattle.ra_witness.proofs.CommutingKinds.{is_commuting, is_overriding, is_rga, told_there, can_tell, commuting_told, if_some_use}
+use Rattle.ra_witness.proofs.CommutingKinds.{if_ok_on, is_commuting, is_overriding, is_rga, not_rga-commuting, not_rga-overriding, told_there, can_tell, commuting_told, if_some_use}
 use Rattle.ra_witness.proofs.DoneUpdates.{told_step}
+use Rattle.ra_witness.proofs.SettledUpdates.{of_rga, settled_in, few_more, some_more, one_settled}
 use Rattle.ra_witness.proofs.OverridingKinds.{writes_counted, told_write, can_bring, overriding_told, overriding_same}
 use Rattle.ra_laws.proofs.TheLaws.{had_updates-there}
 use Rattle.ra_witness.proofs.effects.Effects.deliver.Goals as goal
@@ -81,14 +76,31 @@ returns-in_err-deliver-in-Overriding-clause-same c = λ past stands.
 pub returns-in-Rga-clause-delivered : goal.returns-in-Rga-clause-delivered
 returns-in-Rga-clause-delivered c = λ past stands told.
     let known = is_rga c.args.self.now past stands c.in-Rga.kept c.in-Rga.is in
-    on_ok c.deliver-in-Rga.result (c.deliver-in-Rga.ensures.delivered past.first past.records known.1 (subst (λ k. IsTold (past_of k past.first past.records) c.args.replica c.args.label) known.0 told))
-    (λ form. record { few = stands.few; form = (known.0, form) })
+    if_ok_on c.deliver-in-Rga.result (c.deliver-in-Rga.ensures.delivered past.first past.records known.1
+    (of_rga past known.0 c.args.replica c.args.label told))
+    (λ steps after. record { few = stands.few; form = (known.0, after.0) })
+
+pub returns-in-Commuting-clause-settled : goal.returns-in-Commuting-clause-settled
+returns-in-Commuting-clause-settled c = λ past stands told rga.
+    let known = is_commuting c.args.self.now past stands c.in-Commuting.kept c.in-Commuting.is in
+    absurd (not_rga-commuting past.kind known.one rga)
+
+pub returns-in_ok-deliver-in-Overriding-clause-settled : goal.returns-in_ok-deliver-in-Overriding-clause-settled
+returns-in_ok-deliver-in-Overriding-clause-settled c = λ past stands told rga.
+    let known = is_overriding c.args.self.now past stands c.in-Overriding.kept c.in-Overriding.is in
+    absurd (not_rga-overriding past.kind known.one rga)
+
+pub returns-in-Rga-clause-settled : goal.returns-in-Rga-clause-settled
+returns-in-Rga-clause-settled c = λ past stands told rga.
+    settled_in _ c.args.self.now past stands c.in-Rga.kept c.in-Rga.is c.args.replica c.args.label told
+    c.deliver-in-Rga.result c.deliver-in-Rga.ensures.delivered (λ steps settles. settles)
 
 pub returns-in-Rga-clause-few_steps : goal.returns-in-Rga-clause-few_steps
 returns-in-Rga-clause-few_steps c = λ past before behind it stands told is number.
-    let known = is_rga c.args.self.now past stands c.in-Rga.kept c.in-Rga.is in
-    c.deliver-in-Rga.ensures.few_steps past.first past.records before behind it known.1 (subst (λ k. IsTold (past_of k past.first past.records) c.args.replica c.args.label) known.0 told)
-    (subst (λ k. named_labels k past.records ≡ before ++ it ∷ behind) known.0 is) number
+    let rga = (is_rga c.args.self.now past stands c.in-Rga.kept c.in-Rga.is).0 in
+    settled_in _ c.args.self.now past stands c.in-Rga.kept c.in-Rga.is c.args.replica c.args.label told
+    c.deliver-in-Rga.result c.deliver-in-Rga.ensures.delivered
+    (λ steps settles. few_more past c.args.replica c.args.label steps rga told settles before behind it is number)
 
 pub returns-in-Rga-clause-same : goal.returns-in-Rga-clause-same
 returns-in-Rga-clause-same c = λ past stands.
@@ -104,9 +116,10 @@ returns-in-Commuting-clause-some_step c = λ past stands told none_waits.
 
 pub returns-in-Rga-clause-some_step : goal.returns-in-Rga-clause-some_step
 returns-in-Rga-clause-some_step c = λ past stands told none_waits.
-    let known = is_rga c.args.self.now past stands c.in-Rga.kept c.in-Rga.is in
-    c.deliver-in-Rga.ensures.some_step past.first past.records known.1 (subst (λ k. IsTold (past_of k past.first past.records) c.args.replica c.args.label) known.0 told)
-    (subst (λ k. is_admitted k (updates_had k (Deliver c.args.replica c.args.label ∷ past.records) c.args.replica) ≡ true) known.0 none_waits)
+    let rga = (is_rga c.args.self.now past stands c.in-Rga.kept c.in-Rga.is).0 in
+    settled_in _ c.args.self.now past stands c.in-Rga.kept c.in-Rga.is c.args.replica c.args.label told
+    c.deliver-in-Rga.result c.deliver-in-Rga.ensures.delivered
+    (λ steps settles. some_more past c.args.replica c.args.label steps rga told settles none_waits)
 
 pub returns-in-Commuting-clause-counted : goal.returns-in-Commuting-clause-counted
 returns-in-Commuting-clause-counted c = λ past stands told other.
@@ -128,7 +141,7 @@ returns-in-Commuting-clause-one_step c = λ past stands told none_waited none_wa
 
 pub returns-in-Rga-clause-one_step : goal.returns-in-Rga-clause-one_step
 returns-in-Rga-clause-one_step c = λ past stands told none_waited none_waits.
-    let known = is_rga c.args.self.now past stands c.in-Rga.kept c.in-Rga.is in
-    c.deliver-in-Rga.ensures.one_step past.first past.records known.1 (subst (λ k. IsTold (past_of k past.first past.records) c.args.replica c.args.label) known.0 told)
-    (subst (λ k. is_admitted k (updates_had k past.records c.args.replica) ≡ true) known.0 none_waited)
-    (subst (λ k. is_admitted k (updates_had k (Deliver c.args.replica c.args.label ∷ past.records) c.args.replica) ≡ true) known.0 none_waits)
+    let rga = (is_rga c.args.self.now past stands c.in-Rga.kept c.in-Rga.is).0 in
+    settled_in _ c.args.self.now past stands c.in-Rga.kept c.in-Rga.is c.args.replica c.args.label told
+    c.deliver-in-Rga.result c.deliver-in-Rga.ensures.delivered
+    (λ steps settles. one_settled past c.args.replica c.args.label steps rga told settles none_waited none_waits)

@@ -1,10 +1,11 @@
 use Rattle.std.proofs.Common.{◌≡◌, ◌∷◌, true, subst, arith}
+use Rattle.std.proofs.lemmas.Result.{IfOk-weaker}
 use Rattle.ra_labels.specs.NamedOrder.{named_sequence}
 use Rattle.ra_labels.specs.Linearization.{updates_admitted}
 use Rattle.ra_labels.proofs.Results.{on_ok, on_err}
 use Rattle.ra_labels.specs.Situation.{past_of, operate}
 use Rattle.ra_witness.specs.Offered.{IsOffered}
-use Rattle.ra_witness.proofs.CommutingKinds.{on_ok_two, is_commuting, is_overriding, is_rga, not_rga-commuting, can_take, commuting_taken}
+use Rattle.ra_witness.proofs.CommutingKinds.{on_ok_two, if_ok_on, is_commuting, is_overriding, is_rga, not_rga-commuting, not_rga-overriding, can_take, commuting_taken}
 use Rattle.ra_witness.proofs.effects.Effects.take.Goals as goal
 
 pub take-requires-clause-can : goal.take-requires-clause-can
@@ -37,10 +38,29 @@ returns-in-Overriding-clause-same c = λ past stands.
 pub returns-in-Rga-clause-taken : goal.returns-in-Rga-clause-taken
 returns-in-Rga-clause-taken c = λ past next stands offered admitted same.
     let known = is_rga c.args.self.now past stands c.in-Rga.kept c.in-Rga.is in
-    on_ok c.take-in-Rga.result
-    (c.take-in-Rga.ensures.taken past.first past.records next known.1 (subst (λ k. IsOffered (past_of k past.first past.records) next c.args.label.now) known.0 offered)
+    if_ok_on c.take-in-Rga.result
+    (c.take-in-Rga.ensures.taken past.first past.records next known.1
+    (subst (λ k. IsOffered (past_of k past.first past.records) next c.args.label.now) known.0 offered)
     (subst (λ k. updates_admitted k (named_sequence k (operate next ∷ past.records)) ≡ true) known.0 admitted))
-    (λ form. record { few = omega (arith, offered.few); form = (known.0, form) })
+    (λ steps after. record { few = omega (arith, offered.few); form = (known.0, after.0) })
+
+pub returns-in-Commuting-clause-settled : goal.returns-in-Commuting-clause-settled
+returns-in-Commuting-clause-settled c = λ past next stands offered admitted rga.
+    let known = is_commuting c.args.self.now past stands c.in-Commuting.kept c.in-Commuting.is in
+    absurd (not_rga-commuting past.kind known.one rga)
+
+pub returns-in-Overriding-clause-settled : goal.returns-in-Overriding-clause-settled
+returns-in-Overriding-clause-settled c = λ past next stands offered admitted rga.
+    let known = is_overriding c.args.self.now past stands c.in-Overriding.kept c.in-Overriding.is in
+    absurd (not_rga-overriding past.kind known.one rga)
+
+pub returns-in-Rga-clause-settled : goal.returns-in-Rga-clause-settled
+returns-in-Rga-clause-settled c = λ past next stands offered admitted rga.
+    let known = is_rga c.args.self.now past stands c.in-Rga.kept c.in-Rga.is in
+    IfOk-weaker c.take-in-Rga.result _ _ (λ steps after. after.1)
+    (c.take-in-Rga.ensures.taken past.first past.records next known.1
+    (subst (λ k. IsOffered (past_of k past.first past.records) next c.args.label.now) known.0 offered)
+    (subst (λ k. updates_admitted k (named_sequence k (operate next ∷ past.records)) ≡ true) known.0 admitted))
 
 pub returns-in-Rga-clause-same : goal.returns-in-Rga-clause-same
 returns-in-Rga-clause-same c = λ past stands.

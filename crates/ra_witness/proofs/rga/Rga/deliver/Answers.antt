@@ -2,7 +2,7 @@ use Rattle.std.proofs.Common.{◌<◌, ◌∙◌, ◌∷◌, length, refl, sym, 
 use Rattle.std.proofs.lemmas.Option.{slice_get_read}
 use Rattle.std.proofs.lemmas.Result.{IfOk-weaker}
 use Rattle.ra_labels.specs.declared.command.Command.TheVariants.{Deliver}
-use Rattle.ra_labels.proofs.Results.{on_ok, on_err}
+use Rattle.ra_labels.proofs.Results.{on_err}
 use Rattle.ra_laws.proofs.TheLaws.{had_updates-there}
 use Rattle.ra_replica_list.specs.Deeds.{deed_at, AreElementsOf}
 use Rattle.ra_replica_list.specs.ReplicaList.{IsListOf}
@@ -45,20 +45,21 @@ returns-clause-delivered c = λ first records stands told.
     let there = slice_get_read self.lists.items (length self.lists.items) c.args.replica list refl (omega (arith, stands.replicas, told.replica)) c.index_mut.ensures.value in
     let before = subst (λ ds. IsListOf list self.all.arrivals ds records c.args.replica) (sym value) (stands.lists c.args.replica list there) in
     let elements = subst (λ ds. AreElementsOf self.all ds records) (sym value) stands.elements in
-    on_ok c.deliver.result c.deliver.ensures.got (λ got.
-    rga_told self first records stands c.args.replica c.deliver.new.self (omega (arith, stands.replicas, told.replica)) c.args.label
-    (subst (λ ds. IsListOf c.deliver.new.self self.all.arrivals ds (Deliver c.args.replica c.args.label ∷ records) c.args.replica) value
-    (got records c.args.replica elements before c.in-Some.is told.causal.0 told.stamps)))
-
-pub returns-clause-few_steps : goal.returns-clause-few_steps
-returns-clause-few_steps c = λ first records before behind it stands told is number.
-    let self = c.args.self.now in
-    let list = c.index_mut.result.now in
-    let value = c.as_slice-deeds.ensures.value in
-    let there = slice_get_read self.lists.items (length self.lists.items) c.args.replica list refl (omega (arith, stands.replicas, told.replica)) c.index_mut.ensures.value in
-    let own = subst (λ ds. IsListOf list self.all.arrivals ds records c.args.replica) (sym value) (stands.lists c.args.replica list there) in
-    let elements = subst (λ ds. AreElementsOf self.all ds records) (sym value) stands.elements in
-    IfOk-weaker c.deliver.result _ _ (λ steps few. few records c.args.replica before behind it elements own c.in-Some.is told.causal.0 is number) c.deliver.ensures.steps
+    IfOk-weaker c.deliver.result _ _ (λ steps got.
+    let (own, count) = got records c.args.replica elements before c.in-Some.is told.causal.0 told.stamps in (
+      rga_told self first records stands c.args.replica c.deliver.new.self (omega (arith, stands.replicas, told.replica))
+          c.args.label
+          (subst (λ ds. IsListOf c.deliver.new.self self.all.arrivals ds (Deliver c.args.replica c.args.label ∷ records)
+          c.args.replica) value own),
+      record {
+        settled = before.settled;
+        now = own.settled;
+        before = before.kept.settles;
+        after = own.kept.settles;
+        count = count;
+      },
+    ))
+    c.deliver.ensures.got
 
 pub returns-clause-same : goal.returns-clause-same
 returns-clause-same c = λ first records stands.
@@ -69,23 +70,3 @@ returns-clause-same c = λ first records stands.
     on_err c.deliver.result c.deliver.ensures.err (λ same.
     rga_same self first records stands c.args.replica c.deliver.new.self within
     (same self.all.arrivals self.deeds.items records c.args.replica (stands.lists c.args.replica list there)))
-
-pub returns-clause-some_step : goal.returns-clause-some_step
-returns-clause-some_step c = λ first records stands told none_waits.
-    let self = c.args.self.now in
-    let list = c.index_mut.result.now in
-    let value = c.as_slice-deeds.ensures.value in
-    let there = slice_get_read self.lists.items (length self.lists.items) c.args.replica list refl (omega (arith, stands.replicas, told.replica)) c.index_mut.ensures.value in
-    let own = subst (λ ds. IsListOf list self.all.arrivals ds records c.args.replica) (sym value) (stands.lists c.args.replica list there) in
-    let elements = subst (λ ds. AreElementsOf self.all ds records) (sym value) stands.elements in
-    IfOk-weaker c.deliver.result _ _ (λ steps some. some records c.args.replica elements own c.in-Some.is told.causal.0 none_waits) c.deliver.ensures.some_step
-
-pub returns-clause-one_step : goal.returns-clause-one_step
-returns-clause-one_step c = λ first records stands told none_waited none_waits.
-    let self = c.args.self.now in
-    let list = c.index_mut.result.now in
-    let value = c.as_slice-deeds.ensures.value in
-    let there = slice_get_read self.lists.items (length self.lists.items) c.args.replica list refl (omega (arith, stands.replicas, told.replica)) c.index_mut.ensures.value in
-    let own = subst (λ ds. IsListOf list self.all.arrivals ds records c.args.replica) (sym value) (stands.lists c.args.replica list there) in
-    let elements = subst (λ ds. AreElementsOf self.all ds records) (sym value) stands.elements in
-    IfOk-weaker c.deliver.result _ _ (λ steps one. one records c.args.replica elements own c.in-Some.is told.causal.0 none_waited none_waits) c.deliver.ensures.one_step

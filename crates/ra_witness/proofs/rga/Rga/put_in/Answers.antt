@@ -16,6 +16,7 @@ use Rattle.ra_replica_list.specs.declared.deed.Deed.TheVariants.{PutsIn}
 use Rattle.ra_replica_list.specs.Deeds.{element_at}
 use Rattle.ra_witness.specs.declared.rga.Rga.{Rga}
 use Rattle.ra_witness.specs.Rga.{IsRgaOf}
+use Rattle.ra_witness.specs.Settled.{SettlesMore}
 use Rattle.ra_witness.specs.Offered.{IsOffered}
 use Rattle.ra_witness.proofs.Forms.{its_replica}
 use Rattle.ra_witness.proofs.AdmittedElements.{makes_after}
@@ -91,13 +92,27 @@ returns-clause-taken c = λ first records next stands offered admitted is.
     let now_admitted = subst (λ b. updates_admitted variant.Rga (named_sequence variant.Rga (Operate b (ops.After anchor x) next.clock ∷ records)) ≡ true) (sym replica)
     (subst (λ o. updates_admitted variant.Rga (named_sequence variant.Rga (Operate next.by o next.clock ∷ records)) ≡ true) is admitted) in
     let makes = subst (λ y. Makes (ops.After anchor x) (After y x)) (sym m_is) (makes_after anchor x) in
-    let own = c.in_ok-steps.ensures.put self.deeds.items records r (ops.After anchor x) next.clock there_still.elements (there_still.lists r list there) (ap (λ l. l.number) after.becomes) makes
+    let own = c.in_ok-steps.ensures.put self.deeds.items records (next_of r (ops.After anchor x) next.clock) there_still.elements (there_still.lists r list there) (ap (λ l. l.number) after.becomes) makes
     (sym (ap (λ l. l.stamp) after.becomes) ∙ c.in-Some-stamp.is) after.fits now_admitted in
     let grown : Rga = record { deeds = c.push_reserved.new.self; all = c.insert.new.self; lists = with_item self.lists r c.put_own.new.self } in
     let pushed : c.push_reserved.new.self.items ≡ self.deeds.items ++ Some (PutsIn (length all.arrivals)) ∷ [] =
     c.push_reserved.ensures.items ∙ ap (λ n. self.deeds.items ++ Some (PutsIn n) ∷ []) c.len-number.ensures in
-    subst (λ o. IsRgaOf grown first (Operate next.by o next.clock ∷ records)) (sym is)
-    (subst (λ b. IsRgaOf grown first (Operate b (ops.After anchor x) next.clock ∷ records)) replica
-    (rga_put spared grown first records r next.clock label there_still anchor x m stamp c.put_own.new.self after c.in-Some-stamp.is m_within m_is
-    (λ n there same. c.requires.new n (omega (arith, there, count)) (ap (λ rs. element_at rs n) (sym room.arrivals) ∙ same)) now_admitted pushed
-    c.insert.ensures.arrivals c.insert.ensures.elements refl own))
+    let settles : SettlesMore records (Operate r (ops.After anchor x) next.clock) r c.in_ok-steps.steps = record {
+      settled = (there_still.lists r list there).settled;
+      now = own.0.settled;
+      before = (there_still.lists r list there).kept.settles;
+      after = own.0.kept.settles;
+      count = own.1;
+    } in
+    subst
+    (λ o. IsRgaOf grown first (Operate next.by o next.clock ∷ records)
+    × SettlesMore records (Operate next.by o next.clock) next.by c.in_ok-steps.steps) (sym is)
+    (subst
+    (λ b. IsRgaOf grown first (Operate b (ops.After anchor x) next.clock ∷ records)
+    × SettlesMore records (Operate b (ops.After anchor x) next.clock) b c.in_ok-steps.steps) replica (
+      rga_put spared grown first records r next.clock label there_still anchor x m stamp c.put_own.new.self after
+          c.in-Some-stamp.is m_within m_is
+          (λ n there same. c.requires.new n (omega (arith, there, count)) (ap (λ rs. element_at rs n) (sym room.arrivals) ∙ same))
+          now_admitted pushed c.insert.ensures.arrivals c.insert.ensures.elements refl own.0,
+      settles,
+    ))

@@ -12,6 +12,7 @@ use Rattle.ra_labels.proofs.Results.{on_err_any}
 use Rattle.ra_labels.specs.Situation.{past_of, next_of}
 use Rattle.ra_witness.specs.declared.rga.Rga.{Rga}
 use Rattle.ra_witness.specs.Rga.{IsRgaOf}
+use Rattle.ra_witness.specs.Settled.{SettlesMore}
 use Rattle.ra_witness.specs.Offered.{IsOffered}
 use Rattle.ra_witness.proofs.Forms.{its_replica, its_clock}
 use Rattle.ra_witness.proofs.AdmittedElements.{makes_removal}
@@ -56,8 +57,22 @@ returns-clause-taken c = λ first records next stands offered admitted is.
     (subst (λ o. updates_admitted variant.Rga (named_sequence variant.Rga (Operate next.by o next.clock ∷ records)) ≡ true) is admitted) in
     let removes = subst (λ y. Makes (ops.RgaRemove x) (RgaRemove y)) (sym known.1) (makes_removal x) in
     let unclocked = (its_clock (past_of variant.Rga first records) (next_of r (ops.RgaRemove x) next.clock) label after).1 refl in
-    let own = c.in_ok-steps.ensures.removed self.deeds.items records r (ops.RgaRemove x) next.clock stands.elements (stands.lists r list there) (ap (λ l. l.number) after.becomes) removes unclocked after.fits now_admitted in
+    let own = c.in_ok-steps.ensures.removed self.deeds.items records (next_of r (ops.RgaRemove x) next.clock) stands.elements (stands.lists r list there) (ap (λ l. l.number) after.becomes) removes unclocked after.fits now_admitted in
     let grown : Rga = record { deeds = c.push_reserved.new.self; all = self.all; lists = with_item self.lists r c.remove_own.new.self } in
-    subst (λ o. IsRgaOf grown first (Operate next.by o next.clock ∷ records)) (sym is)
-    (subst (λ b. IsRgaOf grown first (Operate b (ops.RgaRemove x) next.clock ∷ records)) replica
-    (rga_removed self grown first records r next.clock label stands x number c.remove_own.new.self after known.0 known.1 now_admitted c.push_reserved.ensures.items refl refl own))
+    let settles : SettlesMore records (Operate r (ops.RgaRemove x) next.clock) r c.in_ok-steps.steps = record {
+      settled = (stands.lists r list there).settled;
+      now = own.0.settled;
+      before = (stands.lists r list there).kept.settles;
+      after = own.0.kept.settles;
+      count = own.1;
+    } in
+    subst
+    (λ o. IsRgaOf grown first (Operate next.by o next.clock ∷ records)
+    × SettlesMore records (Operate next.by o next.clock) next.by c.in_ok-steps.steps) (sym is)
+    (subst
+    (λ b. IsRgaOf grown first (Operate b (ops.RgaRemove x) next.clock ∷ records)
+    × SettlesMore records (Operate b (ops.RgaRemove x) next.clock) b c.in_ok-steps.steps) replica (
+      rga_removed self grown first records r next.clock label stands x number c.remove_own.new.self after known.0 known.1
+          now_admitted c.push_reserved.ensures.items refl refl own.0,
+      settles,
+    ))

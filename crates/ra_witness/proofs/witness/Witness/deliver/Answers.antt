@@ -46,3 +46,8 @@ returns-clause-one_step g c = λ past stands accepted none_waited none_waits few
     let told = is_told g.O.NamedOrder.stands_for c.args.self.now past c.args.replica c.args.label stands accepted in
     let one = c.in_ok-steps.ensures.one_step past stands.kept told none_waited none_waits in
     omega (arith, one, few, c.saturating_add-self.ensures)
+
+pub returns-clause-settled : goal.returns-clause-settled
+returns-clause-settled g c = λ past stands accepted rga.
+    let told = is_told g.O.NamedOrder.stands_for c.args.self.now past c.args.replica c.args.label stands accepted in
+    (c.in_ok-steps.steps, c.in_ok-steps.ensures.settled past stands.kept told rga, c.saturating_add-self.ensures)

@@ -1,6 +1,6 @@
 use Rattle.std.proofs.Common.{◌∷◌, true, false, refl, ap, ◌∙◌, arith}
 use Rattle.ra_witness.specs.States.{steps_of}
-use Rattle.ra_witness.proofs.OfferedLabels.{from_not, is_offered, order_fails, listed_count, update_known, all_admitted, same_op, taken}
+use Rattle.ra_witness.proofs.OfferedLabels.{from_not, is_offered, comes_offered, order_fails, listed_count, update_known, all_admitted, same_op, taken}
 use Rattle.ra_witness.proofs.witness.Witness.offer.Goals as goal
 use Rattle.ra_labels.specs.Situation.{operate}
 
@@ -24,15 +24,11 @@ judge-requires g c =
 
 pub returns-in-Err-clause-cause : goal.returns-in-Err-clause-cause
 returns-in-Err-clause-cause g c = λ past next stands comes.
-    let may = c.requires in
-    let order = c.args.self.now.order in
-    let listed = g.O.NamedOrder.listed order in
-    let count = listed_count past.kind past.records listed ((g.met.O.NamedOrder g.world.𝓛 g.world.𝓜 g.world.𝓡 ((λ s x. x), (λ x. x), (λ x. x), λ x. x)).lists order past stands.order) in
-    let known = listed_count may.past.kind may.past.records listed ((g.met.O.NamedOrder g.world.𝓛 g.world.𝓜 g.world.𝓡 ((λ s x. x), (λ x. x), (λ x. x), λ x. x)).lists order may.past may.stands.order) in
-    let is = c.place-place.ensures past next stands.order comes in
-    c.in-Err.ensures.cause past next stands.kept
-    (is_offered g.O.NamedOrder.stands_for c.args.self.now past next c.args.label.now c.args.seen.now c.place-place.result stands comes is
-    (from_not c.place-place.result.fits true c.if-not-place.false) (omega (arith, may.few, count, known)))
+    let lists = (g.met.O.NamedOrder g.world.𝓛 g.world.𝓜 g.world.𝓡 ((λ s x. x), (λ x. x), (λ x. x), λ x. x)).lists in
+    let offered = comes_offered g.O.NamedOrder.stands_for g.O.NamedOrder.listed lists c.args.self.now c.args.label.now
+    c.args.seen.now c.place-place.result c.requires past next stands comes
+    (c.place-place.ensures past next stands.order comes) (from_not c.place-place.result.fits true c.if-not-place.false) in
+    c.in-Err.ensures.cause past next stands.kept offered
     (c.in_ok-parts.ensures.acts ∙ same_op c.args.label.now past.records next comes.becomes)
 
 pub take-requires : goal.take-requires
@@ -62,31 +58,24 @@ put-requires-clause-few g c =
 
 pub returns-clause-cause : goal.returns-clause-cause
 returns-clause-cause g c = λ past next stands comes.
-    let may = c.requires in
-    let order = c.args.self.now.order in
-    let listed = g.O.NamedOrder.listed order in
-    let count = listed_count past.kind past.records listed ((g.met.O.NamedOrder g.world.𝓛 g.world.𝓜 g.world.𝓡 ((λ s x. x), (λ x. x), (λ x. x), λ x. x)).lists order past stands.order) in
-    let known = listed_count may.past.kind may.past.records listed ((g.met.O.NamedOrder g.world.𝓛 g.world.𝓜 g.world.𝓡 ((λ s x. x), (λ x. x), (λ x. x), λ x. x)).lists order may.past may.stands.order) in
-    let is = c.place-place.ensures past next stands.order comes in
+    let lists = (g.met.O.NamedOrder g.world.𝓛 g.world.𝓜 g.world.𝓡 ((λ s x. x), (λ x. x), (λ x. x), λ x. x)).lists in
+    let offered = comes_offered g.O.NamedOrder.stands_for g.O.NamedOrder.listed lists c.args.self.now c.args.label.now
+    c.args.seen.now c.place-place.result c.requires past next stands comes
+    (c.place-place.ensures past next stands.order comes) (from_not c.place-place.result.fits true c.if-not-place.false) in
     let acts = c.in_ok-parts.ensures.acts ∙ same_op c.args.label.now past.records next comes.becomes in
-    let offered = is_offered g.O.NamedOrder.stands_for c.args.self.now past next c.args.label.now c.args.seen.now c.place-place.result stands comes is
-    (from_not c.place-place.result.fits true c.if-not-place.false) (omega (arith, may.few, count, known)) in
     c.in-Ok.ensures.none past next stands.kept offered acts
 
 pub returns-clause-taken : goal.returns-clause-taken
 returns-clause-taken g c = λ past next stands comes same.
-    let may = c.requires in
-    let order = c.args.self.now.order in
-    let listed = g.O.NamedOrder.listed order in
-    let count = listed_count past.kind past.records listed ((g.met.O.NamedOrder g.world.𝓛 g.world.𝓜 g.world.𝓡 ((λ s x. x), (λ x. x), (λ x. x), λ x. x)).lists order past stands.order) in
-    let known = listed_count may.past.kind may.past.records listed ((g.met.O.NamedOrder g.world.𝓛 g.world.𝓜 g.world.𝓡 ((λ s x. x), (λ x. x), (λ x. x), λ x. x)).lists order may.past may.stands.order) in
-    let is = c.place-place.ensures past next stands.order comes in
+    let lists = (g.met.O.NamedOrder g.world.𝓛 g.world.𝓜 g.world.𝓡 ((λ s x. x), (λ x. x), (λ x. x), λ x. x)).lists in
+    let offered = comes_offered g.O.NamedOrder.stands_for g.O.NamedOrder.listed lists c.args.self.now c.args.label.now
+    c.args.seen.now c.place-place.result c.requires past next stands comes
+    (c.place-place.ensures past next stands.order comes) (from_not c.place-place.result.fits true c.if-not-place.false) in
     let acts = c.in_ok-parts.ensures.acts ∙ same_op c.args.label.now past.records next comes.becomes in
-    let offered = is_offered g.O.NamedOrder.stands_for c.args.self.now past next c.args.label.now c.args.seen.now c.place-place.result stands comes is
-    (from_not c.place-place.result.fits true c.if-not-place.false) (omega (arith, may.few, count, known)) in
     let because = c.in-Ok.ensures.none past next stands.kept offered acts in
     taken g.O.NamedOrder.stands_for c.args.self.now _ past next c.args.label.now c.args.seen.now stands comes because
-    (c.put.ensures.stands past next (c.in_ok-spare.ensures.stands past stands.order) comes is)
+    (c.put.ensures.stands past next (c.in_ok-spare.ensures.stands past stands.order) comes
+    (c.place-place.ensures past next stands.order comes))
     (c.in_ok-steps.ensures.taken past next stands.kept offered (all_admitted past.kind (operate next ∷ past.records) because) (update_known c.in-Ok.update _ next.op c.in-Ok.ensures.update acts))
 
 pub returns-clause-counted : goal.returns-clause-counted
@@ -95,6 +84,20 @@ returns-clause-counted g c = λ past next stands comes other same few.
     let count = c.in_ok-steps.ensures.counted past stands.kept other in
     let known = ap steps_of (update_known c.in-Ok.update _ next.op c.in-Ok.ensures.update acts) in
     omega (arith, count, known, few, c.in_ok-steps.ensures.step, c.saturating_add-self.ensures)
+
+pub returns-clause-settled : goal.returns-clause-settled
+returns-clause-settled g c = λ past next stands comes rga same.
+    let lists = (g.met.O.NamedOrder g.world.𝓛 g.world.𝓜 g.world.𝓡 ((λ s x. x), (λ x. x), (λ x. x), λ x. x)).lists in
+    let offered = comes_offered g.O.NamedOrder.stands_for g.O.NamedOrder.listed lists c.args.self.now c.args.label.now
+    c.args.seen.now c.place-place.result c.requires past next stands comes
+    (c.place-place.ensures past next stands.order comes) (from_not c.place-place.result.fits true c.if-not-place.false) in
+    let acts = c.in_ok-parts.ensures.acts ∙ same_op c.args.label.now past.records next comes.becomes in
+    let because = c.in-Ok.ensures.none past next stands.kept offered acts in (
+      c.in_ok-steps.steps,
+      c.in_ok-steps.ensures.settled past next stands.kept offered
+          (all_admitted past.kind (operate next ∷ past.records) because) rga,
+      c.saturating_add-self.ensures,
+    )
 
 pub returns-in_err-spare-clause-same : goal.returns-in_err-spare-clause-same
 returns-in_err-spare-clause-same g c = λ past stands failed. record {
