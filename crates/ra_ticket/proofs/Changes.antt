@@ -15,7 +15,8 @@ use Rattle.ra_ticket.specs.declared.board.Stage.{Stage}
 use Rattle.ra_ticket.specs.declared.board.Stage.TheVariants.{Waiting, Holding}
 use Rattle.ra_journal.specs.Log.{Readings, AllBelow, BeginsWith, IsLegal}
 use Rattle.ra_ticket.specs.Mark.{IsMarkOf}
-use Rattle.ra_ticket.specs.Views.{numbers_of, next_of, serving_of, ticket_at, ticket_of, held_at, held_of, seen_of, HasBegun, HasOwn, IsSetUp}
+use Rattle.ra_ticket.specs.Views.{numbers_of, next_of, serving_of, ticket_at, ticket_of, held_at}
+use Rattle.ra_ticket.specs.Views.{held_of, seen_of, HasBegun, HasOwn, IsSetUp}
 use Rattle.ra_ticket.specs.Rule.{At, SitsAt, NobodyHolds, TurnsKept}
 use Rattle.ra_ticket.proofs.Seats.{each_after, at_after, at_back, at_forth, apart_after}
 use Rattle.ra_ticket.proofs.Logs.{begins_same, begun_more}
@@ -192,7 +193,8 @@ module _ {M C R S : Type 0} (j : Readings M C R S) (opened : S) where
 
   -- each seat has the view that it had, or one that fits
   module _ (s : Table) (r : Rule s) (views : List (View C R S))
-      (who : (seat : ℕ) (u : View C R S) → get_elem? views seat ≡ some u → (get_elem? s.views seat ≡ some u) ⊎ Fits s r u)
+      (who : (seat : ℕ) (u : View C R S) → get_elem? views seat ≡ some u
+      → (get_elem? s.views seat ≡ some u) ⊎ Fits s r u)
     where
       each : (P : View C R S → Type 0) → ((u : View C R S) → Fits s r u → P u)
           → ((seat : ℕ) (u : View C R S) → get_elem? s.views seat ≡ some u → P u)
@@ -216,7 +218,8 @@ module _ {M C R S : Type 0} (j : Readings M C R S) (opened : S) where
         words = r.words;
         order = r.order;
         fits = r.fits;
-        reached = each (λ (x : View C R S). (next_of x ≤ r.next) × (serving_of x ≤ r.serving)) (λ u f. f.reached) r.reached;
+        reached = each (λ (x : View C R S). (next_of x ≤ r.next) × (serving_of x ≤ r.serving))
+            (λ u f. f.reached) r.reached;
         drawn = λ seat t a. r.drawn seat t (back ticket_of (λ u n e. e) seat t a);
         tickets_apart = λ a b t p q. r.tickets_apart a b t (back ticket_of (λ u n e. e) a t p)
             (back ticket_of (λ u n e. e) b t q);

@@ -159,7 +159,11 @@ module _ {M C R S : Type 0} (j : Readings M C R S) (opened : S) where
     was seat j number a (inl (inl x)) = (
       id,
       suc j,
-      (Knows k, here, at_others_only k.numbers j number (ap (λ (u : View C R S). get_elem? (numbers_of u) j) x.1 ∙ a.2)),
+      (
+        Knows k,
+        here,
+        at_others_only k.numbers j number (ap (λ (u : View C R S). get_elem? (numbers_of u) j) x.1 ∙ a.2),
+      ),
       inl (x.0, refl, refl),
     )
     was seat j number a (inl (inr x)) =

@@ -12,7 +12,8 @@ use Rattle.ra_ticket.specs.declared.board.Stage.TheVariants.{Idle, Waiting, Hold
 use Rattle.ra_journal.specs.Log.{Readings}
 use Rattle.ra_ticket.specs.Mark.{IsMarkOf}
 use Rattle.ra_ticket.specs.Views.{stage_of, held_at, serving_of}
-use Rattle.ra_ticket.specs.Steps.{IsAsSeen, IsAhead, learned, learned_serving, glanced, drew, drew_served, looked, published, released}
+use Rattle.ra_ticket.specs.Steps.{IsAsSeen, IsAhead, learned, learned_serving, glanced}
+use Rattle.ra_ticket.specs.Steps.{drew, drew_served, looked, published, released}
 use Rattle.ra_ticket.proofs.Logs.{begins_same}
 use Rattle.ra_ticket.proofs.Changes as changes
 use Rattle.ra_ticket.proofs.Steps as steps

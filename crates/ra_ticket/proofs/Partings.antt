@@ -11,7 +11,8 @@ use Rattle.ra_journal.specs.declared.journal.Journal.{Ghosts}
 use Rattle.ra_ticket.specs.Mark.{IsMarkOf}
 use Rattle.ra_ticket.specs.declared.pass.Pass.{Pass}
 use Rattle.ra_ticket.specs.Passes.{number_of, IsSamePass}
-use Rattle.ra_ticket.specs.Views.{stage_of, numbers_of, next_of, serving_of, setup_of, seen_of, first_only, others_only, IsMet, SeesOwn, met}
+use Rattle.ra_ticket.specs.Views.{stage_of, numbers_of, next_of, serving_of, setup_of, seen_of}
+use Rattle.ra_ticket.specs.Views.{first_only, others_only, IsMet, SeesOwn, met}
 use Rattle.ra_ticket.specs.Steps.{SeesMarked, IsPart, SeesFor, GoesOn}
 
 module _ {C R S : Type 0} where
@@ -65,8 +66,10 @@ module _ {M C R S : Type 0} (j : Readings M C R S) where
   pub part_marked : (u own : View C R S) (numbers : List ℕ) (mark : ℕ) → IsPart u own numbers → SeesMarked j u mark
       → SeesMarked j own mark
   part_marked u own numbers mark part sees =
-      subst (λ o. IfSome o (λ s. IsLegal (j.reply_of s) (seen_of own) × IsMarkOf j s (seen_of own) mark)) (sym part.setup)
-      (subst (λ log. IfSome (setup_of u) (λ s. IsLegal (j.reply_of s) log × IsMarkOf j s log mark)) (sym part.seen) sees)
+      subst (λ o. IfSome o (λ s. IsLegal (j.reply_of s) (seen_of own) × IsMarkOf j s (seen_of own) mark))
+      (sym part.setup)
+      (subst (λ log. IfSome (setup_of u) (λ s. IsLegal (j.reply_of s) log × IsMarkOf j s log mark))
+      (sym part.seen) sees)
 
 -- the pass whose seat went on
 module _ {M C R S : Type 0} {g : Ghosts M C R S} where

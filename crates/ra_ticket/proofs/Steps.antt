@@ -1,5 +1,6 @@
 -- Each step on a word keeps the rule of the lock, and tells what it says.
-use Rattle.std.proofs.Common.{◌≡◌, ◌≢◌, ℕ, ◌+◌, ◌%◌, ◌^◌, ◌<◌, ◌≤◌, List, [], ◌∷◌, ◌++◌, set, get_or, Option, Some, None}
+use Rattle.std.proofs.Common.{◌≡◌, ◌≢◌, ℕ, ◌+◌, ◌%◌, ◌^◌, ◌<◌, ◌≤◌, List}
+use Rattle.std.proofs.Common.{[], ◌∷◌, ◌++◌, set, get_or, Option, Some, None}
 use Rattle.std.proofs.Common.{refl, sym, ap, ◌∙◌, subst, inl, inr, ◌⊎◌, le_refl, le_trans, mod-eq_of_lt, arith}
 use mathlib.Core.Option.{none, some}
 use lib.ListN.{get_elem?}
@@ -14,7 +15,8 @@ use Rattle.ra_journal.specs.Log.{Readings, AllBelow, BeginsWith, MayFollow, IsLe
 use Rattle.ra_ticket.specs.Mark.{IsMarkOf}
 use Rattle.ra_ticket.specs.Views.{stage_of, ticket_at, ticket_of, held_at, held_of, setup_of, HasOwn}
 use Rattle.ra_ticket.specs.Rule.{At, NobodyHolds}
-use Rattle.ra_ticket.specs.Steps.{Stays, IsAsSeen, HasEntered, IsAhead, SeesMarked, drew_served, looked, published, released}
+use Rattle.ra_ticket.specs.Steps.{Stays, IsAsSeen, HasEntered, IsAhead, SeesMarked}
+use Rattle.ra_ticket.specs.Steps.{drew_served, looked, published, released}
 use Rattle.ra_ticket.proofs.Slots.{carries_one}
 use Rattle.ra_ticket.proofs.Seats.{at_after, at_back, at_new}
 use Rattle.ra_ticket.proofs.Logs.{begins_same, legal_push}

@@ -1,5 +1,6 @@
 -- The tickets in a log, before and after a step.
-use Rattle.std.proofs.Common.{◌≡◌, ℕ, zero, suc, ◌+◌, ◌<◌, List, [], ◌∷◌, Some, option_map, slice_get, length, ◌-◌, subst, arith}
+use Rattle.std.proofs.Common.{◌≡◌, ℕ, zero, suc, ◌+◌, ◌<◌, List, []}
+use Rattle.std.proofs.Common.{◌∷◌, Some, option_map, slice_get, length, ◌-◌, subst, arith}
 use Rattle.ra_journal.specs.declared.entry.Entry.{Entry}
 use Rattle.ra_journal.specs.Log.{AllBelow, IsAboveLast}
 

@@ -7,7 +7,8 @@ use Rattle.ra_journal.specs.declared.entry.Entry.{Entry}
 use Rattle.ra_ticket.specs.declared.board.View.{View}
 use Rattle.ra_journal.specs.Log.{Readings, AllBelow, IsLegal}
 use Rattle.ra_ticket.specs.Mark.{IsMarkOf}
-use Rattle.ra_ticket.specs.Views.{numbers_of, next_of, serving_of, ticket_of, held_of, seen_of, HasBegun, HasOwn, IsSetUp}
+use Rattle.ra_ticket.specs.Views.{numbers_of, next_of, serving_of, ticket_of, held_of}
+use Rattle.ra_ticket.specs.Views.{seen_of, HasBegun, HasOwn, IsSetUp}
 
 module _ {C R S : Type 0} where
   -- the view at a seat has the value x, by this reading of views

@@ -8,7 +8,8 @@ use Rattle.ra_ticket.specs.declared.board.View.{View}
 use Rattle.ra_ticket.specs.declared.board.Stage.TheVariants.{Idle, Waiting, Holding}
 use Rattle.ra_journal.specs.Log.{Readings, AllBelow, entries_of, BeginsWith, MayFollow, IsLegal}
 use Rattle.ra_ticket.specs.Mark.{IsMarkOf}
-use Rattle.ra_ticket.specs.Views.{stage_of, numbers_of, next_of, serving_of, setup_of, seen_of, IsMet, HasBegun, HasOwn, IsSetUp}
+use Rattle.ra_ticket.specs.Views.{stage_of, numbers_of, next_of, serving_of, setup_of}
+use Rattle.ra_ticket.specs.Views.{seen_of, IsMet, HasBegun, HasOwn, IsSetUp}
 
 module _ {C R S : Type 0} where
   -- the same passes and setup, and no less is known of the words

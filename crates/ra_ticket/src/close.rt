@@ -37,7 +37,8 @@ fn close_table<M: Journal>(table: LockTable<M>, seat: LockSeat<M>) -> (u64, u64,
 impl<M: Journal> TicketLock<M> {
     ghost use Rattle.std.specs.Prelude.{◌≡◌, ◌<◌, ◌≤◌, Some, IfOk, IfErr};
     ghost use Rattle.ra_journal.specs.Log.{BeginsWith, IsLegal, entries_of};
-    ghost use Rattle.ra_ticket.specs.Passes.{IsPassOf, number_of, next_reached, serving_reached, pass_setup, seen, mine};
+    ghost use Rattle.ra_ticket.specs.Passes.{IsPassOf, number_of, next_reached, serving_reached};
+    ghost use Rattle.ra_ticket.specs.Passes.{pass_setup, seen, mine};
 
     /// Takes the journal out of the lock, where each ticket that was drawn is served. Its log begins with all that the
     /// pass had seen and has all of the pass's own calls. Other passes that are left are of no use then. It waits for
