@@ -300,7 +300,7 @@ impl Journal for Monitor {
             return Err(StepFault::NoMemory(command));
         }
         let mut command = command;
-        match self.history.take(&self.setup, &mut command) {
+        match self.history.answer(&self.setup, &mut command) {
             Ok(reply) => {
                 self.refused += refusals(reply);
                 let entry = Entry {

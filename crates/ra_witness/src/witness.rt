@@ -84,7 +84,7 @@ impl<O: NamedOrder> Witness<O> {
             Err(cause) => return Ok(Some(cause)),
         };
         self.order.spare()?;
-        let steps = self.kept.take(label, update)?;
+        let steps = self.kept.add(label, update)?;
         self.order.put(label, seen, place);
         self.steps = self.steps.saturating_add(steps);
         Ok(None)
