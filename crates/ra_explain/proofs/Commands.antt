@@ -4,11 +4,11 @@ use Rattle.std.specs.Prelude.{◌&&◌, ◌||◌, option_map}
 use Rattle.std.specs.List.{slice_get, AllByRecursion}
 use Rattle.std.proofs.lemmas.List.{append_assoc, append-nil, length-append, reverse-append}
 use Rattle.std.proofs.lemmas.List.Elements.{filter-append}
-use Rattle.std.proofs.lemmas.Bool.{cond-true, cond-false}
+use Rattle.std.proofs.lemmas.Bool.{cond-false}
 use Rattle.ra_labels.specs.declared.operation.Op.{Op}
 use Rattle.ra_labels.specs.declared.label.Label.{Label}
 use Rattle.ra_labels.specs.declared.command.Command.{Command}
-use Rattle.ra_labels.specs.declared.command.Command.TheVariants.{Operate, Deliver, Join, Verdict}
+use Rattle.ra_labels.specs.declared.command.Command.TheVariants.{Operate}
 use Rattle.ra_labels.specs.Records.{Records, label_count, labels_of}
 use Rattle.ra_monitor.specs.declared.setup.Setup.{Setup}
 use Rattle.ra_monitor.specs.Monitor.{MonitorEntry, records_of, IsLegalLog}
@@ -24,17 +24,9 @@ found_one : (whole : List MonitorEntry) (at : ℕ) (rest : List ℕ) (entry : Mo
     → command_at whole (cond (acts && tells) (at ∷ []) [] ++ rest) n
     ≡ slice_get (filter is_operation (cond tells (entry.command ∷ []) [] ++ later)) n
 found_one whole at rest entry later true true is there found zero =
-    ap (option_map (λ (e : MonitorEntry). e.command)) there
-    ∙ ap (λ (cs : List Command). slice_get cs zero)
-    (sym (cond-true (is_operation entry.command) (entry.command ∷ filter is_operation later) (filter is_operation later) is))
-found_one whole at rest entry later true true is there found (suc n) =
-    found n
-    ∙ ap (λ (cs : List Command). slice_get cs (suc n))
-    (sym (cond-true (is_operation entry.command) (entry.command ∷ filter is_operation later) (filter is_operation later) is))
-found_one whole at rest entry later false true is there found n =
-    found n
-    ∙ ap (λ (cs : List Command). slice_get cs n)
-    (sym (cond-false (is_operation entry.command) (entry.command ∷ filter is_operation later) (filter is_operation later) is))
+    rw is (ap (option_map (λ (e : MonitorEntry). e.command)) there)
+found_one whole at rest entry later true true is there found (suc n) = rw is (found n)
+found_one whole at rest entry later false true is there found n = rw is (found n)
 found_one whole at rest entry later true false is there found n = found n
 found_one whole at rest entry later false false is there found n = found n
 
@@ -80,7 +72,8 @@ none_more : (c : Command) (records : Records) (more : List Command) → is_opera
     → operations_in (c ∷ records) ++ more ≡ operations_in records ++ more
 none_more c records more is =
     ap (λ (cs : List Command). cs ++ more)
-    (one_more c records ∙ ap (λ (cs : List Command). operations_in records ++ cs) (cond-false (is_operation c) (c ∷ []) [] is)
+    (one_more c records
+    ∙ ap (λ (cs : List Command). operations_in records ++ cs) (cond-false (is_operation c) (c ∷ []) [] is)
     ∙ append-nil (operations_in records))
 
 operations_counted : (records : Records) → length (operations_in records) ≡ label_count records
@@ -90,15 +83,9 @@ operations_counted (Operate by op clock ∷ before) =
     let both = length-append (operations_in before) (Operate by op clock ∷ []) in
     let same = operations_counted before in
     omega (arith, longer, both, same)
-operations_counted (Deliver to n ∷ before) =
-    ap length (sym (append-nil (operations_in (Deliver to n ∷ before))) ∙ none_more (Deliver to n) before [] refl ∙ append-nil (operations_in before))
-    ∙ operations_counted before
-operations_counted (Join joined from ∷ before) =
-    ap length (sym (append-nil (operations_in (Join joined from ∷ before))) ∙ none_more (Join joined from) before [] refl ∙ append-nil (operations_in before))
-    ∙ operations_counted before
-operations_counted (Verdict ∷ before) =
-    ap length (sym (append-nil (operations_in (Verdict ∷ before))) ∙ none_more Verdict before [] refl ∙ append-nil (operations_in before))
-    ∙ operations_counted before
+operations_counted (c ∷ before) =
+    ap length (sym (append-nil (operations_in (c ∷ before))) ∙ none_more c before [] refl
+    ∙ append-nil (operations_in before)) ∙ operations_counted before
 
 -- the newest operation stands at its number
 pub newest_stands : (before : Records) (by : ℕ) (op : Op) (clock : Option ℕ) (more : List Command)
@@ -121,19 +108,14 @@ labels_stand (Operate by op clock ∷ before) more count few =
       subst (λ (cs : List Command). AllByRecursion (IsAmong cs count) (labels_of before)) (sym same)
           (labels_stand before (c ∷ more) count (omega (arith, few))),
     )
-labels_stand (Deliver to n ∷ before) more count few =
+labels_stand (c ∷ before) more count few =
     subst (λ (cs : List Command). AllByRecursion (IsAmong cs count) (labels_of before))
-    (sym (none_more (Deliver to n) before more refl)) (labels_stand before more count few)
-labels_stand (Join joined from ∷ before) more count few =
-    subst (λ (cs : List Command). AllByRecursion (IsAmong cs count) (labels_of before))
-    (sym (none_more (Join joined from) before more refl)) (labels_stand before more count few)
-labels_stand (Verdict ∷ before) more count few =
-    subst (λ (cs : List Command). AllByRecursion (IsAmong cs count) (labels_of before))
-    (sym (none_more Verdict before more refl)) (labels_stand before more count few)
+    (sym (none_more c before more refl)) (labels_stand before more count few)
 
 -- in a legal log, the command of a label is the operation at its number
 pub command_found : (setup : Setup) (log : List MonitorEntry) → IsLegalLog setup log → (n : ℕ)
     → command_at log (places_in log) n ≡ slice_get (operations_in (records_of setup log)) n
 command_found setup log legal n =
     operations_found log false 0 log (λ i. let same : 0 + i ≡ i = omega arith in ap (slice_get log) same) n
-    ∙ ap (λ (cs : List Command). slice_get (filter is_operation cs) n) (accepted_commands_are_the_records setup log legal)
+    ∙ ap (λ (cs : List Command). slice_get (filter is_operation cs) n)
+    (accepted_commands_are_the_records setup log legal)

@@ -1,13 +1,13 @@
 -- The records of a log end with the label of its fault.
-use Rattle.std.proofs.Common.{◌≡◌, ℕ, ◌+◌, ◌<◌, ◌≤◌, Bool, true, false, List, [], ◌∷◌, inl, inr, length, Option, Some, None, refl, sym, ap, ◌∙◌, subst, arith}
+use Rattle.std.proofs.Common.{◌≡◌, ℕ, ◌+◌, ◌<◌, ◌≤◌, Bool, true, false, List, [], ◌∷◌, inl, inr, length, Option, Some, None, refl, sym, ap, ◌∙◌, arith}
 use Rattle.std.specs.Prelude.{◌==◌, ◌&&◌, ◌||◌, is_some, is_none, option_map}
 use Rattle.std.specs.Option.{option_or}
-use Rattle.std.proofs.lemmas.Bool.{cond-true, cond-false, ne_eqb, cases_Bool}
+use Rattle.std.proofs.lemmas.Bool.{cond-false, ne_eqb, cases_Bool, or_parts}
 use Rattle.std.proofs.lemmas.List.{length-map}
 use Rattle.ra_labels.specs.declared.kind.Kind.{Kind}
 use Rattle.ra_labels.specs.declared.operation.Op.{Op}
 use Rattle.ra_labels.specs.declared.command.Command.{Command}
-use Rattle.ra_labels.specs.declared.command.Command.TheVariants.{Operate, Deliver, Join, Verdict}
+use Rattle.ra_labels.specs.declared.command.Command.TheVariants.{Operate, Verdict}
 use Rattle.ra_labels.specs.declared.reply.Cause.{Cause}
 use Rattle.ra_labels.specs.declared.reply.Fault.{Fault}
 use Rattle.ra_labels.specs.Records.{Records, label_count}
@@ -25,32 +25,29 @@ abbrev IsSoundBefore : Kind → Records → Type 0
 IsSoundBefore kind [] = Unit {0}
 IsSoundBefore kind (c ∷ before) = fault_of kind before ≡ None
 
-none_is : {A : Type 0} (o : Option A) → is_some o ≡ false → o ≡ None
+pub none_is : {A : Type 0} (o : Option A) → is_some o ≡ false → o ≡ None
 none_is None is = refl
 none_is (Some x) is = absurd (cc is)
 
-left_false : (a b : Bool) → (a || b) ≡ false → a ≡ false
-left_false false b is = refl
-left_false true b is = absurd (cc is)
-
 with_one : (kind : Kind) (records : Records) (c : Command) → IsSoundBefore kind records → fault_of kind records ≡ None
     → IsSoundBefore kind (with_accepted records c)
-with_one kind records (Operate by op clock) sound none = none
-with_one kind records (Deliver to n) sound none = none
-with_one kind records (Join joined from) sound none = none
 with_one kind records Verdict sound none = sound
+with_one kind records _ sound none = none
+
+-- what holds of the records whatever becomes of a command: they stay, or it is accepted before any fault
+after_cases : (kind : Kind) (n : ℕ) (records : Records) (c : Command) (P : Records → Type 0) → P records
+    → (fault_of kind records ≡ None → P (with_accepted records c)) → P (records_after kind n records c)
+after_cases kind n records c P stay accepted =
+    elim (cases_Bool (is_some (fault_of kind records) || is_some (refusal_of kind n records c))) [
+      | inl is ↦ rw is stay
+      | inr is ↦ rw is (accepted (none_is (fault_of kind records)
+          (or_parts (is_some (fault_of kind records)) (is_some (refusal_of kind n records c)) is).0))
+    ]
 
 after_one : (kind : Kind) (n : ℕ) (records : Records) (c : Command) → IsSoundBefore kind records
     → IsSoundBefore kind (records_after kind n records c)
 after_one kind n records c sound =
-    let stays = is_some (fault_of kind records) || is_some (refusal_of kind n records c) in
-    elim (cases_Bool stays) [
-      | inl is ↦ subst (IsSoundBefore kind) (sym (cond-true stays records (with_accepted records c) is)) sound
-      | inr is ↦
-          let none = none_is (fault_of kind records) (left_false (is_some (fault_of kind records)) (is_some (refusal_of kind n records c)) is) in
-          subst (IsSoundBefore kind) (sym (cond-false stays records (with_accepted records c) is))
-          (with_one kind records c sound none)
-    ]
+    after_cases kind n records c (IsSoundBefore kind) sound (λ none. with_one kind records c sound none)
 
 after_all : (kind : Kind) (n : ℕ) (records : Records) (cs : List Command) → IsSoundBefore kind records
     → IsSoundBefore kind (records_after_all kind n records cs)
@@ -77,9 +74,6 @@ label_is n (Some why) fault is = let same : fault_at n why ≡ fault = cc is in 
 ends : (kind : Kind) (records : Records) (fault : Fault) → IsSoundBefore kind records
     → fault_of kind records ≡ Some fault → Ends kind records fault
 ends kind [] fault sound is = absurd (cc is)
-ends kind (Deliver to n ∷ before) fault sound is = absurd (cc (sym sound ∙ is))
-ends kind (Join joined from ∷ before) fault sound is = absurd (cc (sym sound ∙ is))
-ends kind (Verdict ∷ before) fault sound is = absurd (cc (sym sound ∙ is))
 ends kind (Operate by op clock ∷ before) fault sound is =
     let records : Records = Operate by op clock ∷ before in
     let newest = option_map (fault_at (label_count before)) (cause_of kind records) in
@@ -97,6 +91,7 @@ ends kind (Operate by op clock ∷ before) fault sound is =
             ∙ records_before_fault_have_none-all kind before sound;
       },
     )
+ends kind (_ ∷ before) fault sound is = absurd (cc (sym sound ∙ is))
 
 pub log_ends : (setup : Setup) (log : List MonitorEntry) (fault : Fault)
     → fault_of setup.kind (records_of setup log) ≡ Some fault → Ends setup.kind (records_of setup log) fault
@@ -113,7 +108,8 @@ pub had_before : (setup : Setup) (log : List MonitorEntry) (replica n : ℕ) (o 
     → n < label_count (records_before_fault setup.kind (records_of setup log))
     → had (records_of setup log) replica n ≡ had (records_before_fault setup.kind (records_of setup log)) replica n
 had_before setup log replica n None is below =
-    ap (λ (rs : Records). had rs replica n) (sym (records_before_fault_have_none-all setup.kind (records_of setup log) is))
+    ap (λ (rs : Records). had rs replica n)
+    (sym (records_before_fault_have_none-all setup.kind (records_of setup log) is))
 had_before setup log replica n (Some fault) is below =
     let (before, by, op, clock, at) = log_ends setup log fault is in
     let other : n ≡ label_count before → ⊥ = λ same.
@@ -127,20 +123,12 @@ had_before setup log replica n (Some fault) is below =
 
 few_one : (kind : Kind) (n : ℕ) (records : Records) (c : Command)
     → label_count (records_after kind n records c) ≤ label_count records + 1
-few_one kind n records c =
-    let stays = is_some (fault_of kind records) || is_some (refusal_of kind n records c) in
-    elim (cases_Bool stays) [
-      | inl is ↦ subst (λ (rs : Records). label_count rs ≤ label_count records + 1)
-          (sym (cond-true stays records (with_accepted records c) is)) (omega arith)
-      | inr is ↦ subst (λ (rs : Records). label_count rs ≤ label_count records + 1)
-          (sym (cond-false stays records (with_accepted records c) is)) (few_more c)
-    ]
+few_one kind n records c = after_cases kind n records c (λ rs. label_count rs ≤ label_count records + 1) (omega arith)
+    (λ none. few_more c)
   where
     few_more : (c : Command) → label_count (with_accepted records c) ≤ label_count records + 1
-    few_more (Operate by op clock) = omega arith
-    few_more (Deliver to m) = omega arith
-    few_more (Join joined from) = omega arith
     few_more Verdict = omega arith
+    few_more _ = omega arith
 
 few_all : (kind : Kind) (n : ℕ) (records : Records) (cs : List Command)
     → label_count (records_after_all kind n records cs) ≤ label_count records + length cs
@@ -150,7 +138,8 @@ few_all kind n records (c ∷ cs) =
 
 pub few_labels : (setup : Setup) (log : List MonitorEntry) → label_count (records_of setup log) ≤ length log
 few_labels setup log =
-    omega (arith, few_all setup.kind setup.replicas [] (commands_of log), length-map log (λ (e : MonitorEntry). e.command))
+    let same = length-map log (λ (e : MonitorEntry). e.command) in
+    omega (arith, few_all setup.kind setup.replicas [] (commands_of log), same)
 
 -- nor are there more before the fault
 pub few_before : (setup : Setup) (log : List MonitorEntry) (o : Option Fault)
@@ -166,4 +155,5 @@ few_before setup log (Some fault) is =
 pub few_enough : (setup : Setup) (log : List MonitorEntry) → length log ≤ setup.limit → IsLimit setup.limit
     → label_count (records_before_fault setup.kind (records_of setup log)) ≤ FARTHEST_COUNT
 few_enough setup log within limit =
-    omega (arith, few_labels setup log, few_before setup log (fault_of setup.kind (records_of setup log)) refl, within, limit.1)
+    let few = few_before setup log (fault_of setup.kind (records_of setup log)) refl in
+    omega (arith, few_labels setup log, few, within, limit.1)

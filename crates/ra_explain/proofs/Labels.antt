@@ -26,23 +26,11 @@ abbrev fine : Op → Half × Act → Type 0
 fine operation act = IsFine operation act.0 act.1
 
 acts_fine : (operation : Op) → AllByRecursion (fine operation) (acts_of operation)
-acts_fine op.Inc = (record { query = λ is. absurd (cc is); other = λ not. refl }, tt)
-acts_fine op.Dec = (record { query = λ is. absurd (cc is); other = λ not. refl }, tt)
-acts_fine (op.Count v) = (record { query = λ is. absurd (cc is); other = λ not. refl }, tt)
-acts_fine (op.Write value) = (record { query = λ is. absurd (cc is); other = λ not. refl }, tt)
-acts_fine (op.Last value) = (record { query = λ is. absurd (cc is); other = λ not. refl }, tt)
-acts_fine (op.LwwAdd x) = (record { query = λ is. absurd (cc is); other = λ not. refl }, tt)
-acts_fine (op.LwwRemove x) = (record { query = λ is. absurd (cc is); other = λ not. refl }, tt)
-acts_fine (op.LwwRead list) = (record { query = λ is. absurd (cc is); other = λ not. refl }, tt)
-acts_fine (op.OrAdd x id) = (record { query = λ is. absurd (cc is); other = λ not. refl }, tt)
 acts_fine (op.OrRemove x ids) = (
   record { query = λ is. refl; other = λ not. absurd (not refl) },
   (record { query = λ is. absurd (cc is); other = λ not. refl }, tt),
 )
-acts_fine (op.OrRead list) = (record { query = λ is. absurd (cc is); other = λ not. refl }, tt)
-acts_fine (op.After anchor x) = (record { query = λ is. absurd (cc is); other = λ not. refl }, tt)
-acts_fine (op.RgaRemove x) = (record { query = λ is. absurd (cc is); other = λ not. refl }, tt)
-acts_fine (op.RgaRead list) = (record { query = λ is. absurd (cc is); other = λ not. refl }, tt)
+acts_fine _ = (record { query = λ is. absurd (cc is); other = λ not. refl }, tt)
 
 -- what the log tells of a label
 pub record IsTold (setup : Setup) (log : List MonitorEntry) (label : Label) : Type 0 where

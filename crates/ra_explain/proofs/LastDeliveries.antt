@@ -1,332 +1,94 @@
 -- Without some of what reached a replica last, for the others all is as before.
-use Rattle.std.proofs.Common.{◌≡◌, ℕ, ◌+◌, Bool, true, false, cond, List, [], ◌∷◌, ◌++◌, Option, Some, None, refl, sym, ap, ◌∙◌}
+use Rattle.std.proofs.Common.{◌≡◌, ℕ, ◌+◌, Bool, true, false, cond, List, [], ◌∷◌, ◌++◌, Option, Some, None, refl, sym, ap, subst, ◌∙◌, inl, inr}
 use Rattle.std.specs.Prelude.{◌==◌, ◌&&◌, ◌||◌, not, filter, flat_map, is_some, unwrap_or, option_map, if◌then◌else◌}
 use Rattle.std.specs.Option.{option_map_or, option_or}
-use Rattle.std.specs.List.{find, list_all}
+use Rattle.std.specs.List.{list_all}
 use Rattle.std.specs.Ordering.{nat_cmp, ordering_then}
-use Rattle.std.specs.declared.cmp.Ordering.{Ordering}
-use Rattle.std.proofs.lemmas.Bool.{true≢false, ne_eqb, eqb-true, eqb-false, and_parts}
+use Rattle.std.proofs.lemmas.Bool.{true≢false, cases_Bool, ne_eqb, eqb-true, eqb-false, eq-eqb, and_parts, or_parts}
 use mathlib.Core.Path.{fun_ext}
 use Rattle.ra_labels.specs.declared.kind.Kind.{Kind}
-use Rattle.ra_labels.specs.declared.kind.Kind.TheVariants.{Counter, Register, LwwSet, OrSet, Rga}
+use Rattle.ra_labels.specs.declared.kind.Kind.TheVariants.{Counter, OrSet}
 use Rattle.ra_labels.specs.declared.operation.Op.{Op}
-use Rattle.ra_labels.specs.declared.label.Stamp.{Stamp}
 use Rattle.ra_labels.specs.declared.label.Label.{Label}
+use Rattle.ra_labels.specs.declared.command.Command.{Command}
 use Rattle.ra_labels.specs.declared.command.Command.TheVariants.{Operate, Deliver, Join, Verdict}
 use Rattle.ra_labels.specs.declared.reply.Cause.{Cause}
 use Rattle.ra_labels.specs.declared.reply.Cause.TheVariants.{Order, Update, Query}
-use Rattle.ra_labels.specs.declared.reply.Fault.{Fault}
 use Rattle.ra_labels.specs.Lists.{is_among}
-use Rattle.ra_labels.specs.Records.{Records, label_count, labels_of, next_label, stamp_at}
-use Rattle.ra_labels.specs.Visibility.{is_update, is_update_at, had, sees, IsCausal}
+use Rattle.ra_labels.specs.Records.{Records, label_count, labels_of, stamp_at}
+use Rattle.ra_labels.specs.Visibility.{is_update_at, had, sees, IsCausal}
 use Rattle.ra_labels.specs.Specification.{is_answered_after}
 use Rattle.ra_labels.specs.Rewriting.{Part, parts_of, update_of, query_of, updates_of}
 use Rattle.ra_labels.specs.Linearization.{is_earlier_there, is_query_half_of, extends, updates_admitted}
-use Rattle.ra_labels.specs.NamedOrder.{lowest_rank, stamp_cmp, greatest_stamp, rank_of, label_cmp, sort_by, named_labels, named_sequence}
+use Rattle.ra_labels.specs.NamedOrder.{stamp_cmp, greatest_stamp, rank_of, label_cmp, sort_by, named_labels, named_sequence}
 use Rattle.ra_labels.specs.Fault.{cause_of, fault_at, fault_of}
-use Rattle.ra_explain.specs.LastDeliveries.{without, labels_got_last}
+use Rattle.ra_explain.specs.Changes.{cuts_off}
+use Rattle.ra_explain.specs.LastDeliveries.{is_taken_back, without, labels_got_last}
 
--- ---- labels
-
-labels_with : (o : ℕ) (op : Op) (clock : Option ℕ) (older before : Records) → label_count older ≡ label_count before
-    → labels_of older ≡ labels_of before → labels_of (Operate o op clock ∷ older) ≡ labels_of (Operate o op clock ∷ before)
-labels_with o op clock older before counts labels =
-    ap (λ n. record { number = n; replica = o; op = op; stamp = option_map (stamp_at o) clock } ∷ labels_of older) counts
-    ∙ ap (λ (ls : List Label). next_label before o op clock ∷ ls) labels
-
-pub count_without : (by : ℕ) (left : ℕ → Bool) (records : Records)
-    → label_count (without by left records) ≡ label_count records
-count_without by left [] = refl
-count_without by left (Operate o op clock ∷ before) = either (o == by) (count_without by left before)
+-- what holds of no records, and with each command more, whatever becomes of it: all stays from it on, it is left out,
+-- or it stays alone
+of_what_is_left : (by : ℕ) (left : ℕ → Bool) (P : Records → Records → Type 0) → P [] []
+    → ((command : Command) (before : Records) → cuts_off by command ≡ true → P (command ∷ before) (command ∷ before))
+    → ((n : ℕ) (older before : Records) → left n ≡ true → P older before → P older (Deliver by n ∷ before))
+    → ((command : Command) (older before : Records) → cuts_off by command ≡ false
+    → is_taken_back by left command ≡ false → P older before → P (command ∷ older) (command ∷ before))
+    → (records : Records) → P (without by left records) records
+of_what_is_left by left P none cut taken kept [] = none
+of_what_is_left by left P none cut taken kept (command ∷ before) =
+    let behind = of_what_is_left by left P none cut taken kept before in
+    elim (cases_Bool (cuts_off by command)) [
+      | inl is ↦ rw is (cut command before is)
+      | inr goes_on ↦ elim (cases_Bool (is_taken_back by left command)) [
+        | inl is ↦ rw (goes_on, is) (without_it behind command is)
+        | inr stays ↦ rw (goes_on, stays) (kept command (without by left before) before goes_on stays behind)
+      ]
+    ]
   where
-    either : (b : Bool) → label_count (without by left before) ≡ label_count before
-        → label_count (cond b (Operate o op clock ∷ before) (Operate o op clock ∷ without by left before))
-        ≡ label_count before + 1
-    either true same = refl
-    either false same = ap (λ n. n + 1) same
-count_without by left (Deliver to n ∷ before) = either (to == by && left n) (count_without by left before)
-  where
-    either : (b : Bool) → label_count (without by left before) ≡ label_count before
-        → label_count (cond b (without by left before) (Deliver to n ∷ without by left before)) ≡ label_count before
-    either true same = same
-    either false same = same
-count_without by left (Join joined from ∷ before) =
-    either ((joined == by) || (from == by)) (count_without by left before)
-  where
-    either : (b : Bool) → label_count (without by left before) ≡ label_count before
-        → label_count (cond b (Join joined from ∷ before) (Join joined from ∷ without by left before))
-        ≡ label_count before
-    either true same = refl
-    either false same = same
-count_without by left (Verdict ∷ before) = count_without by left before
-
-pub labels_without : (by : ℕ) (left : ℕ → Bool) (records : Records)
-    → labels_of (without by left records) ≡ labels_of records
-labels_without by left [] = refl
-labels_without by left (Operate o op clock ∷ before) = either (o == by) (labels_without by left before)
-  where
-    either : (b : Bool) → labels_of (without by left before) ≡ labels_of before
-        → labels_of (cond b (Operate o op clock ∷ before) (Operate o op clock ∷ without by left before))
-        ≡ labels_of (Operate o op clock ∷ before)
-    either true same = refl
-    either false same = labels_with o op clock (without by left before) before (count_without by left before) same
-labels_without by left (Deliver to n ∷ before) = either (to == by && left n) (labels_without by left before)
-  where
-    either : (b : Bool) → labels_of (without by left before) ≡ labels_of before
-        → labels_of (cond b (without by left before) (Deliver to n ∷ without by left before)) ≡ labels_of before
-    either true same = same
-    either false same = same
-labels_without by left (Join joined from ∷ before) =
-    either ((joined == by) || (from == by)) (labels_without by left before)
-  where
-    either : (b : Bool) → labels_of (without by left before) ≡ labels_of before
-        → labels_of (cond b (Join joined from ∷ before) (Join joined from ∷ without by left before)) ≡ labels_of before
-    either true same = refl
-    either false same = same
-labels_without by left (Verdict ∷ before) = labels_without by left before
-
-update_without : (by : ℕ) (left : ℕ → Bool) (records : Records) (n : ℕ)
-    → is_update_at (without by left records) n ≡ is_update_at records n
-update_without by left records n =
-    ap (λ (labels : List Label). option_map_or (λ l. is_update l.op) (find (λ l. l.number == n) labels) false)
-    (labels_without by left records)
-
--- ---- what another replica had
-
-either_false : (a b : Bool) → (a || b) ≡ false → b ≡ false
-either_false true b is = absurd (true≢false is)
-either_false false b is = is
-
-pub had_without : (by : ℕ) (left : ℕ → Bool) (records : Records) (x n : ℕ) → (x ≡ by → ⊥)
-    → had (without by left records) x n ≡ had records x n
-had_without by left [] x n other = refl
-had_without by left (Operate o op clock ∷ before) x n other = either (o == by) (had_without by left before x n other)
-  where
-    older : Records
-    older = without by left before
-
-    either : (b : Bool) → had older x n ≡ had before x n
-        → had (cond b (Operate o op clock ∷ before) (Operate o op clock ∷ older)) x n
-        ≡ had (Operate o op clock ∷ before) x n
-    either true same = refl
-    either false same =
-        ap (λ k. (o == x && n == k && is_update op) || had older x n) (count_without by left before)
-        ∙ ap (λ h. (o == x && n == label_count before && is_update op) || h) same
-had_without by left (Deliver to m ∷ before) x n other =
-    either (to == by && left m) refl (had_without by left before x n other)
-  where
-    older : Records
-    older = without by left before
-
-    either : (b : Bool) → (to == by && left m) ≡ b → had older x n ≡ had before x n
-        → had (cond b older (Deliver to m ∷ older)) x n ≡ had (Deliver to m ∷ before) x n
-    either true is same =
-        let at : to ≡ by = eqb-true to by (and_parts (to == by) (left m) is).0 in
-        let elsewhere : (to == x) ≡ false = ne_eqb to x (λ both. other (sym both ∙ at)) in
-        same
-        ∙ sym (ap (λ t. (t && n == m && is_update_at before n) || had before x n) elsewhere)
-    either false is same =
-        ap (λ u. (to == x && n == m && u) || had older x n) (update_without by left before n)
-        ∙ ap (λ h. (to == x && n == m && is_update_at before n) || h) same
-had_without by left (Join joined from ∷ before) x n other =
-    either ((joined == by) || (from == by)) refl (had_without by left before x n other) (had_without by left before from n)
-  where
-    older : Records
-    older = without by left before
-
-    either : (b : Bool) → ((joined == by) || (from == by)) ≡ b → had older x n ≡ had before x n
-        → ((from ≡ by → ⊥) → had older from n ≡ had before from n)
-        → had (cond b (Join joined from ∷ before) (Join joined from ∷ older)) x n ≡ had (Join joined from ∷ before) x n
-    either true is same at_source = refl
-    either false is same at_source =
-        let elsewhere : from ≡ by → ⊥ = eqb-false from by (either_false (joined == by) (from == by) is) in
-        ap (λ h. (joined == x && h) || had older x n) (at_source elsewhere)
-        ∙ ap (λ h. (joined == x && had before from n) || h) same
-had_without by left (Verdict ∷ before) x n other = had_without by left before x n other
-
--- ---- what the replica itself had
-
-and_false : (a : Bool) → (a && false) ≡ false
-and_false true = refl
-and_false false = refl
-
--- nothing is left out of what did not reach it last
-none_left : (h a : Bool) → (h && not (a && false)) ≡ h
-none_left h a = ap (λ t. h && not t) (and_false a) ∙ and_true h
-  where
-    and_true : (h : Bool) → (h && true) ≡ h
-    and_true true = refl
-    and_true false = refl
-
--- does the label stay?
-abbrev stays : (ℕ → Bool) → ℕ → List ℕ → Bool
-stays left n got = not (left n && is_among n got)
-
-first_false : (a b : Bool) → (a || b) ≡ false → a ≡ false
-first_false true b is = is
-first_false false b is = refl
-
--- what the replica had with one delivery more, by cases: is it one to it, of this label, which is an update, had it that
--- before, is this label left out, and the delivered one, and did this one reach it last before
-table : (t e u h l lm a : Bool) → (t ≡ true → e ≡ true → h ≡ false) → (e ≡ true → lm ≡ l)
-    → cond (t && lm) (h && not (l && a)) ((t && e && u) || (h && not (l && a)))
-    ≡ (((t && e && u) || h) && not (l && cond t (e || a) a))
-table false e u h l lm a new same = refl
-table true false u h l true a new same = refl
-table true false u h l false a new same = refl
-table true true u true l lm a new same = absurd (true≢false (new refl refl))
-table true true true false true true a new same = refl
-table true true false false true true a new same = refl
-table true true u false true false a new same = absurd (true≢false (sym (same refl)))
-table true true true false false false a new same = refl
-table true true false false false false a new same = refl
-table true true u false false true a new same = absurd (true≢false (same refl))
-
-pub had_there : (by : ℕ) (left : ℕ → Bool) (records : Records) (n : ℕ) → IsCausal records
-    → had (without by left records) by n ≡ (had records by n && stays left n (labels_got_last by records))
-had_there by left [] n causal = refl
-had_there by left (Operate o op clock ∷ before) n causal = either (o == by) refl (had_there by left before n causal)
-  where
-    older : Records
-    older = without by left before
-
-    either : (b : Bool) → (o == by) ≡ b → had older by n ≡ (had before by n && stays left n (labels_got_last by before))
-        → had (cond b (Operate o op clock ∷ before) (Operate o op clock ∷ older)) by n
-        ≡ (had (Operate o op clock ∷ before) by n && stays left n (cond b [] (labels_got_last by before)))
-    either true is same = sym (none_left (had (Operate o op clock ∷ before) by n) (left n))
-    either false is same =
-        ap (λ t. (t && n == label_count older && is_update op) || had older by n) is
-        ∙ same
-        ∙ sym (ap (λ t. ((t && n == label_count before && is_update op) || had before by n)
-        && stays left n (labels_got_last by before)) is)
-had_there by left (Deliver to m ∷ before) n causal =
-    chosen (to == by && left m)
-    ∙ ap (λ u. cond (to == by && left m) (had older by n) ((to == by && n == m && u) || had older by n))
-    (update_without by left before n)
-    ∙ ap (λ h. cond (to == by && left m) h ((to == by && n == m && is_update_at before n) || h))
-    (had_there by left before n causal.2)
-    ∙ table (to == by) (n == m) (is_update_at before n) (had before by n) (left n) (left m)
-    (is_among n (labels_got_last by before)) is_new is_same
-    ∙ ap (λ a. had (Deliver to m ∷ before) by n && not (left n && a)) (sym (among (to == by)))
-  where
-    older : Records
-    older = without by left before
-
-    chosen : (b : Bool) → had (cond b older (Deliver to m ∷ older)) by n
-        ≡ cond b (had older by n) ((to == by && n == m && is_update_at older n) || had older by n)
-    chosen true = refl
-    chosen false = refl
-
-    among : (t : Bool) → is_among n (cond t (m ∷ []) [] ++ labels_got_last by before)
-        ≡ cond t ((n == m) || is_among n (labels_got_last by before)) (is_among n (labels_got_last by before))
-    among true = refl
-    among false = refl
-
-    is_new : (to == by) ≡ true → (n == m) ≡ true → had before by n ≡ false
-    is_new at same =
-        ap (λ r. had before r n) (sym (eqb-true to by at)) ∙ ap (λ k. had before to k) (eqb-true n m same) ∙ causal.0
-
-    is_same : (n == m) ≡ true → left m ≡ left n
-    is_same same = ap left (sym (eqb-true n m same))
-had_there by left (Join joined from ∷ before) n causal =
-    either ((joined == by) || (from == by)) refl (had_there by left before n causal)
-  where
-    older : Records
-    older = without by left before
-
-    either : (b : Bool) → ((joined == by) || (from == by)) ≡ b
-        → had older by n ≡ (had before by n && stays left n (labels_got_last by before))
-        → had (cond b (Join joined from ∷ before) (Join joined from ∷ older)) by n
-        ≡ (had (Join joined from ∷ before) by n && stays left n (cond b [] (labels_got_last by before)))
-    either true is same = sym (none_left (had (Join joined from ∷ before) by n) (left n))
-    either false is same =
-        let another : (joined == by) ≡ false = first_false (joined == by) (from == by) is in
-        ap (λ t. (t && had older from n) || had older by n) another
-        ∙ same
-        ∙ sym (ap (λ t. ((t && had before from n) || had before by n) && stays left n (labels_got_last by before)) another)
-had_there by left (Verdict ∷ before) n causal = had_there by left before n causal
-
--- ---- what labels see
-
-sees_with : (by : ℕ) (left : ℕ → Bool) (before : Records) (o : ℕ) (op : Op) (clock : Option ℕ) → (o ≡ by → ⊥)
-    → ((n m : ℕ) → sees (without by left before) n m ≡ sees before n m) → (n m : ℕ)
-    → sees (Operate o op clock ∷ without by left before) n m ≡ sees (Operate o op clock ∷ before) n m
-sees_with by left before o op clock other same n m =
-    let older = without by left before in
-    ap (λ k. cond (n == k) (had older o m) (sees older n m)) (count_without by left before)
-    ∙ ap (λ h. cond (n == label_count before) h (sees older n m)) (had_without by left before o m other)
-    ∙ ap (λ s. cond (n == label_count before) (had before o m) s) (same n m)
-
-pub sees_without : (by : ℕ) (left : ℕ → Bool) (records : Records) (n m : ℕ)
-    → sees (without by left records) n m ≡ sees records n m
-sees_without by left [] n m = refl
-sees_without by left (Operate o op clock ∷ before) n m = either (o == by) refl (sees_without by left before)
-  where
-    either : (b : Bool) → (o == by) ≡ b → ((k l : ℕ) → sees (without by left before) k l ≡ sees before k l)
-        → sees (cond b (Operate o op clock ∷ before) (Operate o op clock ∷ without by left before)) n m
-        ≡ sees (Operate o op clock ∷ before) n m
-    either true is same = refl
-    either false is same = sees_with by left before o op clock (eqb-false o by is) same n m
-sees_without by left (Deliver to k ∷ before) n m = either (to == by && left k) (sees_without by left before n m)
-  where
-    either : (b : Bool) → sees (without by left before) n m ≡ sees before n m
-        → sees (cond b (without by left before) (Deliver to k ∷ without by left before)) n m ≡ sees before n m
-    either true same = same
-    either false same = same
-sees_without by left (Join joined from ∷ before) n m =
-    either ((joined == by) || (from == by)) (sees_without by left before n m)
-  where
-    either : (b : Bool) → sees (without by left before) n m ≡ sees before n m
-        → sees (cond b (Join joined from ∷ before) (Join joined from ∷ without by left before)) n m ≡ sees before n m
-    either true same = refl
-    either false same = same
-sees_without by left (Verdict ∷ before) n m = sees_without by left before n m
+    without_it : P (without by left before) before → (command : Command) → is_taken_back by left command ≡ true
+        → P (without by left before) (command ∷ before)
+    without_it behind (Deliver to n) is =
+        let parts = and_parts (to == by) (left n) is in
+        subst (λ (r : ℕ). P (without by left before) (Deliver r n ∷ before)) (sym (eqb-true to by parts.0))
+        (taken n (without by left before) before parts.1 behind)
+    without_it behind _ is = absurd (cc is)
 
 -- ---- the same labels that see the same stand in the same order, and have the same fault
 
-abbrev Sight : Type 0
-Sight = ℕ → ℕ → Bool
+-- the labels, and which of them see which
+record Sight : Type 0 where
+  count : ℕ
+  labels : List Label
+  sees : ℕ → ℕ → Bool
 
-abbrev rank_by : Kind → Sight → List Label → Label → Stamp
-rank_by Counter sight labels l = lowest_rank
-rank_by Register sight labels l =
-    unwrap_or l.stamp (greatest_stamp (filter (λ (other : Label). sight l.number other.number) labels))
-rank_by LwwSet sight labels l =
-    unwrap_or l.stamp (greatest_stamp (filter (λ (other : Label). sight l.number other.number) labels))
-rank_by OrSet sight labels l = lowest_rank
-rank_by Rga sight labels l =
-    unwrap_or l.stamp (greatest_stamp (filter (λ (other : Label). sight l.number other.number) labels))
+abbrev sight_of : Records → Sight
+sight_of records = record { count = label_count records; labels = labels_of records; sees = λ n m. sees records n m }
 
-rank_is : (kind : Kind) (records : Records) (l : Label)
-    → rank_of kind records l ≡ rank_by kind (sees records) (labels_of records) l
-rank_is Counter records l = refl
-rank_is Register records l = refl
-rank_is LwwSet records l = refl
-rank_is OrSet records l = refl
-rank_is Rga records l = refl
+-- with one operation more, at a replica that had this
+abbrev with_operation : ℕ → Op → Option ℕ → Sight → (ℕ → Bool) → Sight
+with_operation o op clock s had_before = record {
+  count = s.count + 1;
+  labels = record { number = s.count; replica = o; op = op; stamp = option_map (stamp_at o) clock } ∷ s.labels;
+  sees = λ n m. if n == s.count then had_before m else s.sees n m;
+}
 
-abbrev cmp_by : Kind → Sight → List Label → Label → Label → Ordering
-cmp_by kind sight labels l m =
-    ordering_then (stamp_cmp (rank_by kind sight labels l) (rank_by kind sight labels m)) (nat_cmp l.number m.number)
+same_rank : (kind : Kind) (one other : Records) (l : Label) → sight_of one ≡ sight_of other
+    → rank_of kind one l ≡ rank_of kind other l
+same_rank Counter one other l same = refl
+same_rank OrSet one other l same = refl
+same_rank _ one other l same = ap (λ (s : Sight). unwrap_or l.stamp (greatest_stamp
+    (filter (λ (seen : Label). s.sees l.number seen.number) s.labels))) same
 
-cmp_is : (kind : Kind) (records : Records) → label_cmp kind records ≡ cmp_by kind (sees records) (labels_of records)
-cmp_is kind records = fun_ext (λ (l : Label). fun_ext (λ (m : Label).
-    ap (λ r. ordering_then (stamp_cmp r (rank_of kind records m)) (nat_cmp l.number m.number)) (rank_is kind records l)
-    ∙ ap (λ r. ordering_then (stamp_cmp (rank_by kind (sees records) (labels_of records) l) r) (nat_cmp l.number m.number))
-    (rank_is kind records m)))
+same_order : (kind : Kind) (one other : Records) → sight_of one ≡ sight_of other
+    → named_labels kind one ≡ named_labels kind other
+same_order kind one other same =
+    ap (λ cmp. sort_by cmp (labels_of one)) (fun_ext (λ (l : Label). fun_ext (λ (m : Label).
+    ap (λ r. ordering_then (stamp_cmp r (rank_of kind one m)) (nat_cmp l.number m.number))
+    (same_rank kind one other l same)
+    ∙ ap (λ r. ordering_then (stamp_cmp (rank_of kind other l) r) (nat_cmp l.number m.number))
+    (same_rank kind one other m same))))
+    ∙ ap (λ (s : Sight). sort_by (label_cmp kind other) s.labels) same
 
-same_sight : (one other : Records) → ((n m : ℕ) → sees one n m ≡ sees other n m) → sees one ≡ sees other
-same_sight one other same = fun_ext (λ (n : ℕ). fun_ext (λ (m : ℕ). same n m))
-
-pub same_order : (kind : Kind) (one other : Records) → labels_of one ≡ labels_of other
-    → ((n m : ℕ) → sees one n m ≡ sees other n m) → named_labels kind one ≡ named_labels kind other
-same_order kind one other labels same =
-    ap (λ cmp. sort_by cmp (labels_of one)) (cmp_is kind one)
-    ∙ ap (λ (sight : Sight). sort_by (cmp_by kind sight (labels_of one)) (labels_of one)) (same_sight one other same)
-    ∙ ap (λ (ls : List Label). sort_by (cmp_by kind (sees other) ls) ls) labels
-    ∙ sym (ap (λ cmp. sort_by cmp (labels_of other)) (cmp_is kind other))
-
-abbrev cause_by : Kind → Sight → List Part → Option Cause
+abbrev cause_by : Kind → (ℕ → ℕ → Bool) → List Part → Option Cause
 cause_by kind sight sequence =
     if not (extends (λ (p q : Part). (is_some (update_of p.act) && sight q.label.number p.label.number)
     || is_earlier_there p q || is_query_half_of p q) sequence) then Some Order
@@ -336,53 +98,165 @@ cause_by kind sight sequence =
     sequence) then Some Query
     else None
 
-cause_is : (kind : Kind) (records : Records)
-    → cause_of kind records ≡ cause_by kind (sees records) (named_sequence kind records)
-cause_is kind records = refl
+same_cause : (kind : Kind) (one other : Records) → sight_of one ≡ sight_of other
+    → cause_of kind one ≡ cause_of kind other
+same_cause kind one other same =
+    ap (λ (s : Sight). cause_by kind s.sees (named_sequence kind one)) same
+    ∙ ap (λ (ls : List Label). cause_by kind (λ n m. sees other n m) (flat_map parts_of ls))
+    (same_order kind one other same)
 
-pub same_cause : (kind : Kind) (one other : Records) → labels_of one ≡ labels_of other
-    → ((n m : ℕ) → sees one n m ≡ sees other n m) → cause_of kind one ≡ cause_of kind other
-same_cause kind one other labels same =
-    cause_is kind one
-    ∙ ap (λ (sight : Sight). cause_by kind sight (named_sequence kind one)) (same_sight one other same)
-    ∙ ap (λ (ls : List Label). cause_by kind (sees other) (flat_map parts_of ls)) (same_order kind one other labels same)
-    ∙ sym (cause_is kind other)
+-- ---- all but what the replica itself had
+
+record AreAlike (by : ℕ) (older before : Records) : Type 0 where
+  sight : sight_of older ≡ sight_of before
+  others : (x n : ℕ) → (x ≡ by → ⊥) → had older x n ≡ had before x n
+  fault : (kind : Kind) → fault_of kind older ≡ fault_of kind before
+
+alike_itself : (by : ℕ) (records : Records) → AreAlike by records records
+alike_itself by records = record { sight = refl; others = λ x n other. refl; fault = λ kind. refl }
+
+alike_without : (by n : ℕ) (older before : Records) → AreAlike by older before
+    → AreAlike by older (Deliver by n ∷ before)
+alike_without by n older before same = record {
+  sight = same.sight;
+  others = λ x m other.
+      let elsewhere : (by == x) ≡ false = ne_eqb by x (λ here. other (sym here)) in
+      rw elsewhere (same.others x m other);
+  fault = same.fault;
+}
+
+alike_with : (by : ℕ) (command : Command) (older before : Records) → cuts_off by command ≡ false
+    → AreAlike by older before → AreAlike by (command ∷ older) (command ∷ before)
+alike_with by (Operate o op clock) older before goes_on same = record {
+  sight = sight;
+  others = λ x n other. rw (counts, same.others x n other) refl;
+  fault = λ kind.
+      let why = cause_of kind (Operate o op clock ∷ older) in
+      ap (λ f. option_or f (option_map (fault_at (label_count older)) why)) (same.fault kind)
+      ∙ ap (λ n. option_or (fault_of kind before) (option_map (fault_at n) why)) counts
+      ∙ ap (λ c. option_or (fault_of kind before) (option_map (fault_at (label_count before)) c))
+      (same_cause kind (Operate o op clock ∷ older) (Operate o op clock ∷ before) sight);
+}
+  where
+    counts : label_count older ≡ label_count before
+    counts = ap (λ (s : Sight). s.count) same.sight
+
+    sight : sight_of (Operate o op clock ∷ older) ≡ sight_of (Operate o op clock ∷ before)
+    sight =
+        ap (λ (s : Sight). with_operation o op clock s (had older o)) same.sight
+        ∙ ap (with_operation o op clock (sight_of before))
+        (fun_ext (λ (m : ℕ). same.others o m (eqb-false o by goes_on)))
+alike_with by (Deliver to m) older before goes_on same = record {
+  sight = same.sight;
+  others = λ x n other. rw (ap (λ (s : Sight). s.labels) same.sight, same.others x n other) refl;
+  fault = same.fault;
+}
+alike_with by (Join joined from) older before goes_on same = record {
+  sight = same.sight;
+  others = λ x n other.
+      let source = eqb-false from by (or_parts (joined == by) (from == by) goes_on).1 in
+      rw (same.others from n source, same.others x n other) refl;
+  fault = same.fault;
+}
+alike_with by Verdict older before goes_on same =
+    record { sight = same.sight; others = same.others; fault = same.fault }
+
+alike : (by : ℕ) (left : ℕ → Bool) (records : Records) → AreAlike by (without by left records) records
+alike by left = of_what_is_left by left (AreAlike by) (alike_itself by [])
+    (λ command before cuts. alike_itself by (command ∷ before))
+    (λ n older before is. alike_without by n older before)
+    (λ command older before goes_on stays. alike_with by command older before goes_on)
+
+pub had_without : (by : ℕ) (left : ℕ → Bool) (records : Records) (x n : ℕ) → (x ≡ by → ⊥)
+    → had (without by left records) x n ≡ had records x n
+had_without by left records = (alike by left records).others
+
+pub sees_without : (by : ℕ) (left : ℕ → Bool) (records : Records) (n m : ℕ)
+    → sees (without by left records) n m ≡ sees records n m
+sees_without by left records n m = ap (λ (s : Sight). s.sees n m) (alike by left records).sight
+
+pub order_without : (kind : Kind) (by : ℕ) (left : ℕ → Bool) (records : Records)
+    → named_labels kind (without by left records) ≡ named_labels kind records
+order_without kind by left records = same_order kind (without by left records) records (alike by left records).sight
 
 pub fault_without : (kind : Kind) (by : ℕ) (left : ℕ → Bool) (records : Records)
     → fault_of kind (without by left records) ≡ fault_of kind records
-fault_without kind by left [] = refl
-fault_without kind by left (Operate o op clock ∷ before) = either (o == by) refl (fault_without kind by left before)
-  where
-    older : Records
-    older = without by left before
+fault_without kind by left records = (alike by left records).fault kind
 
-    newest : ℕ → Option Cause → Option Fault
-    newest n why = option_map (fault_at n) why
+-- ---- what the replica itself had
 
-    either : (b : Bool) → (o == by) ≡ b → fault_of kind older ≡ fault_of kind before
-        → fault_of kind (cond b (Operate o op clock ∷ before) (Operate o op clock ∷ older))
-        ≡ fault_of kind (Operate o op clock ∷ before)
-    either true is same = refl
-    either false is same =
-        let why = cause_of kind (Operate o op clock ∷ older) in
-        ap (λ f. option_or f (newest (label_count older) why)) same
-        ∙ ap (λ n. option_or (fault_of kind before) (newest n why)) (count_without by left before)
-        ∙ ap (λ c. option_or (fault_of kind before) (newest (label_count before) c))
-        (same_cause kind (Operate o op clock ∷ older) (Operate o op clock ∷ before)
-        (labels_with o op clock (without by left before) before (count_without by left before) (labels_without by left before))
-        (sees_with by left before o op clock (eqb-false o by is) (sees_without by left before)))
-fault_without kind by left (Deliver to n ∷ before) = either (to == by && left n) (fault_without kind by left before)
+-- does the label stay?
+abbrev stays : (ℕ → Bool) → ℕ → List ℕ → Bool
+stays left n got = not (left n && is_among n got)
+
+-- and the rest is alike
+record HadThere (by : ℕ) (left : ℕ → Bool) (older before : Records) : Type 0 where
+  alike : AreAlike by older before
+  own : (n : ℕ) → IsCausal before → had older by n ≡ (had before by n && stays left n (labels_got_last by before))
+
+-- nothing is left out of what did not reach it last
+none_left : (h a : Bool) → h ≡ (h && not (a && false))
+none_left true true = refl
+none_left true false = refl
+none_left false a = refl
+
+-- what the replica had with one delivery more that stays, by cases: is it to it, of this label, an update, had it that
+-- before, is this label left out, and the delivered one, and did this one reach it last before
+with_delivery : (t e u h l lm a : Bool) → (t && lm) ≡ false → (e ≡ true → lm ≡ l)
+    → ((t && e && u) || (h && not (l && a))) ≡ (((t && e && u) || h) && not (l && cond t (e || a) a))
+with_delivery false e u h l lm a off same = refl
+with_delivery true false u h l lm a off same = refl
+with_delivery true true u h true true a off same = absurd (true≢false off)
+with_delivery true true u h true false a off same = absurd (true≢false (sym (same refl)))
+with_delivery true true true h false lm a off same = refl
+with_delivery true true false h false lm a off same = refl
+
+-- and with one that is left out, and was new
+without_delivery : (e u h l a : Bool) → (e ≡ true → (l ≡ true) × (h ≡ false))
+    → (h && not (l && a)) ≡ (((e && u) || h) && not (l && (e || a)))
+without_delivery false u h l a new = refl
+without_delivery true u true l a new = absurd (true≢false (new refl).1)
+without_delivery true u false false a new = absurd (true≢false (sym (new refl).0))
+without_delivery true true false true a new = refl
+without_delivery true false false true a new = refl
+
+had_with : (by : ℕ) (left : ℕ → Bool) (command : Command) (older before : Records) → cuts_off by command ≡ false
+    → is_taken_back by left command ≡ false → HadThere by left older before
+    → (n : ℕ) → IsCausal (command ∷ before)
+    → had (command ∷ older) by n ≡ (had (command ∷ before) by n && stays left n (labels_got_last by (command ∷ before)))
+had_with by left (Operate o op clock) older before goes_on off same n causal = rw goes_on (same.own n causal)
+had_with by left (Deliver to m) older before goes_on off same n causal =
+    rw (ap (λ (s : Sight). s.labels) same.alike.sight, same.own n causal.2)
+    (with_delivery (to == by) (n == m) (is_update_at before n) (had before by n) (left n) (left m)
+    (is_among n (labels_got_last by before)) off (λ is. ap left (sym (eqb-true n m is)))
+    ∙ ap (λ a. had (Deliver to m ∷ before) by n && not (left n && a)) (sym (among (to == by))))
   where
-    either : (b : Bool) → fault_of kind (without by left before) ≡ fault_of kind before
-        → fault_of kind (cond b (without by left before) (Deliver to n ∷ without by left before)) ≡ fault_of kind before
-    either true same = same
-    either false same = same
-fault_without kind by left (Join joined from ∷ before) =
-    either ((joined == by) || (from == by)) (fault_without kind by left before)
-  where
-    either : (b : Bool) → fault_of kind (without by left before) ≡ fault_of kind before
-        → fault_of kind (cond b (Join joined from ∷ before) (Join joined from ∷ without by left before))
-        ≡ fault_of kind before
-    either true same = refl
-    either false same = same
-fault_without kind by left (Verdict ∷ before) = fault_without kind by left before
+    among : (t : Bool) → is_among n (cond t (m ∷ []) [] ++ labels_got_last by before)
+        ≡ cond t ((n == m) || is_among n (labels_got_last by before)) (is_among n (labels_got_last by before))
+    among true = refl
+    among false = refl
+had_with by left (Join joined from) older before goes_on off same n causal =
+    rw ((or_parts (joined == by) (from == by) goes_on).0, (or_parts (joined == by) (from == by) goes_on).1)
+    (same.own n causal)
+had_with by left Verdict older before goes_on off same n causal = same.own n causal
+
+pub had_there : (by : ℕ) (left : ℕ → Bool) (records : Records) (n : ℕ) → IsCausal records
+    → had (without by left records) by n ≡ (had records by n && stays left n (labels_got_last by records))
+had_there by left records = (of_what_is_left by left (HadThere by left)
+    (record { alike = alike_itself by []; own = λ n causal. refl })
+    (λ command before cuts. record {
+      alike = alike_itself by (command ∷ before);
+      own = λ n causal. rw cuts (none_left (had (command ∷ before) by n) (left n));
+    })
+    (λ m older before is same. record {
+      alike = alike_without by m older before same.alike;
+      own = λ n causal. rw (eq-eqb by by refl)
+          (same.own n causal.2 ∙ without_delivery (n == m) (is_update_at before n) (had before by n) (left n)
+          (is_among n (labels_got_last by before))
+          (λ same. let this = eqb-true n m same in (ap left this ∙ is, ap (had before by) this ∙ causal.0)));
+    })
+    (λ command older before goes_on off same. record {
+      alike = alike_with by command older before goes_on same.alike;
+      own = had_with by left command older before goes_on off same;
+    })
+    records).own

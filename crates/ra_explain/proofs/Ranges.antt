@@ -14,7 +14,8 @@ chosen_more : (test : ℕ → Bool) (n : ℕ)
     → filter test (range_with_len 0 (n + 1)) ≡ filter test (range_with_len 0 n) ++ filter test (n ∷ [])
 chosen_more test n =
     let next : n + 1 ≡ suc n = omega arith in
-    ap (λ (k : ℕ). filter test (range_with_len 0 k)) next ∙ ap (filter test) (range_more 0 n n (omega arith)) ∙ filter-append test (range_with_len 0 n) (n ∷ [])
+    ap (λ (k : ℕ). filter test (range_with_len 0 k)) next ∙ ap (filter test) (range_more 0 n n (omega arith))
+    ∙ filter-append test (range_with_len 0 n) (n ∷ [])
 
 -- and it is one of those wanted
 pub chosen_one : (test : ℕ → Bool) (n : ℕ) (found : List ℕ) → test n ≡ true → found ≡ filter test (range_with_len 0 n)

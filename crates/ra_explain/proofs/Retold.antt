@@ -2,7 +2,7 @@
 use Rattle.std.proofs.Common.{◌≡◌, ℕ, suc, ◌+◌, ◌<◌, true, false, List, length, drop, get_or, arith, [], ◌∷◌, ◌++◌, Option, Some, None, refl, sym, ap, ◌∙◌, subst}
 use Rattle.std.proofs.Math.Seq.{drop-cons}
 use Rattle.std.proofs.lemmas.Bool.{cond-true, cond-false}
-use Rattle.std.proofs.lemmas.List.{append-nil, append_assoc}
+use Rattle.std.proofs.lemmas.List.{append_assoc}
 use Rattle.std.specs.Option.{option_map_or}
 use Rattle.ra_labels.specs.declared.command.Command.{Command}
 use Rattle.ra_labels.specs.declared.command.Command.TheVariants.{Operate}
@@ -22,15 +22,11 @@ use Rattle.ra_explain.specs.declared.changes.Change.{Change}
 use Rattle.ra_explain.specs.Changes.{is_ok, is_kept, kept_one, kept_from, holds_after}
 
 -- the trial was told of some commands, which with what is kept of the rest are those that are kept of all
-pub record IsToldSo (trial : Trial) (change : Change) (replica place : ℕ) (rest whole : List MonitorEntry) : Type 0 where
+pub record IsToldSo (trial : Trial) (change : Change) (replica place : ℕ)
+    (rest whole : List MonitorEntry) : Type 0 where
   pub commands : List Command
   pub told : IsToldOf trial commands
   pub same : commands ++ kept_from change replica place rest ≡ kept_from change replica 0 whole
-
--- at first it was told of nothing
-pub told_nothing : (trial : Trial) (change : Change) (replica : ℕ) (whole : List MonitorEntry) → IsToldOf trial []
-    → IsToldSo trial change replica 0 whole whole
-told_nothing trial change replica whole told = record { commands = []; told = told; same = refl }
 
 -- then of one entry's command more, which is kept
 pub told_more : (old new : Trial) (change : Change) (replica place : ℕ) (entry : MonitorEntry)
@@ -63,12 +59,6 @@ told_same trial change replica place entry rest whole so kept =
       same = sym (ap (λ (cs : List Command). so.commands ++ (cs ++ behind)) none) ∙ so.same;
     }
 
--- in the end of all that are kept
-pub told_all : (trial : Trial) (change : Change) (replica place : ℕ) (whole : List MonitorEntry)
-    → IsToldSo trial change replica place [] whole → IsToldOf trial (kept_from change replica 0 whole)
-told_all trial change replica place whole so =
-    subst (λ (cs : List Command). IsToldOf trial cs) (sym (append-nil so.commands) ∙ so.same) so.told
-
 -- the first of the rest is the entry at its place
 next_one : (i : ℕ) (log : List MonitorEntry) (entry : MonitorEntry) → i < length log → entry ≡ get_or log i entry
     → drop i log ≡ entry ∷ drop (i + 1) log
@@ -78,11 +68,13 @@ next_one i log entry below is =
     ∙ ap (λ (e : MonitorEntry). e ∷ drop (suc i) log) (sym is) ∙ ap (λ (j : ℕ). entry ∷ drop j log) next
 
 -- the entry's command comes next
-pub told_next : (trial : Trial) (change : Change) (replica place i : ℕ) (entry : MonitorEntry) (whole : List MonitorEntry)
-    → i < length whole → entry ≡ get_or whole i entry → IsToldSo trial change replica place (drop i whole) whole
+pub told_next : (trial : Trial) (change : Change) (replica place i : ℕ) (entry : MonitorEntry)
+    (whole : List MonitorEntry) → i < length whole → entry ≡ get_or whole i entry
+    → IsToldSo trial change replica place (drop i whole) whole
     → IsToldSo trial change replica place (entry ∷ drop (i + 1) whole) whole
 told_next trial change replica place i entry whole below is so =
-    subst (λ (rest : List MonitorEntry). IsToldSo trial change replica place rest whole) (next_one i whole entry below is) so
+    subst (λ (rest : List MonitorEntry). IsToldSo trial change replica place rest whole)
+    (next_one i whole entry below is) so
 
 -- the reply to the last command tells whether it holds after the others
 pub told_last : (setup told : Setup) (commands : List Command) (last same : Command) (reply : Reply)
@@ -91,13 +83,13 @@ pub told_last : (setup told : Setup) (commands : List Command) (last same : Comm
     → is_ok reply ≡ holds_after setup commands last
 told_last setup told commands last same reply setups lasts is =
     ap is_ok is
-    ∙ ap (λ (s : Setup). is_ok (answer_of s.kind s.replicas (records_after_all s.kind s.replicas [] commands) same)) setups
-    ∙ ap (λ (c : Command). holds_after setup commands c) lasts
+    ∙ ap (λ (s : Setup). is_ok (answer_of s.kind s.replicas (records_after_all s.kind s.replicas [] commands) same))
+    setups ∙ ap (λ (c : Command). holds_after setup commands c) lasts
 
 -- an answer is ok only where no fault was before, nothing refuses the command, and none comes with it
 ok_only : (older newest : Option Fault) (why : Option Refusal) (n : ℕ)
-    → is_ok (option_map_or no_at older (option_map_or reply.Refused why (option_map_or no_at newest (reply.Ok n)))) ≡ true
-    → (why ≡ None) × (newest ≡ None)
+    → is_ok (option_map_or no_at older (option_map_or reply.Refused why (option_map_or no_at newest (reply.Ok n))))
+    ≡ true → (why ≡ None) × (newest ≡ None)
 ok_only None None None n is = (refl, refl)
 ok_only None (Some fault) None n is = absurd (cc is)
 ok_only None newest (Some why) n is = absurd (cc is)

@@ -1,12 +1,12 @@
 -- One part after another: the state after the updates that the replica had of them.
-use Rattle.std.proofs.Common.{◌≡◌, ℕ, ◌+◌, ◌<◌, ◌≤◌, Bool, true, false, cond, List, [], ◌∷◌, ◌++◌, take, drop, filter, map, length, get_or, Option, Some, None, refl, sym, ap, ◌∙◌, arith}
+use Rattle.std.proofs.Common.{◌≡◌, ℕ, ◌+◌, ◌<◌, ◌≤◌, true, false, List, [], ◌∷◌, ◌++◌, take, drop, filter, map, length, get_or, Option, Some, None, refl, sym, ap, ◌∙◌, arith}
 use Rattle.std.specs.Prelude.{option_and_then, is_some, unwrap_or, fold, IfSome}
 use Rattle.std.specs.Option.{option_to_list}
 use Rattle.std.specs.List.{cons_option}
-use Rattle.std.proofs.lemmas.List.{append-nil, take_more, take_all, take-append-drop, length-map, get_or-map}
-use Rattle.std.proofs.lemmas.Option.{slice_get-get_or}
+use Rattle.std.proofs.lemmas.List.{append-nil, take_more, take-append-drop, length-map, get_or-map}
 use Rattle.std.proofs.lemmas.List.Elements.{filter-append, filter_map-append, All-get_or}
-use Rattle.std.proofs.lemmas.Bool.{cond-true, cond-false}
+use Rattle.std.proofs.lemmas.List.Sums.{fold-append}
+use Rattle.std.proofs.lemmas.Bool.{cond-true}
 use Rattle.ra_labels.specs.declared.kind.Kind.{Kind}
 use Rattle.ra_labels.specs.declared.operation.Update.{Update}
 use Rattle.ra_labels.specs.Records.{Records, label_count}
@@ -26,6 +26,7 @@ use Rattle.ra_witness.specs.declared.part_ref.PartRef.{PartRef}
 use Rattle.ra_witness.proofs.TheLaws.{what_first_updates_lead_to_is_in_range}
 use Rattle.ra_explain.specs.Places.{places_in}
 use Rattle.ra_explain.specs.Seen.{IsKnown, update_at, updates_among, after_one}
+use Rattle.ra_explain.proofs.Faults.{none_is}
 use Rattle.ra_explain.proofs.Labels.{parts_known}
 
 -- the updates that the replica had of the first parts lead to this state
@@ -35,7 +36,8 @@ HasMade kind records replica count state =
 
 -- the updates of one part more
 among_more : (records : Records) (replica : ℕ) (parts more : List Part)
-    → updates_among records replica (parts ++ more) ≡ updates_among records replica parts ++ updates_among records replica more
+    → updates_among records replica (parts ++ more)
+    ≡ updates_among records replica parts ++ updates_among records replica more
 among_more records replica parts more =
     let keeps = λ (p : Part). had records replica p.label.number in
     ap updates_of (filter-append keeps parts more)
@@ -53,101 +55,86 @@ rest_is : (records : Records) (replica : ℕ) (parts : List Part) (n : ℕ)
     → updates_among records replica parts
     ≡ updates_among records replica (take n parts) ++ updates_among records replica (drop n parts)
 rest_is records replica parts n =
-    ap (updates_among records replica) (sym (take-append-drop n parts)) ∙ among_more records replica (take n parts) (drop n parts)
+    ap (updates_among records replica) (sym (take-append-drop n parts))
+    ∙ among_more records replica (take n parts) (drop n parts)
 
 -- an update that is not admitted leaves no state
 none_left : (us : List Update) → fold (λ state update. option_and_then (λ s. step_of s update) state) None us ≡ None
 none_left [] = refl
 none_left (u ∷ us) = none_left us
 
-folded : (o : Option State) (us vs : List Update)
-    → fold (λ state update. option_and_then (λ s. step_of s update) state) o (us ++ vs)
-    ≡ fold (λ state update. option_and_then (λ s. step_of s update) state)
-    (fold (λ state update. option_and_then (λ s. step_of s update) state) o us) vs
-folded o [] vs = refl
-folded o (u ∷ us) vs = folded (option_and_then (λ s. step_of s u) o) us vs
-
 pub none_stays : (kind : Kind) (us vs : List Update) → state_after kind us ≡ None → state_after kind (us ++ vs) ≡ None
 none_stays kind us vs none =
-    folded _ us vs
+    fold-append _ _ us vs
     ∙ ap (λ (o : Option State). fold (λ state update. option_and_then (λ s. step_of s update) state) o vs) none
     ∙ none_left vs
 
+-- at this place of the named sequence stands a part that does this, if the replica had it
+pub record DoesAt (kind : Kind) (records : Records) (replica i : ℕ) (o : Option Update) : Type 0 where
+  pub first : Part
+  pub below : i < length (named_sequence kind records)
+  pub does : option_to_list o ≡ updates_among records replica (get_or (named_sequence kind records) i first ∷ [])
+
 -- one part more is at most one step more
-pub stepped : (kind : Kind) (records : Records) (replica i : ℕ) (p : Part) (state : State) (o : Option Update)
-    → i < length (named_sequence kind records)
-    → option_to_list o ≡ updates_among records replica (get_or (named_sequence kind records) i p ∷ [])
-    → HasMade kind records replica i state
+stepped : (kind : Kind) (records : Records) (replica i : ℕ) (state : State) (o : Option Update)
+    → DoesAt kind records replica i o → HasMade kind records replica i state
     → state_after kind (updates_among records replica (take (i + 1) (named_sequence kind records))) ≡ after_one state o
-stepped kind records replica i p state o below does made = by_update o does
+stepped kind records replica i state o next made = by_update o next
   where
-    first : List Update
-    first = updates_among records replica (take i (named_sequence kind records))
+    before : List Update
+    before = updates_among records replica (take i (named_sequence kind records))
 
-    more : (us : List Update)
-        → us ≡ updates_among records replica (get_or (named_sequence kind records) i p ∷ [])
+    more : (o : Option Update) → DoesAt kind records replica i o
         → state_after kind (updates_among records replica (take (i + 1) (named_sequence kind records)))
-        ≡ state_after kind (first ++ us)
-    more us is = ap (state_after kind)
-        (made_more records replica (named_sequence kind records) i p below ∙ ap (λ (vs : List Update). first ++ vs) (sym is))
+        ≡ state_after kind (before ++ option_to_list o)
+    more o next = ap (state_after kind)
+        (made_more records replica (named_sequence kind records) i next.first next.below
+        ∙ ap (λ (us : List Update). before ++ us) (sym next.does))
 
-    by_update : (o : Option Update)
-        → option_to_list o ≡ updates_among records replica (get_or (named_sequence kind records) i p ∷ [])
+    by_update : (o : Option Update) → DoesAt kind records replica i o
         → state_after kind (updates_among records replica (take (i + 1) (named_sequence kind records)))
         ≡ after_one state o
-    by_update None is = more [] is ∙ ap (state_after kind) (append-nil first) ∙ made
-    by_update (Some u) is =
-        more (u ∷ []) is ∙ one_more_update_is_one_more_step kind first u ∙ ap (option_and_then (λ s. step_of s u)) made
+    by_update None next = more None next ∙ ap (state_after kind) (append-nil before) ∙ made
+    by_update (Some u) next =
+        more (Some u) next ∙ one_more_update_is_one_more_step kind before u
+        ∙ ap (option_and_then (λ s. step_of s u)) made
 
 some_is : {A : Type 0} (o : Option A) (x y : A) → y ≡ unwrap_or o x → true ≡ is_some o → o ≡ Some y
 some_is None x y is some = absurd (cc some)
 some_is (Some z) x y is some = ap Some (sym is)
 
-none_is : {A : Type 0} (o : Option A) → false ≡ is_some o → o ≡ None
-none_is None is = refl
-none_is (Some x) is = absurd (cc is)
+pub made_one : (kind : Kind) (records : Records) (replica i : ℕ) (state made : State) (o : Option Update)
+    → DoesAt kind records replica i o
+    → true ≡ is_some (after_one state o) → made ≡ unwrap_or (after_one state o) state
+    → HasMade kind records replica i state → HasMade kind records replica (i + 1) made
+made_one kind records replica i state made o next admitted is so_far =
+    stepped kind records replica i state o next so_far ∙ some_is (after_one state o) state made is admitted
 
-pub made_one : (kind : Kind) (records : Records) (replica i : ℕ) (p : Part) (state next : State) (o : Option Update)
-    → i < length (named_sequence kind records)
-    → option_to_list o ≡ updates_among records replica (get_or (named_sequence kind records) i p ∷ [])
-    → true ≡ is_some (after_one state o) → next ≡ unwrap_or (after_one state o) state
-    → HasMade kind records replica i state → HasMade kind records replica (i + 1) next
-made_one kind records replica i p state next o below does admitted is made =
-    stepped kind records replica i p state o below does made ∙ some_is (after_one state o) state next is admitted
-
-pub made_no_more : (kind : Kind) (records : Records) (replica i : ℕ) (p : Part) (state : State) (o : Option Update)
-    → i < length (named_sequence kind records)
-    → option_to_list o ≡ updates_among records replica (get_or (named_sequence kind records) i p ∷ [])
-    → false ≡ is_some (after_one state o) → HasMade kind records replica i state
+pub made_no_more : (kind : Kind) (records : Records) (replica i : ℕ) (state : State) (o : Option Update)
+    → DoesAt kind records replica i o → false ≡ is_some (after_one state o) → HasMade kind records replica i state
     → None ≡ state_after kind (updates_had kind records replica)
-made_no_more kind records replica i p state o below does not made =
+made_no_more kind records replica i state o next not made =
     let parts = named_sequence kind records in
     sym (ap (state_after kind) (rest_is records replica parts (i + 1))
-    ∙ none_stays kind (updates_among records replica (take (i + 1) parts)) (updates_among records replica (drop (i + 1) parts))
-    (stepped kind records replica i p state o below does made ∙ none_is (after_one state o) not))
-
-pub made_all : (kind : Kind) (records : Records) (replica i : ℕ) (state : State)
-    → length (named_sequence kind records) ≤ i → HasMade kind records replica i state
-    → Some state ≡ state_after kind (updates_had kind records replica)
-made_all kind records replica i state past made =
-    sym made ∙ ap (λ (parts : List Part). state_after kind (updates_among records replica parts))
-    (take_all i (named_sequence kind records) past)
+    ∙ none_stays kind (updates_among records replica (take (i + 1) parts))
+    (updates_among records replica (drop (i + 1) parts))
+    (stepped kind records replica i state o next made ∙ none_is (after_one state o) (sym not)))
 
 -- the next step stays in range
-pub may_step : (kind : Kind) (records : Records) (replica i : ℕ) (p : Part) (state : State) (o : Option Update)
-    → label_count records ≤ FARTHEST_COUNT → i < length (named_sequence kind records)
-    → option_to_list o ≡ updates_among records replica (get_or (named_sequence kind records) i p ∷ [])
+pub may_step : (kind : Kind) (records : Records) (replica i : ℕ) (state : State) (o : Option Update)
+    → label_count records ≤ FARTHEST_COUNT → DoesAt kind records replica i o
     → HasMade kind records replica i state → IfSome (after_one state o) IsInRange
-may_step kind records replica i p state o few below does made = either (after_one state o) refl
+may_step kind records replica i state o few next made = either (after_one state o) refl
   where
     parts : List Part
     parts = named_sequence kind records
 
     either : (after : Option State) → after_one state o ≡ after → IfSome after IsInRange
     either None is = tt
-    either (Some next) is = what_first_updates_lead_to_is_in_range kind records replica
-        (updates_among records replica (take (i + 1) parts)) (updates_among records replica (drop (i + 1) parts)) next few
-        (rest_is records replica parts (i + 1)) (stepped kind records replica i p state o below does made ∙ is)
+    either (Some last) is = what_first_updates_lead_to_is_in_range kind records replica
+        (updates_among records replica (take (i + 1) parts))
+        (updates_among records replica (drop (i + 1) parts)) last few
+        (rest_is records replica parts (i + 1)) (stepped kind records replica i state o next made ∙ is)
 
 -- ---- one part
 
@@ -167,43 +154,14 @@ does setup log replica p u known whole has is =
     ap option_to_list same ∙ one_listed (update_of p.act)
     ∙ ap updates_of (sym (cond-true (had before replica p.label.number) (p ∷ []) [] (sym known.had ∙ has)))
 
--- a query half does nothing
-pub query_does_nothing : (setup : Setup) (log : List MonitorEntry) (replica : ℕ) (p : Part)
-    → IsKnown setup log replica p → half_of p.half ≡ QueryHalf
-    → [] ≡ updates_among (records_before_fault_in setup log) replica (p ∷ [])
-query_does_nothing setup log replica p known half =
-    either (had (records_before_fault_in setup log) replica p.label.number)
-  where
-    either : (b : Bool) → [] ≡ updates_of (cond b (p ∷ []) [])
-    either true = ap (λ (o : Option Update). cons_option o []) (sym (known.fine.query half))
-    either false = refl
-
--- nor is anything done that the replica had not
-pub nothing_had : (setup : Setup) (log : List MonitorEntry) (replica : ℕ) (p : Part)
-    → IsKnown setup log replica p → had (records_of setup log) replica p.label.number ≡ false
-    → [] ≡ updates_among (records_before_fault_in setup log) replica (p ∷ [])
-nothing_had setup log replica p known lacks =
-    ap updates_of (sym (cond-false (had (records_before_fault_in setup log) replica p.label.number) (p ∷ []) []
-    (sym known.had ∙ lacks)))
-
--- the part at a position of the named sequence
-pub record StandsAt (setup : Setup) (log : List MonitorEntry) (replica i : ℕ) (r : PartRef) (p : Part) : Type 0 where
-  pub known : IsKnown setup log replica p
-  pub same : ref_of p ≡ r
-  pub below : i < length (named_sequence setup.kind (records_before_fault_in setup log))
-  pub at : p ≡ get_or (named_sequence setup.kind (records_before_fault_in setup log)) i p
-
-one_default : (parts : List Part) (i : ℕ) (p q : Part) → i < length parts → get_or parts i p ≡ get_or parts i q
-one_default parts i p q below =
-    let both : Some (get_or parts i p) ≡ Some (get_or parts i q) =
-    sym (slice_get-get_or parts i p below) ∙ slice_get-get_or parts i q below in
-    cc both
-
-pub stands : (setup : Setup) (log : List MonitorEntry) (replica : ℕ) (refs : List PartRef) (i : ℕ) (r : PartRef)
-    → IsLegalLog setup log
+-- what the part at a place does, where that is told of each known part
+pub does_at : (setup : Setup) (log : List MonitorEntry) (replica : ℕ) (refs : List PartRef) (i : ℕ) (r : PartRef)
+    (o : Option Update) → IsLegalLog setup log
     → refs ≡ map ref_of (named_sequence setup.kind (records_before_fault_in setup log)) → i < length refs
-    → (p : Part) × StandsAt setup log replica i (get_or refs i r) p
-stands setup log replica refs i r legal are within = by_parts parts refl
+    → ((p : Part) → IsKnown setup log replica p → ref_of p ≡ get_or refs i r
+    → option_to_list o ≡ updates_among (records_before_fault_in setup log) replica (p ∷ []))
+    → DoesAt setup.kind (records_before_fault_in setup log) replica i o
+does_at setup log replica refs i r o legal are within told = by_parts parts refl
   where
     parts : List Part
     parts = named_sequence setup.kind (records_before_fault_in setup log)
@@ -211,24 +169,12 @@ stands setup log replica refs i r legal are within = by_parts parts refl
     below : i < length parts
     below = omega (arith, within, ap length are, length-map parts ref_of)
 
-    by_parts : (list : List Part) → parts ≡ list → (p : Part) × StandsAt setup log replica i (get_or refs i r) p
+    by_parts : (list : List Part) → parts ≡ list → DoesAt setup.kind (records_before_fault_in setup log) replica i o
     by_parts [] is = absurd (omega (arith, below, ap length is))
-    by_parts (first ∷ rest) is =
-        let p = get_or parts i first in (
-          p,
-          record {
-            known = All-get_or (IsKnown setup log replica) parts i first below (parts_known setup log replica legal);
-            same = sym (ap (λ (rs : List PartRef). get_or rs i r) are ∙ get_or-map ref_of parts i first r below);
-            below = below;
-            at = one_default parts i first p below;
-          },
-        )
-
--- what its update does
-pub found_one : (setup : Setup) (log : List MonitorEntry) (replica i : ℕ) (r : PartRef) (p : Part) (us : List Update)
-    → StandsAt setup log replica i r p
-    → us ≡ updates_among (records_before_fault_in setup log) replica (p ∷ [])
-    → us ≡ updates_among (records_before_fault_in setup log) replica
-    (get_or (named_sequence setup.kind (records_before_fault_in setup log)) i p ∷ [])
-found_one setup log replica i r p us at is =
-    is ∙ ap (λ (q : Part). updates_among (records_before_fault_in setup log) replica (q ∷ [])) at.at
+    by_parts (first ∷ rest) is = record {
+      first = first;
+      below = below;
+      does = told (get_or parts i first)
+          (All-get_or (IsKnown setup log replica) parts i first below (parts_known setup log replica legal))
+          (sym (ap (λ (rs : List PartRef). get_or rs i r) are ∙ get_or-map ref_of parts i first r below));
+    }

@@ -35,5 +35,6 @@ the_label_at_the_fault_is_found setup log fault before by operation clock legal 
     command_found setup log legal fault.label
     ∙ ap (λ (rs : Records). slice_get (operations_in rs) fault.label) are
     ∙ ap (slice_get (operations_in (Operate by operation clock ∷ before))) same
-    ∙ ap (λ (cs : List Command). slice_get cs (label_count before)) (sym (append-nil (operations_in (Operate by operation clock ∷ before))))
+    ∙ ap (λ (cs : List Command). slice_get cs (label_count before))
+    (sym (append-nil (operations_in (Operate by operation clock ∷ before))))
     ∙ newest_stands before by operation clock []

@@ -15,13 +15,14 @@ abbrev pub is_label : Bool → MonitorEntry → Bool
 is_label failed entry = is_operation entry.command && tells_accepted failed entry.reply
 
 -- the place, where a label stands there
-abbrev pub place_of : Bool → ℕ → MonitorEntry → List ℕ
-place_of failed at entry = if is_label failed entry then at ∷ [] else []
+abbrev pub place_if_label : Bool → ℕ → MonitorEntry → List ℕ
+place_if_label failed at entry = if is_label failed entry then at ∷ [] else []
 
 -- the places of the labels among entries, of which the first one stands at this place
 abbrev pub places_from : Bool → ℕ → List MonitorEntry → List ℕ
 places_from failed at [] = []
-places_from failed at (entry ∷ log) = place_of failed at entry ++ places_from (failed || is_no entry.reply) (at + 1) log
+places_from failed at (entry ∷ log) =
+    place_if_label failed at entry ++ places_from (failed || is_no entry.reply) (at + 1) log
 
 -- the places of the labels in the log, in the order of their numbers
 abbrev pub places_in : List MonitorEntry → List ℕ

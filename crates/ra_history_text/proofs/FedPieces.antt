@@ -42,19 +42,6 @@ fed_line first old new piece rest line behind out_first out_old out_new fed cut 
   replied = adds_then first.said old.said new.said out_first out_old out_new fed.replied replied;
 }
 
--- and what is behind the last line feed
-pub fed_rest : (first old new : Progress) (piece rest out_first out_old : List ℕ)
-    → IsFedUpTo first old piece rest out_first out_old → taken old rest ≡ Ok new
-    → taken first piece ≡ Ok new
-fed_rest first old new piece rest out_first out_old fed is =
-    ap (taken first) fed.parts ∙ taken_then first old fed.front rest fed.is_taken ∙ is
-
-pub fed_replies : (first old : Progress) (said : Said) (piece rest out_first out_old : List ℕ)
-    → IsFedUpTo first old piece rest out_first out_old → said ≡ old.said
-    → AddsReplies first.said said out_first out_old
-fed_replies first old said piece rest out_first out_old fed same =
-    subst (λ (s : Said). AddsReplies first.said s out_first out_old) (sym same) fed.replied
-
 -- ---- where it stops
 
 -- the piece stops behind what is fed: at these bytes, or for want of memory
@@ -100,15 +87,6 @@ stop_line first old piece rest line behind out_first out_old out_new fault fed c
     (memory_alone fault (old.partial ≡ [] → TakesMemory old.said line)
     (λ ending. taken old (line ++ 10 ∷ []) ≡ Err (stop_at old.said ending)) (ending_told fault) stops)
 
-pub stop_rest : (first old : Progress) (piece rest out_first out_old : List ℕ) (fault : CheckFault)
-    → IsFedUpTo first old piece rest out_first out_old
-    → StopsExtending old rest fault → StopsInside first piece out_first out_old fault
-stop_rest first old piece rest out_first out_old fault fed stops =
-    stops_behind first old piece rest rest [] out_first out_old out_old fault fed (sym (append-nil rest)) refl
-    (ending_told fault) refl
-    (memory_alone fault (length old.partial + length rest ≤ 1048576)
-    (λ ending. taken old rest ≡ Err (stop_at old.said ending)) (ending_told fault) stops)
-
 -- ---- a line that came in parts
 
 -- a line that came in parts is too long, or memory for it is missing
@@ -145,14 +123,14 @@ pub feed_taken : {T E : Type 0} (r : Result T E) (first old new : Progress) (pie
     → IsFedUpTo first old piece rest out_first out_old
     → OnOk r (taken old rest ≡ Ok new) → OnOk r (taken first piece ≡ Ok new)
 feed_taken (Ok x) first old new piece rest out_first out_old fed is =
-    fed_rest first old new piece rest out_first out_old fed is
+    ap (taken first) fed.parts ∙ taken_then first old fed.front rest fed.is_taken ∙ is
 feed_taken (Err e) first old new piece rest out_first out_old fed is = tt
 
 pub feed_replied : {T E : Type 0} (r : Result T E) (first old new : Progress) (piece rest out_first out_old : List ℕ)
     → IsFedUpTo first old piece rest out_first out_old
     → new.said ≡ old.said → OnOk r (AddsReplies first.said new.said out_first out_old)
 feed_replied (Ok x) first old new piece rest out_first out_old fed same =
-    fed_replies first old new.said piece rest out_first out_old fed same
+    subst (λ (s : Said). AddsReplies first.said s out_first out_old) (sym same) fed.replied
 feed_replied (Err e) first old new piece rest out_first out_old fed same = tt
 
 pub feed_stops : {T : Type 0} (r : Result T CheckFault) (first old : Progress) (piece rest out_first out_old : List ℕ)
@@ -160,4 +138,7 @@ pub feed_stops : {T : Type 0} (r : Result T CheckFault) (first old : Progress) (
     → IfErr r (StopsExtending old rest) → IfErr r (StopsInside first piece out_first out_old)
 feed_stops (Ok x) first old piece rest out_first out_old fed stops = tt
 feed_stops (Err fault) first old piece rest out_first out_old fed stops =
-    stop_rest first old piece rest out_first out_old fault fed stops
+    stops_behind first old piece rest rest [] out_first out_old out_old fault fed (sym (append-nil rest)) refl
+    (ending_told fault) refl
+    (memory_alone fault (length old.partial + length rest ≤ 1048576)
+    (λ ending. taken old rest ≡ Err (stop_at old.said ending)) (ending_told fault) stops)

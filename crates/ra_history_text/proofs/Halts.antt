@@ -1,8 +1,7 @@
 -- Runs that stop before a regular end.
-use Rattle.std.proofs.Common.{◌≡◌, ◌⊎◌, inl, inr, ℕ, Bool, eqb, cond, List, [], ◌++◌, Option, Some, None, IfSome}
+use Rattle.std.proofs.Common.{◌≡◌, inl, inr, ℕ, eqb, List, [], ◌++◌, Option, Some, None, IfSome}
 use Rattle.std.proofs.Common.{Result, Ok, Err, IfErr, refl, sym, ap, subst, ◌∙◌, ◌+◌, ◌<◌, ◌≤◌, take, length, arith}
-use Rattle.std.specs.Prelude.{OnOk, is_ok, ◌&&◌}
-use Rattle.std.proofs.lemmas.Bool.{cases_Bool}
+use Rattle.std.specs.Prelude.{OnOk, IsErrAnd, is_ok, ◌&&◌}
 use Rattle.std.specs.Io.KnownBytes.{Appends, Consumes, IsAtEnd, Keeps}
 use Rattle.std.proofs.lemmas.List.{append_assoc, append-nil, length-append, length-take-le}
 use Rattle.ra_monitor.specs.declared.report.Report.{Report}
@@ -13,11 +12,12 @@ use Rattle.ra_lines.specs.Fields.{BeginsWith}
 use Rattle.ra_history_text.specs.Output.{replies_of, last_line_of, last_line_at, output_of}
 use Rattle.ra_history_text.specs.Run.{WritesUpTo, WritesReplies, WritesPart, StopsCheck, HasGiven, IsRunning}
 use Rattle.ra_history_text.specs.Sessions.{AddsReplies, StopsInside, EndsText, StopsEnding}
-use Rattle.ra_history_text.specs.Text.{Said, Progress, Stop, Ending, Regular, Syntax, Truncated, LineTooLong, Full}
+use Rattle.ra_history_text.specs.Text.{Said, Progress, Stop, Ending, Regular, Truncated}
 use Rattle.ra_history_text.specs.Text.{has_names, next_line, text_start, stop_at, taken, ending_at, end_of}
 use Rattle.ra_history_text.specs.Written.{HasWritten}
 use Rattle.ra_history_text.proofs.ReplyLines.{output_begins}
-use Rattle.ra_history_text.proofs.Runs.{Appends-then, put_alone, written_replies, read_whole, ends_at, said_at_end, output_at_end, output_regular}
+use Rattle.ra_history_text.proofs.Runs.{where_known, where_whole, Appends-then, put_alone, written_replies, ends_at, said_at_end, output_at_end, output_regular}
+use Rattle.ra_lines.proofs.TheLaws.{chosen}
 use Rattle.ra_history_text.proofs.TakenBytes.{taken_then, stopped_then}
 
 -- ---- in the midst of a text
@@ -30,26 +30,20 @@ replies_written read p old new is written = record {
   written = subst (λ s. Appends old new (replies_of s)) (sym (said_at_end read p is)) written;
 }
 
-pub halts_reading : (r0 r1 r2 w0 w1 : Option (List ℕ)) (p : Progress) (out : List ℕ) → IsRunning r0 r1 w0 w1 p out
-    → Keeps r1 r2
-    → IfSome r0 (λ text. StopsCheck text r2 w0 w1 check_fault.Read)
-halts_reading None r1 r2 w0 w1 p out running keeps = tt
-halts_reading (Some all) None r2 w0 w1 p out running keeps = absurd running.read
-halts_reading (Some all) (Some rest) None w0 w1 p out running keeps = absurd keeps
-halts_reading (Some all) (Some rest) (Some left) w0 w1 p out running keeps =
-    let read = running.read.0 in (
-      read,
-      running.read.1
-          ∙ ap (λ (bs : List ℕ). read ++ bs) (sym keeps),
-      replies_written read p w0 w1 running.read.2 running.written,
-    )
+pub halts_between : (r0 r1 r2 w0 w1 : Option (List ℕ)) (p : Progress) (out : List ℕ) → IsRunning r0 r1 w0 w1 p out
+    → Consumes r1 r2 [] → IfSome r0 (λ text. StopsCheck text r2 w0 w1 check_fault.Read)
+halts_between r0 r1 r2 w0 w1 p out running consumes =
+    where_known r0 r1 r2 p [] (λ text left. StopsCheck text left w0 w1 check_fault.Read) running.read consumes
+    (λ all read left parts is. (read, parts, replies_written read p w0 w1 is running.written))
 
-pub halts_endless : (r0 r1 w0 w1 : Option (List ℕ)) (p : Progress) (out : List ℕ) → IsRunning r0 r1 w0 w1 p out
-    → IfSome r0 (λ text. StopsCheck text r1 w0 w1 check_fault.Endless)
-halts_endless None r1 w0 w1 p out running = tt
-halts_endless (Some all) None w0 w1 p out running = absurd running.read
-halts_endless (Some all) (Some rest) w0 w1 p out running =
-    (running.read.0, running.read.1, replies_written running.read.0 p w0 w1 running.read.2 running.written)
+pub none_consumed : (known : Option (List ℕ)) → Consumes known known []
+none_consumed None = tt
+none_consumed (Some all) = refl
+
+pub kept_whole : (old new : Option (List ℕ)) → Keeps old new → Consumes old new []
+kept_whole None new keeps = tt
+kept_whole (Some all) None keeps = absurd keeps
+kept_whole (Some all) (Some same) keeps = sym keeps
 
 -- ---- at the end of the text
 
@@ -63,21 +57,6 @@ cut_short text p n old new is ending written =
     ∙ append-nil (replies_of p.said) in
     record { ends = ends_at text p is ∙ ending; written = subst (Appends old new) (sym nothing) written }
 
--- a text that ends here has its regular end, or is cut short
-ending_cases : (p : Progress) → (ending_at p ≡ Regular) ⊎ ((n : ℕ) × (ending_at p ≡ Truncated n))
-ending_cases p =
-    elim (cases_Bool (has_names p.said && eqb (length p.partial) 0)) [
-      | inl regular ↦ inl (ap (λ (b : Bool). cond b Regular (Truncated (next_line p.said))) regular)
-      | inr short ↦ inr (next_line p.said, ap (λ (b : Bool). cond b Regular (Truncated (next_line p.said))) short)
-    ]
-
-is_no_fault : (p : Progress) (e : Ending) → ending_at p ≡ e → (Regular ≡ e → ⊥) → ((n : ℕ) → Truncated n ≡ e → ⊥) → ⊥
-is_no_fault p e is regular short =
-    elim (ending_cases p) [
-      | inl here ↦ regular (sym here ∙ is)
-      | inr here ↦ short here.0 (sym here.1 ∙ is)
-    ]
-
 why_ending : (text : List ℕ) (p : Progress) (old new : Option (List ℕ)) (left : Option (List ℕ)) (fault : CheckFault)
     → taken text_start text ≡ Ok p → StopsEnding p fault
     → Appends old new (replies_of p.said) → StopsCheck text left old new fault
@@ -87,22 +66,18 @@ why_ending text p old new left check_fault.NoMemory is stops written =
 why_ending text p old new left check_fault.Read is stops written = absurd (let other = stops.0 in cc)
 why_ending text p old new left check_fault.Write is stops written = absurd (let other = stops.0 in cc)
 why_ending text p old new left check_fault.Endless is stops written = absurd (let other = stops.0 in cc)
-why_ending text p old new left (check_fault.Syntax n) is stops written =
-    absurd (is_no_fault p (Syntax n) stops (λ e. cc) (λ m e. cc))
-why_ending text p old new left (check_fault.LineTooLong n) is stops written =
-    absurd (is_no_fault p (LineTooLong n) stops (λ e. cc) (λ m e. cc))
-why_ending text p old new left (check_fault.Full n) is stops written =
-    absurd (is_no_fault p (Full n) stops (λ e. cc) (λ m e. cc))
+why_ending text p old new left _ is stops written =
+    elim (chosen (has_names p.said && eqb (length p.partial) 0) Regular (Truncated (next_line p.said)) _ stops) [
+      | inl regular ↦ absurd (let never = regular.1 in cc)
+      | inr short ↦ absurd (let never = short.1 in cc)
+    ]
 
 pub halts_ending : (r0 r1 r2 w0 w1 : Option (List ℕ)) (p : Progress) (out : List ℕ) (fault : CheckFault)
-    → IsRunning r0 r1 w0 w1 p out → Consumes r1 r2 [] → IsAtEnd r2
+    → IsRunning r0 r1 w0 w1 p out → Consumes r1 r2 [] × IsAtEnd r2
     → StopsEnding p fault → IfSome r0 (λ text. StopsCheck text r2 w0 w1 fault)
-halts_ending None r1 r2 w0 w1 p out fault running consumes at_end stops = tt
-halts_ending (Some all) None r2 w0 w1 p out fault running consumes at_end stops = absurd running.read
-halts_ending (Some all) (Some rest) None w0 w1 p out fault running consumes at_end stops = absurd consumes
-halts_ending (Some all) (Some rest) (Some left) w0 w1 p out fault running consumes at_end stops =
-    let is = read_whole all rest left p running.read.0 running.read.1 consumes at_end running.read.2 in
-    why_ending all p w0 w1 (Some left) fault is stops running.written
+halts_ending r0 r1 r2 w0 w1 p out fault running ended stops =
+    where_whole r0 r1 r2 p (λ text. StopsCheck text r2 w0 w1 fault) running.read ended
+    (λ text is. why_ending text p w0 w1 r2 fault is stops running.written)
 
 -- ---- the writer fails
 
@@ -123,21 +98,15 @@ part_written text w0 w1 w2 before bytes later rest whole short written more = re
 
 pub halts_writing_end : (r0 r1 r2 w0 w1 w2 : Option (List ℕ)) (p : Progress) (out1 out2 unwritten : List ℕ)
     (report : Report)
-    → 0 < length unwritten → IsRunning r0 r1 w0 w1 p out1 → Consumes r1 r2 [] → IsAtEnd r2 → EndsText p out1 out2 report
+    → 0 < length unwritten → IsRunning r0 r1 w0 w1 p out1 → Consumes r1 r2 [] × IsAtEnd r2
+    → EndsText p out1 out2 report
     → HasWritten w1 w2 out2 unwritten → IfSome r0 (λ text. StopsCheck text r2 w0 w2 check_fault.Write)
-halts_writing_end None r1 r2 w0 w1 w2 p out1 out2 unwritten report short running consumes at_end ended written = tt
-halts_writing_end (Some all) None r2 w0 w1 w2 p out1 out2 unwritten report short running consumes at_end ended written =
-    absurd running.read
-halts_writing_end (Some all) (Some rest) None w0 w1 w2 p out1 out2 unwritten report short running consumes at_end ended
-    written = absurd consumes
-halts_writing_end (Some all) (Some rest)
-    (Some left) w0 w1 w2 p out1 out2 unwritten report short running consumes at_end ended written =
-    let is = read_whole all rest left p running.read.0 running.read.1 consumes at_end running.read.2 in
-    let gathered : out2 ≡ last_line_of p.said = put_alone out1 out2 (last_line_of p.said) running.nothing ended.out in
-    let whole : output_of all ≡ (replies_of p.said ++ out2) ++ [] =
-    output_regular all p is ended.regular ∙ ap (λ (bs : List ℕ). replies_of p.said ++ bs) (sym gathered)
-    ∙ sym (append-nil (replies_of p.said ++ out2)) in
-    part_written all w0 w1 w2 (replies_of p.said) out2 [] unwritten whole short running.written written
+halts_writing_end r0 r1 r2 w0 w1 w2 p out1 out2 unwritten report short running ended ends written =
+    let gathered : out2 ≡ last_line_of p.said = put_alone out1 out2 (last_line_of p.said) running.nothing ends.out in
+    where_whole r0 r1 r2 p (λ text. WritesPart text w0 w2) running.read ended (λ text is.
+    part_written text w0 w1 w2 (replies_of p.said) out2 [] unwritten
+    (output_regular text p is ends.regular ∙ ap (λ (bs : List ℕ). replies_of p.said ++ bs) (sym gathered)
+    ∙ sym (append-nil (replies_of p.said ++ out2))) short running.written written)
 
 -- ---- inside a piece
 
@@ -157,19 +126,15 @@ all_stops all read front later p stop parts is stops =
     ap (taken text_start) parts
     ∙ stopped_then text_start stop (read ++ front) later (taken_then text_start p read front is ∙ stops)
 
--- the output of a text that stops
-stop_output : (text : List ℕ) (said : Said) (e : Ending) → last_line_at e said ≡ []
-    → taken text_start text ≡ Err (stop_at said e) → output_of text ≡ replies_of said
-stop_output text said e none is =
-    ap (λ r. replies_of (end_of r).said ++ last_line_at (end_of r).ending (end_of r).said) is
-    ∙ ap (λ (bs : List ℕ). replies_of said ++ bs) none ∙ append-nil (replies_of said)
-
+-- what is written for a text that stops
 stop_written : (text : List ℕ) (said : Said) (e : Ending) (old new : Option (List ℕ)) → last_line_at e said ≡ []
     → taken text_start text ≡ Err (stop_at said e)
     → Appends old new (replies_of said) → WritesUpTo text old new e
 stop_written text said e old new none is written = record {
   ends = ap (λ r. (end_of r).ending) is;
-  written = subst (Appends old new) (sym (stop_output text said e none is)) written;
+  written = subst (Appends old new) (sym (
+      ap (λ r. replies_of (end_of r).said ++ last_line_at (end_of r).ending (end_of r).said) is
+      ∙ ap (λ (bs : List ℕ). replies_of said ++ bs) none ∙ append-nil (replies_of said))) written;
 }
 
 -- why the check stops where the piece does
@@ -178,22 +143,6 @@ why_feeding : (all read piece left out1 out2 : List ℕ) (p : Progress) (w0 w2 :
     → taken text_start read ≡ Ok p → (stopped : StopsInside p piece out1 out2 fault)
     → Appends w0 w2 (replies_of stopped.said)
     → StopsCheck all (Some left) w0 w2 fault
-why_feeding all read piece left out1 out2 p w0 w2 (check_fault.Syntax n) parts is stopped written =
-    stop_written all stopped.said (Syntax n) w0 w2 refl
-    (all_stops all read stopped.front (stopped.behind ++ left) p (stop_at stopped.said (Syntax n))
-    (goes_on all read piece left stopped.front stopped.behind parts stopped.parts) is stopped.why) written
-why_feeding all read piece left out1 out2 p w0 w2 (check_fault.Truncated n) parts is stopped written =
-    stop_written all stopped.said (Truncated n) w0 w2 refl
-    (all_stops all read stopped.front (stopped.behind ++ left) p (stop_at stopped.said (Truncated n))
-    (goes_on all read piece left stopped.front stopped.behind parts stopped.parts) is stopped.why) written
-why_feeding all read piece left out1 out2 p w0 w2 (check_fault.LineTooLong n) parts is stopped written =
-    stop_written all stopped.said (LineTooLong n) w0 w2 refl
-    (all_stops all read stopped.front (stopped.behind ++ left) p (stop_at stopped.said (LineTooLong n))
-    (goes_on all read piece left stopped.front stopped.behind parts stopped.parts) is stopped.why) written
-why_feeding all read piece left out1 out2 p w0 w2 (check_fault.Full n) parts is stopped written =
-    stop_written all stopped.said (Full n) w0 w2 refl
-    (all_stops all read stopped.front (stopped.behind ++ left) p (stop_at stopped.said (Full n))
-    (goes_on all read piece left stopped.front stopped.behind parts stopped.parts) is stopped.why) written
 why_feeding all read piece left out1 out2 p w0 w2 check_fault.NoMemory parts is stopped written =
     let q : Progress = record { said = stopped.said; partial = stopped.why.1.0 } in (
       read ++ stopped.front,
@@ -208,20 +157,18 @@ why_feeding all read piece left out1 out2 p w0 w2 check_fault.Write parts is sto
     absurd (let other = stopped.why.0 in cc)
 why_feeding all read piece left out1 out2 p w0 w2 check_fault.Endless parts is stopped written =
     absurd (let other = stopped.why.0 in cc)
+why_feeding all read piece left out1 out2 p w0 w2 _ parts is stopped written =
+    stop_written all stopped.said _ w0 w2 refl
+    (all_stops all read stopped.front (stopped.behind ++ left) p (stop_at stopped.said _)
+    (goes_on all read piece left stopped.front stopped.behind parts stopped.parts) is stopped.why) written
 
 pub halts_feeding : (r0 r1 r2 w0 w1 w2 : Option (List ℕ)) (p : Progress) (out1 out2 piece : List ℕ) (fault : CheckFault)
     → IsRunning r0 r1 w0 w1 p out1 → Consumes r1 r2 piece → StopsInside p piece out1 out2 fault → Appends w1 w2 out2
     → IfSome r0 (λ text. StopsCheck text r2 w0 w2 fault)
-halts_feeding None r1 r2 w0 w1 w2 p out1 out2 piece fault running consumes stopped appends = tt
-halts_feeding (Some all) None r2 w0 w1 w2 p out1 out2 piece fault running consumes stopped appends = absurd running.read
-halts_feeding (Some all) (Some rest) None w0 w1 w2 p out1 out2 piece fault running consumes stopped appends =
-    absurd consumes
-halts_feeding (Some all) (Some rest) (Some left) w0 w1 w2 p out1 out2 piece fault running consumes stopped appends =
-    let whole : all ≡ running.read.0 ++ (piece ++ left) = running.read.1
-    ∙ ap (λ (bs : List ℕ). running.read.0 ++ bs) consumes in
-    let written = written_replies w0 w1 w2 p.said stopped.said out1 out2 running.written running.nothing
-    stopped.replied appends in
-    why_feeding all running.read.0 piece left out1 out2 p w0 w2 fault whole running.read.2 stopped written
+halts_feeding r0 r1 r2 w0 w1 w2 p out1 out2 piece fault running consumes stopped appends =
+    where_known r0 r1 r2 p piece (λ text left. StopsCheck text left w0 w2 fault) running.read consumes
+    (λ all read left parts is. why_feeding all read piece left out1 out2 p w0 w2 fault parts is stopped
+    (written_replies w0 w1 w2 p.said stopped.said out1 out2 running.written running.nothing stopped.replied appends))
 
 -- what a fault leaves written is what the text's output begins with
 begins_at_stop : (all read piece left out1 out2 : List ℕ) (p : Progress) (fault : CheckFault)
@@ -276,28 +223,22 @@ pub halts_writing : {T : Type 0} (r : Result T CheckFault) (r0 r1 r2 w0 w1 w2 : 
     → OnOk r (taken old piece ≡ Ok new) → OnOk r (AddsReplies old.said new.said out1 out2)
     → IfErr r (StopsInside old piece out1 out2)
     → HasWritten w1 w2 out2 unwritten → IfSome r0 (λ text. StopsCheck text r2 w0 w2 check_fault.Write)
-halts_writing r None r1 r2 w0 w1 w2 old new out1 out2 piece unwritten short running consumes taken_so replied stopped
-    written = tt
-halts_writing r (Some all) None r2 w0 w1 w2 old new out1 out2 piece unwritten short running consumes taken_so replied
-    stopped written = absurd running.read
-halts_writing r (Some all) (Some rest) None w0 w1 w2 old new out1 out2 piece unwritten short running consumes taken_so
-    replied stopped written = absurd consumes
-halts_writing r (Some all) (Some rest)
-    (Some left) w0 w1 w2 old new out1 out2 piece unwritten short running consumes taken_so replied stopped written =
-    let read = running.read.0 in
-    let parts : all ≡ read ++ (piece ++ left) = running.read.1 ∙ ap (λ (bs : List ℕ). read ++ bs) consumes in
-    let fed = fed_anyway r all read piece left out1 out2 old new parts running.read.2 taken_so replied stopped in
+halts_writing r r0 r1 r2 w0 w1 w2 old new out1 out2 piece unwritten short running consumes taken_so replied stopped
+    written =
+    where_known r0 r1 r2 old piece (λ text left. WritesPart text w0 w2) running.read consumes
+    (λ all read left parts is.
+    let fed = fed_anyway r all read piece left out1 out2 old new parts is taken_so replied stopped in
     let gathered : out2 ≡ fed.replied.more = put_alone out1 out2 fed.replied.more running.nothing fed.replied.out in
     let whole : output_of all ≡ (replies_of old.said ++ out2) ++ fed.begins.0 =
     fed.begins.1 ∙ ap (λ (bs : List ℕ). bs ++ fed.begins.0)
     (fed.replied.replies ∙ ap (λ (bs : List ℕ). replies_of old.said ++ bs) (sym gathered)) in
-    part_written all w0 w1 w2 (replies_of old.said) out2 fed.begins.0 unwritten whole short running.written written
+    part_written all w0 w1 w2 (replies_of old.said) out2 fed.begins.0 unwritten whole short running.written written)
 
 -- a fault that is passed on by `?`
-pub passed_on : {T : Type 0} (r : Result T CheckFault) (P : CheckFault → Type 0) (fault same : CheckFault)
-    → r ≡ Err same → same ≡ fault → P fault → IfErr r P
-passed_on {T} r P fault same is equal holds =
-    rw is (subst P (sym equal) holds)
+pub passed_on : {T : Type 0} (r : Result T CheckFault) (P : CheckFault → Type 0) (fault : CheckFault)
+    → IsErrAnd r (λ same. same ≡ fault) → P fault → IfErr r P
+passed_on (Ok x) P fault is holds = absurd is
+passed_on (Err same) P fault is holds = subst P (sym is) holds
 
 -- ---- how much was read
 

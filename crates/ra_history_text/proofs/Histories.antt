@@ -21,7 +21,7 @@ use Rattle.ra_history_text.specs.declared.history.History.TheInside.{Inside}
 use Rattle.ra_lines.specs.declared.limits.TheConstants.{MOST_COMMANDS}
 use Rattle.ra_history_text.specs.History.{History, StopsAnswering, fault_at}
 use Rattle.ra_history_text.proofs.ReplyLines.{answers_push}
-use Rattle.ra_history_text.specs.HistoryKept.{HistoryKept, first_of, are_tickets_below}
+use Rattle.ra_history_text.specs.HistoryKept.{HistoryKept, first_names_of, are_tickets_below}
 use Rattle.ra_history_text.specs.Output.{answers_in}
 
 -- an entry's ticket is below the number of entries
@@ -141,7 +141,7 @@ kept_next h m entry kept log setup ticket room reply = record {
       ap (map (λ (e : MonitorEntry). e.reply)) log ∙ map_push (λ (e : MonitorEntry). e.reply) h.monitor.log entry in
       let commands : commands_of m.log ≡ commands_of h.monitor.log ++ entry.command ∷ [] =
       ap commands_of log ∙ map_push (λ (e : MonitorEntry). e.command) h.monitor.log entry in
-      let first : List (List ℕ) = first_of h in
+      let first : List (List ℕ) = first_names_of h in
       let answer : entry.reply ≡ answer_of h.kind (length first)
       (records_after_all h.kind (length first) [] (commands_of h.monitor.log)) entry.command =
       reply ∙ ap (λ (k : Kind). answer_of k h.monitor.setup.replicas

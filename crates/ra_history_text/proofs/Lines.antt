@@ -1,7 +1,7 @@
 -- What a line gives, at each place where it may stand, in one piece or in parts.
-use Rattle.std.proofs.Common.{◌≡◌, ℕ, false, true, eqb, List, [], ◌++◌, length, Option, Some, None, Ok, Err, refl, sym}
+use Rattle.std.proofs.Common.{◌≡◌, ℕ, false, eqb, List, [], ◌++◌, length, Option, Some, None, Ok, Err, refl, sym}
 use Rattle.std.proofs.Common.{ap, ◌∙◌, arith, ◌≢◌, inl, inr, Bool, cond, leb, ◌-◌, ◌<◌, ◌≤◌, ◌∷◌, All, Result, IfErr, subst}
-use Rattle.std.proofs.lemmas.Bool.{eq-eqb, ne_eqb, cases_Bool, leb-true, leb-false}
+use Rattle.std.proofs.lemmas.Bool.{eqb-false, ne_eqb, cases_Bool, leb-true, leb-false}
 use Rattle.std.specs.Prelude.{option_map, MatchOption, OnOk}
 use Rattle.ra_labels.specs.declared.kind.Kind.{Kind}
 use Rattle.ra_labels.specs.declared.command.Command.{Command}
@@ -41,20 +41,6 @@ first_stops line e = ap (λ (o : Option (Format × Kind)). line_taken_as Nothing
 abbrev begun : Format → Kind → List (List ℕ) → Said
 begun format kind names = OfHistory format kind names [] []
 
-pub names_taken : (format : Format) (kind : Kind) (line : List ℕ) (names : List (List ℕ))
-    → ListsNames format line names
-    → line_taken (OfKind format kind) line ≡ Ok (line_start (OfHistory format kind names [] []))
-names_taken format kind line names lists =
-    ap (λ (o : Option (List (List ℕ))). line_taken_as (OfKind format kind) (option_map (begun format kind) o))
-    (names_read-listed format line names lists)
-
-pub names_stop : (format : Format) (kind : Kind) (line : List ℕ)
-    → ((names : List (List ℕ)) → ListsNames format line names → ⊥)
-    → line_taken (OfKind format kind) line ≡ Err (stop_at (OfKind format kind) (Syntax 2))
-names_stop format kind line none =
-    ap (λ (o : Option (List (List ℕ))). line_taken_as (OfKind format kind) (option_map (begun format kind) o))
-    (names_read-none format line none)
-
 -- ---- a command
 
 -- its reply line is put behind the others
@@ -93,13 +79,17 @@ pub history_begins : (format : Format) (kind : Kind) (line : List ℕ) (names : 
     → history.joined ≡ [] → history.commands ≡ []
     → line_taken (OfKind format kind) line ≡ Ok (line_start (said_of history))
 history_begins format kind line names history lists formats kinds listed none nothing =
-    rw (formats, kinds, listed, none, nothing) (names_taken format kind line names lists)
+    rw (formats, kinds, listed, none, nothing)
+    (ap (λ (o : Option (List (List ℕ))). line_taken_as (OfKind format kind) (option_map (begun format kind) o))
+    (names_read-listed format line names lists))
 
 pub names_fault : (format : Format) (kind : Kind) (line : List ℕ) (fault : LineFault) (at : CheckFault)
     → at ≡ fault_at_line fault 2
     → (fault ≡ line_fault.Syntax → (names : List (List ℕ)) → ListsNames format line names → ⊥)
     → StopsLine (OfKind format kind) line at
-names_fault format kind line line_fault.Syntax at is none = rw is (names_stop format kind line (none refl))
+names_fault format kind line line_fault.Syntax at is none =
+    rw is (ap (λ (o : Option (List (List ℕ))). line_taken_as (OfKind format kind) (option_map (begun format kind) o))
+    (names_read-none format line (none refl)))
 names_fault format kind line line_fault.NoMemory at is none = rw is (refl, tt)
 
 -- ---- a part of a line
@@ -168,11 +158,10 @@ pub gathering_stops : (old : Progress) (last : List ℕ) (fault : CheckFault)
 gathering_stops old last fault in_parts stops = stop_gathering old last fault (ending_told fault) in_parts stops
 
 -- so a line came in parts
-pub not_empty : (b : Bool) (n : ℕ) → b ≡ eqb n 0 → b ≡ false → n ≡ 0 → ⊥
-not_empty b n is not_so zero = let so : eqb n 0 ≡ true = eq-eqb n 0 zero in absurd cc
-
-pub no_parts : (p q : Progress) (len : ℕ) → p ≡ q → len ≡ length p.partial → (len ≡ 0 → ⊥) → q.partial ≡ [] → ⊥
-no_parts p q len same is some nothing = some (is ∙ ap (λ (r : Progress). length r.partial) same ∙ ap length nothing)
+pub no_parts : (p q : Progress) (len : ℕ) (empty : Bool) → p ≡ q → len ≡ length p.partial → empty ≡ eqb len 0
+    → empty ≡ false → q.partial ≡ [] → ⊥
+no_parts p q len empty same is tested some nothing =
+    eqb-false len 0 (sym tested ∙ some) (is ∙ ap (λ (r : Progress). length r.partial) same ∙ ap length nothing)
 
 -- a line that came in parts, and lies in the last one, is none
 none_alone : (old mid : Progress) (last : List ℕ) → All (λ b. b ≢ 10) last → taken old last ≡ Ok mid

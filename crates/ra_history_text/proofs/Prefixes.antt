@@ -1,8 +1,8 @@
 -- What was written for a part of a text, against its output.
-use Rattle.std.proofs.Common.{◌≡◌, ◌+◌, ◌-◌, ◌<◌, ℕ, true, eqb, ltb, cond, List, [], ◌∷◌, ◌++◌, length, Option, Some}
-use Rattle.std.proofs.Common.{Result, Ok, Err, inl, inr, refl, sym, ap, subst, ◌∙◌, arith}
+use Rattle.std.proofs.Common.{◌≡◌, ◌+◌, ◌-◌, ◌<◌, ℕ, true, eqb, cond, List, [], ◌∷◌, ◌++◌, length, Option, Some}
+use Rattle.std.proofs.Common.{Result, Ok, Err, refl, sym, ap, subst, ◌∙◌, arith}
 use Rattle.std.specs.Prelude.{flat_map, is_ok}
-use Rattle.std.proofs.lemmas.Bool.{cases_Bool}
+use Rattle.std.proofs.lemmas.Bool.{ne_eqb}
 use Rattle.std.proofs.lemmas.List.{append_assoc, length-append, length_push}
 use Rattle.std.proofs.lemmas.List.Sums.{sum_by-cons}
 use Rattle.ra_labels.specs.declared.kind.Kind.{Kind}
@@ -20,13 +20,13 @@ use Rattle.ra_history_text.specs.Output.{answers_in, replies_of, last_line_of, l
 use Rattle.ra_lines.specs.Fields.{BeginsWith}
 use Rattle.ra_history_text.specs.Laws.{line_feeds, IsOfReader, IsLess, GrowsByPart, GrowsByReplies, AnswersEach}
 use Rattle.ra_lines.specs.Reading.{head_read, names_read, command_read}
-use Rattle.ra_history_text.specs.Run.{WritesUpTo, WritesReplies, StopsCheck}
-use Rattle.ra_history_text.specs.Text.{Said, Nothing, OfKind, OfHistory, Progress, Stop, Ending, Regular, Syntax}
-use Rattle.ra_history_text.specs.Text.{Truncated, LineTooLong, Full, next_line, records_in, with_command, of_head, said_behind, has_names}
+use Rattle.ra_history_text.specs.Run.{WritesReplies, StopsCheck}
+use Rattle.ra_history_text.specs.Text.{Said, Nothing, OfKind, OfHistory, Progress, Stop, Ending, Regular}
+use Rattle.ra_history_text.specs.Text.{next_line, records_in, with_command, of_head, said_behind, has_names}
 use Rattle.ra_history_text.specs.Text.{text_start, byte_taken, taken, end_of, ending_of, said_by, does_not_stop}
 use Rattle.ra_lines.proofs.TheLaws.{mapped}
 use Rattle.ra_history_text.proofs.ReplyLines.{taken_begins, output_begins}
-use Rattle.ra_history_text.proofs.TakenBytes.{taken_then}
+use Rattle.ra_history_text.proofs.TakenBytes.{byte_cases, taken_then}
 use Rattle.ra_history_text.proofs.Texts.{taken_as_found, going_on, regular_progress}
 
 -- ---- a part that does not stop
@@ -92,21 +92,9 @@ part_of_text text front back old new parts writes regular =
           (λ (t : List ℕ). IsLess (replies_of (said_by front)) (output_of t)) (sym parts) less,
     )
 
-other_end : (text : List ℕ) (e : Ending) (old new : Option (List ℕ)) → WritesUpTo text old new e
-    → ending_of text ≡ Regular → (Regular ≡ e → ⊥) → ⊥
-other_end text e old new writes regular apart = apart (sym regular ∙ writes.ends)
-
 pub unwritten : (text left old new : List ℕ) (fault : CheckFault) → ending_of text ≡ Regular
     → StopsCheck text (Some left) (Some old) (Some new) fault
     → GrowsByPart old new (output_of text)
-unwritten text left old new (check_fault.Syntax n) regular stops =
-    absurd (other_end text (Syntax n) (Some old) (Some new) stops regular (λ e. cc))
-unwritten text left old new (check_fault.Truncated n) regular stops =
-    absurd (other_end text (Truncated n) (Some old) (Some new) stops regular (λ e. cc))
-unwritten text left old new (check_fault.LineTooLong n) regular stops =
-    absurd (other_end text (LineTooLong n) (Some old) (Some new) stops regular (λ e. cc))
-unwritten text left old new (check_fault.Full n) regular stops =
-    absurd (other_end text (Full n) (Some old) (Some new) stops regular (λ e. cc))
 unwritten text left old new check_fault.Read regular stops =
     part_of_text text stops.0 left old new stops.1 stops.2 regular
 unwritten text left old new check_fault.Endless regular stops =
@@ -115,6 +103,8 @@ unwritten text left old new check_fault.NoMemory regular stops =
     part_of_text text stops.0 stops.1 old new stops.2 stops.3 regular
 unwritten text left old new check_fault.Write regular stops =
     (stops.part, stops.written, (stops.more, stops.parts, stops.short))
+unwritten text left old new _ regular stops =
+    absurd (let both = sym regular ∙ stops.ends in cc)
 
 -- ---- reply lines
 
@@ -162,27 +152,15 @@ feeds_cons byte bytes = sum_by-cons (λ x. cond (eqb x 10) 1 0) byte bytes
 -- a byte makes as many lines whole as it is line feeds
 byte_counted : (p q : Progress) (byte : ℕ) → byte_taken p byte ≡ Ok q
     → next_line q.said ≡ next_line p.said + cond (eqb byte 10) 1 0
-byte_counted p q byte e =
-    elim (cases_Bool (eqb byte 10)) [
-      | inl feed ↦
-          let here = rw feed at e in
-          let made = taken_as_found p.said (said_behind p.said p.partial) q here in
-          let one : ◌≡◌ {A = ℕ} (cond (eqb byte 10) 1 0) 1 = rw feed refl in
-          omega (
-            arith,
-            ap (λ (r : Progress). next_line r.said) made.3,
-            line_counted p.said made.0 p.partial
-                made.1,
-            one,
-          )
-      | inr other ↦ elim (cases_Bool (ltb (length p.partial) 1048576)) [
-        | inl room ↦
-            let here = rw (other, room) at e in
-            let none : ◌≡◌ {A = ℕ} (cond (eqb byte 10) 1 0) 0 = rw other refl in
-            omega (arith, ap (λ r. next_line (end_of r).said) here, none)
-        | inr long ↦ absurd (let never = rw (other, long) at e in cc)
-      ]
-    ]
+byte_counted p q byte = byte_cases p byte (λ r. r ≡ Ok q → next_line q.said ≡ next_line p.said + cond (eqb byte 10) 1 0)
+    (λ feed e.
+    let made = taken_as_found p.said (said_behind p.said p.partial) q e in
+    let one : ◌≡◌ {A = ℕ} (cond (eqb byte 10) 1 0) 1 = rw feed refl in
+    omega (arith, ap (λ (r : Progress). next_line r.said) made.3, line_counted p.said made.0 p.partial made.1, one))
+    (λ other room e.
+    let none : ◌≡◌ {A = ℕ} (cond (eqb byte 10) 1 0) 0 = rw (ne_eqb byte 10 other) refl in
+    omega (arith, ap (λ r. next_line (end_of r).said) e, none))
+    (λ other full e. absurd cc)
 
 pub feeds_counted : (bytes : List ℕ) (p q : Progress) → taken p bytes ≡ Ok q
     → next_line q.said ≡ next_line p.said + line_feeds bytes

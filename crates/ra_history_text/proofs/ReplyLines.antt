@@ -1,5 +1,5 @@
 -- The reply lines to what lines say, as more lines come.
-use Rattle.std.proofs.Common.{◌≡◌, ℕ, eqb, ltb, List, [], ◌∷◌, ◌++◌, length, Option, Some, None, Result, Ok, Err, refl, sym, ap, subst, ◌∙◌, inl, inr}
+use Rattle.std.proofs.Common.{◌≡◌, ℕ, List, [], ◌∷◌, ◌++◌, length, Option, Some, None, Result, Ok, Err, refl, sym, ap, subst, ◌∙◌, inl, inr}
 use Rattle.std.specs.Prelude.{flat_map}
 use Rattle.std.proofs.lemmas.Bool.{cases_Bool}
 use Rattle.std.proofs.lemmas.List.{append_assoc, append-nil}
@@ -18,7 +18,7 @@ use Rattle.ra_lines.specs.Reading.{command_read}
 use Rattle.ra_history_text.specs.Text.{Said, Nothing, OfKind, OfHistory, Progress, Stop, records_in, with_command, said_behind}
 use Rattle.ra_history_text.specs.Text.{is_full, text_start, line_taken_as, byte_taken, unless_stopped, taken, end_of}
 use Rattle.ra_lines.proofs.TheLaws.{mapped}
-use Rattle.ra_history_text.proofs.TakenBytes.{taken_then}
+use Rattle.ra_history_text.proofs.TakenBytes.{byte_cases, taken_then}
 
 pub begins_same : (xs : List ℕ) → BeginsWith xs xs
 begins_same xs = ([], sym (append-nil xs))
@@ -79,15 +79,9 @@ taken_as_begins said (Some next) begins =
     ]
 
 byte_begins : (p : Progress) (byte : ℕ) → BeginsAt p.said (byte_taken p byte)
-byte_begins p byte =
-    elim (cases_Bool (eqb byte 10)) [
-      | inl feed ↦ rw feed
-          (taken_as_begins p.said (said_behind p.said p.partial) (λ next e. line_begins p.said next p.partial e))
-      | inr other ↦ elim (cases_Bool (ltb (length p.partial) 1048576)) [
-        | inl room ↦ rw (other, room) (begins_same (replies_of p.said))
-        | inr long ↦ rw (other, long) (begins_same (replies_of p.said))
-      ]
-    ]
+byte_begins p byte = byte_cases p byte (BeginsAt p.said)
+    (λ feed. taken_as_begins p.said (said_behind p.said p.partial) (λ next e. line_begins p.said next p.partial e))
+    (λ other room. begins_same (replies_of p.said)) (λ other full. begins_same (replies_of p.said))
 
 step_begins : (said : Said) (r : Result Progress Stop) (bytes : List ℕ) → BeginsAt said r
     → ((next : Progress) → BeginsAt next.said (taken next bytes))

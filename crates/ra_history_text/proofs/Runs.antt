@@ -65,6 +65,17 @@ read_more (Some all) (Some rest) (Some later) old new piece read consumes is = (
   taken_then text_start old read.0 piece read.2 ∙ is,
 )
 
+-- where the text is known, so is what was read of it, and what is left
+pub where_known : (r0 r1 r2 : Option (List ℕ)) (p : Progress) (piece : List ℕ)
+    (P : List ℕ → Option (List ℕ) → Type 0) → HasRead r0 r1 p → Consumes r1 r2 piece
+    → ((all read left : List ℕ) → all ≡ read ++ (piece ++ left) → taken text_start read ≡ Ok p → P all (Some left))
+    → IfSome r0 (λ text. P text r2)
+where_known None r1 r2 p piece P read consumes leads = tt
+where_known (Some all) None r2 p piece P read consumes leads = absurd read
+where_known (Some all) (Some rest) None p piece P read consumes leads = absurd consumes
+where_known (Some all) (Some rest) (Some left) p piece P read consumes leads =
+    leads all read.0 left (read.1 ∙ ap (λ (bs : List ℕ). read.0 ++ bs) consumes) read.2
+
 -- the writer has the replies so far, and those that a piece adds
 pub written_replies : (w0 w1 w2 : Option (List ℕ)) (old new : Said) (out1 out2 : List ℕ)
     → Appends w0 w1 (replies_of old) → out1 ≡ []
@@ -92,21 +103,21 @@ read_none_left r1 r2 count buffer none room read =
 
 -- ---- at the end
 
--- all of the text was read
-pub read_whole : (all rest left : List ℕ) (p : Progress) (read : List ℕ) → all ≡ read ++ rest → rest ≡ left → left ≡ []
-    → taken text_start read ≡ Ok p
-    → taken text_start all ≡ Ok p
-read_whole all rest left p read parts consumes ends is =
-    ap (taken text_start) (parts ∙ ap (λ (bs : List ℕ). read ++ bs) (consumes ∙ ends) ∙ append-nil read) ∙ is
+-- where the text is known, all of it was read
+pub where_whole : (r0 r1 r2 : Option (List ℕ)) (p : Progress) (P : List ℕ → Type 0) → HasRead r0 r1 p
+    → Consumes r1 r2 [] × IsAtEnd r2 → ((text : List ℕ) → taken text_start text ≡ Ok p → P text) → IfSome r0 P
+where_whole None r1 r2 p P read ended leads = tt
+where_whole (Some all) None r2 p P read ended leads = absurd read
+where_whole (Some all) (Some rest) None p P read ended leads = absurd ended.0
+where_whole (Some all) (Some rest) (Some left) p P read ended leads =
+    leads all (ap (taken text_start)
+    (read.1 ∙ ap (λ (bs : List ℕ). read.0 ++ bs) (ended.0 ∙ ended.1) ∙ append-nil read.0) ∙ read.2)
 
 -- and so the progress is that of the text
-pub comes_as_far : (r0 r1 r2 : Option (List ℕ)) (p : Progress) → HasRead r0 r1 p → Consumes r1 r2 [] → IsAtEnd r2
+pub comes_as_far : (r0 r1 r2 : Option (List ℕ)) (p : Progress) → HasRead r0 r1 p → Consumes r1 r2 [] × IsAtEnd r2
     → IfSome r0 (λ text. taken text_start text ≡ Ok p)
-comes_as_far None r1 r2 p read consumes at_end = tt
-comes_as_far (Some all) None r2 p read consumes at_end = absurd read
-comes_as_far (Some all) (Some rest) None p read consumes at_end = absurd consumes
-comes_as_far (Some all) (Some rest) (Some later) p read consumes at_end =
-    read_whole all rest later p read.0 read.1 consumes at_end read.2
+comes_as_far r0 r1 r2 p read ended = where_whole r0 r1 r2 p (λ text. taken text_start text ≡ Ok p) read ended
+    (λ text is. is)
 
 -- so the text ends as this progress does
 pub ends_at : (text : List ℕ) (p : Progress) → taken text_start text ≡ Ok p → ending_of text ≡ ending_at p
@@ -126,19 +137,15 @@ output_regular text p is regular = output_at_end text p is
     ∙ ap (λ (e : Ending). replies_of p.said ++ last_line_at e p.said) regular
 
 pub run_last : (r0 r1 r2 w0 w1 w2 : Option (List ℕ)) (p : Progress) (out1 out2 : List ℕ) (report : Report)
-    → IsRunning r0 r1 w0 w1 p out1 → Consumes r1 r2 [] → IsAtEnd r2 → EndsText p out1 out2 report → Appends w1 w2 out2
+    → IsRunning r0 r1 w0 w1 p out1 → Consumes r1 r2 [] × IsAtEnd r2 → EndsText p out1 out2 report → Appends w1 w2 out2
     → IfSome r0 (λ text. WritesAnswer text w0 w2 report)
-run_last None r1 r2 w0 w1 w2 p out1 out2 report running consumes at_end ended appends = tt
-run_last (Some all) None r2 w0 w1 w2 p out1 out2 report running consumes at_end ended appends = absurd running.read
-run_last (Some all) (Some rest) None w0 w1 w2 p out1 out2 report running consumes at_end ended appends = absurd consumes
-run_last (Some all) (Some rest) (Some later) w0 w1 w2 p out1 out2 report running consumes at_end ended appends =
-    let is = read_whole all rest later p running.read.0 running.read.1 consumes at_end running.read.2 in
-    let gathered : out2 ≡ last_line_of p.said = put_alone out1 out2 (last_line_of p.said) running.nothing ended.out in
-    record {
-      ends = ends_at all p is ∙ ended.regular;
+run_last r0 r1 r2 w0 w1 w2 p out1 out2 report running ended ends appends =
+    let gathered : out2 ≡ last_line_of p.said = put_alone out1 out2 (last_line_of p.said) running.nothing ends.out in
+    where_whole r0 r1 r2 p (λ text. WritesAnswer text w0 w2 report) running.read ended (λ text is. record {
+      ends = ends_at text p is ∙ ends.regular;
       written =
-          subst (Appends w0 w2) (sym (output_regular all p is ended.regular))
+          subst (Appends w0 w2) (sym (output_regular text p is ends.regular))
           (Appends-then w0 w1 w2 (replies_of p.said) (last_line_of p.said) running.written
           (subst (Appends w1 w2) gathered appends));
-      reported = subst (λ s. Reports s report) (sym (said_at_end all p is)) ended.reported;
-    }
+      reported = subst (λ s. Reports s report) (sym (said_at_end text p is)) ends.reported;
+    })

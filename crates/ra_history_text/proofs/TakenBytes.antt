@@ -1,9 +1,25 @@
 -- How bytes are taken, many at a time.
 use Rattle.std.proofs.Common.{inl, inr, ◌≡◌, ◌≢◌, ℕ, suc, ◌+◌, ◌<◌, ◌≤◌, false, true, eqb, ltb, List, [], ◌∷◌, ◌++◌}
 use Rattle.std.proofs.Common.{length, All, Result, Ok, Err, refl, sym, ap, ◌∙◌, arith}
-use Rattle.std.proofs.lemmas.Bool.{ne_eqb, lt-ltb, ltb-true, cases_Bool}
+use Rattle.std.proofs.lemmas.Bool.{ne_eqb, lt-ltb, ltb-true, ltb-false, eqb-true, eqb-false, cases_Bool}
 use Rattle.std.proofs.lemmas.List.{append_assoc, append-nil, length_push}
 use Rattle.ra_history_text.specs.Text.{Progress, Stop, LineTooLong, next_line, stop_at, line_taken, byte_taken, unless_stopped, taken}
+
+-- what holds of a byte that is taken, by what it is and whether there is room for it
+pub byte_cases : (p : Progress) (byte : ℕ) (P : Result Progress Stop → Type 0)
+    → (byte ≡ 10 → P (line_taken p.said p.partial))
+    → (byte ≢ 10 → length p.partial < 1048576
+    → P (Ok (record { said = p.said; partial = p.partial ++ byte ∷ [] })))
+    → (byte ≢ 10 → 1048576 ≤ length p.partial → P (Err (stop_at p.said (LineTooLong (next_line p.said)))))
+    → P (byte_taken p byte)
+byte_cases p byte P whole more long =
+    elim (cases_Bool (eqb byte 10)) [
+      | inl feed ↦ rw feed (whole (eqb-true byte 10 feed))
+      | inr other ↦ elim (cases_Bool (ltb (length p.partial) 1048576)) [
+        | inl room ↦ rw (other, room) (more (eqb-false byte 10 other) (ltb-true (length p.partial) 1048576 room))
+        | inr full ↦ rw (other, full) (long (eqb-false byte 10 other) (ltb-false (length p.partial) 1048576 full))
+      ]
+    ]
 
 -- steps may be grouped
 unless_stopped_assoc : (r : Result Progress Stop) (f g : Progress → Result Progress Stop)

@@ -1,10 +1,10 @@
 -- A text has a regular end just where it is the lines of a history.
-use Rattle.std.proofs.Common.{◌≡◌, ◌≢◌, inl, inr, ℕ, zero, suc, ◌+◌, ◌<◌, ◌≤◌, Bool, true, false, eqb, ltb, cond, List}
+use Rattle.std.proofs.Common.{◌≡◌, ◌≢◌, inl, inr, ℕ, zero, suc, ◌+◌, ◌<◌, ◌≤◌, Bool, true, false, eqb, cond, List}
 use Rattle.std.proofs.Common.{[], ◌∷◌, ◌++◌, length, All, Option, Some, None, Result, Ok, Err, refl, sym, ap, subst}
 use Rattle.std.proofs.Common.{◌∙◌, arith}
 use Rattle.std.specs.Prelude.{◌&&◌, option_map}
 use Rattle.std.specs.List.{AllByRecursion}
-use Rattle.std.proofs.lemmas.Bool.{cases_Bool, and_parts, ne_eqb, eqb-true, eqb-false, ltb-true}
+use Rattle.std.proofs.lemmas.Bool.{and_parts, ne_eqb, eqb-true, eqb-false}
 use Rattle.std.proofs.lemmas.List.{append_assoc, append-nil, length_push, nil_from_length}
 use Rattle.std.proofs.lemmas.List.Elements.{All-append}
 use Rattle.ra_labels.specs.declared.kind.Kind.{Kind}
@@ -12,7 +12,7 @@ use Rattle.ra_labels.specs.declared.command.Command.{Command}
 use Rattle.ra_labels.specs.Records.{Records}
 use Rattle.ra_labels.specs.Answer.{records_after}
 use Rattle.ra_lines.specs.declared.format.Format.{Format}
-use Rattle.ra_lines.specs.Grammar.{IsLine, bytes_of, fields_of, first_line, names_behind, ListsNames, SpellEach, Says}
+use Rattle.ra_lines.specs.Grammar.{IsLine, bytes_of, fields_of, first_line, names_behind, SpellEach, Says}
 use Rattle.ra_lines.specs.Reading.{head_read, names_read, command_read}
 use Rattle.ra_history_text.specs.Text.{Said, Nothing, OfKind, OfHistory, Progress, Stop, Regular, Full, stop_at}
 use Rattle.ra_history_text.specs.Text.{next_line, records_in, with_command, of_head, said_behind, is_full, has_names, line_start, text_start}
@@ -24,7 +24,7 @@ use Rattle.ra_lines.proofs.TheLaws.{a_first_line_is_read-only as head_only, a_fi
 use Rattle.ra_lines.proofs.TheLaws.{a_line_of_names_is_read-found as names_read-Some}
 use Rattle.ra_lines.proofs.TheLaws.{a_line_of_names_is_read-only as names_read-listed, mapped, chosen}
 use Rattle.ra_laws.proofs.TheLaws.{answers_in_turn-records}
-use Rattle.ra_history_text.proofs.TakenBytes.{taken_then, taken_line, taken_part}
+use Rattle.ra_history_text.proofs.TakenBytes.{byte_cases, taken_then, taken_line, taken_part}
 
 -- ---- lines, one after another
 
@@ -168,37 +168,29 @@ byte_found : (p q : Progress) (byte : ℕ) (bytes : List ℕ) → IsLine p.parti
     → unless_stopped (byte_taken p byte) (λ next. taken next bytes) ≡ Ok q
     → ((next : Progress) → IsLine next.partial → taken next bytes ≡ Ok q → AreLines next q bytes)
     → AreLines p q (byte ∷ bytes)
-byte_found p q byte bytes is e later =
-    elim (cases_Bool (eqb byte 10)) [
-      | inl feed ↦
-          let here : unless_stopped (line_taken p.said p.partial) (λ next. taken next bytes) ≡ Ok q = rw feed at e in
-          let found = going_on (line_taken p.said p.partial) q (λ next. taken next bytes) here in
-          let made = taken_as_found p.said (said_behind p.said p.partial) found.0 found.1 in
-          let rest =
-          later (line_start made.0) no_bytes (subst (λ (r : Progress). taken r bytes ≡ Ok q) made.3 found.2) in
-          let is_feed : byte ≡ 10 = eqb-true byte 10 feed in
-          record {
-            lines = p.partial ∷ rest.lines;
-            are_lines = (is, rest.are_lines);
-            leads = (made.0, made.1, made.2, rest.leads);
-            parts = line_in_front p.partial (bytes_of rest.lines) q.partial bytes byte is_feed rest.parts;
-          }
-      | inr other ↦ elim (cases_Bool (ltb (length p.partial) 1048576)) [
-        | inl room ↦
-            let next : Progress = record { said = p.said; partial = p.partial ++ byte ∷ [] } in
-            let here : taken next bytes ≡ Ok q = rw (other, room) at e in
-            let grown = line_push p.partial byte is (eqb-false byte 10 other)
-            (ltb-true (length p.partial) 1048576 room) in
-            let rest = later next grown here in
-            record {
-              lines = rest.lines;
-              are_lines = rest.are_lines;
-              leads = rest.leads;
-              parts = sym (append_assoc p.partial (byte ∷ []) bytes) ∙ rest.parts;
-            }
-        | inr long ↦ absurd (let never = rw (other, long) at e in cc)
-      ]
-    ]
+byte_found p q byte bytes is = byte_cases p byte (λ r. unless_stopped r (λ next. taken next bytes) ≡ Ok q
+    → ((next : Progress) → IsLine next.partial → taken next bytes ≡ Ok q → AreLines next q bytes)
+    → AreLines p q (byte ∷ bytes))
+    (λ feed e later.
+    let found = going_on (line_taken p.said p.partial) q (λ next. taken next bytes) e in
+    let made = taken_as_found p.said (said_behind p.said p.partial) found.0 found.1 in
+    let rest = later (line_start made.0) no_bytes (subst (λ (r : Progress). taken r bytes ≡ Ok q) made.3 found.2) in
+    record {
+      lines = p.partial ∷ rest.lines;
+      are_lines = (is, rest.are_lines);
+      leads = (made.0, made.1, made.2, rest.leads);
+      parts = line_in_front p.partial (bytes_of rest.lines) q.partial bytes byte feed rest.parts;
+    })
+    (λ other room e later.
+    let next : Progress = record { said = p.said; partial = p.partial ++ byte ∷ [] } in
+    let rest = later next (line_push p.partial byte is other room) e in
+    record {
+      lines = rest.lines;
+      are_lines = rest.are_lines;
+      leads = rest.leads;
+      parts = sym (append_assoc p.partial (byte ∷ []) bytes) ∙ rest.parts;
+    })
+    (λ other full e later. absurd cc)
 
 lines_found : (bytes : List ℕ) (p q : Progress) → IsLine p.partial → taken p bytes ≡ Ok q → AreLines p q bytes
 lines_found [] p q is e =
@@ -216,94 +208,78 @@ lines_found (byte ∷ bytes) p q is e =
 -- ---- from lines to a history
 
 -- what lines of commands lead to
-record AreFound (format other : Format) (kind its : Kind) (first others joined all lines : List (List ℕ))
-    (records : Records) (before every : List Command) : Type 0 where
-  formats : format ≡ other
-  kinds : kind ≡ its
-  listed : first ≡ others
+record AreFound (format : Format) (kind : Kind) (first joined lines : List (List ℕ)) (records : Records)
+    (before : List Command) (last : Said) : Type 0 where
   commands : List Command
-  parts : every ≡ before ++ commands
+  all : List (List ℕ)
+  is : OfHistory format kind first all (before ++ commands) ≡ last
   spell : SpellEach format kind first records joined lines commands all
-  few : length every ≤ 1048576
+  few : length before + length commands ≤ 1048576
 
-commands_found : (format other : Format) (kind its : Kind) (first others joined all lines : List (List ℕ))
-    (records : Records) (before every : List Command)
-    → records ≡ records_in kind first before → length before ≤ 1048576
-    → Leads (OfHistory format kind first joined before) lines (OfHistory other its others all every)
-    → AreFound format other kind its first others joined all lines records before every
-commands_found format other kind its first others joined all [] records before every are few leads =
-    let same : before ≡ every = cc in
-    record {
-      formats = cc;
-      kinds = cc;
-      listed = cc;
-      commands = [];
-      parts = sym same ∙ sym (append-nil before);
-      spell = cc;
-      few = omega (arith, few, ap length same);
-    }
-commands_found format other kind its first others joined all (line ∷ lines) records before every are few leads =
+commands_found : (format : Format) (kind : Kind) (first joined lines : List (List ℕ)) (records : Records)
+    (before : List Command) (last : Said) → records ≡ records_in kind first before → length before ≤ 1048576
+    → Leads (OfHistory format kind first joined before) lines last
+    → AreFound format kind first joined lines records before last
+commands_found format kind first joined [] records before last are few leads = record {
+  commands = [];
+  all = joined;
+  is = ap (OfHistory format kind first joined) (append-nil before) ∙ leads;
+  spell = refl;
+  few = omega (arith, few);
+}
+commands_found format kind first joined (line ∷ lines) records before last are few leads =
     let n : ℕ = length first in
     let m = mapped (with_command format kind first joined before line)
     (command_read format kind (first ++ joined) (fields_of line)) leads.0 leads.1 in
     let apart : length before ≢ 1048576 = eqb-false (length before) 1048576 leads.2 in
-    let later = subst (λ (s : Said). Leads s lines (OfHistory other its others all every)) (sym m.2) leads.3 in
+    let later = subst (λ (s : Said). Leads s lines last) (sym m.2) leads.3 in
     let behind = names_behind kind n records joined line m.0 in
     let same : names_behind kind n (records_in kind first before) joined line m.0 ≡ behind =
     ap (λ (rs : Records). names_behind kind n rs joined line m.0) (sym are) in
     let named = subst (λ (names : List (List ℕ)). Leads (OfHistory format kind first names (before ++ m.0 ∷ [])) lines
-    (OfHistory other its others all every)) same later in
-    let rest = commands_found format other kind its first others behind all lines (records_after kind n records m.0)
-    (before ++ m.0 ∷ []) every
+    last) same later in
+    let rest = commands_found format kind first behind lines (records_after kind n records m.0)
+    (before ++ m.0 ∷ []) last
     (ap (λ (rs : Records). records_after kind n rs m.0) are ∙ sym (records_more kind first before m.0))
     (omega (arith, length_push before m.0, few, apart)) named in
     record {
-      formats = rest.formats;
-      kinds = rest.kinds;
-      listed = rest.listed;
       commands = m.0 ∷ rest.commands;
-      parts = rest.parts ∙ append_assoc before (m.0 ∷ []) rest.commands;
+      all = rest.all;
+      is = ap (OfHistory format kind first rest.all) (sym (append_assoc before (m.0 ∷ []) rest.commands)) ∙ rest.is;
       spell = (command_found format kind (first ++ joined) (fields_of line) m.0 m.1, rest.spell);
-      few = rest.few;
+      few = omega (arith, rest.few, length_push before m.0);
     }
 
+-- the text is lines that say this history
+abbrev SaysIt : List ℕ → Said → Type 0
+SaysIt text (OfHistory format kind first joined commands) = Says text format kind first joined commands
+SaysIt text said = ⊥
+
 -- the lines of a whole text
-says_from_lines : (text : List ℕ) (lines : List (List ℕ)) (format : Format) (kind : Kind) (first joined : List (List ℕ))
-    (commands : List Command) → text ≡ bytes_of lines → AllByRecursion IsLine lines
-    → Leads Nothing lines (OfHistory format kind first joined commands) → Says text format kind first joined commands
-says_from_lines text [] format kind first joined commands parts are leads = absurd cc
-says_from_lines text (head ∷ []) format kind first joined commands parts are leads =
+says_from_lines : (text : List ℕ) (lines : List (List ℕ)) (last : Said) → has_names last ≡ true
+    → text ≡ bytes_of lines → AllByRecursion IsLine lines → Leads Nothing lines last → SaysIt text last
+says_from_lines text [] last named parts are leads = absurd (let never = ap has_names leads ∙ named in cc)
+says_from_lines text (head ∷ []) last named parts are leads =
     let m = mapped of_head (head_read head) leads.0 leads.1 in
-    let same : OfKind m.0.0 m.0.1 ≡ OfHistory format kind first joined commands = m.2 ∙ leads.3 in
-    absurd cc
-says_from_lines text (head ∷ second ∷ lines) format kind first joined commands parts are leads =
-    let last : Said = OfHistory format kind first joined commands in
+    absurd (let never = ap has_names (m.2 ∙ leads.3) ∙ named in cc)
+says_from_lines text (head ∷ second ∷ lines) last named parts are leads =
     let m = mapped of_head (head_read head) leads.0 leads.1 in
     let its : Format = m.0.0 in
     let own : Kind = m.0.1 in
     let next = subst (λ (s : Said). Leads s (second ∷ lines) last) (sym m.2) leads.3 in
     let n = mapped (λ ns. OfHistory its own ns [] []) (names_read its second) next.0 next.1 in
     let more = subst (λ (s : Said). Leads s lines last) (sym n.2) next.3 in
-    let found = commands_found its format own kind n.0 first [] joined lines [] [] commands refl (omega arith) more in
-    let is_head : head ≡ first_line format kind = head_found head its own m.1
-    ∙ ap (λ (f : Format). first_line f own) found.formats ∙ ap (first_line format) found.kinds in
-    let listed : ListsNames format second first =
-    subst (λ (f : Format). ListsNames f second first) found.formats
-    (subst (ListsNames its second) found.listed (names_read-Some its second n.0 n.1)) in
-    let spelled : SpellEach format kind first [] [] lines commands joined =
-    subst (λ (f : Format). SpellEach f kind first [] [] lines commands joined) found.formats
-    (subst (λ (k : Kind). SpellEach its k first [] [] lines commands joined) found.kinds
-    (subst (λ (ns : List (List ℕ)). SpellEach its own ns [] [] lines commands joined) found.listed
-    (subst (λ (cs : List Command). SpellEach its own n.0 [] [] lines cs joined) (sym found.parts) found.spell))) in
-    record {
+    let found = commands_found its own n.0 [] lines [] [] last refl (omega arith) more in
+    let is_head : head ≡ first_line its own = head_found head its own m.1 in
+    subst (SaysIt text) found.is (record {
       second = second;
       lines = lines;
       whole = parts ∙ ap (λ (l : List ℕ). bytes_of (l ∷ second ∷ lines)) is_head;
       are_lines = subst (λ (l : List ℕ). AllByRecursion IsLine (l ∷ second ∷ lines)) is_head are;
-      lists = listed;
-      spell = spelled;
-      few = found.few;
-    }
+      lists = names_read-Some its second n.0 n.1;
+      spell = found.spell;
+      few = omega (arith, found.few);
+    })
 
 -- ---- the regular end
 
@@ -333,14 +309,10 @@ no_regular_line said (Some next) stop e regular =
     ]
 
 no_regular_byte : (p : Progress) (byte : ℕ) → IsNoRegular (byte_taken p byte)
-no_regular_byte p byte =
-    elim (cases_Bool (eqb byte 10)) [
-      | inl feed ↦ rw feed (no_regular_line p.said (said_behind p.said p.partial))
-      | inr other ↦ elim (cases_Bool (ltb (length p.partial) 1048576)) [
-        | inl room ↦ rw (other, room) (λ stop e regular. absurd cc)
-        | inr long ↦ rw (other, long) (λ stop e regular. let same = ap (λ r. (end_of r).ending) e in absurd cc)
-      ]
-    ]
+no_regular_byte p byte = byte_cases p byte IsNoRegular
+    (λ feed. no_regular_line p.said (said_behind p.said p.partial))
+    (λ other room stop e regular. absurd cc)
+    (λ other full stop e regular. let same = ap (λ r. (end_of r).ending) e in absurd cc)
 
 no_regular_behind : (r : Result Progress Stop) (bytes : List ℕ) → IsNoRegular r
     → ((next : Progress) → IsNoRegular (taken next bytes))
@@ -364,10 +336,10 @@ says_found text format kind first joined commands regular said =
     let at = regular_progress text regular in
     let found = lines_found text text_start at.0 no_bytes at.1 in
     let is : at.0.said ≡ OfHistory format kind first joined commands = sym (ap (λ r. (end_of r).said) at.1) ∙ said in
-    says_from_lines text found.lines format kind first joined commands
+    let shown = says_from_lines text found.lines at.0.said at.2
     (found.parts ∙ ap (λ (bs : List ℕ). bytes_of found.lines ++ bs) at.3 ∙ append-nil (bytes_of found.lines))
-    found.are_lines
-    (subst (Leads Nothing found.lines) is found.leads)
+    found.are_lines found.leads in
+    subst (SaysIt text) is shown
 
 pub says_only : (text : List ℕ) (format : Format) (kind : Kind) (first joined : List (List ℕ))
     (commands : List Command) → Says text format kind first joined commands

@@ -9,18 +9,18 @@ use Rattle.ra_history_text.specs.History.{History}
 use Rattle.ra_history_text.specs.Output.{answers_in}
 
 -- the names that it began with, and those that joined
-abbrev pub first_of : Inside → List (List ℕ)
-first_of h = take h.monitor.setup.replicas h.names
+abbrev pub first_names_of : Inside → List (List ℕ)
+first_names_of h = take h.monitor.setup.replicas h.names
 
-abbrev pub joined_of : Inside → List (List ℕ)
-joined_of h = drop h.monitor.setup.replicas h.names
+abbrev pub joined_names_of : Inside → List (List ℕ)
+joined_names_of h = drop h.monitor.setup.replicas h.names
 
 abbrev pub history_of : Inside → History
 history_of h = record {
   format = h.format;
   kind = h.kind;
-  first = first_of h;
-  joined = joined_of h;
+  first = first_names_of h;
+  joined = joined_names_of h;
   commands = commands_of h.monitor.log;
 }
 
@@ -30,10 +30,11 @@ are_tickets_below count log = list_all (λ entry. nat_lt entry.ticket count) log
 
 pub record HistoryKept (h : Inside) : Type 0 where
   pub kind : h.monitor.setup.kind ≡ h.kind
-  pub replicas : h.monitor.setup.replicas ≡ length (first_of h)
+  pub replicas : h.monitor.setup.replicas ≡ length (first_names_of h)
   -- a name that there was no memory for is missing
   pub few : length h.names ≤ replica_count h.monitor.setup.replicas (records_of h.monitor.setup h.monitor.log)
   pub limit : h.monitor.setup.limit ≡ MOST_COMMANDS
   pub fits : length h.monitor.log ≤ MOST_COMMANDS
   pub tickets : are_tickets_below (length h.monitor.log) h.monitor.log ≡ true
-  pub answered : map (λ entry. entry.reply) h.monitor.log ≡ answers_in h.kind (first_of h) (commands_of h.monitor.log)
+  pub answered : map (λ entry. entry.reply) h.monitor.log
+      ≡ answers_in h.kind (first_names_of h) (commands_of h.monitor.log)

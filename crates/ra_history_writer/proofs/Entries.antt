@@ -1,9 +1,10 @@
 -- The lines of a log's accepted commands, one after another.
-use Rattle.std.proofs.Common.{◌≡◌, ℕ, zero, suc, ◌+◌, ◌<◌, ◌≤◌, Bool, true, false, cond, List, [], ◌∷◌, ◌++◌, length}
-use Rattle.std.proofs.Common.{map, drop, get_or, refl, sym, ap, subst, ◌∙◌, arith}
+use Rattle.std.proofs.Common.{◌≡◌, ℕ, suc, ◌+◌, ◌<◌, ◌≤◌, Bool, true, false, cond, List, [], ◌∷◌, ◌++◌, length}
+use Rattle.std.proofs.Common.{map, drop, get_or, sym, ap, subst, ◌∙◌, arith}
 use Rattle.std.specs.Prelude.{◌||◌}
 use Rattle.std.specs.List.{AllByRecursion}
 use Rattle.std.proofs.lemmas.List.{append_assoc, append-nil, length-append, map-append}
+use Rattle.std.proofs.Math.Seq.{drop-cons}
 use Rattle.std.proofs.lemmas.List.Concat.{flat_map-append}
 use Rattle.ra_labels.specs.declared.command.Command.{Command}
 use Rattle.ra_monitor.specs.Monitor.{MonitorEntry}
@@ -11,11 +12,7 @@ use Rattle.ra_accepted.specs.Accepted.{is_no, tells_accepted, accepted_one, acce
 use Rattle.ra_lines.specs.Grammar.{bytes_of}
 use Rattle.ra_history_writer.specs.Spelling.{line_of, AreSmall, IsShort, AreShort}
 use Rattle.ra_history_writer.specs.Writing.{IsFirstLong}
-
-all-append : (P : Command → Type 0) (xs ys : List Command) → AllByRecursion P xs → AllByRecursion P ys
-    → AllByRecursion P (xs ++ ys)
-all-append P [] ys p q = q
-all-append P (x ∷ xs) ys p q = (p.0, all-append P xs ys p.1 q)
+use Rattle.ra_history_writer.proofs.SpelledLines.{each-append}
 
 -- ---- entries
 
@@ -90,7 +87,7 @@ put_next names log rest more entry failed next out_old out out_new so_far is put
           put ∙ ap (λ (bs : List ℕ). bs ++ lines_of names one) so_far.put
           ∙ append_assoc out_old (lines_of names so_far.done) (lines_of names one)
           ∙ ap (λ (bs : List ℕ). out_old ++ bs) (sym (lines-append names so_far.done one));
-      small = all-append AreSmall so_far.done one so_far.small small;
+      small = each-append AreSmall so_far.done one so_far.small small;
     }
 
 -- ---- what is measured
@@ -104,38 +101,21 @@ pub record IsMeasuredUpTo (names : List (List ℕ)) (log rest : List MonitorEntr
   pub short : AreShort names done
   pub counted : place ≡ length done
 
-measured_one : (names : List (List ℕ)) (log rest more : List MonitorEntry) (entry : MonitorEntry) (failed next : Bool)
-    (place later : ℕ) (one : List Command)
-    → accepted_one failed entry ≡ one → IsMeasuredUpTo names log rest failed place → rest ≡ entry ∷ more
-    → AreShort names one → later ≡ place + length one
-    → next ≡ (failed || is_no entry.reply) → IsMeasuredUpTo names log more next later
-measured_one names log rest more entry failed next place later one is_one so_far is short counted told = record {
-  done = so_far.done ++ one;
-  walked = subst (λ (cs : List Command). IsWalkedUpTo log more next (so_far.done ++ cs)) is_one
-      (walked_next log rest more entry failed next so_far.done so_far.walked is told);
-  short = all-append (IsShort names) so_far.done one so_far.short short;
-  counted = omega (arith, counted, so_far.counted, length-append so_far.done one);
-}
-
--- an entry whose command was accepted
-pub measured_accepted : (names : List (List ℕ)) (log rest more : List MonitorEntry) (entry : MonitorEntry)
-    (failed next : Bool) (place : ℕ)
-    → IsMeasuredUpTo names log rest failed place → rest ≡ entry ∷ more → tells_accepted failed entry.reply ≡ true
-    → IsShort names entry.command
-    → next ≡ (failed || is_no entry.reply) → IsMeasuredUpTo names log more next (place + 1)
-measured_accepted names log rest more entry failed next place so_far is accepted short told =
-    measured_one names log rest more entry failed next place (place + 1) (entry.command ∷ [])
-    (ap (λ (b : Bool). cond b (entry.command ∷ []) []) accepted) so_far is
-    (short, tt) refl told
-
--- an entry whose command was not
-pub measured_other : (names : List (List ℕ)) (log rest more : List MonitorEntry) (entry : MonitorEntry)
-    (failed next : Bool) (place : ℕ)
-    → IsMeasuredUpTo names log rest failed place → rest ≡ entry ∷ more → tells_accepted failed entry.reply ≡ false
-    → next ≡ (failed || is_no entry.reply) → IsMeasuredUpTo names log more next place
-measured_other names log rest more entry failed next place so_far is other told =
-    measured_one names log rest more entry failed next place place []
-    (ap (λ (b : Bool). cond b (entry.command ∷ []) []) other) so_far is tt (omega arith) told
+-- one entry more
+pub measured_next : (names : List (List ℕ)) (log rest more : List MonitorEntry) (entry : MonitorEntry)
+    (failed next tells : Bool) (place later : ℕ) → IsMeasuredUpTo names log rest failed place → rest ≡ entry ∷ more
+    → tells_accepted failed entry.reply ≡ tells → AreShort names (cond tells (entry.command ∷ []) [])
+    → later ≡ place + length (cond tells (entry.command ∷ []) []) → next ≡ (failed || is_no entry.reply)
+    → IsMeasuredUpTo names log more next later
+measured_next names log rest more entry failed next tells place later so_far is accepted short counted told =
+    let one : List Command = cond tells (entry.command ∷ []) [] in
+    record {
+      done = so_far.done ++ one;
+      walked = subst (λ (b : Bool). IsWalkedUpTo log more next (so_far.done ++ cond b (entry.command ∷ []) [])) accepted
+          (walked_next log rest more entry failed next so_far.done so_far.walked is told);
+      short = each-append (IsShort names) so_far.done one so_far.short short;
+      counted = omega (arith, counted, so_far.counted, length-append so_far.done one);
+    }
 
 -- all of them
 pub measured_all : (names : List (List ℕ)) (log rest : List MonitorEntry) (failed : Bool) (place : ℕ)
@@ -167,20 +147,9 @@ measured_long names log rest more entry failed place so_far is accepted long =
 
 -- ---- steps of the loop
 
-cut_at : (log : List MonitorEntry) (i : ℕ) (entry : MonitorEntry) → i < length log → entry ≡ get_or log i entry
-    → drop i log ≡ entry ∷ drop (suc i) log
-cut_at [] i entry there is = absurd (omega (arith, there))
-cut_at (e ∷ log) zero entry there is = ap (λ (x : MonitorEntry). x ∷ log) (sym is)
-cut_at (e ∷ log) (suc i) entry there is = cut_at log i entry (omega (arith, there)) is
-
 pub cut_entry : (log : List MonitorEntry) (i : ℕ) (entry : MonitorEntry) → i < length log → entry ≡ get_or log i entry
     → drop i log ≡ entry ∷ drop (i + 1) log
 cut_entry log i entry there is =
     let next : suc i ≡ i + 1 = omega arith in
-    cut_at log i entry there is ∙ ap (λ (n : ℕ). entry ∷ drop n log) next
-
-pub told_before : (now before no_here : Bool) → before ≡ true → now ≡ true → now ≡ (before || no_here)
-told_before now before no_here failed is = is ∙ ap (λ (b : Bool). b || no_here) (sym failed)
-
-pub told_here : (now before no_here : Bool) → before ≡ false → now ≡ no_here → now ≡ (before || no_here)
-told_here now before no_here sound is = is ∙ ap (λ (b : Bool). b || no_here) (sym sound)
+    drop-cons log i entry there ∙ ap (λ (e : MonitorEntry). e ∷ drop (suc i) log) (sym is)
+    ∙ ap (λ (n : ℕ). entry ∷ drop n log) next

@@ -1,15 +1,14 @@
 -- Records that are given again, the oldest first, are accepted again, and have lines.
-use Rattle.std.proofs.Common.{◌≡◌, ℕ, ◌+◌, ◌<◌, ◌≤◌, Bool, true, false, not, ltb, List, [], ◌∷◌, ◌++◌, Option, Some, None, refl, sym, ap, subst, ◌∙◌, arith, inl, inr}
+use Rattle.std.proofs.Common.{◌≡◌, ℕ, ◌+◌, ◌<◌, ◌≤◌, Bool, true, false, not, ltb, List, [], ◌∷◌, ◌++◌, Option, Some, None, refl, sym, ap, subst, ◌∙◌, arith}
 use Rattle.std.specs.Prelude.{reverse, ◌||◌, if◌then◌else◌}
 use Rattle.std.specs.Option.{option_or}
 use Rattle.std.specs.List.{list_any}
-use Rattle.std.proofs.lemmas.Bool.{cases_Bool, ltb-true, ltb-false, lt-ltb, not-false}
+use Rattle.std.proofs.lemmas.Bool.{ltb-true, ltb-false, lt-ltb, le-ltb, not-false, or_parts, or_left, or_right}
 use Rattle.std.proofs.lemmas.List.{reverse-append}
 use Rattle.ra_labels.specs.declared.kind.Kind.{Kind}
 use Rattle.ra_labels.specs.declared.kind.Kind.TheVariants.{Rga}
 use Rattle.ra_labels.specs.declared.operation.Op.{Op}
-use Rattle.ra_labels.specs.declared.operation.Op.TheVariants.{Count, Last, LwwRemove, LwwRead}
-use Rattle.ra_labels.specs.declared.operation.Op.TheVariants.{OrRead, RgaRemove, RgaRead}
+use Rattle.ra_labels.specs.declared.operation.Op.TheVariants.{LwwRemove}
 use Rattle.ra_labels.specs.declared.command.Command.{Command}
 use Rattle.ra_labels.specs.declared.command.Command.TheVariants.{Operate, Deliver, Join, Verdict}
 use Rattle.ra_labels.specs.declared.refusal.Refusal.{Refusal}
@@ -88,15 +87,9 @@ first_none true why later e = absurd cc
 first_none false why later e = (refl, e)
 
 own_words : (op : Op) (kind : Kind) → is_kind kind (kind_of op) ≡ true → has_words op kind ≡ true
-own_words (Count value) kind e = e
-own_words (Last value) kind e = e
 own_words (LwwRemove x) Rga e = absurd cc
 own_words (LwwRemove x) _ e = refl
-own_words (LwwRead list) kind e = e
-own_words (OrRead list) kind e = e
-own_words (RgaRemove x) kind e = e
-own_words (RgaRead list) kind e = e
-own_words _ kind e = refl
+own_words _ kind e = cc
 
 or_none : {X : Type 0} (o later : Option X) → option_or o later ≡ None → o ≡ None
 or_none None later e = refl
@@ -108,10 +101,6 @@ misfit_none kind by op clock later e =
     let own = first_none (not (is_kind kind (kind_of op))) WrongKind _
     (or_none (misfit_of kind (Operate by op clock)) later e) in
     not-false (is_kind kind (kind_of op)) own.0
-
-or_parts : (a b : Bool) → (a || b) ≡ false → (a ≡ false) × (b ≡ false)
-or_parts true b e = absurd cc
-or_parts false b e = (refl, e)
 
 pub spelled : (format : Format) (kind : Kind) (n : ℕ) (records : Records) (c : Command)
     → refusal_of kind n records c ≡ None → (is_join c ≡ true → format ≡ Rah2)
@@ -150,21 +139,14 @@ lines-append format kind n start [] ys p q = q
 lines-append format kind n start (x ∷ xs) ys p q =
     (p.0, p.1, lines-append format kind n (records_after kind n start x) xs ys p.2 q)
 
-any_later : (c : Command) (records : Records) → list_any is_join records ≡ true
-    → list_any is_join (c ∷ records) ≡ true
-any_later (Join replica from) records e = refl
-any_later _ records e = e
-
-any_first : (c : Command) (records : Records) → is_join c ≡ true → list_any is_join (c ∷ records) ≡ true
-any_first (Join replica from) records e = refl
-any_first _ records e = absurd cc
-
 pub lines_again : (format : Format) (kind : Kind) (n : ℕ) (records : Records) → AreAccepted kind n records
     → (list_any is_join records ≡ true → format ≡ Rah2) → HaveLines format kind n [] (reverse records)
 lines_again format kind n [] are newer = tt
 lines_again format kind n (c ∷ records) are newer =
-    let before = lines_again format kind n records are.1 (λ e. newer (any_later c records e)) in
-    let has = spelled format kind n records c are.0.fits (λ e. newer (any_first c records e)) in
+    let before = lines_again format kind n records are.1
+    (λ e. newer (or_right (is_join c) (list_any is_join records) e)) in
+    let has = spelled format kind n records c are.0.fits
+    (λ e. newer (or_left (is_join c) (list_any is_join records) e)) in
     let here : HaveLines format kind n records (c ∷ []) = (has, joined_again kind n records c are.0, tt) in
     subst (HaveLines format kind n []) (sym (reverse-append (c ∷ []) records))
     (lines-append format kind n [] (reverse records) (c ∷ []) before
@@ -178,15 +160,8 @@ count_first n [] = omega arith
 count_first n (Join replica from ∷ records) = omega (arith, count_first n records)
 count_first n (_ ∷ records) = count_first n records
 
-no_less_than : (n m : ℕ) → m ≤ n → ltb n m ≡ false
-no_less_than n m most =
-    elim (cases_Bool (ltb n m)) [
-      | inl less ↦ absurd (omega (arith, most, ltb-true n m less))
-      | inr other ↦ other
-    ]
-
 pub none_joined : (n : ℕ) (records : Records) → list_any is_join records ≡ ltb n (replica_count n records)
-none_joined n [] = sym (no_less_than n n (omega arith))
+none_joined n [] = sym (le-ltb n n (omega arith))
 none_joined n (Join replica from ∷ records) =
     sym (lt-ltb n (replica_count n records + 1) (omega (arith, count_first n records)))
 none_joined n (_ ∷ records) = none_joined n records
@@ -216,5 +191,5 @@ pub few_older : (n : ℕ) (records : Records) → replica_count n records ≤ n 
     → Rah1 ≡ (if list_any is_join records || ltb 16 n then Rah2 else Rah1)
 few_older n records none few =
     let any : list_any is_join records ≡ false = none_joined n records
-    ∙ no_less_than n (replica_count n records) none in
-    rw (any, no_less_than 16 n few) refl
+    ∙ le-ltb n (replica_count n records) none in
+    rw (any, le-ltb 16 n few) refl

@@ -1,13 +1,12 @@
 -- The line that is written of a command spells it.
-use Rattle.std.proofs.Common.{◌≡◌, ◌≢◌, ◌^◌, ◌+◌, ℕ, zero, suc, ◌<◌, ◌≤◌, true, false, eqb, ltb, leb, List, [], ◌∷◌, ◌++◌}
+use Rattle.std.proofs.Common.{◌≡◌, ◌≢◌, ◌^◌, ◌+◌, ℕ, zero, suc, ◌<◌, ◌≤◌, true, false, eqb, ltb, List, [], ◌∷◌, ◌++◌}
 use Rattle.std.proofs.Common.{length, map, All, Option, Some, None, ℤ, pos, negsuc, refl, sym, ap, ◌∙◌, arith, inl, inr}
-use Rattle.std.specs.Prelude.{codes, decimal, bytes_eq, IfSome, FitsSigned, ◌&&◌}
+use Rattle.std.specs.Prelude.{codes, decimal, bytes_eq, IfSome, FitsSigned}
 use Rattle.std.specs.Fmt.{signed_decimal}
 use Rattle.std.specs.Int.{w32}
-use Rattle.std.specs.Char.{is_ascii_lowercase, is_ascii_digit}
 use Rattle.std.specs.List.{list_all, join_with_byte, IsDistinct, AllByRecursion}
 use Rattle.std.specs.Str.Parse.{AllDigits}
-use Rattle.std.proofs.lemmas.Bool.{cases_Bool, and_parts, or_cases, ne_eqb, ltb-true, leb-true}
+use Rattle.std.proofs.lemmas.Bool.{cases_Bool, and_parts, ne_eqb, ltb-true}
 use Rattle.std.proofs.lemmas.Cmp.{nat_list_eq_equiv}
 use Rattle.std.proofs.lemmas.Fmt.{decimal_is_IsNumeral}
 use Rattle.std.proofs.lemmas.List.{append-nil, length-append}
@@ -22,10 +21,11 @@ use Rattle.ra_labels.specs.declared.operation.Op.TheVariants.{Inc, Dec, Count, W
 use Rattle.ra_labels.specs.declared.operation.Op.TheVariants.{OrAdd, OrRemove, OrRead, After, RgaRemove, RgaRead}
 use Rattle.ra_labels.specs.declared.command.Command.{Command}
 use Rattle.ra_labels.specs.declared.command.Command.TheVariants.{Operate, Deliver, Join, Verdict}
-use Rattle.ra_lines.specs.Grammar.{IsSmall, is_name, has_form_of_name, may_follow, place_of, fields_of, list_word}
+use Rattle.ra_lines.specs.Grammar.{IsSmall, is_name, index_of_name, fields_of, list_word}
 use Rattle.ra_lines.specs.Grammar.{value_word, operation_fields, clock_fields, HasSmallNumbers, NamesReplica, Spells}
 use Rattle.ra_lines.specs.Names.{AreDistinctNames}
 use Rattle.ra_lines.specs.declared.format.Format.{Format}
+use Rattle.ra_lines.proofs.TheLaws.{name_bytes}
 use Rattle.ra_history_writer.specs.Spelling.{spaced, name_of, line_of, AreSmall, HasLine, HasNewName}
 
 -- ---- bytes of fields
@@ -37,9 +37,10 @@ IsPlain bytes = AllByRecursion (λ b. 32 < b) bytes
 abbrev pub ArePlain : List (List ℕ) → Type 0
 ArePlain fields = AllByRecursion IsPlain fields
 
-plain-append : (xs ys : List ℕ) → IsPlain xs → IsPlain ys → IsPlain (xs ++ ys)
-plain-append [] ys p q = q
-plain-append (x ∷ xs) ys p q = (p.0, plain-append xs ys p.1 q)
+pub each-append : {X : Type 0} (P : X → Type 0) (xs ys : List X) → AllByRecursion P xs → AllByRecursion P ys
+    → AllByRecursion P (xs ++ ys)
+each-append P [] ys p q = q
+each-append P (x ∷ xs) ys p q = (p.0, each-append P xs ys p.1 q)
 
 plain-digits : (ds : List ℕ) → AllDigits 10 ds → IsPlain ds
 plain-digits [] all = tt
@@ -48,13 +49,14 @@ plain-digits (d ∷ ds) all = let i = digit_from_value d all.0 in (omega (arith,
 plain-decimal : (n : ℕ) → n < 2 ^ 64 → IsPlain (decimal n)
 plain-decimal n small = plain-digits (decimal n) (decimal_is_IsNumeral n small).0.1
 
-no_low : (byte : ℕ) (bytes : List ℕ) → byte ≤ 32 → IsPlain bytes → AllByRecursion (λ b. eqb b byte ≡ false) bytes
-no_low byte [] low plain = tt
-no_low byte (b ∷ bytes) low plain =
-    (ne_eqb b byte (λ same. absurd (omega (arith, plain.0, same, low))), no_low byte bytes low plain.1)
+each-weaker : {X : Type 0} (P Q : X → Type 0) → ((x : X) → P x → Q x) → (xs : List X) → AllByRecursion P xs
+    → AllByRecursion Q xs
+each-weaker P Q leads [] all = tt
+each-weaker P Q leads (x ∷ xs) all = (leads x all.0, each-weaker P Q leads xs all.1)
 
 no_space : (bytes : List ℕ) → IsPlain bytes → All (λ b. eqb b 32 ≡ false) bytes
-no_space bytes plain = All-from_recursion (λ b. eqb b 32 ≡ false) bytes (no_low 32 bytes (omega arith) plain)
+no_space bytes plain = All-from_recursion (λ b. eqb b 32 ≡ false) bytes (each-weaker (λ b. 32 < b)
+    (λ b. eqb b 32 ≡ false) (λ b above. ne_eqb b 32 (λ same. omega (arith, above, same))) bytes plain)
 
 -- fields with spaces before them are cut at the spaces again
 pub fields-spaced : (first : List ℕ) (fields : List (List ℕ)) → IsPlain first → ArePlain fields
@@ -67,27 +69,20 @@ fields-spaced first (field ∷ fields) plain each =
 
 -- no line feed
 no_feed : (bytes : List ℕ) → IsPlain bytes → AllByRecursion (λ b. b ≢ 10) bytes
-no_feed [] plain = tt
-no_feed (b ∷ bytes) plain = ((λ same. absurd (omega (arith, plain.0, same))), no_feed bytes plain.1)
-
-feeds-append : (xs ys : List ℕ) → AllByRecursion (λ b. b ≢ 10) xs → AllByRecursion (λ b. b ≢ 10) ys
-    → AllByRecursion (λ b. b ≢ 10) (xs ++ ys)
-feeds-append [] ys p q = q
-feeds-append (x ∷ xs) ys p q = (p.0, feeds-append xs ys p.1 q)
+no_feed = each-weaker (λ b. 32 < b) (λ b. b ≢ 10) (λ b above same. omega (arith, above, same))
 
 no_feed_spaced : (fields : List (List ℕ)) → ArePlain fields → AllByRecursion (λ b. b ≢ 10) (spaced fields)
 no_feed_spaced [] each = tt
 no_feed_spaced (field ∷ fields) each = (
   (λ same. absurd (omega (arith, same))),
-  feeds-append field (spaced fields) (no_feed field each.0)
-      (no_feed_spaced fields each.1),
+  each-append (λ b. b ≢ 10) field (spaced fields) (no_feed field each.0) (no_feed_spaced fields each.1),
 )
 
 pub one_line : (first : List ℕ) (fields : List (List ℕ)) → IsPlain first → ArePlain fields
     → All (λ b. b ≢ 10) (first ++ spaced fields)
 one_line first fields plain each =
     All-from_recursion (λ b. b ≢ 10) (first ++ spaced fields)
-    (feeds-append first (spaced fields) (no_feed first plain) (no_feed_spaced fields each))
+    (each-append (λ b. b ≢ 10) first (spaced fields) (no_feed first plain) (no_feed_spaced fields each))
 
 -- ---- the fields of commands
 
@@ -101,7 +96,7 @@ plain_joined : (x : ℕ) (xs : List ℕ) → IsSmall x → AllByRecursion IsSmal
     → IsPlain (join_with_byte 44 (map decimal (x ∷ xs)))
 plain_joined x [] here later = plain_number x here
 plain_joined x (y ∷ ys) here later =
-    plain-append (decimal x) (44 ∷ join_with_byte 44 (map decimal (y ∷ ys))) (plain_number x here)
+    each-append (λ b. 32 < b) (decimal x) (44 ∷ join_with_byte 44 (map decimal (y ∷ ys))) (plain_number x here)
     (omega arith, plain_joined y ys later.0 later.1)
 
 plain_list : (xs : List ℕ) → AllByRecursion IsSmall xs → IsPlain (list_word xs)
@@ -145,35 +140,12 @@ pub plain_clock : (clock : Option ℕ) → IfSome clock IsSmall → ArePlain (cl
 plain_clock None small = tt
 plain_clock (Some at) small = ((omega arith, plain_number at small), tt)
 
-pub fields-append : (fs gs : List (List ℕ)) → ArePlain fs → ArePlain gs → ArePlain (fs ++ gs)
-fields-append [] gs p q = q
-fields-append (f ∷ fs) gs p q = (p.0, fields-append fs gs p.1 q)
-
 -- ---- names
 
-first_letter : (b : ℕ) → is_ascii_lowercase b ≡ true → 32 < b
-first_letter b e = let k = and_parts (leb 97 b) (leb b 122) e in omega (arith, leb-true 97 b k.0)
-
-follows : (b : ℕ) → may_follow b ≡ true → 32 < b
-follows b e =
-    elim (or_cases (is_ascii_lowercase b) (is_ascii_digit b) e) [
-      | inl letter ↦ first_letter b letter
-      | inr digit ↦ let k = and_parts (leb 48 b) (leb b 57) digit in omega (arith, leb-true 48 b k.0)
-    ]
-
-all_follow : (bytes : List ℕ) → list_all may_follow bytes ≡ true → IsPlain bytes
-all_follow [] all = tt
-all_follow (b ∷ bytes) all =
-    let parts = and_parts (may_follow b) (list_all may_follow bytes) all in
-    (follows b parts.0, all_follow bytes parts.1)
-
 pub plain_name : (name : List ℕ) → is_name name ≡ true → IsPlain name
-plain_name [] is = absurd cc
-plain_name (first ∷ more) is =
-    let form = (and_parts (has_form_of_name (first ∷ more)) _ is).0 in
-    let parts = and_parts (is_ascii_lowercase first && ltb (length more) 16) (list_all may_follow more) form in
-    let head = and_parts (is_ascii_lowercase first) (ltb (length more) 16) parts.0 in
-    (first_letter first head.0, all_follow more parts.1)
+plain_name name is =
+    each-weaker (λ b. (48 ≤ b) × (b ≤ 122)) (λ b. 32 < b) (λ b in_range. omega (arith, in_range.0)) name
+    (name_bytes name is).1
 
 -- what holds of each holds in a place
 apart_from : (names : List (List ℕ)) (n : ℕ) (P : List ℕ → Type 0) → n < length names → AllByRecursion P names
@@ -187,7 +159,7 @@ same_self name = (bytes_eq-Decides name name).1 refl
 
 pub named_at : (names : List (List ℕ)) (replica : ℕ) → replica < length names → list_all is_name names ≡ true
     → IsDistinct bytes_eq names
-    → (is_name (name_of names replica) ≡ true) × (place_of names (name_of names replica) ≡ replica)
+    → (is_name (name_of names replica) ≡ true) × (index_of_name names (name_of names replica) ≡ replica)
 named_at [] replica there each distinct = absurd (omega (arith, there))
 named_at (name ∷ names) zero there each distinct =
     let parts = and_parts (is_name name) (list_all is_name names) each in
@@ -203,34 +175,29 @@ named_at (name ∷ names) (suc n) there each distinct =
 
 -- ---- a command
 
--- names in front of others
-name_of-append : (names later : List (List ℕ)) (n : ℕ) → n < length names
-    → name_of (names ++ later) n ≡ name_of names n
-name_of-append [] later n there = absurd (omega (arith, there))
-name_of-append (name ∷ names) later zero there = refl
-name_of-append (name ∷ names) later (suc n) there = name_of-append names later n (omega (arith, there))
-
-place_of-append : (names later : List (List ℕ)) (name : List ℕ) → place_of (names ++ later) name < length names
-    → place_of names name ≡ place_of (names ++ later) name
-place_of-append [] later name there = absurd (omega (arith, there))
-place_of-append (own ∷ names) later name there =
+index_of_name-append : (names later : List (List ℕ)) (name : List ℕ)
+    → index_of_name (names ++ later) name < length names
+    → index_of_name names name ≡ index_of_name (names ++ later) name
+index_of_name-append [] later name there = absurd (omega (arith, there))
+index_of_name-append (own ∷ names) later name there =
     elim (cases_Bool (bytes_eq name own)) [
       | inl same ↦ rw same refl
       | inr other ↦
-          let within : place_of (names ++ later) name + 1 < length (own ∷ names) = rw other at there in
-          rw other (ap (λ (n : ℕ). n + 1) (place_of-append names later name (omega (arith, within))))
+          let within : index_of_name (names ++ later) name + 1 < length (own ∷ names) = rw other at there in
+          rw other (ap (λ (n : ℕ). n + 1) (index_of_name-append names later name (omega (arith, within))))
     ]
 
 -- one that stands behind the names has no place among them
-place_of-behind : (names later : List (List ℕ)) (name : List ℕ) → length names ≤ place_of (names ++ later) name
-    → place_of names name ≡ length names
-place_of-behind [] later name behind = refl
-place_of-behind (own ∷ names) later name behind =
+index_of_name-behind : (names later : List (List ℕ)) (name : List ℕ)
+    → length names ≤ index_of_name (names ++ later) name
+    → index_of_name names name ≡ length names
+index_of_name-behind [] later name behind = refl
+index_of_name-behind (own ∷ names) later name behind =
     elim (cases_Bool (bytes_eq name own)) [
       | inl same ↦ let none : length (own ∷ names) ≤ 0 = rw same at behind in absurd (omega (arith, none))
       | inr other ↦
-          let past : length (own ∷ names) ≤ place_of (names ++ later) name + 1 = rw other at behind in
-          rw other (omega (arith, place_of-behind names later name (omega (arith, past))))
+          let past : length (own ∷ names) ≤ index_of_name (names ++ later) name + 1 = rw other at behind in
+          rw other (omega (arith, index_of_name-behind names later name (omega (arith, past))))
     ]
 
 -- a replica that is there, by the names of all
@@ -243,7 +210,7 @@ named_among names later replica there are =
     record {
       form = at.0;
       place = sym at.1
-          ∙ sym (place_of-append names later (name_of (names ++ later) replica) (omega (arith, at.1, there)));
+          ∙ sym (index_of_name-append names later (name_of (names ++ later) replica) (omega (arith, at.1, there)));
     }
 
 -- and the next one
@@ -255,50 +222,73 @@ named_next names later replica next some are =
     record {
       form = at.0;
       place = next
-          ∙ sym (place_of-behind names later (name_of (names ++ later) replica) (omega (arith, at.1, next)));
+          ∙ sym (index_of_name-behind names later (name_of (names ++ later) replica) (omega (arith, at.1, next)));
     }
 
-pub plain_join : (one other : List ℕ) → IsPlain one → IsPlain other → ArePlain (one ∷ other ∷ [])
-plain_join one other p q = (p, (q, tt))
+-- the line of a command is these fields
+pub record IsOfFields (line : List ℕ) : Type 0 where
+  pub first : List ℕ
+  pub fields : List (List ℕ)
+  pub is : line ≡ first ++ spaced fields
+  pub plain : IsPlain first
+  pub each : ArePlain fields
+
+abbrev pub line_fields : (format : Format) (kind : Kind) (names later : List (List ℕ)) (command : Command)
+    → AreDistinctNames (names ++ later) → HasLine format kind (length names) command → HasNewName later command
+    → AreSmall command → IsOfFields (line_of (names ++ later) command)
+line_fields format kind names later Verdict are has new small =
+    record { first = codes "verdict"; fields = []; is = refl; plain = plain_word (codes "verdict") refl; each = tt }
+line_fields format kind names later (Deliver replica label) are has new small = record {
+  first = name_of (names ++ later) replica;
+  fields = codes "got" ∷ decimal label ∷ [];
+  is = refl;
+  plain = plain_name (name_of (names ++ later) replica) (named_among names later replica has are).form;
+  each = (plain_word (codes "got") refl, (plain_number label small, tt));
+}
+line_fields format kind names later (Operate replica op clock) are has new small = record {
+  first = name_of (names ++ later) replica;
+  fields = operation_fields op ++ clock_fields clock;
+  is = refl;
+  plain = plain_name (name_of (names ++ later) replica) (named_among names later replica has.0 are).form;
+  each = each-append IsPlain (operation_fields op) (clock_fields clock) (plain_operation op small.0)
+      (plain_clock clock small.1);
+}
+line_fields format kind names later (Join replica from) are has new small = record {
+  first = codes "join";
+  fields = name_of (names ++ later) replica ∷ name_of (names ++ later) from ∷ [];
+  is = refl;
+  plain = plain_word (codes "join") refl;
+  each = (
+    plain_name (name_of (names ++ later) replica) (named_next names later replica has.1 new are).form,
+    (plain_name (name_of (names ++ later) from) (named_among names later from has.2 are).form, tt),
+  );
+}
+
+pub line_cut : (line : List ℕ) (of : IsOfFields line) → fields_of line ≡ of.first ∷ of.fields
+line_cut line of = ap fields_of of.is ∙ fields-spaced of.first of.fields of.plain of.each
 
 pub line_spells : (format : Format) (kind : Kind) (names later : List (List ℕ)) (command : Command)
     → AreDistinctNames (names ++ later) → HasLine format kind (length names) command → HasNewName later command
     → AreSmall command → Spells format kind names (line_of (names ++ later) command) command
 line_spells format kind names later Verdict are has new small = refl
-line_spells format kind names later (Deliver replica label) are has new small =
-    let name : List ℕ = name_of (names ++ later) replica in
-    let who = named_among names later replica has are in
-    record {
-      name = name;
-      who = who;
-      small = small;
-      words = fields-spaced name (codes "got" ∷ decimal label ∷ []) (plain_name name who.form)
-          (plain_word (codes "got") refl, (plain_number label small, tt));
-    }
-line_spells format kind names later (Operate replica op clock) are has new small =
-    let name : List ℕ = name_of (names ++ later) replica in
-    let who = named_among names later replica has.0 are in
-    let body : List (List ℕ) = operation_fields op ++ clock_fields clock in
-    record {
-      name = name;
-      who = who;
-      body = body;
-      is_body = record { own = has.1; small = small.0; small_clock = small.1; words = refl };
-      words = fields-spaced name body (plain_name name who.form)
-          (fields-append (operation_fields op) (clock_fields clock) (plain_operation op small.0)
-          (plain_clock clock small.1));
-    }
-line_spells format kind names later (Join replica from) are has new small =
-    let name : List ℕ = name_of (names ++ later) replica in
-    let source : List ℕ = name_of (names ++ later) from in
-    let who = named_next names later replica has.1 new are in
-    let whom = named_among names later from has.2 are in
-    record {
-      joins = has.0;
-      name = name;
-      who = who;
-      source = source;
-      whom = whom;
-      words = fields-spaced (codes "join") (name ∷ source ∷ []) (plain_word (codes "join") refl)
-          (plain_join name source (plain_name name who.form) (plain_name source whom.form));
-    }
+line_spells format kind names later (Deliver replica label) are has new small = record {
+  name = name_of (names ++ later) replica;
+  who = named_among names later replica has are;
+  small = small;
+  words = line_cut _ (line_fields format kind names later (Deliver replica label) are has new small);
+}
+line_spells format kind names later (Operate replica op clock) are has new small = record {
+  name = name_of (names ++ later) replica;
+  who = named_among names later replica has.0 are;
+  body = operation_fields op ++ clock_fields clock;
+  is_body = record { own = has.1; small = small.0; small_clock = small.1; words = refl };
+  words = line_cut _ (line_fields format kind names later (Operate replica op clock) are has new small);
+}
+line_spells format kind names later (Join replica from) are has new small = record {
+  joins = has.0;
+  name = name_of (names ++ later) replica;
+  who = named_next names later replica has.1 new are;
+  source = name_of (names ++ later) from;
+  whom = named_among names later from has.2 are;
+  words = line_cut _ (line_fields format kind names later (Join replica from) are has new small);
+}

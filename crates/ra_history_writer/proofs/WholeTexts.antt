@@ -1,10 +1,11 @@
 -- The text that is written says the monitor's history.
-use Rattle.std.proofs.Common.{◌≡◌, ℕ, ◌<◌, ◌≤◌, Bool, true, false, cond, ltb, List, [], ◌∷◌, ◌++◌, length, map, take, drop, refl, sym, ap, subst, ◌∙◌, arith, inl, inr}
+use Rattle.std.proofs.Common.{◌≡◌, ℕ, ◌<◌, ◌≤◌, Bool, true, false, cond, ltb, List, [], ◌∷◌, ◌++◌, length, map, take, drop, sym, ap, subst, ◌∙◌, arith, inl, inr}
 use Rattle.std.specs.Prelude.{bytes_eq, ◌||◌}
 use Rattle.std.specs.List.{list_all, list_any, IsDistinct, AllByRecursion}
-use Rattle.std.proofs.lemmas.Bool.{cases_Bool, and_parts, and_from, ltb-false}
+use Rattle.std.proofs.lemmas.Bool.{cases_Bool, and_parts, ltb-false}
 use Rattle.std.proofs.lemmas.List.{length-append, length-take-le, take-append-drop}
 use Rattle.std.proofs.lemmas.Map.Keys.{IsDistinct-head, IsDistinct-tail, IsDistinct-cons}
+use Rattle.std.proofs.lemmas.List.Folds.{list_all-append}
 use Rattle.std.proofs.lemmas.List.Concat.{flat_map-append}
 use Rattle.ra_labels.specs.declared.kind.Kind.{Kind}
 use Rattle.ra_labels.specs.declared.command.Command.{Command}
@@ -43,10 +44,7 @@ in_order monitor legal = accepted_commands_are_the_records monitor.setup monitor
 -- ---- the names at first
 
 all_front : (p : List ℕ → Bool) (xs ys : List (List ℕ)) → list_all p (xs ++ ys) ≡ true → list_all p xs ≡ true
-all_front p [] ys all = refl
-all_front p (x ∷ xs) ys all =
-    let parts = and_parts (p x) (list_all p (xs ++ ys)) all in
-    and_from (p x) (list_all p xs) parts.0 (all_front p xs ys parts.1)
+all_front p xs ys all = (and_parts (list_all p xs) (list_all p ys) (sym (list_all-append p xs ys) ∙ all)).0
 
 front_of : (P : List ℕ → Type 0) (xs ys : List (List ℕ)) → AllByRecursion P (xs ++ ys) → AllByRecursion P xs
 front_of P [] ys all = tt
@@ -73,17 +71,13 @@ few_first false n few =
 
 -- ---- the whole text
 
--- what is written is cut like this
-record IsSpelled (monitor : Monitor) (names : List (List ℕ)) (text : List ℕ) : Type 0 where
-  says : Says text (format_of monitor) monitor.setup.kind (take monitor.setup.replicas names)
-      (drop monitor.setup.replicas names) (records_in_order monitor)
-
 text_spelled : (monitor : Monitor) (names : List (List ℕ)) (text : List ℕ) → AreNamesSoFar names → 0 < length names
     → AreAsMany monitor names → length (records_in_order monitor) ≤ 1048576
     → text ≡ bytes_of (first_line (format_of monitor) monitor.setup.kind
     ∷ names_line (take monitor.setup.replicas names) ∷ map (line_of names) (records_in_order monitor))
     → AreShort names (records_in_order monitor) → AllByRecursion AreSmall (records_in_order monitor)
-    → IsSpelled monitor names text
+    → Says text (format_of monitor) monitor.setup.kind (take monitor.setup.replicas names)
+    (drop monitor.setup.replicas names) (records_in_order monitor)
 text_spelled monitor names text so_far some as_many fits whole short small =
     let kind : Kind = monitor.setup.kind in
     let n : ℕ = monitor.setup.replicas in
@@ -119,11 +113,8 @@ text_spelled monitor names text so_far some as_many fits whole short small =
     let spelled : text ≡ text_of format kind first joined commands = whole
     ∙ ap (λ (ns : List (List ℕ)). bytes_of (first_line format kind ∷ names_line first ∷ map (line_of ns) commands))
     (sym all) in
-    record {
-      says =
-          written-says format kind first joined commands text are distinct named have
-          (subst (λ (ns : List (List ℕ)). AreShort ns commands) (sym all) short) small fits spelled;
-    }
+    written-says format kind first joined commands text are distinct named have
+    (subst (λ (ns : List (List ℕ)). AreShort ns commands) (sym all) short) small fits spelled
 
 pub says_history : (monitor : Monitor) (names : List (List ℕ)) (heads text : List ℕ) → AreNamesSoFar names
     → 0 < length names → AreAsMany monitor names
@@ -147,5 +138,5 @@ says_history monitor names heads text so_far some as_many legal fits first last 
     let few : length commands ≤ 1048576 = omega (arith, as_few false monitor.log, fits, ap length same) in
     let spelled = text_spelled monitor names text so_far some as_many few whole short
     (subst (AllByRecursion AreSmall) same small) in
-    let only = says_only text format kind (take n names) (drop n names) commands spelled.says in
+    let only = says_only text format kind (take n names) (drop n names) commands spelled in
     record { ends = only.0; says = only.1 }

@@ -1,65 +1,46 @@
 -- The lines that are written of a history are the lines of a text that says it.
-use Rattle.std.proofs.Common.{◌≡◌, ◌≢◌, ℕ, ◌*◌, ◌≤◌, Bool, true, false, not, eqb, ltb, List, [], ◌∷◌, ◌++◌}
-use Rattle.std.proofs.Common.{length, map, All, Option, Some, None, refl, sym, ap, subst, ◌∙◌, arith}
-use Rattle.std.specs.Prelude.{codes, decimal, is_some, ◌&&◌, ◌||◌, if◌then◌else◌}
-use Rattle.std.specs.Char.{is_ascii_lowercase}
+use Rattle.std.proofs.Common.{◌≡◌, ◌≢◌, ℕ, ◌*◌, ◌≤◌, Bool, true, false, not, eqb, List, [], ◌∷◌, ◌++◌}
+use Rattle.std.proofs.Common.{length, map, All, refl, sym, ap, subst, ◌∙◌, arith}
+use Rattle.std.specs.Prelude.{codes, is_some, ◌||◌, if◌then◌else◌}
 use Rattle.std.specs.List.{list_all, AllByRecursion}
-use Rattle.std.specs.Option.{option_map_or}
-use Rattle.std.proofs.lemmas.Bool.{and_parts, ltb-true, eqb-false}
+use Rattle.std.proofs.lemmas.Bool.{and_parts, not-true, eqb-false, false≢true}
+use Rattle.std.proofs.lemmas.List.Sums.{AllPass-from_list_all}
 use Rattle.std.proofs.lemmas.List.{append_assoc, append-nil, length-append, length_push}
-use Rattle.std.proofs.lemmas.List.Elements.{All-from_recursion}
 use Rattle.ra_labels.specs.declared.kind.Kind.{Kind}
-use Rattle.ra_labels.specs.declared.kind.Kind.TheVariants.{Counter, Register, LwwSet, OrSet, Rga}
+use Rattle.ra_labels.specs.declared.kind.Kind.TheVariants.{Counter}
 use Rattle.ra_labels.specs.declared.command.Command.{Command}
-use Rattle.ra_labels.specs.declared.command.Command.TheVariants.{Operate, Deliver, Join, Verdict}
-use Rattle.ra_labels.specs.declared.refusal.Refusal.{Refusal}
-use Rattle.ra_labels.specs.declared.reply.Fault.{Fault}
+use Rattle.ra_labels.specs.declared.command.Command.TheVariants.{Join}
 use Rattle.ra_labels.specs.declared.reply.Reply.{Reply}
 use Rattle.ra_labels.specs.declared.reply.Reply.TheVariants as reply
-use Rattle.ra_labels.specs.Answer.{no_at, refusal_of, answer_of, answer_to_accepted, with_accepted, records_after}
+use Rattle.ra_labels.specs.Answer.{refusal_of, answer_of, with_accepted, records_after}
 use Rattle.ra_labels.specs.Answer.{records_after_all}
 use Rattle.ra_labels.specs.Fault.{fault_of}
-use Rattle.ra_labels.specs.Laws.{is_join}
-use Rattle.ra_labels.specs.Records.{Records, label_count, replica_count}
+use Rattle.ra_labels.specs.Laws.{is_join, ReplySays}
+use Rattle.ra_labels.specs.Records.{Records, replica_count}
 use Rattle.ra_lines.specs.declared.format.Format.{Format}
 use Rattle.ra_lines.specs.declared.format.Format.TheVariants.{Rah1, Rah2}
-use Rattle.ra_lines.specs.Grammar.{IsLine, first_line, is_name, has_form_of_name, may_follow, operation_fields}
-use Rattle.ra_lines.specs.Grammar.{clock_fields, most_names, AreNames, ListsNames, Spells, SpellEach, Says}
+use Rattle.ra_lines.specs.Grammar.{IsLine, first_line, is_name}
+use Rattle.ra_lines.specs.Grammar.{most_names, AreNames, ListsNames, Spells, SpellEach, Says}
 use Rattle.ra_lines.specs.Grammar.{second_of, new_name, joined_by, names_behind}
 use Rattle.ra_lines.specs.Names.{AreDistinctNames}
+use Rattle.ra_laws.proofs.TheLaws.{what_a_reply_says}
+use Rattle.ra_lines.proofs.TheLaws.{name_bytes}
 use Rattle.ra_history_text.proofs.TheLaws.{counts_grow}
 use Rattle.ra_history_writer.specs.Spelling.{spaced, name_of, line_of, names_line, text_of, AreSmall, IsShort, AreShort, HasLine}
 use Rattle.ra_history_writer.specs.Spelling.{HasNewName, IsJoined, HaveLines, NameEach}
-use Rattle.ra_history_writer.proofs.SpelledLines.{ArePlain, fields-spaced, one_line, plain_name, plain_word, plain_number}
-use Rattle.ra_history_writer.proofs.SpelledLines.{plain_operation, plain_clock, plain_join, fields-append, named_among, named_next}
-use Rattle.ra_history_writer.proofs.SpelledLines.{line_spells}
+use Rattle.ra_history_writer.proofs.SpelledLines.{ArePlain, fields-spaced, one_line, plain_name, plain_word}
+use Rattle.ra_history_writer.proofs.SpelledLines.{line_fields, line_cut, line_spells}
 
 -- ---- lines
 
-is_false : (b : Bool) → not b ≡ true → b ≡ false
-is_false true e = absurd cc
-is_false false e = refl
-
-no_feeds : (bytes : List ℕ) → list_all (λ b. not (eqb b 10)) bytes ≡ true → AllByRecursion (λ b. b ≢ 10) bytes
-no_feeds [] all = tt
-no_feeds (b ∷ bytes) all =
-    let parts = and_parts (not (eqb b 10)) (list_all (λ x. not (eqb x 10)) bytes) all in
-    (eqb-false b 10 (is_false (eqb b 10) parts.0), no_feeds bytes parts.1)
-
 one_of : (bytes : List ℕ) → list_all (λ b. not (eqb b 10)) bytes ≡ true → All (λ b. b ≢ 10) bytes
-one_of bytes all = All-from_recursion (λ b. b ≢ 10) bytes (no_feeds bytes all)
+one_of bytes all k d below = eqb-false _ 10 (not-true _ (AllPass-from_list_all _ bytes all k d below))
 
 first_is_line : (format : Format) (kind : Kind) → IsLine (first_line format kind)
 first_is_line Rah1 Counter = record { one = one_of (first_line Rah1 Counter) refl; short = omega arith }
-first_is_line Rah1 Register = record { one = one_of (first_line Rah1 Register) refl; short = omega arith }
-first_is_line Rah1 LwwSet = record { one = one_of (first_line Rah1 LwwSet) refl; short = omega arith }
-first_is_line Rah1 OrSet = record { one = one_of (first_line Rah1 OrSet) refl; short = omega arith }
-first_is_line Rah1 Rga = record { one = one_of (first_line Rah1 Rga) refl; short = omega arith }
 first_is_line Rah2 Counter = record { one = one_of (first_line Rah2 Counter) refl; short = omega arith }
-first_is_line Rah2 Register = record { one = one_of (first_line Rah2 Register) refl; short = omega arith }
-first_is_line Rah2 LwwSet = record { one = one_of (first_line Rah2 LwwSet) refl; short = omega arith }
-first_is_line Rah2 OrSet = record { one = one_of (first_line Rah2 OrSet) refl; short = omega arith }
-first_is_line Rah2 Rga = record { one = one_of (first_line Rah2 Rga) refl; short = omega arith }
+first_is_line Rah1 kind = record { one = one_of (first_line Rah1 kind) refl; short = omega arith }
+first_is_line Rah2 kind = record { one = one_of (first_line Rah2 kind) refl; short = omega arith }
 
 plain_names : (names : List (List ℕ)) → list_all is_name names ≡ true → ArePlain names
 plain_names [] each = tt
@@ -67,19 +48,11 @@ plain_names (name ∷ names) each =
     let parts = and_parts (is_name name) (list_all is_name names) each in
     (plain_name name parts.0, plain_names names parts.1)
 
-name_length : (name : List ℕ) → is_name name ≡ true → length name ≤ 16
-name_length [] is = omega arith
-name_length (first ∷ more) is =
-    let form = (and_parts (has_form_of_name (first ∷ more)) _ is).0 in
-    let parts = and_parts (is_ascii_lowercase first && ltb (length more) 16) (list_all may_follow more) form in
-    let head = and_parts (is_ascii_lowercase first) (ltb (length more) 16) parts.0 in
-    omega (arith, ltb-true (length more) 16 head.1)
-
 names_length : (names : List (List ℕ)) → list_all is_name names ≡ true → length (spaced names) ≤ 17 * length names
 names_length [] each = omega arith
 names_length (name ∷ names) each =
     let parts = and_parts (is_name name) (list_all is_name names) each in
-    omega (arith, name_length name parts.0, names_length names parts.1, length-append name (spaced names))
+    omega (arith, (name_bytes name parts.0).0, names_length names parts.1, length-append name (spaced names))
 
 few_enough : (format : Format) (n : ℕ) → n ≤ most_names format → n ≤ 64
 few_enough Rah1 n few = omega (arith, few)
@@ -104,65 +77,36 @@ second_lists format names are =
 one_command : (format : Format) (kind : Kind) (names later : List (List ℕ)) (command : Command)
     → AreDistinctNames (names ++ later) → HasLine format kind (length names) command → HasNewName later command
     → AreSmall command → All (λ b. b ≢ 10) (line_of (names ++ later) command)
-one_command format kind names later Verdict are has new small = one_of (codes "verdict") refl
-one_command format kind names later (Deliver replica label) are has new small =
-    let name : List ℕ = name_of (names ++ later) replica in
-    one_line name (codes "got" ∷ decimal label ∷ []) (plain_name name (named_among names later replica has are).form)
-    (plain_word (codes "got") refl, (plain_number label small, tt))
-one_command format kind names later (Operate replica op clock) are has new small =
-    let name : List ℕ = name_of (names ++ later) replica in
-    one_line name (operation_fields op ++ clock_fields clock)
-    (plain_name name (named_among names later replica has.0 are).form)
-    (fields-append (operation_fields op) (clock_fields clock) (plain_operation op small.0) (plain_clock clock small.1))
-one_command format kind names later (Join replica from) are has new small =
-    let name : List ℕ = name_of (names ++ later) replica in
-    let source : List ℕ = name_of (names ++ later) from in
-    one_line (codes "join") (name ∷ source ∷ []) (plain_word (codes "join") refl)
-    (plain_join name source (plain_name name (named_next names later replica has.1 new are).form)
-    (plain_name source (named_among names later from has.2 are).form))
+one_command format kind names later command are has new small =
+    let of = line_fields format kind names later command are has new small in
+    subst (All (λ b. b ≢ 10)) (sym of.is) (one_line of.first of.fields of.plain of.each)
 
 -- ---- how many replicas there are, and which of them have names
 
--- an accepted join is one of the records, and no other command adds a replica
-joined_after : (fault : Option Fault) (refusal : Option Refusal) (replica : ℕ) (before after : Records)
-    → option_map_or no_at fault (option_map_or reply.Refused refusal (reply.Joined replica)) ≡ reply.Joined replica
-    → (if is_some fault || is_some refusal then before else after) ≡ after
-joined_after (Some fault) refusal replica before after e = absurd cc
-joined_after None (Some refusal) replica before after e = absurd cc
-joined_after None None replica before after e = refl
-
+-- no command but a join adds a replica, and an accepted join is one of the records
 same_count : (n : ℕ) (records : Records) (c : Command) (b : Bool) → is_join c ≡ false
     → replica_count n (if b then records else with_accepted records c) ≡ replica_count n records
 same_count n records c true other = refl
 same_count n records (Join replica from) false other = absurd cc
 same_count n records _ false other = refl
 
--- names stay with any other reply
-unnamed : (fault : Option Fault) (refusal : Option Refusal) (accepted : Reply) (joined : List (List ℕ)) (line : List ℕ)
-    → joined_by accepted joined line ≡ joined
-    → joined_by (option_map_or no_at fault (option_map_or reply.Refused refusal accepted)) joined line ≡ joined
-unnamed (Some fault) refusal accepted joined line e = refl
-unnamed None (Some refusal) accepted joined line e = refl
-unnamed None None accepted joined line e = e
-
-unnamed_no : (fault : Option Fault) (label : ℕ) (joined : List (List ℕ)) (line : List ℕ)
-    → joined_by (option_map_or no_at fault (reply.Ok label)) joined line ≡ joined
-unnamed_no (Some fault) label joined line = refl
-unnamed_no None label joined line = refl
-
-accepted_unnamed : (kind : Kind) (records : Records) (c : Command) (joined : List (List ℕ)) (line : List ℕ)
-    → is_join c ≡ false → joined_by (answer_to_accepted kind records c) joined line ≡ joined
-accepted_unnamed kind records (Operate by op clock) joined line other =
-    unnamed_no (fault_of kind (Operate by op clock ∷ records)) (label_count records) joined line
-accepted_unnamed kind records (Deliver to label) joined line other = refl
-accepted_unnamed kind records (Join replica from) joined line other = absurd cc
-accepted_unnamed kind records Verdict joined line other = refl
-
+-- names stay with any other command
 names_stay : (kind : Kind) (n : ℕ) (records : Records) (joined : List (List ℕ)) (line : List ℕ) (c : Command)
     → is_join c ≡ false → names_behind kind n records joined line c ≡ joined
-names_stay kind n records joined line c other =
-    unnamed (fault_of kind records) (refusal_of kind n records c) (answer_to_accepted kind records c) joined line
-    (accepted_unnamed kind records c joined line other)
+names_stay kind n records joined line c other = by_reply (answer_of kind n records c)
+    (what_a_reply_says kind n records c)
+  where
+    by_reply : (reply : Reply) → ReplySays kind n records c reply → joined_by reply joined line ≡ joined
+    by_reply (reply.Joined replica) says = absurd (false≢true (sym other ∙ ap is_join says.3.1))
+    by_reply _ says = refl
+
+-- what an accepted join leaves
+join_leaves : (kind : Kind) (n : ℕ) (records : Records) (replica from : ℕ)
+    → answer_of kind n records (Join replica from) ≡ reply.Joined replica
+    → records_after kind n records (Join replica from) ≡ Join replica from ∷ records
+join_leaves kind n records replica from joins =
+    (subst (ReplySays kind n records (Join replica from)) joins
+    (what_a_reply_says kind n records (Join replica from))).1
 
 no_new_name : (later : List (List ℕ)) (c : Command) → is_join c ≡ false → HasNewName later c
 no_new_name later (Join replica from) other = absurd cc
@@ -190,15 +134,12 @@ new_comes : (kind : Kind) (first joined before rest : List (List ℕ)) (records 
     → IsJoined c (answer_of kind (length first) records c) → HasNewName rest c
 new_comes kind first joined before rest records (Join replica from) commands among joins =
     let n : ℕ = length first in
-    let after : records_after kind n records (Join replica from) ≡ Join replica from ∷ records =
-    joined_after (fault_of kind records) (refusal_of kind n records (Join replica from)) replica records
-    (Join replica from ∷ records) joins in
     omega (
       arith,
       among.now,
       among.last,
       counts_grow kind n (records_after kind n records (Join replica from)) commands,
-      ap (replica_count n) after,
+      ap (replica_count n) (join_leaves kind n records replica from joins),
       ap length (parted first joined before rest among.all),
       length-append (first ++ before) rest,
     )
@@ -228,15 +169,12 @@ goes_on : (kind : Kind) (first joined before rest : List (List ℕ)) (name : Lis
     (records_after kind (length first) records (Join replica from)) commands
 goes_on kind first joined before rest name records replica from commands joins among =
     let n : ℕ = length first in
-    let after : records_after kind n records (Join replica from) ≡ Join replica from ∷ records =
-    joined_after (fault_of kind records) (refusal_of kind n records (Join replica from)) replica records
-    (Join replica from ∷ records) joins in
     record {
       all = among.all ∙ sym (append_assoc before (name ∷ []) rest);
       now = omega (
         arith,
         among.now,
-        ap (replica_count n) after,
+        ap (replica_count n) (join_leaves kind n records replica from joins),
         length-append first before,
         length-append first (before ++ name ∷ []),
         length_push before name,
@@ -258,12 +196,9 @@ join_names format kind first joined before rest name replica from all are has =
     let names : List (List ℕ) = first ++ before in
     let distinct = subst AreDistinctNames parts are in
     let one : List ℕ = name_of (names ++ name ∷ rest) replica in
-    let source : List ℕ = name_of (names ++ name ∷ rest) from in
-    let plain = plain_join one source
-    (plain_name one (named_next names (name ∷ rest) replica has.1 (omega arith) distinct).form)
-    (plain_name source (named_among names (name ∷ rest) from has.2 distinct).form) in
     let new : new_name (line_of (names ++ name ∷ rest) (Join replica from)) ≡ one =
-    ap second_of (fields-spaced (codes "join") (one ∷ source ∷ []) (plain_word (codes "join") refl) plain) in
+    ap second_of (line_cut _ (line_fields format kind names (name ∷ rest) (Join replica from) distinct has
+    (omega arith) tt)) in
     ap (λ (ns : List (List ℕ)). new_name (line_of ns (Join replica from))) parts ∙ new
     ∙ ap (name_of (names ++ name ∷ rest)) has.1 ∙ at_end names rest name
 

@@ -87,10 +87,6 @@ NameEach kind first joined commands = length (first ++ joined)
 abbrev pub IsShort : List (List ℕ) → Command → Type 0
 IsShort names command = length (line_of names command) ≤ LONGEST_LINE
 
--- and its numbers are of 32 bits
-abbrev pub IsWritable : List (List ℕ) → Command → Type 0
-IsWritable names command = IsShort names command × AreSmall command
-
 -- each command's line is short enough
 abbrev pub AreShort : List (List ℕ) → List Command → Type 0
 AreShort names commands = AllByRecursion (IsShort names) commands

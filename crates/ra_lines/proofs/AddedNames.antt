@@ -33,8 +33,7 @@ pub stopped-once : (names : List (List ℕ)) (word : List ℕ) (fault other : Na
     → StopsAdding names word fault → StopsAdding names word other → fault ≡ other
 stopped-once names word (BadName at) (BadName other) stops stopped = ap BadName (stops.0 ∙ sym stopped.0)
 stopped-once names word (BadName at) BadCount stops stopped = absurd (false≢true (sym stopped.0 ∙ stops.1))
-stopped-once names word (BadName at) NoMemory stops stopped = memory_alone names word stopped (BadName at) stops
 stopped-once names word BadCount (BadName at) stops stopped = absurd (false≢true (sym stops.0 ∙ stopped.1))
 stopped-once names word BadCount BadCount stops stopped = refl
-stopped-once names word BadCount NoMemory stops stopped = memory_alone names word stopped BadCount stops
+stopped-once names word fault NoMemory stops stopped = memory_alone names word stopped fault stops
 stopped-once names word NoMemory other stops stopped = sym (memory_alone names word stops other stopped)

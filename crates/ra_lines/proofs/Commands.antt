@@ -11,8 +11,8 @@ use Rattle.ra_labels.specs.declared.command.Command.{Command}
 use Rattle.ra_labels.specs.declared.command.Command.TheVariants.{Operate, Deliver, Join, Verdict}
 use Rattle.ra_lines.specs.declared.format.Format.{Format}
 use Rattle.ra_lines.specs.declared.format.Format.TheVariants.{Rah1, Rah2}
-use Rattle.ra_lines.specs.Grammar.{IsSmall, is_name, place_of, fields_of, operation_fields, clock_fields, NamesReplica}
-use Rattle.ra_lines.specs.Grammar.{AreFieldsOfOperation, AreFieldsOf, Spells, IsAtReplica, NameAlike, second_of}
+use Rattle.ra_lines.specs.Grammar.{IsSmall, is_name, index_of_name, fields_of, operation_fields, clock_fields, NamesReplica}
+use Rattle.ra_lines.specs.Grammar.{AreFieldsOfOperation, AreFieldsOf, Spells, IsAtNamedReplica, NameAlike, second_of}
 use Rattle.ra_lines.specs.Reading.{number_read, mark_first, clock_read, clock_last, delivery_read, operation_read}
 use Rattle.ra_lines.specs.Reading.{word_first, replica_command_read, replica_read, is_join_word, join_read, command_read}
 use Rattle.ra_lines.proofs.Pieces.{pieces-joined}
@@ -141,7 +141,7 @@ command_found format kind names (word ∷ []) c e =
     ]
 command_found format kind names (name ∷ word ∷ fields) c e =
     elim (chosen (is_name name) _ _ _ e) [
-      | inl read ↦ replica_command_found format kind names name (place_of names name) word fields c
+      | inl read ↦ replica_command_found format kind names name (index_of_name names name) word fields c
           (record { form = read.0; place = refl }) read.1
       | inr other ↦ elim (chosen (is_join_word format name) _ _ _ other.1) [
         | inl join ↦
@@ -231,20 +231,20 @@ one_command format kind names line c d p q =
 same_line : (line other : List ℕ) → fields_of line ≡ fields_of other → line ≡ other
 same_line line other e = sym (pieces-joined 32 line) ∙ ap (join_with_byte 32) e ∙ pieces-joined 32 other
 
-same_name : (names : List (List ℕ)) (name other : List ℕ) → place_of names name ≡ place_of names other
-    → place_of names name < length names → name ≡ other
+same_name : (names : List (List ℕ)) (name other : List ℕ) → index_of_name names name ≡ index_of_name names other
+    → index_of_name names name < length names → name ≡ other
 same_name [] name other same there = absurd (omega arith)
 same_name (first ∷ names) name other same there =
     elim (cases_Bool (bytes_eq name first)) [
       | inl here ↦ elim (cases_Bool (bytes_eq other first)) [
         | inl too ↦ same_bytes name first here ∙ sym (same_bytes other first too)
-        | inr later ↦ let both : 0 ≡ place_of names other + 1 = rw (here, later) at same in absurd (omega arith)
+        | inr later ↦ let both : 0 ≡ index_of_name names other + 1 = rw (here, later) at same in absurd (omega arith)
       ]
       | inr later ↦ elim (cases_Bool (bytes_eq other first)) [
-        | inl here ↦ let both : place_of names name + 1 ≡ 0 = rw (here, later) at same in absurd (omega arith)
+        | inl here ↦ let both : index_of_name names name + 1 ≡ 0 = rw (here, later) at same in absurd (omega arith)
         | inr too ↦
-            let both : place_of names name + 1 ≡ place_of names other + 1 = rw (later, too) at same in
-            let within : place_of names name + 1 < length (first ∷ names) = rw later at there in
+            let both : index_of_name names name + 1 ≡ index_of_name names other + 1 = rw (later, too) at same in
+            let within : index_of_name names name + 1 < length (first ∷ names) = rw later at there in
             same_name names name other (omega arith) (omega arith)
       ]
     ]
@@ -255,7 +255,8 @@ same_replica names name other replica p q there =
     same_name names name other (sym p.place ∙ q.place) (subst (λ (r : ℕ). r < length names) p.place there)
 
 same_fields : (format : Format) (kind : Kind) (names : List (List ℕ)) (line other : List ℕ) (c : Command)
-    → IsAtReplica names c → Spells format kind names line c → Spells format kind names other c → NameAlike c line other
+    → IsAtNamedReplica names c → Spells format kind names line c → Spells format kind names other c
+    → NameAlike c line other
     → fields_of line ≡ fields_of other
 same_fields format kind names line other Verdict there p q alike = p ∙ sym q
 same_fields format kind names line other (Deliver replica label) there p q alike =
@@ -272,7 +273,8 @@ same_fields format kind names line other (Join replica from) there p q alike =
     ∙ ap (λ (n : List ℕ). codes "join" ∷ q.name ∷ n ∷ []) source ∙ sym q.words
 
 pub one_spelling : (format : Format) (kind : Kind) (names : List (List ℕ)) (line other : List ℕ) (c : Command)
-    → IsAtReplica names c → Spells format kind names line c → Spells format kind names other c → NameAlike c line other
+    → IsAtNamedReplica names c → Spells format kind names line c → Spells format kind names other c
+    → NameAlike c line other
     → line ≡ other
 one_spelling format kind names line other c there p q alike =
     same_line line other (same_fields format kind names line other c there p q alike)

@@ -12,13 +12,5 @@ begins_with_e labels (Some fault) = refl
 pub no_end_line : (reply : Reply) (labels : ℕ) (fault : Option Fault) → reply_line reply ≡ end_line labels fault → ⊥
 no_end_line (reply.Ok n) labels fault same =
     omega (arith, ap (λ (bs : List ℕ). get_or bs 0 0) same, begins_with_e labels fault)
-no_end_line (reply.Got n) labels fault same =
-    omega (arith, ap (λ (bs : List ℕ). get_or bs 0 0) same, begins_with_e labels fault)
-no_end_line (reply.Yes n) labels fault same =
-    omega (arith, ap (λ (bs : List ℕ). get_or bs 0 0) same, begins_with_e labels fault)
-no_end_line (reply.No n why) labels fault same =
-    omega (arith, ap (λ (bs : List ℕ). get_or bs 0 0) same, begins_with_e labels fault)
-no_end_line (reply.Joined n) labels fault same =
-    omega (arith, ap (λ (bs : List ℕ). get_or bs 0 0) same, begins_with_e labels fault)
-no_end_line (reply.Refused why) labels fault same =
+no_end_line _ labels fault same =
     omega (arith, ap (λ (bs : List ℕ). get_or bs 0 0) same, begins_with_e labels fault)

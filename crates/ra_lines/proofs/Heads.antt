@@ -1,5 +1,5 @@
 -- The two lines before the commands: what is computed of them is what the grammar says.
-use Rattle.std.proofs.Common.{◌≡◌, ℕ, Bool, true, false, cond, ltb, leb, List, [], ◌∷◌, ◌++◌, length, Option, Some, None, refl, sym, ap, subst, ◌∙◌, inl, inr}
+use Rattle.std.proofs.Common.{◌≡◌, ℕ, Bool, true, false, cond, ltb, leb, List, [], ◌∷◌, length, Option, Some, None, refl, sym, ap, subst, ◌∙◌, inl, inr}
 use Rattle.std.specs.Prelude.{bytes_eq, codes, not, ◌&&◌, option_map, IfSome}
 use Rattle.std.specs.Option.{option_or}
 use Rattle.std.specs.List.{list_all, list_any, IsDistinct, AllByRecursion}
@@ -9,7 +9,7 @@ use Rattle.ra_labels.specs.declared.kind.Kind.{Kind}
 use Rattle.ra_labels.specs.declared.kind.Kind.TheVariants.{Counter, Register, LwwSet, OrSet, Rga}
 use Rattle.ra_lines.specs.declared.format.Format.{Format}
 use Rattle.ra_lines.specs.declared.format.Format.TheVariants.{Rah1, Rah2}
-use Rattle.ra_lines.specs.Grammar.{is_name, fields_of, kind_word, format_word, first_line, most_names, AreNames, ListsNames}
+use Rattle.ra_lines.specs.Grammar.{is_name, fields_of, kind_word, first_line, most_names, AreNames, ListsNames}
 use Rattle.ra_lines.specs.Reading.{kind_spelled, kind_read, head_read, kind_named, are_distinct, are_names, names_listed, names_read}
 use Rattle.ra_lines.proofs.Operations.{same_bytes, chosen}
 
@@ -22,15 +22,9 @@ not_some (Some x) none = absurd (none x refl)
 
 pub head_only : (format : Format) (kind : Kind) → head_read (first_line format kind) ≡ Some (format, kind)
 head_only Rah1 Counter = refl
-head_only Rah1 Register = refl
-head_only Rah1 LwwSet = refl
-head_only Rah1 OrSet = refl
-head_only Rah1 Rga = refl
 head_only Rah2 Counter = refl
-head_only Rah2 Register = refl
-head_only Rah2 LwwSet = refl
-head_only Rah2 OrSet = refl
-head_only Rah2 Rga = refl
+head_only Rah1 _ = refl
+head_only Rah2 _ = refl
 
 kind_is : (spelling : Kind → List ℕ) (line : List ℕ) (own kind : Kind) → bytes_eq line (spelling own) ≡ true
     → Some own ≡ Some kind → line ≡ spelling kind
@@ -90,20 +84,6 @@ head_found line format kind e =
     first_found line (kind_read Rah1 line) (kind_read Rah2 line) format kind (kind_found Rah1 line)
     (kind_found Rah2 line) e
 
--- the word of the format in front
-pub no_prefix : (format : Format) (line : List ℕ) → ((rest : List ℕ) → line ≡ format_word format ++ rest → ⊥)
-    → None ≡ kind_read format line
-no_prefix format line none =
-    sym (not_some (kind_read format line) (λ kind read. none (kind_word kind) (kind_found format line kind read)))
-
-word_behind : (format : Format) (word : List ℕ) → kind_named word ≡ kind_read format (format_word format ++ word)
-word_behind Rah1 word = refl
-word_behind Rah2 word = refl
-
-pub behind_prefix : (format : Format) (line word : List ℕ) → line ≡ format_word format ++ word
-    → kind_named word ≡ kind_read format line
-behind_prefix format line word parts = word_behind format word ∙ ap (kind_read format) (sym parts)
-
 -- in the words of the reader's contract
 pub reader_found : (line : List ℕ) (o : Option (Format × Kind)) → o ≡ head_read line
     → IfSome o (λ head. line ≡ first_line head.0 head.1)
@@ -114,10 +94,7 @@ reader_found line (Some head) e = head_found line head.0 head.1 (sym e)
 
 pub word_only : (kind : Kind) → kind_named (kind_word kind) ≡ Some kind
 word_only Counter = refl
-word_only Register = refl
-word_only LwwSet = refl
-word_only OrSet = refl
-word_only Rga = refl
+word_only _ = refl
 
 pub word_found : (word : List ℕ) (kind : Kind) → kind_named word ≡ Some kind → word ≡ kind_word kind
 word_found = spelled_found kind_word
@@ -138,7 +115,7 @@ none_any : (word : List ℕ) (words : List (List ℕ)) → AllByRecursion (λ y.
 none_any word [] all = refl
 none_any word (other ∷ words) all = rw all.0 (none_any word words all.1)
 
-no_words : IsDistinct bytes_eq []
+pub no_words : IsDistinct bytes_eq []
 unfolding IsDistinct
 no_words = tt
 

@@ -1,7 +1,7 @@
 -- Names that join others, one after another.
-use Rattle.std.proofs.Common.{◌≡◌, ℕ, ◌+◌, ◌<◌, Bool, true, false, ◌≤◌, ltb, List, [], ◌∷◌, ◌++◌, length, take, drop, eqb, ◌≢◌}
+use Rattle.std.proofs.Common.{◌≡◌, ℕ, ◌+◌, ◌<◌, Bool, true, false, cond, ◌≤◌, ltb, List, [], ◌∷◌, ◌++◌, length, take, drop, eqb, ◌≢◌}
 use Rattle.std.proofs.Common.{get_or, zero, suc, Some, None, Result, Err, refl, sym, ap, subst, ◌∙◌, arith, inl, inr}
-use Rattle.std.specs.Prelude.{bytes_eq, codes, position, Option, unwrap_or, IfOk, not, ◌||◌, if◌then◌else◌}
+use Rattle.std.specs.Prelude.{bytes_eq, codes, position, Option, unwrap_or, IfOk, not, ◌||◌, ◌&&◌, if◌then◌else◌}
 use Rattle.std.specs.Borrow.{Bor}
 use Rattle.std.specs.Global as global
 use Rattle.std.specs.List.{list_all, list_any, position_or_len, IsDistinct, AllByRecursion}
@@ -9,22 +9,24 @@ use Rattle.std.proofs.lemmas.Bool.{cases_Bool, and_parts, and_from, ltb-false, n
 use Rattle.std.proofs.lemmas.Cmp.{nat_list_eq_equiv}
 use Rattle.std.proofs.lemmas.List.{append_assoc, length_push, length-append, length-map, length-take-le, map-append, take_more}
 use Rattle.std.proofs.lemmas.Slice.Eq.{bytes_eq-Decides}
+use Rattle.std.proofs.lemmas.List.Folds.{list_all-append}
+use Rattle.std.proofs.lemmas.List.Recursion.{is_position_or_len}
 use Rattle.std.proofs.lemmas.Map.Keys.{IsDistinct-head, IsDistinct-tail, IsDistinct-push}
-use Rattle.ra_lines.specs.Grammar.{is_name, place_of, fields_of, most_names, AreNames, ListsNames}
+use Rattle.ra_lines.specs.Grammar.{is_name, index_of_name, fields_of, most_names, AreNames, ListsNames}
 use Rattle.ra_lines.specs.declared.format.Format.{Format}
 use Rattle.ra_lines.specs.declared.format.Format.TheVariants.{Rah1, Rah2}
 use Rattle.ra_labels.specs.declared.kind.Kind.{Kind}
 use Rattle.ra_labels.specs.declared.command.Command.{Command}
-use Rattle.ra_lines.specs.Reading.{replica_read, replica_command_read, join_read, is_join_word, command_read}
+use Rattle.ra_lines.specs.Reading.{replica_read, replica_command_read, command_read}
 use Rattle.ra_lines.specs.NamesKept.{NamesKept}
-use Rattle.ra_lines.proofs.Heads.{distinct_found, distinct_only}
+use Rattle.ra_lines.proofs.Heads.{no_words, distinct_found, distinct_only}
 use Rattle.ra_lines.specs.declared.fault.LineFault.{LineFault}
 use Rattle.ra_lines.specs.Names.{bytes_of_each, texts_of, is_bad_behind, AreDistinctNames, IsFirstBad, MayJoin, AreNamesSoFar, ListsSoFar}
 
 -- ---- places
 
 -- a name that has no place is not there
-not_there : (names : List (List ℕ)) (name : List ℕ) → place_of names name ≡ length names
+not_there : (names : List (List ℕ)) (name : List ℕ) → index_of_name names name ≡ length names
     → list_any (bytes_eq name) names ≡ false
 not_there [] name e = refl
 not_there (own ∷ names) name e =
@@ -32,11 +34,11 @@ not_there (own ∷ names) name e =
       | inl same ↦ let here = rw same at e in absurd (omega arith)
       | inr other ↦
           let here = rw other at e in
-          let later : place_of names name ≡ length names = omega arith in
+          let later : index_of_name names name ≡ length names = omega arith in
           rw (other, not_there names name later) refl
     ]
 
-pub place_within : (names : List (List ℕ)) (name : List ℕ) → place_of names name ≤ length names
+pub place_within : (names : List (List ℕ)) (name : List ℕ) → index_of_name names name ≤ length names
 place_within [] name = omega arith
 place_within (own ∷ names) name =
     elim (cases_Bool (bytes_eq name own)) [
@@ -46,7 +48,7 @@ place_within (own ∷ names) name =
 
 -- what has a place among names is a name
 pub placed_is_name : (names : List (List ℕ)) (word : List ℕ) → list_all is_name names ≡ true
-    → place_of names word < length names → is_name word ≡ true
+    → index_of_name names word < length names → is_name word ≡ true
 placed_is_name [] word each there = absurd (omega (arith, there))
 placed_is_name (own ∷ names) word each there =
     let parts = and_parts (is_name own) (list_all is_name names) each in
@@ -56,12 +58,12 @@ placed_is_name (own ∷ names) word each there =
     ]
 
 pub replica_is_read : (names : List (List ℕ)) (word : List ℕ) (place : ℕ) → is_name word ≡ true
-    → place ≡ place_of names word → Some place ≡ replica_read names word
+    → place ≡ index_of_name names word → Some place ≡ replica_read names word
 replica_is_read names word place is found = rw is (ap Some found)
 
 -- the replica that a word stands for, and the command behind it
 replica_found : (names : List (List ℕ)) (word : List ℕ) (replica : ℕ) → replica_read names word ≡ Some replica
-    → (is_name word ≡ true) × (place_of names word ≡ replica)
+    → (is_name word ≡ true) × (index_of_name names word ≡ replica)
 replica_found names word replica read =
     elim (cases_Bool (is_name word)) [
       | inl is ↦ (is, (let here = rw is at read in ap (λ (o : Option ℕ). unwrap_or o 0) here))
@@ -79,43 +81,17 @@ replica_leads format kind names first word fields entry replica r parts read hol
     rw (parts, found.0) (ap (λ (n : ℕ). replica_command_read kind n word fields) (sym found.1)) in
     subst (λ (o : Option Command). IfOk r (λ c. c ≡ o)) same holds
 
--- no replica
-no_name : (names : List (List ℕ)) (word : List ℕ) → replica_read names word ≡ None → is_name word ≡ false
-no_name names word read =
-    elim (cases_Bool (is_name word)) [
-      | inl is ↦ let some : Some (place_of names word) ≡ None = rw is at read in absurd cc
-      | inr other ↦ other
-    ]
-
-pub join_leads : (format : Format) (kind : Kind) (names : List (List ℕ)) (first word : List ℕ)
-    (fields entry : List (List ℕ))
-    → entry ≡ first ∷ word ∷ fields → replica_read names first ≡ None → is_join_word format first ≡ true
-    → join_read names word fields ≡ command_read format kind names entry
-join_leads format kind names first word fields entry parts read joins =
-    rw (parts, no_name names first read, joins) refl
-
-pub none_leads : (format : Format) (kind : Kind) (names : List (List ℕ)) (first word : List ℕ)
-    (fields entry : List (List ℕ))
-    → entry ≡ first ∷ word ∷ fields → replica_read names first ≡ None → is_join_word format first ≡ false
-    → None ≡ command_read format kind names entry
-none_leads format kind names first word fields entry parts read joins =
-    rw (parts, no_name names first read, joins) refl
-
 -- the keys of a set, by their bytes
 abbrev is_key : List ℕ → global.Vec ℕ → Bool
 is_key name key = bytes_eq name key.items
 
 place_is : (keys : List (global.Vec ℕ)) (name : List ℕ)
-    → position_or_len (is_key name) keys ≡ place_of (bytes_of_each keys) name
-place_is [] name = refl
-place_is (key ∷ keys) name =
-    elim (cases_Bool (bytes_eq name key.items)) [
-      | inl same ↦ rw same refl
-      | inr other ↦ rw other (omega (arith, place_is keys name))
-    ]
+    → position_or_len (is_key name) keys ≡ index_of_name (bytes_of_each keys) name
+place_is keys name = sym (is_position_or_len (λ (ks : List (global.Vec ℕ)). index_of_name (bytes_of_each ks) name)
+    (is_key name) refl (λ key ks. ap (cond (bytes_eq name key.items) 0) (omega arith)) keys)
 
 pub place_found : (keys : List (global.Vec ℕ)) (name : List ℕ) (at : ℕ) → Some at ≡ position (is_key name) keys
-    → at ≡ place_of (bytes_of_each keys) name
+    → at ≡ index_of_name (bytes_of_each keys) name
 place_found keys name at e =
     let place = position_or_len (is_key name) keys in
     elim (cases_Bool (ltb place (length keys))) [
@@ -125,7 +101,7 @@ place_found keys name at e =
     ]
 
 pub place_missing : (keys : List (global.Vec ℕ)) (name : List ℕ) → None ≡ position (is_key name) keys
-    → length keys ≡ place_of (bytes_of_each keys) name
+    → length keys ≡ index_of_name (bytes_of_each keys) name
 place_missing keys name e =
     let place = position_or_len (is_key name) keys in
     elim (cases_Bool (ltb place (length keys))) [
@@ -149,7 +125,7 @@ any_key (key ∷ keys) name = ap (λ (b : Bool). bytes_eq name key.items || b) (
 
 pub key_joins : (keys new : List (global.Vec ℕ)) (key : global.Vec ℕ) (name : List ℕ) → key.items ≡ name
     → new ≡ (if list_any (is_key key.items) keys then keys else keys ++ key ∷ [])
-    → place_of (bytes_of_each keys) name ≡ length keys
+    → index_of_name (bytes_of_each keys) name ≡ length keys
     → bytes_of_each new ≡ bytes_of_each keys ++ name ∷ []
 key_joins keys new key name is joined place =
     let there : list_any (is_key key.items) keys ≡ false =
@@ -166,7 +142,7 @@ at_middle P (y ∷ front) rest x all = at_middle P front rest x all.1
 
 -- of distinct names, one has no place among those before it
 new_among : (names rest : List (List ℕ)) (name : List ℕ) → IsDistinct bytes_eq (names ++ name ∷ rest)
-    → place_of names name ≡ length names
+    → index_of_name names name ≡ length names
 new_among [] rest name distinct = refl
 new_among (own ∷ names) rest name distinct =
     let other : bytes_eq own name ≡ false = at_middle (λ y. bytes_eq own y ≡ false) names rest name
@@ -175,18 +151,10 @@ new_among (own ∷ names) rest name distinct =
     let turned : bytes_eq name own ≡ false = nat_list_eq_equiv.symm name own ∙ other in
     rw turned (omega (arith, later))
 
-list_all-middle : (p : List ℕ → Bool) (front rest : List (List ℕ)) (x : List ℕ) → list_all p (front ++ x ∷ rest) ≡ true
-    → p x ≡ true
-list_all-middle p [] rest x all = (and_parts (p x) (list_all p rest) all).0
-list_all-middle p (y ∷ front) rest x all =
-    list_all-middle p front rest x (and_parts (p y) (list_all p (front ++ x ∷ rest)) all).1
-
 list_all-push : (p : List ℕ → Bool) (front : List (List ℕ)) (x : List ℕ) → list_all p front ≡ true → p x ≡ true
     → list_all p (front ++ x ∷ []) ≡ true
-list_all-push p [] x all here = and_from (p x) true here refl
-list_all-push p (y ∷ front) x all here =
-    let parts = and_parts (p y) (list_all p front) all in
-    and_from (p y) (list_all p (front ++ x ∷ [])) parts.0 (list_all-push p front x parts.1 here)
+list_all-push p front x all here = list_all-append p front (x ∷ [])
+    ∙ and_from (list_all p front) (p x && true) all (and_from (p x) true here refl)
 
 pub AreNamesSoFar-push : (names : List (List ℕ)) (name : List ℕ) → AreNamesSoFar names → MayJoin Rah2 names name
     → AreNamesSoFar (names ++ name ∷ [])
@@ -202,7 +170,8 @@ pub MayJoin-from_names : (format : Format) (names rest : List (List ℕ)) (name 
     → MayJoin format names name
 MayJoin-from_names format names rest name are = record {
   room = omega (arith, are.few, length-append names (name ∷ rest));
-  form = list_all-middle is_name names rest name are.each;
+  form = (and_parts (is_name name) (list_all is_name rest) (and_parts (list_all is_name names)
+      (list_all is_name (name ∷ rest)) (sym (list_all-append is_name names (name ∷ rest)) ∙ are.each)).1).0;
   new = new_among names rest name are.distinct;
 }
 
@@ -212,17 +181,13 @@ pub in_any : (format : Format) (names : List (List ℕ)) (name : List ℕ) → M
 in_any Rah1 names name may = record { room = omega (arith, may.room); form = may.form; new = may.new }
 in_any Rah2 names name may = may
 
-nothing : IsDistinct bytes_eq []
-unfolding IsDistinct
-nothing = tt
-
 pub as_many : (keys : List (global.Vec ℕ)) (names : List (List ℕ)) → bytes_of_each keys ≡ names
     → length names ≡ length keys
 as_many keys names are = ap length (sym are) ∙ length-map keys (λ key. key.items)
 
 -- a name that is not there has no place
 is_there_not : (names : List (List ℕ)) (name : List ℕ) → list_any (bytes_eq name) names ≡ false
-    → place_of names name ≡ length names
+    → index_of_name names name ≡ length names
 is_there_not [] name e = refl
 is_there_not (own ∷ names) name e =
     elim (cases_Bool (bytes_eq name own)) [
@@ -234,10 +199,10 @@ is_there_not (own ∷ names) name e =
 
 -- a word's place tells whether it is bad
 pub new_is : (keys : List (global.Vec ℕ)) (names : List (List ℕ)) (word : List ℕ) (place : ℕ)
-    → bytes_of_each keys ≡ names → place ≡ place_of (bytes_of_each keys) word
+    → bytes_of_each keys ≡ names → place ≡ index_of_name (bytes_of_each keys) word
     → is_name word ≡ true → eqb place (length keys) ≡ not (is_bad_behind names word)
 new_is keys names word place are found form =
-    let at : place ≡ place_of names word = found ∙ ap (λ (ns : List (List ℕ)). place_of ns word) are in
+    let at : place ≡ index_of_name names word = found ∙ ap (λ (ns : List (List ℕ)). index_of_name ns word) are in
     let len = as_many keys names are in
     elim (cases_Bool (list_any (bytes_eq word) names)) [
       | inl there ↦
@@ -252,7 +217,7 @@ new_is keys names word place are found form =
 -- ---- words that are given as names
 
 pub none_yet : AreDistinctNames []
-none_yet = record { each = refl; distinct = nothing }
+none_yet = record { each = refl; distinct = no_words }
 
 -- no bad word behind names: one name more
 pub name_more : (before : List (List ℕ)) (word : List ℕ) → AreDistinctNames before → is_bad_behind before word ≡ false
@@ -277,18 +242,14 @@ words_cut (word ∷ words) zero d there = refl
 words_cut (word ∷ words) (suc i) d there =
     ap (λ (ws : List (List ℕ)). word.now ∷ ws) (words_cut words i d (omega arith))
 
-words_more : (words : List (Bor (List ℕ))) (i : ℕ) (d : Bor (List ℕ)) → i < length words
-    → texts_of (take (i + 1) words) ≡ texts_of (take i words) ++ (get_or words i d).now ∷ []
-words_more words i d there = ap texts_of (take_more words i d there)
-    ∙ map-append (λ (text : Bor (List ℕ)). text.now) (take i words) (get_or words i d ∷ [])
-
 -- one word more that is not bad
 pub names_more_at : (words : List (Bor (List ℕ))) (i : ℕ) (d : Bor (List ℕ)) → i < length words
     → AreDistinctNames (texts_of (take i words))
     → is_bad_behind (texts_of (take i words)) (get_or words i d).now ≡ false
     → AreDistinctNames (texts_of (take (i + 1) words))
 names_more_at words i d there so_far good =
-    subst AreDistinctNames (sym (words_more words i d there))
+    subst AreDistinctNames (sym (ap texts_of (take_more words i d there)
+    ∙ map-append (λ (text : Bor (List ℕ)). text.now) (take i words) (get_or words i d ∷ [])))
     (name_more (texts_of (take i words)) (get_or words i d).now so_far good)
 
 pub first_bad_at : (words : List (Bor (List ℕ))) (i : ℕ) (d : Bor (List ℕ)) → i < length words
@@ -327,7 +288,7 @@ so_far_first format line word fields cut is =
       parts = cut ∙ ap (λ (x : List ℕ). x ∷ fields) is;
       few = omega arith;
       so_far =
-          record { few = omega arith; each = refl; distinct = nothing };
+          record { few = omega arith; each = refl; distinct = no_words };
     }
 
 pub so_far_next : (format : Format) (line : List ℕ) (names : List (List ℕ)) (name : List ℕ) (fields : List (List ℕ))
@@ -376,9 +337,9 @@ pub not_bad : (format : Format) (names : List (List ℕ)) (word : List ℕ) → 
 not_bad format names word may = rw (may.form, not_there names word may.new) refl
 
 pub joins_last : (keys : List (global.Vec ℕ)) (names : List (List ℕ)) (name : List ℕ) → bytes_of_each keys ≡ names
-    → MayJoin Rah2 names name → place_of (bytes_of_each keys) name ≡ length keys
+    → MayJoin Rah2 names name → index_of_name (bytes_of_each keys) name ≡ length keys
 joins_last keys names name are may =
-    ap (λ (ns : List (List ℕ)). place_of ns name) are ∙ may.new ∙ ap length (sym are)
+    ap (λ (ns : List (List ℕ)). index_of_name ns name) are ∙ may.new ∙ ap length (sym are)
     ∙ length-map keys (λ key. key.items)
 
 -- ---- what is kept

@@ -1,82 +1,72 @@
 -- The new name of a join: it is a name, and its bytes are a text.
-use Rattle.std.proofs.Common.{◌≡◌, ℕ, ◌<◌, ◌≤◌, Bool, true, false, eqb, ltb, leb, List, [], ◌∷◌, length, Result, Ok, Err, refl, sym, ap, ◌∙◌, inl, inr, arith}
+use Rattle.std.proofs.Common.{◌≡◌, ℕ, ◌<◌, ◌≤◌, Bool, true, false, eqb, ltb, List, [], ◌∷◌, length, Result, Ok, Err, refl, sym, ◌∙◌, arith}
 use Rattle.std.specs.Prelude.{not, ◌&&◌, MatchResult}
 use Rattle.std.specs.Result.{IsOk}
 use Rattle.std.specs.Borrow.{Bor}
+use Rattle.std.specs.Global as global
 use Rattle.std.specs.Char.{is_ascii_lowercase, is_ascii_digit}
-use Rattle.std.specs.List.{list_all}
+use Rattle.std.specs.List.{list_all, AllByRecursion}
 use Rattle.std.specs.Str.{IsUtf8, IsAscii}
-use Rattle.std.proofs.lemmas.Bool.{and_parts, or_cases, eqb-false, eqb-true, leb-true}
+use Rattle.std.proofs.lemmas.Bool.{not-true, not-false, and_parts, or_left, eqb-false, eqb-true, ltb-true}
+use Rattle.std.proofs.lemmas.Bool.Decides.{nat_tests}
 use Rattle.std.proofs.lemmas.List.{length-map}
 use Rattle.std.proofs.lemmas.Str.{IsUtf8-from_ascii}
 use Rattle.std.proofs.lemmas.Str.Ascii.{IsAscii-nil, IsAscii-cons}
-use Rattle.ra_labels.specs.declared.kind.Kind.{Kind}
-use Rattle.ra_labels.specs.declared.command.Command.{Command}
-use Rattle.ra_labels.specs.declared.command.Command.TheVariants.{Join}
-use Rattle.ra_labels.specs.Laws.{is_join}
 use Rattle.ra_lines.specs.declared.format.Format.{Format}
 use Rattle.ra_lines.specs.declared.format.Format.TheVariants.{Rah2}
-use Rattle.ra_lines.specs.Grammar.{is_name, has_form_of_name, may_follow, second_of, new_name, AreNames, Spells}
-use Rattle.ra_lines.specs.Names.{IsCount, AreDistinctNames, texts_of, is_bad_behind}
-
--- ---- tests
-
-turned : (b : Bool) → not b ≡ true → b ≡ false
-turned true e = absurd cc
-turned false e = refl
-
-turned_back : (b : Bool) → not b ≡ false → b ≡ true
-turned_back true e = refl
-turned_back false e = absurd cc
+use Rattle.ra_lines.specs.Grammar.{is_name, has_form_of_name, may_follow, most_names, AreNames}
+use Rattle.ra_lines.specs.Names.{IsCount, AreDistinctNames, MayJoin, bytes_of_each, texts_of, is_bad_behind}
+use Rattle.ra_lines.proofs.NameLists.{as_many, may_join}
 
 -- ---- bytes
 
-small_letter : (b : ℕ) → is_ascii_lowercase b ≡ true → b < 128
-small_letter b e = let k = and_parts (leb 97 b) (leb b 122) e in omega (arith, leb-true b 122 k.1)
+letter_or_digit : (b : ℕ) → may_follow b ≡ true → (48 ≤ b) × (b ≤ 122)
+letter_or_digit b e = (grind (arith, nat_tests), grind (arith, nat_tests))
 
-follows_small : (b : ℕ) → may_follow b ≡ true → b < 128
-follows_small b e =
-    elim (or_cases (is_ascii_lowercase b) (is_ascii_digit b) e) [
-      | inl letter ↦ small_letter b letter
-      | inr digit ↦ let k = and_parts (leb 48 b) (leb b 57) digit in omega (arith, leb-true b 57 k.1)
-    ]
-
-all_ascii : (bytes : List ℕ) → list_all may_follow bytes ≡ true → IsAscii bytes
-all_ascii [] all = IsAscii-nil
-all_ascii (b ∷ bytes) all =
+each_follows : (bytes : List ℕ) → list_all may_follow bytes ≡ true
+    → AllByRecursion (λ b. (48 ≤ b) × (b ≤ 122)) bytes
+each_follows [] all = tt
+each_follows (b ∷ bytes) all =
     let parts = and_parts (may_follow b) (list_all may_follow bytes) all in
-    IsAscii-cons b bytes (follows_small b parts.0) (all_ascii bytes parts.1)
+    (letter_or_digit b parts.0, each_follows bytes parts.1)
 
-name_ascii : (name : List ℕ) → is_name name ≡ true → IsAscii name
-name_ascii [] is = absurd cc
-name_ascii (first ∷ more) is =
+-- a name has at most 16 bytes, each of which is a letter or a digit
+pub name_bytes : (name : List ℕ) → is_name name ≡ true
+    → (length name ≤ 16) × AllByRecursion (λ b. (48 ≤ b) × (b ≤ 122)) name
+name_bytes [] is = absurd cc
+name_bytes (first ∷ more) is =
     let form = (and_parts (has_form_of_name (first ∷ more)) _ is).0 in
     let parts = and_parts (is_ascii_lowercase first && ltb (length more) 16) (list_all may_follow more) form in
-    let head = and_parts (is_ascii_lowercase first) (ltb (length more) 16) parts.0 in
-    IsAscii-cons first more (small_letter first head.0) (all_ascii more parts.1)
+    let head = and_parts (is_ascii_lowercase first) (ltb (length more) 16) parts.0 in (
+      omega (arith, ltb-true (length more) 16 head.1),
+      (
+        letter_or_digit first (or_left (is_ascii_lowercase first) (is_ascii_digit first) head.0),
+        each_follows more parts.1,
+      ),
+    )
+
+ascii : (bytes : List ℕ) → AllByRecursion (λ b. (48 ≤ b) × (b ≤ 122)) bytes → IsAscii bytes
+ascii [] all = IsAscii-nil
+ascii (b ∷ bytes) all = IsAscii-cons b bytes (omega (arith, all.0.1)) (ascii bytes all.1)
 
 pub name_is_text : {E : Type 0} (P : E → Type 0) (name : List ℕ) (r : Result (Bor (List ℕ)) E) → is_name name ≡ true
     → MatchResult r (λ text. (text.now ≡ name) × IsUtf8 name) (λ fault. (IsUtf8 name → ⊥) × P fault) → IsOk r
 name_is_text P name (Ok text) is read = refl
-name_is_text P name (Err fault) is read = absurd (read.0 (IsUtf8-from_ascii name (name_ascii name is)))
-
--- ---- the line of a join
-
-pub new_is_name : (format : Format) (kind : Kind) (names : List (List ℕ)) (line : List ℕ) (c : Command)
-    → Spells format kind names line c → is_join c ≡ true → is_name (new_name line) ≡ true
-new_is_name format kind names line (Join replica from) spelled joins =
-    ap (λ (fields : List (List ℕ)). is_name (second_of fields)) spelled.words ∙ spelled.who.form
-new_is_name format kind names line _ spelled joins = absurd cc
+name_is_text P name (Err fault) is read = absurd (read.0 (IsUtf8-from_ascii name (ascii name (name_bytes name is).1)))
 
 -- ---- a name that is added
 
-pub good_tested : (tested : Bool) (names : List (List ℕ)) (word : List ℕ)
-    → tested ≡ not (is_bad_behind names word) → tested ≡ true → is_bad_behind names word ≡ false
-good_tested tested names word is passed = turned (is_bad_behind names word) (sym is ∙ passed)
+pub new_may_join : (format : Format) (keys : List (global.Vec ℕ)) (names : List (List ℕ)) (word : List ℕ)
+    (tested : Bool)
+    → bytes_of_each keys ≡ names → length keys < most_names format → tested ≡ not (is_bad_behind names word)
+    → tested ≡ true → MayJoin format names word
+new_may_join format keys names word tested are room is passed =
+    may_join format names word (omega (arith, room, as_many keys names are))
+    (not-true (is_bad_behind names word) (sym is ∙ passed))
 
 pub bad_tested : (tested : Bool) (names : List (List ℕ)) (word : List ℕ)
     → tested ≡ not (is_bad_behind names word) → tested ≡ false → is_bad_behind names word ≡ true
-bad_tested tested names word is failed = turned_back (is_bad_behind names word) (sym is ∙ failed)
+bad_tested tested names word is failed = not-false (is_bad_behind names word) (sym is ∙ failed)
 
 -- ---- names from elsewhere
 

@@ -230,21 +230,12 @@ word_found kind word fields r e =
 -- ---- what is spelled is read
 
 -- the first field of an operation, and those behind it
+abbrev pub first_field : List (List ℕ) → List ℕ
+first_field [] = []
+first_field (word ∷ fields) = word
+
 abbrev pub word_of : Op → List ℕ
-word_of Inc = codes "inc"
-word_of Dec = codes "dec"
-word_of (Count value) = codes "read"
-word_of (Write value) = codes "write"
-word_of (Last value) = codes "read"
-word_of (LwwAdd x) = codes "add"
-word_of (LwwRemove x) = codes "remove"
-word_of (LwwRead list) = codes "read"
-word_of (OrAdd x id) = codes "add"
-word_of (OrRemove x ids) = codes "remove"
-word_of (OrRead list) = codes "read"
-word_of (After anchor x) = codes "after"
-word_of (RgaRemove x) = codes "remove"
-word_of (RgaRead list) = codes "read"
+word_of op = first_field (operation_fields op)
 
 abbrev pub behind_word : Op → List (List ℕ)
 behind_word op = behind_first (operation_fields op)

@@ -65,9 +65,9 @@ pub record AreNames (format : Format) (names : List (List ℕ)) : Type 0 where
   pub distinct : IsDistinct bytes_eq names
 
 -- the replica that a name stands for: its place among the names, from 0; the number of names where it is not there
-abbrev pub place_of : List (List ℕ) → List ℕ → ℕ
-place_of [] name = 0
-place_of (first ∷ others) name = if bytes_eq name first then 0 else place_of others name + 1
+abbrev pub index_of_name : List (List ℕ) → List ℕ → ℕ
+index_of_name [] name = 0
+index_of_name (first ∷ others) name = if bytes_eq name first then 0 else index_of_name others name + 1
 
 -- ---- the two lines before the commands
 
@@ -172,7 +172,7 @@ HasSmallNumbers (RgaRead list) = AllByRecursion IsSmall list
 -- the name stands for the replica
 pub record NamesReplica (names : List (List ℕ)) (name : List ℕ) (replica : ℕ) : Type 0 where
   pub form : is_name name ≡ true
-  pub place : replica ≡ place_of names name
+  pub place : replica ≡ index_of_name names name
 
 -- a line with these fields delivers the label to the replica
 pub record SpellsDelivery (names : List (List ℕ)) (fields : List (List ℕ)) (replica label : ℕ) : Type 0 where
@@ -249,24 +249,16 @@ SpellEach format kind first records joined (line ∷ lines) (command ∷ command
 SpellEach format kind first records joined _ _ all = ⊥
 
 -- the command is at one of the replicas, where it is at any; a join is from one of them
-abbrev pub IsAtReplica : List (List ℕ) → Command → Type 0
-IsAtReplica names Verdict = Unit {0}
-IsAtReplica names (Deliver replica label) = replica < length names
-IsAtReplica names (Operate replica op clock) = replica < length names
-IsAtReplica names (Join replica from) = from < length names
+abbrev pub IsAtNamedReplica : List (List ℕ) → Command → Type 0
+IsAtNamedReplica names Verdict = Unit {0}
+IsAtNamedReplica names (Deliver replica label) = replica < length names
+IsAtNamedReplica names (Operate replica op clock) = replica < length names
+IsAtNamedReplica names (Join replica from) = from < length names
 
 -- where the command is a join, the lines give the new replica the same name
 abbrev pub NameAlike : Command → List ℕ → List ℕ → Type 0
 NameAlike (Join replica from) line other = new_name line ≡ new_name other
 NameAlike command line other = Unit {0}
-
--- does the operation carry a list, for which a reader takes memory?
-abbrev pub has_list : Op → Bool
-has_list (LwwRead list) = true
-has_list (OrRemove x ids) = true
-has_list (OrRead list) = true
-has_list (RgaRead list) = true
-has_list _ = false
 
 -- ---- the text
 

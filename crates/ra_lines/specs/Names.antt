@@ -8,7 +8,7 @@ use Rattle.ra_lines.specs.declared.format.Format.{Format}
 use Rattle.ra_lines.specs.declared.format.Format.TheVariants.{Rah2}
 use Rattle.ra_lines.specs.declared.fault.NamesFault.{NamesFault}
 use Rattle.ra_lines.specs.declared.fault.NamesFault.TheVariants.{BadCount, BadName, NoMemory}
-use Rattle.ra_lines.specs.Grammar.{is_name, place_of, fields_of, most_names, AreNames}
+use Rattle.ra_lines.specs.Grammar.{is_name, index_of_name, fields_of, most_names, AreNames}
 
 -- the bytes of each of the names
 abbrev pub bytes_of_each : List (global.Vec ℕ) → List (List ℕ)
@@ -18,7 +18,7 @@ bytes_of_each names = map (λ name. name.items) names
 pub record MayJoin (format : Format) (names : List (List ℕ)) (name : List ℕ) : Type 0 where
   pub room : length names < most_names format
   pub form : is_name name ≡ true
-  pub new : place_of names name ≡ length names
+  pub new : index_of_name names name ≡ length names
 
 -- names that may go on
 pub record AreNamesSoFar (names : List (List ℕ)) : Type 0 where

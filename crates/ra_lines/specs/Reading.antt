@@ -12,7 +12,7 @@ use Rattle.std.specs.List.{list_all, list_any}
 use Rattle.std.specs.Option.{option_or}
 use Rattle.ra_lines.specs.declared.format.Format.{Format}
 use Rattle.ra_lines.specs.declared.format.Format.TheVariants.{Rah1, Rah2}
-use Rattle.ra_lines.specs.Grammar.{is_name, place_of, kind_word, first_line, fields_of, most_names}
+use Rattle.ra_lines.specs.Grammar.{is_name, index_of_name, kind_word, first_line, fields_of, most_names}
 use Rattle.ra_lines.specs.Fields.{pieces_at}
 
 -- ---- the two lines before the commands
@@ -229,7 +229,7 @@ lone_read word = if bytes_eq word (codes "verdict") then Some Verdict else None
 
 -- the replica that a word stands for
 abbrev pub replica_read : List (List ℕ) → List ℕ → Option ℕ
-replica_read names word = if is_name word then Some (place_of names word) else None
+replica_read names word = if is_name word then Some (index_of_name names word) else None
 
 -- does a line with this first word join a replica?
 abbrev pub is_join_word : Format → List ℕ → Bool
@@ -249,7 +249,7 @@ abbrev pub command_read : Format → Kind → List (List ℕ) → List (List ℕ
 command_read format kind names [] = None
 command_read format kind names (word ∷ []) = lone_read word
 command_read format kind names (name ∷ word ∷ fields) =
-    if is_name name then replica_command_read kind (place_of names name) word fields
+    if is_name name then replica_command_read kind (index_of_name names name) word fields
     else if is_join_word format name then join_read names word fields
     else None
 

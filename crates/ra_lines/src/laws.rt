@@ -6,7 +6,7 @@ ghost use Rattle.ra_labels.specs.declared.reply.Fault.{Fault};
 ghost use Rattle.ra_labels.specs.declared.reply.Reply.{Reply};
 ghost use Rattle.ra_labels.specs.Laws.{is_join};
 ghost use Rattle.ra_lines.specs.Grammar.{kind_word, first_line, fields_of};
-ghost use Rattle.ra_lines.specs.Grammar.{IsSmall, ListsNames, Spells, IsAtReplica, NameAlike};
+ghost use Rattle.ra_lines.specs.Grammar.{IsSmall, ListsNames, Spells, IsAtNamedReplica, NameAlike};
 ghost use Rattle.ra_lines.specs.Names.{MayJoin, StopsAdding};
 ghost use Rattle.ra_lines.specs.Reading.{head_read, kind_named, names_read, number_read, command_read};
 ghost use Rattle.ra_lines.specs.Replies.{reply_line, end_line};
@@ -73,8 +73,8 @@ pub fn a_line_spells_one_command()
 /// replica that is not there, as many others do.)
 pub fn a_command_has_one_spelling()
     ensures { (format : Format) (kind : Kind) (names : List (List ℕ)) (line other : List ℕ) (command : Command) →
-        IsAtReplica names command → Spells format kind names line command → Spells format kind names other command →
-        NameAlike command line other → line ≡ other }
+        IsAtNamedReplica names command → Spells format kind names line command →
+        Spells format kind names other command → NameAlike command line other → line ≡ other }
 {}
 
 /// In `RAH 1` the lines are those of `RAH 2` but joins, which it has not, and the names are those of `RAH 2` where

@@ -73,7 +73,8 @@ fn list_query(kind: Kind, elements: Elements) -> Op
     match kind {
         Kind::LwwSet => Op::LwwRead(elements),
         Kind::OrSet => Op::OrRead(elements),
-        Kind::Rga | Kind::Counter | Kind::Register => Op::RgaRead(elements),
+        Kind::Rga => Op::RgaRead(elements),
+        Kind::Counter | Kind::Register => unreachable!(),
     }
 }
 

@@ -19,14 +19,17 @@ use Rattle.ra_replica_list.specs.ReplicaList.{ReplicaList, IsGreatestOf, IsListW
 use Rattle.ra_replica_list.specs.Freed.{AreAlike}
 
 -- what is kept of a list is kept of an equal one
-pub kept_in : {arrivals : List Arrival} {deeds : List (Option Deed)} {records : Records} {had settled : ℕ → Bool} (list next : ReplicaList) → next ≡ list → IsListWith list.state list.marks list.waiting arrivals deeds records had settled
+pub kept_in : {arrivals : List Arrival} {deeds : List (Option Deed)} {records : Records} {had settled : ℕ → Bool}
+    (list next : ReplicaList) → next ≡ list → IsListWith list.state list.marks list.waiting arrivals deeds records had
+    settled
     → IsListWith next.state next.marks next.waiting arrivals deeds records had settled
 kept_in {arrivals = arrivals} {deeds = deeds} {records = records} {had = had} {settled = settled} list next is kept =
     subst (λ (l : ReplicaList). IsListWith l.state l.marks l.waiting arrivals deeds records had settled) (sym is) kept
 
 module _ {arrivals : List Arrival} {deeds : List (Option Deed)} {records : Records} where
   -- a list that says the same is that of the same labels
-  pub list_alike : {had : ℕ → Bool} (list next : ReplicaList) → AreAlike list next → IsListBy list arrivals deeds records had → IsListBy next arrivals deeds records had
+  pub list_alike : {had : ℕ → Bool} (list next : ReplicaList) → AreAlike list next
+      → IsListBy list arrivals deeds records had → IsListBy next arrivals deeds records had
   list_alike {had = had} list next alike held = record {
     settled = held.settled;
     kept = record {
@@ -37,8 +40,10 @@ module _ {arrivals : List Arrival} {deeds : List (Option Deed)} {records : Recor
         others = λ number beyond. alike.marks number ∙ held.kept.there.others number beyond;
       };
       waiting_labels = record {
-        waits = λ n d d_is was_had fails. subst (λ ls. Contains ls n) (sym (alike.waiting _)) (held.kept.waiting_labels.waits n d d_is was_had fails);
-        only = λ number n found. held.kept.waiting_labels.only number n (subst (λ ls. Contains ls n) (alike.waiting number) found);
+        waits = λ n d d_is was_had fails. subst (λ ls. Contains ls n) (sym (alike.waiting _))
+            (held.kept.waiting_labels.waits n d d_is was_had fails);
+        only = λ number n found. held.kept.waiting_labels.only number n
+            (subst (λ ls. Contains ls n) (alike.waiting number) found);
         once = λ number. subst NoneTwice (sym (alike.waiting number)) (held.kept.waiting_labels.once number);
       };
     };
@@ -46,7 +51,8 @@ module _ {arrivals : List Arrival} {deeds : List (Option Deed)} {records : Recor
   }
 
   -- tests that say the same of what was had
-  pub kept_alike : {state : State} {marks : List Bool} {waiting : List (ℕ × List ℕ)} {had settled : ℕ → Bool} (more : ℕ → Bool) → ((n : ℕ) → had n ≡ more n) → IsListWith state marks waiting arrivals deeds records had settled
+  pub kept_alike : {state : State} {marks : List Bool} {waiting : List (ℕ × List ℕ)} {had settled : ℕ → Bool}
+      (more : ℕ → Bool) → ((n : ℕ) → had n ≡ more n) → IsListWith state marks waiting arrivals deeds records had settled
       → IsListWith state marks waiting arrivals deeds records more settled
   kept_alike {had = had} {settled = settled} more same kept = record {
     settles = settled_labels_stay_settled-alike records had more settled settled same (λ n. refl) kept.settles;
@@ -62,8 +68,10 @@ module _ {arrivals : List Arrival} {deeds : List (Option Deed)} {records : Recor
   }
 
   -- later records in which the same labels are settled, and make the same updates, leave what is kept of these labels
-  kept_left : {state : State} {marks : List Bool} {waiting : List (ℕ × List ℕ)} {had settled : ℕ → Bool} (now : Records) → IsSettled now had settled → updates_passing Rga now settled ≡ updates_passing Rga records settled
-      → IsListWith state marks waiting arrivals deeds records had settled → IsListWith state marks waiting arrivals deeds now had settled
+  kept_left : {state : State} {marks : List Bool} {waiting : List (ℕ × List ℕ)} {had settled : ℕ → Bool} (now : Records)
+      → IsSettled now had settled → updates_passing Rga now settled ≡ updates_passing Rga records settled
+      → IsListWith state marks waiting arrivals deeds records had settled
+      → IsListWith state marks waiting arrivals deeds now had settled
   kept_left now settles same kept = record {
     settles = settles;
     after = ap (state_after Rga) same ∙ kept.after;
@@ -79,23 +87,30 @@ module _ {arrivals : List Arrival} {deeds : List (Option Deed)} {records : Recor
   }
 
   -- so does a delivery, and so does a replica that joins
-  pub kept_delivered : {state : State} {marks : List Bool} {waiting : List (ℕ × List ℕ)} {had settled : ℕ → Bool} (to m : ℕ) → IsListWith state marks waiting arrivals deeds records had settled
+  pub kept_delivered : {state : State} {marks : List Bool} {waiting : List (ℕ × List ℕ)} {had settled : ℕ → Bool}
+      (to m : ℕ) → IsListWith state marks waiting arrivals deeds records had settled
       → IsListWith state marks waiting arrivals deeds (Deliver to m ∷ records) had settled
   kept_delivered {had = had} {settled = settled} to m kept =
-      kept_left (Deliver to m ∷ records) (settled_labels_stay_settled-delivery records to m had settled kept.settles) (a_later_command_leaves_the_updates_that_pass-delivery Rga records to m settled) kept
+      kept_left (Deliver to m ∷ records) (settled_labels_stay_settled-delivery records to m had settled kept.settles)
+      (a_later_command_leaves_the_updates_that_pass-delivery Rga records to m settled) kept
 
-  pub kept_joined : {state : State} {marks : List Bool} {waiting : List (ℕ × List ℕ)} {had settled : ℕ → Bool} (joined from : ℕ) → IsListWith state marks waiting arrivals deeds records had settled
+  pub kept_joined : {state : State} {marks : List Bool} {waiting : List (ℕ × List ℕ)} {had settled : ℕ → Bool}
+      (joined from : ℕ) → IsListWith state marks waiting arrivals deeds records had settled
       → IsListWith state marks waiting arrivals deeds (Join joined from ∷ records) had settled
   kept_joined {had = had} {settled = settled} joined from kept =
-      kept_left (Join joined from ∷ records) (settled_labels_stay_settled-join records joined from had settled kept.settles) (a_later_command_leaves_the_updates_that_pass-join Rga records joined from settled) kept
+      kept_left (Join joined from ∷ records) (settled_labels_stay_settled-join records joined from had settled
+      kept.settles) (a_later_command_leaves_the_updates_that_pass-join Rga records joined from settled) kept
 
-pub greatest_joined : {records : Records} {greatest : Stamp} {had : ℕ → Bool} (joined from : ℕ) → IsGreatestOf records had greatest → IsGreatestOf (Join joined from ∷ records) had greatest
+pub greatest_joined : {records : Records} {greatest : Stamp} {had : ℕ → Bool} (joined from : ℕ)
+    → IsGreatestOf records had greatest → IsGreatestOf (Join joined from ∷ records) had greatest
 greatest_joined joined from top = record { above = top.above; own = top.own }
 
-pub greatest_delivered : {records : Records} {greatest : Stamp} {had : ℕ → Bool} (to m : ℕ) → IsGreatestOf records had greatest → IsGreatestOf (Deliver to m ∷ records) had greatest
+pub greatest_delivered : {records : Records} {greatest : Stamp} {had : ℕ → Bool} (to m : ℕ)
+    → IsGreatestOf records had greatest → IsGreatestOf (Deliver to m ∷ records) had greatest
 greatest_delivered to m top = record { above = top.above; own = top.own }
 
-pub greatest_alike : {records : Records} {greatest : Stamp} {had : ℕ → Bool} (more : ℕ → Bool) → ((n : ℕ) → had n ≡ more n) → IsGreatestOf records had greatest → IsGreatestOf records more greatest
+pub greatest_alike : {records : Records} {greatest : Stamp} {had : ℕ → Bool} (more : ℕ → Bool)
+    → ((n : ℕ) → had n ≡ more n) → IsGreatestOf records had greatest → IsGreatestOf records more greatest
 greatest_alike more same top = record {
   above = λ l t l_in was_had t_is. top.above l t l_in (same l.number ∙ was_had) t_is;
   own = elim top.own [
@@ -105,7 +120,8 @@ greatest_alike more same top = record {
 }
 
 -- a label that was not added
-pub unadded : (waiting next : List (ℕ × List ℕ)) (number : ℕ) → labels_under next number ≡ labels_under waiting number → ((other : ℕ) → other ≢ number → labels_under next other ≡ labels_under waiting other)
+pub unadded : (waiting next : List (ℕ × List ℕ)) (number : ℕ) → labels_under next number ≡ labels_under waiting number
+    → ((other : ℕ) → other ≢ number → labels_under next other ≡ labels_under waiting other)
     → (k : ℕ) → labels_under next k ≡ labels_under waiting k
 unadded waiting next number here others k = elim (cases_eq k number) [
   | inl is ↦ ap (labels_under next) is ∙ here ∙ sym (ap (labels_under waiting) is)

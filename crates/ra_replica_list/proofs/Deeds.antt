@@ -13,7 +13,7 @@ use Rattle.ra_labels.specs.NamedOrder.{named_sequence}
 use Rattle.ra_labels.specs.Insertion.{updates_passing, or_label}
 use Rattle.ra_labels.specs.Waiting.{puts_in, is_there, needed_by}
 use Rattle.ra_labels.proofs.InLists.{bool_same}
-use Rattle.ra_laws.proofs.TheLaws.{each_number_has_its_label-found, an_element_is_put_in_by_one_label-one, an_element_is_put_in_by_one_label-other, an_element_is_there_where_its_label_passes-label, updates_admitted_where_they_lead_to_a_state, one_more_label_puts_its_update_in-there}
+use Rattle.ra_laws.proofs.TheLaws.{each_number_has_its_label-found, an_element_is_put_in_by_one_label-other, an_element_is_there_where_its_label_passes-label, updates_admitted_where_they_lead_to_a_state, one_more_label_puts_its_update_in-there}
 use Rattle.ra_element_list.specs.ElementList.{Arrival, ElementList, arrival_at, is_marked}
 use Rattle.ra_replica_list.specs.declared.deed.Deed.{Deed}
 use Rattle.ra_replica_list.specs.declared.deed.Deed.TheVariants.{PutsIn, Removes}
@@ -22,16 +22,20 @@ use Rattle.ra_replica_list.specs.ReplicaList.{AreThere}
 use Rattle.ra_replica_list.specs.Freed.{puts}
 
 -- labels with one number are one
-pub same_label : (records : Records) (l m : Label) → Contains (labels_of records) l → Contains (labels_of records) m → l.number ≡ m.number → l ≡ m
+pub same_label : (records : Records) (l m : Label) → Contains (labels_of records) l → Contains (labels_of records) m
+    → l.number ≡ m.number → l ≡ m
 same_label records l m l_in m_in is =
-    same_Some l m (sym (each_number_has_its_label-found records l l_in) ∙ ap (label_at records) is ∙ each_number_has_its_label-found records m m_in)
+    same_Some l m (sym (each_number_has_its_label-found records l l_in) ∙ ap (label_at records) is
+    ∙ each_number_has_its_label-found records m m_in)
 
-pub all_admitted : {list : ElementList} {deeds : List (Option Deed)} {records : Records} → AreElementsOf list deeds records → updates_admitted Rga (named_sequence Rga records) ≡ true
+pub all_admitted : {list : ElementList} {deeds : List (Option Deed)} {records : Records}
+    → AreElementsOf list deeds records → updates_admitted Rga (named_sequence Rga records) ≡ true
 all_admitted {records = records} stand =
     let (all, led, same) = stand.listed in
     (updates_admitted_where_they_lead_to_a_state Rga (named_sequence Rga records)).1 (Listed all, led)
 
-pub deeds_stand : {list : ElementList} {deeds : List (Option Deed)} {records : Records} → AreElementsOf list deeds records → AreDeedsOf list.arrivals deeds records
+pub deeds_stand : {list : ElementList} {deeds : List (Option Deed)} {records : Records}
+    → AreElementsOf list deeds records → AreDeedsOf list.arrivals deeds records
 deeds_stand stand = record {
   admitted = all_admitted stand;
   made = stand.made;
@@ -48,64 +52,76 @@ deed_there deeds n deed is = elim (cases_lt n (length deeds)) [
   | inr beyond ↦ absurd (none-some deed (sym (get_or_past deeds n None beyond) ∙ is))
 ]
 
-pub needed_is : (arrivals : List Arrival) (deed : Deed) → needed_by (update_of arrivals deed) ≡ element_at arrivals (needed_number arrivals deed)
+pub needed_is : (arrivals : List Arrival) (deed : Deed)
+    → needed_by (update_of arrivals deed) ≡ element_at arrivals (needed_number arrivals deed)
 needed_is arrivals (PutsIn number) = refl
 needed_is arrivals (Removes number) = refl
 
-pub needed_known : {arrivals : List Arrival} {deeds : List (Option Deed)} {records : Records} → AreDeedsOf arrivals deeds records → (n : ℕ) (deed : Deed) → deed_at deeds n ≡ Some deed → needed_number arrivals deed < length arrivals
+pub needed_known : {arrivals : List Arrival} {deeds : List (Option Deed)} {records : Records}
+    → AreDeedsOf arrivals deeds records → (n : ℕ) (deed : Deed) → deed_at deeds n ≡ Some deed
+    → needed_number arrivals deed < length arrivals
 needed_known stand n (PutsIn number) is = stand.anchored number (stand.known n (PutsIn number) is)
 needed_known stand n (Removes number) is = stand.known n (Removes number) is
 
 -- what a label needs is there where its number is marked
-pub needed_marked : {arrivals : List Arrival} {deeds : List (Option Deed)} {records : Records} {marks : List Bool} {passes : ℕ → Bool} → AreDeedsOf arrivals deeds records → AreThere marks arrivals records passes
-    → (n : ℕ) (deed : Deed) → deed_at deeds n ≡ Some deed → is_there (needed_by (update_of arrivals deed)) (updates_passing Rga records passes) ≡ is_marked marks (needed_number arrivals deed)
+pub needed_marked : {arrivals : List Arrival} {deeds : List (Option Deed)} {records : Records} {marks : List Bool}
+    {passes : ℕ → Bool} → AreDeedsOf arrivals deeds records → AreThere marks arrivals records passes
+    → (n : ℕ) (deed : Deed) → deed_at deeds n ≡ Some deed
+    → is_there (needed_by (update_of arrivals deed)) (updates_passing Rga records passes)
+    ≡ is_marked marks (needed_number arrivals deed)
 needed_marked {arrivals = arrivals} {records = records} {passes = passes} stand there n deed is =
     ap (λ x. is_there x (updates_passing Rga records passes)) (needed_is arrivals deed)
     ∙ sym (there.there (needed_number arrivals deed) (needed_known stand n deed is))
 
--- an element is put in by one label, and is not the root
-pub put_in_once : {arrivals : List Arrival} {deeds : List (Option Deed)} {records : Records} → AreDeedsOf arrivals deeds records → (m n number : ℕ) → deed_at deeds m ≡ Some (PutsIn number) → deed_at deeds n ≡ Some (PutsIn number) → m ≡ n
-put_in_once {arrivals = arrivals} {records = records} stand m n number m_is n_is =
-    let (k, k_in, k_num, k_makes) = stand.makes m (PutsIn number) m_is in
-    let (l, l_in, l_num, l_makes) = stand.makes n (PutsIn number) n_is in
-    let anchor = element_at arrivals (arrival_at arrivals number).anchor in
-    let same : k ≡ l = an_element_is_put_in_by_one_label-one records k l anchor anchor (element_at arrivals number) stand.admitted k_in l_in k_makes l_makes in
-    sym k_num ∙ ap (λ (x : Label). x.number) same ∙ l_num
-
-pub put_in_other : {arrivals : List Arrival} {deeds : List (Option Deed)} {records : Records} → AreDeedsOf arrivals deeds records → (n number : ℕ) → deed_at deeds n ≡ Some (PutsIn number) → ¬ (element_at arrivals number ≡ 0)
+-- an element that a label puts in is not the root
+pub put_in_other : {arrivals : List Arrival} {deeds : List (Option Deed)} {records : Records}
+    → AreDeedsOf arrivals deeds records → (n number : ℕ) → deed_at deeds n ≡ Some (PutsIn number)
+    → ¬ (element_at arrivals number ≡ 0)
 put_in_other {arrivals = arrivals} {records = records} stand n number is =
     let (k, k_in, k_num, k_makes) = stand.makes n (PutsIn number) is in
     let anchor = element_at arrivals (arrival_at arrivals number).anchor in
     an_element_is_put_in_by_one_label-other records k anchor (element_at arrivals number) stand.admitted k_in k_makes
 
-pub put_in_later : {list : ElementList} {deeds : List (Option Deed)} {records : Records} → AreElementsOf list deeds records → (n number : ℕ) → deed_at deeds n ≡ Some (PutsIn number) → 0 < number
+pub put_in_later : {list : ElementList} {deeds : List (Option Deed)} {records : Records}
+    → AreElementsOf list deeds records → (n number : ℕ) → deed_at deeds n ≡ Some (PutsIn number) → 0 < number
 put_in_later {list = list} stand n number is = elim (cases_eq number 0) [
   | inl zero_it ↦
-      absurd (put_in_other (deeds_stand stand) n number is (ap (λ (k : ℕ). element_at list.arrivals k) zero_it ∙ ap (λ (a : Arrival). a.element) stand.first))
+      absurd (put_in_other (deeds_stand stand) n number is
+      (ap (λ (k : ℕ). element_at list.arrivals k) zero_it ∙ ap (λ (a : Arrival). a.element) stand.first))
   | inr other ↦ omega (arith, other)
 ]
 
 -- an element is marked where its label passes
-pub marked_label : {arrivals : List Arrival} {deeds : List (Option Deed)} {records : Records} {marks : List Bool} {passes : ℕ → Bool} → AreDeedsOf arrivals deeds records → AreThere marks arrivals records passes
+pub marked_label : {arrivals : List Arrival} {deeds : List (Option Deed)} {records : Records} {marks : List Bool}
+    {passes : ℕ → Bool} → AreDeedsOf arrivals deeds records → AreThere marks arrivals records passes
     → (n number : ℕ) → deed_at deeds n ≡ Some (PutsIn number) → is_marked marks number ≡ passes n
 marked_label {arrivals = arrivals} {records = records} {passes = passes} stand there n number is =
     let (k, k_in, k_num, k_makes) = stand.makes n (PutsIn number) is in
     let anchor = element_at arrivals (arrival_at arrivals number).anchor in
     there.there number (stand.known n (PutsIn number) is)
-    ∙ an_element_is_there_where_its_label_passes-label records passes k anchor (element_at arrivals number) stand.admitted k_in k_makes
+    ∙ an_element_is_there_where_its_label_passes-label records passes k anchor (element_at arrivals number)
+    stand.admitted k_in k_makes
     ∙ ap passes k_num
 
 -- the root is marked
-pub root_marked : {list : ElementList} {deeds : List (Option Deed)} {records : Records} {marks : List Bool} {passes : ℕ → Bool} → AreElementsOf list deeds records → AreThere marks list.arrivals records passes → is_marked marks 0 ≡ true
+pub root_marked : {list : ElementList} {deeds : List (Option Deed)} {records : Records} {marks : List Bool}
+    {passes : ℕ → Bool} → AreElementsOf list deeds records → AreThere marks list.arrivals records passes
+    → is_marked marks 0 ≡ true
 root_marked {records = records} {passes = passes} stand there =
     there.there 0 stand.some ∙ ap (λ (a : Arrival). is_there a.element (updates_passing Rga records passes)) stand.first
 
 -- what a deed puts in, by numbers and by elements
-pub puts_same : {arrivals : List Arrival} {deeds : List (Option Deed)} {records : Records} → AreDeedsOf arrivals deeds records → (n : ℕ) (deed : Deed) → deed_at deeds n ≡ Some deed → (number : ℕ) → number < length arrivals
+pub puts_same : {arrivals : List Arrival} {deeds : List (Option Deed)} {records : Records}
+    → AreDeedsOf arrivals deeds records → (n : ℕ) (deed : Deed) → deed_at deeds n ≡ Some deed → (number : ℕ)
+    → number < length arrivals
     → puts_in (element_at arrivals number) (update_of arrivals deed) ≡ puts number deed
-puts_same {arrivals = arrivals} stand n (PutsIn k) is number known = bool_same (element_at arrivals k == element_at arrivals number) (number == k)
-    (λ same. eq-eqb number k (sym (stand.once k number (stand.known n (PutsIn k) is) known (eqb-true (element_at arrivals k) (element_at arrivals number) same))))
-    (λ same. eq-eqb (element_at arrivals k) (element_at arrivals number) (sym (ap (λ (m : ℕ). element_at arrivals m) (eqb-true number k same))))
+puts_same {arrivals = arrivals} stand n (PutsIn k) is number known =
+    bool_same (element_at arrivals k == element_at arrivals number) (number == k)
+    (λ same. eq-eqb number k
+    (sym (stand.once k number (stand.known n (PutsIn k) is) known
+    (eqb-true (element_at arrivals k) (element_at arrivals number) same))))
+    (λ same. eq-eqb (element_at arrivals k) (element_at arrivals number)
+    (sym (ap (λ (m : ℕ). element_at arrivals m) (eqb-true number k same))))
 puts_same stand n (Removes k) is number known = refl
 
 -- marks with what the deed puts in
@@ -120,15 +136,20 @@ none_beyond : (deed : Deed) (number count : ℕ) → number_of deed < count → 
 none_beyond (PutsIn k) number count known beyond = ne_eqb number k (λ is. omega (arith, is))
 none_beyond (Removes k) number count known beyond = refl
 
-pub there_with : {arrivals : List Arrival} {deeds : List (Option Deed)} {records : Records} {marks next : List Bool} {passes : ℕ → Bool} → AreDeedsOf arrivals deeds records → AreThere marks arrivals records passes
-    → (n : ℕ) (deed : Deed) → deed_at deeds n ≡ Some deed → passes n ≡ false → AreMarksWith marks next deed → AreThere next arrivals records (or_label passes n)
-there_with {arrivals = arrivals} {records = records} {marks = marks} {next = next} {passes = passes} stand there n deed is new with_it =
+pub there_with : {arrivals : List Arrival} {deeds : List (Option Deed)} {records : Records} {marks next : List Bool}
+    {passes : ℕ → Bool} → AreDeedsOf arrivals deeds records → AreThere marks arrivals records passes
+    → (n : ℕ) (deed : Deed) → deed_at deeds n ≡ Some deed → passes n ≡ false → AreMarksWith marks next deed
+    → AreThere next arrivals records (or_label passes n)
+there_with {arrivals = arrivals} {records = records} {marks = marks} {next = next} {passes = passes} stand there n deed
+    is new with_it =
     let (l, l_in, l_num, l_makes) = stand.makes n deed is in
     let at : AreThere next arrivals records (or_label passes l.number) = record {
       there = λ number known.
           with_it number
           ∙ (λ i. there.there number known i || sym (puts_same stand n deed is number known) i)
-          ∙ sym (one_more_label_puts_its_update_in-there Rga records passes l (update_of arrivals deed) (element_at arrivals number) l_in l_makes (ap passes l_num ∙ new));
-      others = λ number beyond. with_it number ∙ or_not (is_marked marks number) (puts number deed) (there.others number beyond) (none_beyond deed number (length arrivals) (stand.known n deed is) beyond);
+          ∙ sym (one_more_label_puts_its_update_in-there Rga records passes l (update_of arrivals deed)
+          (element_at arrivals number) l_in l_makes (ap passes l_num ∙ new));
+      others = λ number beyond. with_it number ∙ or_not (is_marked marks number) (puts number deed)
+          (there.others number beyond) (none_beyond deed number (length arrivals) (stand.known n deed is) beyond);
     } in
     subst (λ (k : ℕ). AreThere next arrivals records (or_label passes k)) l_num at

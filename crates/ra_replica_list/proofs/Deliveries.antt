@@ -22,17 +22,21 @@ use Rattle.ra_replica_list.specs.Freed.{IsListWithAfter}
 use Rattle.ra_replica_list.proofs.AlikeLists.{kept_alike, kept_delivered, greatest_alike, greatest_delivered}
 use Rattle.ra_replica_list.proofs.Greatest.{greatest_with, greatest_without}
 
-pub in_named : (records : Records) (label : Label) → Contains (named_labels Rga records) label → Contains (labels_of records) label
+pub in_named : (records : Records) (label : Label) → Contains (named_labels Rga records) label
+    → Contains (labels_of records) label
 in_named records label found =
     All-contains (Contains (labels_of records)) (named_labels Rga records) label
-    (All-permutation (Contains (labels_of records)) (labels_of records) (named_labels Rga records) (named_labels_are_sorted-same Rga records) (All-contains_itself (labels_of records))) found
+    (All-permutation (Contains (labels_of records)) (labels_of records) (named_labels Rga records)
+    (named_labels_are_sorted-same Rga records) (All-contains_itself (labels_of records))) found
 
 -- a label that does something is an update
-pub does_update : {all : ElementList} {deeds : List (Option Deed)} {records : Records} → AreElementsOf all deeds records → (n : ℕ) (deed : Deed) → deed_at deeds n ≡ Some deed → is_update_at records n ≡ true
+pub does_update : {all : ElementList} {deeds : List (Option Deed)} {records : Records} → AreElementsOf all deeds records
+    → (n : ℕ) (deed : Deed) → deed_at deeds n ≡ Some deed → is_update_at records n ≡ true
 does_update {all = all} {records = records} stand n deed is =
     let (l, l_in, l_num, l_makes) = stand.makes n deed is in
     subst (λ (k : ℕ). is_update_at records k ≡ true) l_num
-    (ap (λ (o : Option Label). option_map_or (λ (m : Label). is_update m.op) o false) (each_number_has_its_label-found records l l_in)
+    (ap (λ (o : Option Label). option_map_or (λ (m : Label). is_update m.op) o false)
+    (each_number_has_its_label-found records l l_in)
     ∙ (an_operation_makes_one_update-exactly l.op).1 (update_of all.arrivals deed, l_makes))
 
 module _ {all : ElementList} {deeds : List (Option Deed)} {records : Records} where
@@ -58,16 +62,22 @@ module _ {all : ElementList} {deeds : List (Option Deed)} {records : Records} wh
       )
 
   -- the greatest stamp with the label
-  pub with_stamp : {test : ℕ → Bool} {greatest : Stamp} (label number : ℕ) (stamp : Stamp) → AreElementsOf all deeds records → IsGreatestOf records test greatest → deed_at deeds label ≡ Some (PutsIn number)
-      → stamp ≡ (arrival_at all.arrivals number).stamp → IsGreatestOf records (or_label test label) (greater_of greatest stamp)
+  pub with_stamp : {test : ℕ → Bool} {greatest : Stamp} (label number : ℕ) (stamp : Stamp)
+      → AreElementsOf all deeds records → IsGreatestOf records test greatest
+      → deed_at deeds label ≡ Some (PutsIn number)
+      → stamp ≡ (arrival_at all.arrivals number).stamp → IsGreatestOf records (or_label test label)
+      (greater_of greatest stamp)
   with_stamp {test = test} {greatest = greatest} label number stamp stand top is stamp_is =
       let (l, l_in, l_num, l_makes) = stand.makes label (PutsIn number) is in
       subst (λ (k : ℕ). IsGreatestOf records (or_label test k) (greater_of greatest stamp)) l_num
-      (greatest_with records test greatest stamp l top l_in (stand.stamp l number l_in (ap (deed_at deeds) l_num ∙ is) ∙ ap (λ (s : Stamp). Some s) (sym stamp_is)))
+      (greatest_with records test greatest stamp l top l_in
+      (stand.stamp l number l_in (ap (deed_at deeds) l_num ∙ is) ∙ ap (λ (s : Stamp). Some s) (sym stamp_is)))
 
-  pub with_none : {test : ℕ → Bool} {greatest : Stamp} (label number : ℕ) → AreElementsOf all deeds records → IsGreatestOf records test greatest → deed_at deeds label ≡ Some (Removes number)
+  pub with_none : {test : ℕ → Bool} {greatest : Stamp} (label number : ℕ) → AreElementsOf all deeds records
+      → IsGreatestOf records test greatest → deed_at deeds label ≡ Some (Removes number)
       → IsGreatestOf records (or_label test label) greatest
   with_none {test = test} {greatest = greatest} label number stand top is =
       let (l, l_in, l_num, l_makes) = stand.makes label (Removes number) is in
       subst (λ (k : ℕ). IsGreatestOf records (or_label test k) greatest) l_num
-      (greatest_without records test greatest greatest l top l_in (stand.unstamped l number l_in (ap (deed_at deeds) l_num ∙ is)))
+      (greatest_without records test greatest greatest l top l_in
+      (stand.unstamped l number l_in (ap (deed_at deeds) l_num ∙ is)))

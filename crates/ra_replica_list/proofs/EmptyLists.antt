@@ -13,11 +13,15 @@ use Rattle.ra_labels.specs.Laws.{NoneTwice}
 use Rattle.ra_labels.specs.Waiting.{is_there}
 use Rattle.ra_labels.proofs.Members.{none_there}
 
-root_alone : (marks : List Bool) (number : ℕ) → 0 < length marks → ((k : ℕ) → is_marked marks k ≡ false) → 1 ≤ number → is_marked (set marks 0 true) number ≡ false
-root_alone marks number some none beyond = get_or-set_other marks 0 number true false (λ is. omega (arith, is)) ∙ none number
+root_alone : (marks : List Bool) (number : ℕ) → 0 < length marks → ((k : ℕ) → is_marked marks k ≡ false) → 1 ≤ number
+    → is_marked (set marks 0 true) number ≡ false
+root_alone marks number some none beyond =
+    get_or-set_other marks 0 number true false (λ is. omega (arith, is)) ∙ none number
 
-starts_with : (state : State) (marks : List Bool) (waiting : List (ℕ × List ℕ)) (replica : ℕ) → state ≡ start_of Rga → 0 < length marks → ((k : ℕ) → is_marked marks k ≡ false) → waiting ≡ []
-    → IsListOf (record { state = state; marks = set marks 0 true; greatest = lowest_rank; waiting = waiting }) (root ∷ []) [] [] replica
+starts_with : (state : State) (marks : List Bool) (waiting : List (ℕ × List ℕ)) (replica : ℕ) → state ≡ start_of Rga
+    → 0 < length marks → ((k : ℕ) → is_marked marks k ≡ false) → waiting ≡ []
+    → IsListOf (record { state = state; marks = set marks 0 true; greatest = lowest_rank; waiting = waiting })
+    (root ∷ []) [] [] replica
 starts_with state marks waiting replica is some none empty = record {
   settled = λ n. false;
   kept = record {
@@ -29,12 +33,15 @@ starts_with state marks waiting replica is some none empty = record {
     there = record {
       there = λ number known.
           let zero_it : number ≡ 0 = omega (arith, known) in
-          subst (λ (k : ℕ). is_marked (set marks 0 true) k ≡ is_there (get_or (root ∷ []) k root).element []) (sym zero_it) (get_or-set_same marks 0 true false some);
+          subst (λ (k : ℕ). is_marked (set marks 0 true) k ≡ is_there (get_or (root ∷ []) k root).element [])
+          (sym zero_it) (get_or-set_same marks 0 true false some);
       others = λ number beyond. root_alone marks number some none (omega (arith, beyond));
     };
     waiting_labels = record {
       waits = λ n d d_is it fails. absurd (false≢true it);
-      only = λ number n found. absurd (none_there n (subst (λ (w : List (ℕ × List ℕ)). Contains (labels_under w number) n) empty found));
+      only =
+          λ number n found.
+          absurd (none_there n (subst (λ (w : List (ℕ × List ℕ)). Contains (labels_under w number) n) empty found));
       once = λ number. subst (λ (w : List (ℕ × List ℕ)). NoneTwice (labels_under w number)) (sym empty) tt;
     };
   };
@@ -44,8 +51,16 @@ starts_with state marks waiting replica is some none empty = record {
   };
 }
 
-pub starts : (state : State) (marks next : List Bool) (waiting : List (ℕ × List ℕ)) (replica : ℕ) → state ≡ start_of Rga → 0 < length marks → ((k : ℕ) → is_marked marks k ≡ false) → next ≡ set marks 0 true → waiting ≡ []
-    → IsListOf (record { state = state; marks = next; greatest = lowest_rank; waiting = waiting }) (root ∷ []) [] [] replica
+pub starts : (state : State) (marks next : List Bool) (waiting : List (ℕ × List ℕ)) (replica : ℕ) → state ≡ start_of Rga
+    → 0 < length marks → ((k : ℕ) → is_marked marks k ≡ false) → next ≡ set marks 0 true → waiting ≡ []
+    → IsListOf (record { state = state; marks = next; greatest = lowest_rank; waiting = waiting }) (root ∷ []) [] []
+    replica
 starts state marks next waiting replica is some none put empty =
-    subst (λ (ms : List Bool). IsListOf (record { state = state; marks = ms; greatest = lowest_rank; waiting = waiting }) (root ∷ []) [] [] replica) (sym put)
+    subst (λ (ms : List Bool). IsListOf (record {
+      state = state;
+      marks = ms;
+      greatest = lowest_rank;
+      waiting =
+          waiting;
+    }) (root ∷ []) [] [] replica) (sym put)
     (starts_with state marks waiting replica is some none empty)

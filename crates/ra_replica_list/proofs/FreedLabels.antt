@@ -27,25 +27,34 @@ use Rattle.ra_replica_list.proofs.SingleSteps.{none_waits_with}
 
 module _ {arrivals : List Arrival} {deeds : List (Option Deed)} {records : Records} where
   -- what a label needs that waits is not marked
-  pub unmarked : {marks : List Bool} {passes : ℕ → Bool} (had : ℕ → Bool) → AreDeedsOf arrivals deeds records → AreThere marks arrivals records passes → OthersWait records had passes → (n : ℕ) (deed : Deed) → deed_at deeds n ≡ Some deed
+  pub unmarked : {marks : List Bool} {passes : ℕ → Bool} (had : ℕ → Bool) → AreDeedsOf arrivals deeds records
+      → AreThere marks arrivals records passes → OthersWait records had passes → (n : ℕ) (deed : Deed)
+      → deed_at deeds n ≡ Some deed
       → had n ≡ true → passes n ≡ false → is_marked marks (needed_number arrivals deed) ≡ false
   unmarked {passes = passes} had stand there others n deed is was_had waits =
       let (l, l_in, l_num, l_makes) = stand.makes n deed is in
-      sym (needed_marked stand there n deed is) ∙ others l (update_of arrivals deed) l_in l_makes (ap had l_num ∙ was_had) (ap passes l_num ∙ waits)
+      sym (needed_marked stand there n deed is) ∙ others l (update_of arrivals deed) l_in l_makes
+      (ap had l_num ∙ was_had) (ap passes l_num ∙ waits)
 
-  pub marked : {marks : List Bool} {passes : ℕ → Bool} → AreDeedsOf arrivals deeds records → AreThere marks arrivals records passes → NoneWaits records passes → (n : ℕ) (deed : Deed) → deed_at deeds n ≡ Some deed
+  pub marked : {marks : List Bool} {passes : ℕ → Bool} → AreDeedsOf arrivals deeds records
+      → AreThere marks arrivals records passes → NoneWaits records passes → (n : ℕ) (deed : Deed)
+      → deed_at deeds n ≡ Some deed
       → passes n ≡ true → is_marked marks (needed_number arrivals deed) ≡ true
   marked {passes = passes} stand there none n deed is passes_it =
       let (l, l_in, l_num, l_makes) = stand.makes n deed is in
-      sym (needed_marked stand there n deed is) ∙ none l (update_of arrivals deed) l_in l_makes (ap passes l_num ∙ passes_it)
+      sym (needed_marked stand there n deed is) ∙ none l (update_of arrivals deed) l_in l_makes
+      (ap passes l_num ∙ passes_it)
 
   -- the first label may follow
-  pub first_freed : {state : State} {marks : List Bool} {waiting : List (ℕ × List ℕ)} {had settled : ℕ → Bool} (label : ℕ) (deed : Deed) → AreDeedsOf arrivals deeds records
-      → IsListWith state marks waiting arrivals deeds records had settled → deed_at deeds label ≡ Some deed → had label ≡ false → is_marked marks (needed_number arrivals deed) ≡ true
+  pub first_freed : {state : State} {marks : List Bool} {waiting : List (ℕ × List ℕ)} {had settled : ℕ → Bool}
+      (label : ℕ) (deed : Deed) → AreDeedsOf arrivals deeds records
+      → IsListWith state marks waiting arrivals deeds records had settled → deed_at deeds label ≡ Some deed
+      → had label ≡ false → is_marked marks (needed_number arrivals deed) ≡ true
       → IsFreeing state marks [] (label ∷ []) arrivals deeds records had settled label
   first_freed {had = had} {settled = settled} label deed stand kept is new needs =
       let (had_them, none, others) = (what_is_settled_does_not_wait records had settled).0 kept.settles in
-      let not_settled : settled label ≡ false = false_from_ne_true (settled label) (λ it. not_both (had label) new (had_them label it)) in
+      let not_settled : settled label ≡ false = false_from_ne_true (settled label)
+      (λ it. not_both (had label) new (had_them label it)) in
       record {
         passes = settled;
         had_them = λ n passes. still_passes had label n (had_them n passes);
@@ -56,7 +65,14 @@ module _ {arrivals : List Arrival} {deeds : List (Option Deed)} {records : Recor
         only = λ n passes. inl passes;
         gone = λ n found. absurd (none_there n found);
         next = λ n found. elim (head_or_behind label [] n found) [
-          | inl here ↦ (deed, sym (ap (deed_at deeds) here) ∙ is, it_passes had label n (sym here), sym (ap settled here) ∙ not_settled, needs)
+          | inl here ↦ (
+            deed,
+            sym (ap (deed_at deeds) here) ∙ is,
+            it_passes had label n (sym here),
+            sym (ap settled here)
+                ∙ not_settled,
+            needs,
+          )
           | inr none_behind ↦ absurd (none_there n none_behind)
         ];
         others = λ n d d_is was_had fails. inl (unmarked had stand kept.there others n d d_is was_had fails);
@@ -66,29 +82,37 @@ module _ {arrivals : List Arrival} {deeds : List (Option Deed)} {records : Recor
       }
 
   -- what a label that follows puts in was not there
-  pub unmarked_put : {marks : List Bool} {passes : ℕ → Bool} → AreDeedsOf arrivals deeds records → AreThere marks arrivals records passes → (label : ℕ) (deed : Deed) → deed_at deeds label ≡ Some deed → passes label ≡ false
+  pub unmarked_put : {marks : List Bool} {passes : ℕ → Bool} → AreDeedsOf arrivals deeds records
+      → AreThere marks arrivals records passes → (label : ℕ) (deed : Deed) → deed_at deeds label ≡ Some deed
+      → passes label ≡ false
       → (number : ℕ) → puts number deed ≡ true → is_marked marks number ≡ false
   unmarked_put {marks = marks} stand there label (PutsIn k) is new number puts_it =
       ap (is_marked marks) (eqb-true number k puts_it) ∙ marked_label stand there label k is ∙ new
   unmarked_put stand there label (Removes k) is new number puts_it = absurd (false≢true puts_it)
 
 -- those that the label frees: each that waits for what it puts in
-pub record AreFreedBy (arrivals : List Arrival) (deeds : List (Option Deed)) (had settled : ℕ → Bool) (deed : Deed) (more : List ℕ) : Type 0 where
-  pub only : (n : ℕ) → Contains more n → (d : Deed) × (deed_at deeds n ≡ Some d) × (had n ≡ true) × (settled n ≡ false) × (puts (needed_number arrivals d) deed ≡ true)
-  pub all : (n : ℕ) (d : Deed) → deed_at deeds n ≡ Some d → had n ≡ true → settled n ≡ false → puts (needed_number arrivals d) deed ≡ true → Contains more n
+pub record AreFreedBy (arrivals : List Arrival) (deeds : List (Option Deed)) (had settled : ℕ → Bool) (deed : Deed)
+    (more : List ℕ) : Type 0 where
+  pub only : (n : ℕ) → Contains more n → (d : Deed) × (deed_at deeds n ≡ Some d) × (had n ≡ true) × (settled n ≡ false)
+      × (puts (needed_number arrivals d) deed ≡ true)
+  pub all : (n : ℕ) (d : Deed) → deed_at deeds n ≡ Some d → had n ≡ true → settled n ≡ false
+      → puts (needed_number arrivals d) deed ≡ true → Contains more n
   pub once : NoneTwice more
 
-pub freed_by : {arrivals : List Arrival} {deeds : List (Option Deed)} {records : Records} {had settled : ℕ → Bool} (waiting : List (ℕ × List ℕ)) → AreWaiting (labels_under waiting) arrivals deeds records had settled → (number : ℕ)
+pub freed_by : {arrivals : List Arrival} {deeds : List (Option Deed)} {records : Records} {had settled : ℕ → Bool}
+    (waiting : List (ℕ × List ℕ)) → AreWaiting (labels_under waiting) arrivals deeds records had settled → (number : ℕ)
     → AreFreedBy arrivals deeds had settled (PutsIn number) (labels_under waiting number)
 freed_by {arrivals = arrivals} waiting wait number = record {
   only = λ n found.
       let (d, d_is, d_needs, was_had, waits) = wait.only number n found in
       (d, d_is, was_had, waits, eq-eqb (needed_number arrivals d) number d_needs);
-  all = λ n d d_is was_had waits puts_it. subst (λ (k : ℕ). Contains (labels_under waiting k) n) (eqb-true (needed_number arrivals d) number puts_it) (wait.waits n d d_is was_had waits);
+  all = λ n d d_is was_had waits puts_it. subst (λ (k : ℕ). Contains (labels_under waiting k) n)
+      (eqb-true (needed_number arrivals d) number puts_it) (wait.waits n d d_is was_had waits);
   once = wait.once number;
 }
 
-pub none_freed : {arrivals : List Arrival} {deeds : List (Option Deed)} {had settled : ℕ → Bool} (number : ℕ) → AreFreedBy arrivals deeds had settled (Removes number) []
+pub none_freed : {arrivals : List Arrival} {deeds : List (Option Deed)} {had settled : ℕ → Bool} (number : ℕ)
+    → AreFreedBy arrivals deeds had settled (Removes number) []
 none_freed number = record {
   only = λ n found. absurd (none_there n found);
   all = λ n d d_is was_had waits puts_it. absurd (false≢true puts_it);
@@ -96,11 +120,13 @@ none_freed number = record {
 }
 
 -- in another order
-pub freed_in_order : {arrivals : List Arrival} {deeds : List (Option Deed)} {had settled : ℕ → Bool} {deed : Deed} (more sorted : List ℕ) → IsPermutation more sorted → AreFreedBy arrivals deeds had settled deed more
+pub freed_in_order : {arrivals : List Arrival} {deeds : List (Option Deed)} {had settled : ℕ → Bool} {deed : Deed}
+    (more sorted : List ℕ) → IsPermutation more sorted → AreFreedBy arrivals deeds had settled deed more
     → AreFreedBy arrivals deeds had settled deed sorted
 freed_in_order more sorted shuffled freed = record {
   only = λ n found. freed.only n (Contains-permutation sorted more n (IsPermutation-sym more sorted shuffled) found);
-  all = λ n d d_is was_had waits puts_it. Contains-permutation more sorted n shuffled (freed.all n d d_is was_had waits puts_it);
+  all = λ n d d_is was_had waits puts_it. Contains-permutation more sorted n shuffled
+      (freed.all n d d_is was_had waits puts_it);
   once = none_twice-permutation more sorted shuffled freed.once;
 }
 
@@ -108,27 +134,39 @@ pub last_there : (ready : List ℕ) (label : ℕ) → Contains (ready ++ label �
 last_there ready label = Contains-append_right ready (label ∷ []) label (at_head label [] label refl)
 
 -- the next label
-module _ {arrivals : List Arrival} {deeds : List (Option Deed)} {records : Records} {state : State} {marks : List Bool} {labels : List ℕ} {had settled : ℕ → Bool} {first : ℕ} where
-  pub follows : (ready : List ℕ) (next : State) (next_marks : List Bool) (more : List ℕ) (label : ℕ) (deed : Deed) → AreDeedsOf arrivals deeds records
-      → (free : IsFreeing state marks labels (ready ++ label ∷ []) arrivals deeds records had settled first) → deed_at deeds label ≡ Some deed
-      → state_after Rga (updates_passing Rga records (or_label free.passes label)) ≡ Some next → AreMarksWith marks next_marks deed → AreFreedBy arrivals deeds had settled deed more
+module _ {arrivals : List Arrival} {deeds : List (Option Deed)} {records : Records} {state : State} {marks : List Bool}
+    {labels : List ℕ} {had settled : ℕ → Bool} {first : ℕ} where
+  pub follows : (ready : List ℕ) (next : State) (next_marks : List Bool) (more : List ℕ) (label : ℕ) (deed : Deed)
+      → AreDeedsOf arrivals deeds records
+      → (free : IsFreeing state marks labels (ready ++ label ∷ []) arrivals deeds records had settled first)
+      → deed_at deeds label ≡ Some deed
+      → state_after Rga (updates_passing Rga records (or_label free.passes label)) ≡ Some next
+      → AreMarksWith marks next_marks deed → AreFreedBy arrivals deeds had settled deed more
       → IsFreeing next next_marks (labels ++ label ∷ []) (ready ++ more) arrivals deeds records had settled first
   follows ready next next_marks more label deed stand free is after with_it freed =
       let passes = free.passes in
-      let before : (n : ℕ) → Contains ready n → Contains (ready ++ label ∷ []) n = λ n found. Contains-append_left ready (label ∷ []) n found in
+      let before : (n : ℕ) → Contains ready n → Contains (ready ++ label ∷ []) n =
+      λ n found. Contains-append_left ready (label ∷ []) n found in
       let (its, its_is, its_had, its_new, its_needs) = free.next label (last_there ready label) in
       let same : its ≡ deed = same_Some its deed (sym its_is ∙ is) in
-      let needs : is_marked marks (needed_number arrivals deed) ≡ true = ap (λ (d : Deed). is_marked marks (needed_number arrivals d)) (sym same) ∙ its_needs in
+      let needs : is_marked marks (needed_number arrivals deed) ≡ true =
+      ap (λ (d : Deed). is_marked marks (needed_number arrivals d)) (sym same) ∙ its_needs in
       let alone = none_twice-last ready label free.once in
-      let not_before_it : (n : ℕ) → Contains ready n → ¬ (n ≡ label) = λ n found it. alone.1 (subst (Contains ready) it found) in
-      let fresh : (n : ℕ) (d : Deed) → deed_at deeds n ≡ Some d → puts (needed_number arrivals d) deed ≡ true → is_marked marks (needed_number arrivals d) ≡ false =
+      let not_before_it : (n : ℕ) → Contains ready n → ¬ (n ≡ label) =
+      λ n found it. alone.1 (subst (Contains ready) it found) in
+      let fresh : (n : ℕ) (d : Deed) → deed_at deeds n ≡ Some d → puts (needed_number arrivals d) deed
+      ≡ true → is_marked marks (needed_number arrivals d) ≡ false =
       λ n d d_is puts_it. unmarked_put stand free.there label deed is its_new (needed_number arrivals d) puts_it in
-      let not_freed : (n : ℕ) (d : Deed) → deed_at deeds n ≡ Some d → puts (needed_number arrivals d) deed ≡ true → ¬ (n ≡ label) = λ n d d_is puts_it it.
+      let not_freed : (n : ℕ) (d : Deed) → deed_at deeds n ≡ Some d → puts (needed_number arrivals d) deed
+      ≡ true → ¬ (n ≡ label) = λ n d d_is puts_it it.
       let d_same : deed ≡ d = same_Some deed d (sym is ∙ sym (ap (deed_at deeds) it) ∙ d_is) in
-      not_both (is_marked marks (needed_number arrivals d)) (fresh n d d_is puts_it) (ap (λ (e : Deed). is_marked marks (needed_number arrivals e)) (sym d_same) ∙ needs) in
+      not_both (is_marked marks (needed_number arrivals d)) (fresh n d d_is puts_it)
+      (ap (λ (e : Deed). is_marked marks (needed_number arrivals e)) (sym d_same) ∙ needs) in
       let (l, l_in, l_num, l_makes) = stand.makes label deed is in
-      let counted = subst (λ (k : ℕ). length (updates_passing Rga records (or_label passes k)) ≡ length (updates_passing Rga records passes) + 1) l_num
-      (one_more_label_puts_its_update_in-count Rga records passes l (update_of arrivals deed) l_in l_makes (ap passes l_num ∙ its_new)) in
+      let counted = subst (λ (k : ℕ). length (updates_passing Rga records (or_label passes k))
+      ≡ length (updates_passing Rga records passes) + 1) l_num
+      (one_more_label_puts_its_update_in-count Rga records passes l (update_of arrivals deed) l_in l_makes
+      (ap passes l_num ∙ its_new)) in
       record {
         passes = or_label passes label;
         had_them = λ n it. elim (passes_or_is passes label n it) [
@@ -152,20 +190,38 @@ module _ {arrivals : List Arrival} {deeds : List (Option Deed)} {records : Recor
         ];
         next = λ n found. elim (Contains-append_cases ready more n found) [
           | inl old ↦
-              let (d, d_is, d_had, d_new, d_needs) = free.next n (before n old) in
-              (d, d_is, d_had, others_pass passes label n (not_before_it n old) ∙ d_new, with_it (needed_number arrivals d) ∙ or_left (is_marked marks (needed_number arrivals d)) (puts (needed_number arrivals d) deed) d_needs)
+              let (d, d_is, d_had, d_new, d_needs) = free.next n (before n old) in (
+                d,
+                d_is,
+                d_had,
+                others_pass passes label n (not_before_it n old)
+                    ∙ d_new,
+                with_it (needed_number arrivals d) ∙ or_left (is_marked marks (needed_number arrivals d))
+                    (puts (needed_number arrivals d) deed) d_needs,
+              )
           | inr it ↦
               let (d, d_is, n_had, n_waits, d_puts) = freed.only n it in
               let not_yet : passes n ≡ false = false_from_ne_true (passes n) (λ passes_it.
-              not_both (is_marked marks (needed_number arrivals d)) (fresh n d d_is d_puts) (marked stand free.there free.none_waits n d d_is passes_it)) in
-              (d, d_is, still_passes had first n n_had, others_pass passes label n (not_freed n d d_is d_puts) ∙ not_yet, with_it (needed_number arrivals d) ∙ or_right (is_marked marks (needed_number arrivals d)) (puts (needed_number arrivals d) deed) d_puts)
+              not_both (is_marked marks (needed_number arrivals d)) (fresh n d d_is d_puts)
+              (marked stand free.there free.none_waits n d d_is passes_it)) in (
+                d,
+                d_is,
+                still_passes had first n n_had,
+                others_pass passes label n (not_freed n d d_is d_puts)
+                    ∙ not_yet,
+                with_it (needed_number arrivals d) ∙ or_right (is_marked marks (needed_number arrivals d))
+                    (puts (needed_number arrivals d) deed) d_puts,
+              )
         ];
         others = λ n d d_is was_had fails. elim (cases_Bool (puts (needed_number arrivals d) deed)) [
           | inl puts_it ↦
-              let waits : settled n ≡ false = false_from_ne_true (settled n) (λ it. not_both (passes n) (not_before passes label n fails) (free.older n it)) in
+              let waits : settled n ≡ false = false_from_ne_true (settled n)
+              (λ it. not_both (passes n) (not_before passes label n fails) (free.older n it)) in
               inr (Contains-append_right ready more n (freed.all n d d_is was_had waits puts_it))
           | inr other ↦ elim (free.others n d d_is was_had (not_before passes label n fails)) [
-            | inl missing ↦ inl (with_it (needed_number arrivals d) ∙ or_from (is_marked marks (needed_number arrivals d)) (puts (needed_number arrivals d) deed) missing other)
+            | inl missing ↦
+                inl (with_it (needed_number arrivals d) ∙ or_from (is_marked marks (needed_number arrivals d))
+                (puts (needed_number arrivals d) deed) missing other)
             | inr found ↦ elim (Contains-push_cases ready label n found) [
               | inl earlier ↦ inr (Contains-append_left ready more n earlier)
               | inr it ↦ absurd (not_it passes label n fails (sym it))
@@ -183,6 +239,7 @@ module _ {arrivals : List Arrival} {deeds : List (Option Deed)} {records : Recor
             let (d, d_is, d_had, d_new, d_needs) = free.next n (before n old) in
             let (e, e_is, e_had, e_waits, e_puts) = freed.only n it in
             let e_same : d ≡ e = same_Some d e (sym d_is ∙ e_is) in
-            not_both (is_marked marks (needed_number arrivals e)) (fresh n e e_is e_puts) (ap (λ (x : Deed). is_marked marks (needed_number arrivals x)) (sym e_same) ∙ d_needs));
+            not_both (is_marked marks (needed_number arrivals e)) (fresh n e e_is e_puts)
+            (ap (λ (x : Deed). is_marked marks (needed_number arrivals x)) (sym e_same) ∙ d_needs));
         count = omega (arith, counted, free.count, length-append labels (label ∷ []));
       }

@@ -27,34 +27,48 @@ pub record IsAdded (waiting next : List (ℕ × List ℕ)) (number label : ℕ) 
   pub added : labels_under next number ≡ labels_under waiting number ++ label ∷ []
   pub others : (other : ℕ) → other ≢ number → labels_under next other ≡ labels_under waiting other
 
-added_there : {waiting : List (ℕ × List ℕ)} (next : List (ℕ × List ℕ)) (needed label number n : ℕ) → IsAdded waiting next needed label → Contains (labels_under waiting number) n → Contains (labels_under next number) n
+added_there : {waiting : List (ℕ × List ℕ)} (next : List (ℕ × List ℕ)) (needed label number n : ℕ)
+    → IsAdded waiting next needed label → Contains (labels_under waiting number) n
+    → Contains (labels_under next number) n
 added_there {waiting = waiting} next needed label number n added there = elim (cases_eq number needed) [
   | inl is ↦
       subst (λ (k : ℕ). Contains (labels_under next k) n) (sym is)
-      (subst (λ ls. Contains ls n) (sym added.added) (Contains-append_left (labels_under waiting needed) (label ∷ []) n (subst (λ (k : ℕ). Contains (labels_under waiting k) n) is there)))
+      (subst (λ ls. Contains ls n) (sym added.added) (Contains-append_left (labels_under waiting needed) (label ∷ []) n
+      (subst (λ (k : ℕ). Contains (labels_under waiting k) n) is there)))
   | inr other ↦ subst (λ ls. Contains ls n) (sym (added.others number other)) there
 ]
 
-from_added : {waiting : List (ℕ × List ℕ)} (next : List (ℕ × List ℕ)) (needed label number n : ℕ) → IsAdded waiting next needed label → Contains (labels_under next number) n → Contains (labels_under waiting number) n ⊎ ((number ≡ needed) × (label ≡ n))
+from_added : {waiting : List (ℕ × List ℕ)} (next : List (ℕ × List ℕ)) (needed label number n : ℕ)
+    → IsAdded waiting next needed label → Contains (labels_under next number) n
+    → Contains (labels_under waiting number) n ⊎ ((number ≡ needed) × (label ≡ n))
 from_added {waiting = waiting} next needed label number n added there = elim (cases_eq number needed) [
-  | inl is ↦ elim (Contains-push_cases (labels_under waiting needed) label n (subst (λ ls. Contains ls n) added.added (subst (λ (k : ℕ). Contains (labels_under next k) n) is there))) [
-    | inl old ↦ inl (subst (λ (k : ℕ). Contains (labels_under waiting k) n) (sym is) old)
-    | inr it ↦ inr (is, it)
-  ]
+  | inl is ↦
+      elim (Contains-push_cases (labels_under waiting needed) label n
+      (subst (λ ls. Contains ls n) added.added (subst (λ (k : ℕ). Contains (labels_under next k) n) is there))) [
+        | inl old ↦ inl (subst (λ (k : ℕ). Contains (labels_under waiting k) n) (sym is) old)
+        | inr it ↦ inr (is, it)
+      ]
   | inr other ↦ inl (subst (λ ls. Contains ls n) (added.others number other) there)
 ]
 
-module _ {arrivals : List Arrival} {deeds : List (Option Deed)} {records : Records} {state : State} {marks : List Bool} {waiting : List (ℕ × List ℕ)} {had settled : ℕ → Bool} where
+module _ {arrivals : List Arrival} {deeds : List (Option Deed)} {records : Records} {state : State} {marks : List Bool}
+    {waiting : List (ℕ × List ℕ)} {had settled : ℕ → Bool} where
   -- it waits
-  pub held_back : (next : List (ℕ × List ℕ)) (label : ℕ) (deed : Deed) → AreDeedsOf arrivals deeds records → IsListWith state marks waiting arrivals deeds records had settled → deed_at deeds label ≡ Some deed → had label ≡ false
-      → is_marked marks (needed_number arrivals deed) ≡ false → IsAdded waiting next (needed_number arrivals deed) label → IsListWithAfter state marks next arrivals deeds records had settled label 0
+  pub held_back : (next : List (ℕ × List ℕ)) (label : ℕ) (deed : Deed) → AreDeedsOf arrivals deeds records
+      → IsListWith state marks waiting arrivals deeds records had settled → deed_at deeds label ≡ Some deed
+      → had label ≡ false
+      → is_marked marks (needed_number arrivals deed) ≡ false → IsAdded waiting next (needed_number arrivals deed) label
+      → IsListWithAfter state marks next arrivals deeds records had settled label 0
   held_back next label deed stand kept is new missing added =
       let (l, l_in, l_num, l_makes) = stand.makes label deed is in
       let needed = needed_number arrivals deed in
       let had_them = ((what_is_settled_does_not_wait records had settled).0 kept.settles).0 in
-      let settles : IsSettled records (or_label had l.number) settled = settled_labels_stay_settled-waiting records had settled l (update_of arrivals deed) l_in l_makes (ap had l_num ∙ new) kept.settles
+      let settles : IsSettled records (or_label had l.number) settled =
+      settled_labels_stay_settled-waiting records had settled l (update_of arrivals deed) l_in l_makes
+      (ap had l_num ∙ new) kept.settles
       (needed_marked stand kept.there label deed is ∙ missing) in
-      let not_settled : settled label ≡ false = false_from_ne_true (settled label) (λ it. not_both (had label) new (had_them label it)) in
+      let not_settled : settled label ≡ false = false_from_ne_true (settled label)
+      (λ it. not_both (had label) new (had_them label it)) in
       record {
         settled = settled;
         kept = record {
@@ -63,22 +77,33 @@ module _ {arrivals : List Arrival} {deeds : List (Option Deed)} {records : Recor
           there = kept.there;
           waiting_labels = record {
             waits = λ n d d_is had_it fails. elim (passes_or_is had label n had_it) [
-              | inl old ↦ added_there next needed label (needed_number arrivals d) n added (kept.waiting_labels.waits n d d_is old fails)
+              | inl old ↦
+                  added_there next needed label (needed_number arrivals d) n added
+                  (kept.waiting_labels.waits n d d_is old fails)
               | inr it ↦
                   let same : deed ≡ d = same_Some deed d (sym is ∙ sym (ap (deed_at deeds) it) ∙ d_is) in
                   subst (λ (e : Deed). Contains (labels_under next (needed_number arrivals e)) n) same
-                  (subst (λ ls. Contains ls n) (sym added.added) (Contains-append_right (labels_under waiting needed) (label ∷ []) n (at_head label [] n (sym it))))
+                  (subst (λ ls. Contains ls n) (sym added.added)
+                  (Contains-append_right (labels_under waiting needed) (label ∷ []) n (at_head label [] n (sym it))))
             ];
             only = λ number n there. elim (from_added next needed label number n added there) [
               | inl old ↦
                   let (d, d_is, d_needs, was_had, waits) = kept.waiting_labels.only number n old in
                   (d, d_is, d_needs, still_passes had label n was_had, waits)
-              | inr (here, it) ↦ (deed, sym (ap (deed_at deeds) it) ∙ is, sym here, it_passes had label n (sym it), sym (ap settled it) ∙ not_settled)
+              | inr (here, it) ↦ (
+                deed,
+                sym (ap (deed_at deeds) it) ∙ is,
+                sym here,
+                it_passes had label n (sym it),
+                sym (ap settled it)
+                    ∙ not_settled,
+              )
             ];
             once = λ number. elim (cases_eq number needed) [
               | inl here ↦
                   subst (λ (k : ℕ). NoneTwice (labels_under next k)) (sym here)
-                  (subst NoneTwice (sym added.added) (none_twice-append (labels_under waiting needed) (label ∷ []) (kept.waiting_labels.once needed) (none_twice-one label)
+                  (subst NoneTwice (sym added.added) (none_twice-append (labels_under waiting needed) (label ∷ [])
+                  (kept.waiting_labels.once needed) (none_twice-one label)
                   (λ n n_there n_is.
                   let (d, d_is, d_needs, was_had, waits) = kept.waiting_labels.only needed n n_there in
                   elim (head_or_behind label [] n n_is) [
@@ -93,17 +118,25 @@ module _ {arrivals : List Arrival} {deeds : List (Option Deed)} {records : Recor
       }
 
   -- it does what it does, and none waits for what it puts in
-  pub goes_in : (next_state : State) (next_marks : List Bool) (label : ℕ) (deed : Deed) → AreDeedsOf arrivals deeds records → IsListWith state marks waiting arrivals deeds records had settled → deed_at deeds label ≡ Some deed → had label ≡ false
-      → is_marked marks (needed_number arrivals deed) ≡ true → state_after Rga (updates_passing Rga records (or_label settled label)) ≡ Some next_state → AreMarksWith marks next_marks deed
-      → ((number : ℕ) → puts number deed ≡ true → labels_under waiting number ≡ []) → IsListWithAfter next_state next_marks waiting arrivals deeds records had settled label 1
+  pub goes_in : (next_state : State) (next_marks : List Bool) (label : ℕ) (deed : Deed)
+      → AreDeedsOf arrivals deeds records → IsListWith state marks waiting arrivals deeds records had settled
+      → deed_at deeds label ≡ Some deed → had label ≡ false
+      → is_marked marks (needed_number arrivals deed) ≡ true
+      → state_after Rga (updates_passing Rga records (or_label settled label)) ≡ Some next_state
+      → AreMarksWith marks next_marks deed
+      → ((number : ℕ) → puts number deed ≡ true → labels_under waiting number ≡ [])
+      → IsListWithAfter next_state next_marks waiting arrivals deeds records had settled label 1
   goes_in next_state next_marks label deed stand kept is new needs after with_it none_for =
       let (l, l_in, l_num, l_makes) = stand.makes label deed is in
       let (had_them, none, others) = (what_is_settled_does_not_wait records had settled).0 kept.settles in
-      let not_settled : settled label ≡ false = false_from_ne_true (settled label) (λ it. not_both (had label) new (had_them label it)) in
+      let not_settled : settled label ≡ false = false_from_ne_true (settled label)
+      (λ it. not_both (had label) new (had_them label it)) in
       let not_yet : settled l.number ≡ false = ap settled l_num ∙ not_settled in
       let there = there_with stand kept.there label deed is not_settled with_it in
-      let none_waits = one_more_update_is_one_step-none_waits records settled l (update_of arrivals deed) l_in l_makes not_yet none (needed_marked stand kept.there label deed is ∙ needs) in
-      let counted = one_more_label_puts_its_update_in-count Rga records settled l (update_of arrivals deed) l_in l_makes not_yet in
+      let none_waits = one_more_update_is_one_step-none_waits records settled l (update_of arrivals deed) l_in l_makes
+      not_yet none (needed_marked stand kept.there label deed is ∙ needs) in
+      let counted = one_more_label_puts_its_update_in-count Rga records settled l (update_of arrivals deed) l_in l_makes
+      not_yet in
       record {
         settled = or_label settled label;
         kept = record {
@@ -121,13 +154,19 @@ module _ {arrivals : List Arrival} {deeds : List (Option Deed)} {records : Recor
                 ] in
                 let m_waits = not_before settled label m.number m_fails in
                 let old_missing : is_marked marks (needed_number arrivals d) ≡ false =
-                sym (needed_marked stand kept.there m.number d d_is) ∙ ap (λ (u : Update). is_there (needed_by u) (updates_passing Rga records settled)) d_does ∙ others m v m_in m_makes m_was m_waits in
-                let not_put : puts (needed_number arrivals d) deed ≡ false = false_from_ne_true (puts (needed_number arrivals d) deed) (λ it.
-                none_there m.number (subst (λ ls. Contains ls m.number) (none_for (needed_number arrivals d) it) (kept.waiting_labels.waits m.number d d_is m_was m_waits))) in
-                ap (λ (u : Update). is_there (needed_by u) (updates_passing Rga records (or_label settled label))) (sym d_does)
+                sym (needed_marked stand kept.there m.number d d_is)
+                ∙ ap (λ (u : Update). is_there (needed_by u) (updates_passing Rga records settled)) d_does
+                ∙ others m v m_in m_makes m_was m_waits in
+                let not_put : puts (needed_number arrivals d) deed ≡ false =
+                false_from_ne_true (puts (needed_number arrivals d) deed) (λ it.
+                none_there m.number (subst (λ ls. Contains ls m.number) (none_for (needed_number arrivals d) it)
+                (kept.waiting_labels.waits m.number d d_is m_was m_waits))) in
+                ap (λ (u : Update). is_there (needed_by u) (updates_passing Rga records (or_label settled label)))
+                (sym d_does)
                 ∙ needed_marked stand there m.number d d_is
                 ∙ with_it (needed_number arrivals d)
-                ∙ or_from (is_marked marks (needed_number arrivals d)) (puts (needed_number arrivals d) deed) old_missing not_put),
+                ∙ or_from (is_marked marks (needed_number arrivals d)) (puts (needed_number arrivals d) deed)
+                old_missing not_put),
           );
           after = after;
           there = there;
@@ -137,10 +176,17 @@ module _ {arrivals : List Arrival} {deeds : List (Option Deed)} {records : Recor
               | inr it ↦ absurd (not_it settled label n fails it)
             ];
             only = λ number n found.
-                let (d, d_is, d_needs, was_had, waits) = kept.waiting_labels.only number n found in
-                (d, d_is, d_needs, still_passes had label n was_had, others_pass settled label n (λ it. not_both (had n) (ap had it ∙ new) was_had) ∙ waits);
+                let (d, d_is, d_needs, was_had, waits) = kept.waiting_labels.only number n found in (
+                  d,
+                  d_is,
+                  d_needs,
+                  still_passes had label n was_had,
+                  others_pass settled label n
+                      (λ it. not_both (had n) (ap had it ∙ new) was_had) ∙ waits,
+                );
             once = kept.waiting_labels.once;
           };
         };
-        count = subst (λ (k : ℕ). length (updates_passing Rga records (or_label settled k)) ≡ length (updates_passing Rga records settled) + 1) l_num counted;
+        count = subst (λ (k : ℕ). length (updates_passing Rga records (or_label settled k))
+            ≡ length (updates_passing Rga records settled) + 1) l_num counted;
       }

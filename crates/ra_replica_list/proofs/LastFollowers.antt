@@ -58,9 +58,13 @@ puts_at (Some (Removes k)) number is = absurd (false≢true is)
 at_puts : (o : Option Deed) (number : ℕ) → o ≡ Some (PutsIn number) → option_map_or (puts number) o false ≡ true
 at_puts o number is = ap (λ (d : Option Deed). option_map_or (puts number) d false) is ∙ eq-eqb number number refl
 
-module _ {all : ElementList} {deeds : List (Option Deed)} {records : Records} {old_state : State} {old_marks : List Bool} {waiting : List (ℕ × List ℕ)} {had settled : ℕ → Bool} {state : State} {marks : List Bool} {labels : List ℕ} {first : ℕ} where
-  pub all_follow : (left : List (ℕ × List ℕ)) → AreElementsOf all deeds records → IsListWith old_state old_marks waiting all.arrivals deeds records had settled
-      → IsFreeing state marks labels [] all.arrivals deeds records had settled first → ((number : ℕ) → labels_under left number ≡ freed_under deeds labels (labels_under waiting) number)
+module _ {all : ElementList} {deeds : List (Option Deed)} {records : Records} {old_state : State}
+    {old_marks : List Bool} {waiting : List (ℕ × List ℕ)} {had settled : ℕ → Bool} {state : State} {marks : List Bool}
+    {labels : List ℕ} {first : ℕ} where
+  pub all_follow : (left : List (ℕ × List ℕ)) → AreElementsOf all deeds records
+      → IsListWith old_state old_marks waiting all.arrivals deeds records had settled
+      → IsFreeing state marks labels [] all.arrivals deeds records had settled first
+      → ((number : ℕ) → labels_under left number ≡ freed_under deeds labels (labels_under waiting) number)
       → IsListWithAfter state marks left all.arrivals deeds records had settled first (length labels)
   all_follow left stands kept free says =
       let stand = deeds_stand stands in
@@ -69,16 +73,21 @@ module _ {all : ElementList} {deeds : List (Option Deed)} {records : Records} {o
         | inl it ↦ it
         | inr found ↦ absurd (none_there first found)
       ] in
-      let not_first : (n : ℕ) → passes n ≡ false → ¬ (n ≡ first) = λ n fails it. not_both (passes n) fails (ap passes it ∙ first_passes) in
-      let was_had : (n : ℕ) → or_label had first n ≡ true → passes n ≡ false → had n ≡ true = λ n had_it fails. sym (others_pass had first n (not_first n fails)) ∙ had_it in
-      let missing : (n : ℕ) (d : Deed) → deed_at deeds n ≡ Some d → or_label had first n ≡ true → passes n ≡ false → is_marked marks (needed_number all.arrivals d) ≡ false =
+      let not_first : (n : ℕ) → passes n ≡ false → ¬ (n ≡ first) =
+      λ n fails it. not_both (passes n) fails (ap passes it ∙ first_passes) in
+      let was_had : (n : ℕ) → or_label had first n ≡ true → passes n ≡ false → had n ≡ true =
+      λ n had_it fails. sym (others_pass had first n (not_first n fails)) ∙ had_it in
+      let missing : (n : ℕ) (d : Deed) → deed_at deeds n ≡ Some d → or_label had first n ≡ true → passes n
+      ≡ false → is_marked marks (needed_number all.arrivals d) ≡ false =
       λ n d d_is had_it fails. elim (free.others n d d_is (was_had n had_it fails) fails) [
         | inl it ↦ it
         | inr found ↦ absurd (none_there n found)
       ] in
-      let waited : (n : ℕ) → passes n ≡ false → settled n ≡ false = λ n fails. false_from_ne_true (settled n) (λ it. not_both (passes n) fails (free.older n it)) in
+      let waited : (n : ℕ) → passes n ≡ false → settled n ≡ false =
+      λ n fails. false_from_ne_true (settled n) (λ it. not_both (passes n) fails (free.older n it)) in
       let freed : (number : ℕ) → is_put_by deeds labels number ≡ true → is_marked marks number ≡ true = λ number is.
-      let (m, found, puts_it) = one_passes (λ label. option_map_or (puts number) (deed_at deeds label) false) labels is in
+      let (m, found, puts_it) = one_passes (λ label. option_map_or (puts number) (deed_at deeds label) false) labels
+      is in
       marked_label stand free.there m number (puts_at (deed_at deeds m) number puts_it) ∙ free.gone m found in
       record {
         settled = passes;
@@ -88,40 +97,61 @@ module _ {all : ElementList} {deeds : List (Option Deed)} {records : Records} {o
             free.none_waits,
             (λ l u l_in makes had_it fails.
                 let (d, d_is, d_does) = stand.made l u l_in makes in
-                ap (λ (v : Update). is_there (needed_by v) (updates_passing Rga records passes)) (sym d_does) ∙ needed_marked stand free.there l.number d d_is ∙ missing l.number d d_is had_it fails),
+                ap (λ (v : Update). is_there (needed_by v) (updates_passing Rga records passes)) (sym d_does)
+                ∙ needed_marked stand free.there l.number d d_is ∙ missing l.number d d_is had_it fails),
           );
           after = free.after;
           there = free.there;
           waiting_labels = record {
             waits = λ n d d_is had_it fails.
                 let number = needed_number all.arrivals d in
-                let not_freed : is_put_by deeds labels number ≡ false = false_from_ne_true (is_put_by deeds labels number) (λ is. not_both (is_marked marks number) (missing n d d_is had_it fails) (freed number is)) in
-                subst (λ ls. Contains ls n) (sym (says number ∙ cond-false (is_put_by deeds labels number) [] (labels_under waiting number) not_freed))
+                let not_freed : is_put_by deeds labels number ≡ false =
+                false_from_ne_true (is_put_by deeds labels number)
+                (λ is. not_both (is_marked marks number) (missing n d d_is had_it fails) (freed number is)) in
+                subst (λ ls. Contains ls n)
+                (sym (says number ∙ cond-false (is_put_by deeds labels number) [] (labels_under waiting number)
+                not_freed))
                 (kept.waiting_labels.waits n d d_is (was_had n had_it fails) (waited n fails));
             only = λ number n found. elim (cases_Bool (is_put_by deeds labels number)) [
-              | inl is ↦ absurd (none_there n (subst (λ ls. Contains ls n) (says number ∙ cond-true (is_put_by deeds labels number) [] (labels_under waiting number) is) found))
+              | inl is ↦
+                  absurd (none_there n (subst (λ ls. Contains ls n)
+                  (says number ∙ cond-true (is_put_by deeds labels number) [] (labels_under waiting number) is) found))
               | inr not ↦
-                  let (d, d_is, d_needs, n_had, n_waits) = kept.waiting_labels.only number n (subst (λ ls. Contains ls n) (says number ∙ cond-false (is_put_by deeds labels number) [] (labels_under waiting number) not) found) in
+                  let (d, d_is, d_needs, n_had, n_waits) = kept.waiting_labels.only number n
+                  (subst (λ ls. Contains ls n) (says number ∙ cond-false (is_put_by deeds labels number) []
+                  (labels_under waiting number) not) found) in
                   let old_missing : is_marked old_marks number ≡ false =
-                  ap (is_marked old_marks) (sym d_needs) ∙ unmarked had stand kept.there ((what_is_settled_does_not_wait records had settled).0 kept.settles).2 n d d_is n_had n_waits in
+                  ap (is_marked old_marks) (sym d_needs) ∙ unmarked had stand kept.there
+                  ((what_is_settled_does_not_wait records had settled).0 kept.settles).2 n d d_is n_had n_waits in
                   let not_root : 0 < number = elim (cases_eq number 0) [
-                    | inl it ↦ absurd (not_both (is_marked old_marks number) old_missing (ap (is_marked old_marks) it ∙ root_marked stands kept.there))
+                    | inl it ↦
+                        absurd (not_both (is_marked old_marks number) old_missing
+                        (ap (is_marked old_marks) it ∙ root_marked stands kept.there))
                     | inr other ↦ omega (arith, other)
                   ] in
-                  let known : number < length all.arrivals = subst (λ (k : ℕ). k < length all.arrivals) d_needs (needed_known stand n d d_is) in
+                  let known : number < length all.arrivals = subst (λ (k : ℕ). k < length all.arrivals) d_needs
+                  (needed_known stand n d d_is) in
                   let (m, m_is) = stands.came number not_root known in
                   let not_yet : passes n ≡ false = false_from_ne_true (passes n) (λ passes_it.
-                  let m_passes : passes m ≡ true = sym (marked_label stand free.there m number m_is) ∙ ap (is_marked marks) (sym d_needs) ∙ marked stand free.there free.none_waits n d d_is passes_it in
+                  let m_passes : passes m ≡ true = sym (marked_label stand free.there m number m_is)
+                  ∙ ap (is_marked marks) (sym d_needs) ∙ marked stand free.there free.none_waits n d d_is passes_it in
                   elim (free.only m m_passes) [
-                    | inl m_settled ↦ not_both (is_marked old_marks number) old_missing (marked_label stand kept.there m number m_is ∙ m_settled)
+                    | inl m_settled ↦
+                        not_both (is_marked old_marks number) old_missing
+                        (marked_label stand kept.there m number m_is ∙ m_settled)
                     | inr m_found ↦ not_both (is_put_by deeds labels number) not
-                        (passes_one (λ label. option_map_or (puts number) (deed_at deeds label) false) labels m m_found (at_puts (deed_at deeds m) number m_is))
+                        (passes_one (λ label. option_map_or (puts number) (deed_at deeds label) false) labels m m_found
+                        (at_puts (deed_at deeds m) number m_is))
                   ]) in
                   (d, d_is, d_needs, still_passes had first n n_had, not_yet)
             ];
             once = λ number. elim (cases_Bool (is_put_by deeds labels number)) [
-              | inl is ↦ subst NoneTwice (sym (says number ∙ cond-true (is_put_by deeds labels number) [] (labels_under waiting number) is)) tt
-              | inr not ↦ subst NoneTwice (sym (says number ∙ cond-false (is_put_by deeds labels number) [] (labels_under waiting number) not)) (kept.waiting_labels.once number)
+              | inl is ↦
+                  subst NoneTwice (sym (says number ∙ cond-true (is_put_by deeds labels number) []
+                  (labels_under waiting number) is)) tt
+              | inr not ↦
+                  subst NoneTwice (sym (says number ∙ cond-false (is_put_by deeds labels number) []
+                  (labels_under waiting number) not)) (kept.waiting_labels.once number)
             ];
           };
         };
@@ -129,17 +159,20 @@ module _ {all : ElementList} {deeds : List (Option Deed)} {records : Records} {o
       }
 
 -- there are no more updates than labels
-one_act : (b : Bool) (label : Label) (half : Half) (act : Act) → length (updates_of (cond b (part_of label (half, act) ∷ []) [])) ≤ 1
+one_act : (b : Bool) (label : Label) (half : Half) (act : Act)
+    → length (updates_of (cond b (part_of label (half, act) ∷ []) [])) ≤ 1
 one_act true label half (Does u) = omega arith
 one_act true label half (Asks q) = omega arith
 one_act false label half act = omega arith
 
 two_acts : (b : Bool) (label : Label) (half other : Half) (u : Update) (q : Query)
-    → length (updates_of (cond b (part_of label (half, Asks q) ∷ cond b (part_of label (other, Does u) ∷ []) []) (cond b (part_of label (other, Does u) ∷ []) []))) ≤ 1
+    → length (updates_of (cond b (part_of label (half, Asks q) ∷ cond b (part_of label (other, Does u) ∷ []) [])
+    (cond b (part_of label (other, Does u) ∷ []) []))) ≤ 1
 two_acts true label half other u q = omega arith
 two_acts false label half other u q = omega arith
 
-few_acts : (passes : ℕ → Bool) (label : Label) (o : Op) → length (updates_of (filter (λ (p : Part). passes p.label.number) (map (part_of label) (acts_of o)))) ≤ 1
+few_acts : (passes : ℕ → Bool) (label : Label) (o : Op)
+    → length (updates_of (filter (λ (p : Part). passes p.label.number) (map (part_of label) (acts_of o)))) ≤ 1
 few_acts passes label op.Inc = one_act (passes label.number) label _ _
 few_acts passes label op.Dec = one_act (passes label.number) label _ _
 few_acts passes label (op.Count v) = one_act (passes label.number) label _ _
@@ -162,11 +195,20 @@ few_updates passes (label ∷ labels) =
     let own = updates_of (filter test (parts_of label)) in
     let split : updates_among passes (label ∷ labels) ≡ own ++ updates_among passes labels =
     ap updates_of (filter-append test (parts_of label) (flat_map parts_of labels))
-    ∙ filter_map-append (λ (p : Part). act_update p.act) (filter test (parts_of label)) (filter test (flat_map parts_of labels)) in
-    omega (arith, few_acts passes label label.op, few_updates passes labels, ap length split, length-append own (updates_among passes labels))
+    ∙ filter_map-append (λ (p : Part). act_update p.act) (filter test (parts_of label))
+    (filter test (flat_map parts_of labels)) in
+    omega (
+      arith,
+      few_acts passes label label.op,
+      few_updates passes labels,
+      ap length split,
+      length-append own
+          (updates_among passes labels),
+    )
 
 -- so no more labels follow than there are
-pub not_many : {all : ElementList} {deeds : List (Option Deed)} {records : Records} {state : State} {marks : List Bool} {labels ready : List ℕ} {had settled : ℕ → Bool} {first : ℕ} → AreElementsOf all deeds records
+pub not_many : {all : ElementList} {deeds : List (Option Deed)} {records : Records} {state : State} {marks : List Bool}
+    {labels ready : List ℕ} {had settled : ℕ → Bool} {first : ℕ} → AreElementsOf all deeds records
     → IsFreeing state marks labels ready all.arrivals deeds records had settled first → length labels ≤ length deeds
 not_many {records = records} stand free = omega (
   arith,

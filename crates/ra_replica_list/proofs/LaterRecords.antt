@@ -1,10 +1,10 @@
 -- What later labels, deliveries and joins leave of the list of a replica.
 use Rattle.std.proofs.Common.{◌≡◌, ℕ, Bool, true, false, List, [], ◌∷◌, ◌++◌, length, Option, Some, None, refl, sym, ap}
 use Rattle.ra_labels.specs.declared.kind.Kind.TheVariants.{Rga}
-use Rattle.ra_labels.specs.declared.operation.Op.{Op}
 use Rattle.ra_labels.specs.declared.operation.Update.TheVariants.{After}
-use Rattle.ra_labels.specs.declared.command.Command.TheVariants.{Operate, Deliver, Join}
+use Rattle.ra_labels.specs.declared.command.Command.TheVariants.{Deliver, Join}
 use Rattle.ra_labels.specs.Records.{Records, label_count, replica_count}
+use Rattle.ra_labels.specs.Situation.{Next, operate}
 use Rattle.ra_labels.specs.Visibility.{is_update, had}
 use Rattle.ra_labels.specs.Linearization.{updates_admitted}
 use Rattle.ra_labels.specs.NamedOrder.{named_sequence}
@@ -23,52 +23,68 @@ use Rattle.ra_replica_list.proofs.NewMarks.{not_had, had_by_other, had_no_query,
 use Rattle.ra_replica_list.proofs.NewDeeds.{needed_same, first_same, longer_by_one}
 
 -- with a label that was not had: it puts in an element, or does something else
-module _ {list : ReplicaList} {all : ElementList} {deeds : List (Option Deed)} {records : Records} (by : ℕ) (op : Op) (clock : Option ℕ) {test : ℕ → Bool} where
-  pub known_insertion : (new : Arrival) (d : Option Deed) (more : ℕ → Bool) → AreElementsOf all deeds records → IsListBy list all.arrivals deeds records test → test (label_count records) ≡ false
-      → Makes op (After (element_at all.arrivals new.anchor) new.element) → updates_admitted Rga (named_sequence Rga (Operate by op clock ∷ records)) ≡ true → ((n : ℕ) → test n ≡ more n)
-      → IsListBy list (all.arrivals ++ new ∷ []) (deeds ++ d ∷ []) (Operate by op clock ∷ records) more
+module _ {list : ReplicaList} {all : ElementList} {deeds : List (Option Deed)} {records : Records} (next : Next)
+    {test : ℕ → Bool} where
+  pub known_insertion : (new : Arrival) (d : Option Deed) (more : ℕ → Bool) → AreElementsOf all deeds records
+      → IsListBy list all.arrivals deeds records test → test (label_count records) ≡ false
+      → Makes next.op (After (element_at all.arrivals new.anchor) new.element)
+      → updates_admitted Rga (named_sequence Rga (operate next ∷ records)) ≡ true → ((n : ℕ) → test n ≡ more n)
+      → IsListBy list (all.arrivals ++ new ∷ []) (deeds ++ d ∷ []) (operate next ∷ records) more
   known_insertion new d more stand held fresh makes admitted same = record {
     settled = held.settled;
-    kept = kept_alike more same (kept_known (all.arrivals ++ new ∷ []) d by op clock held.kept fresh stand.count
-        (longer_by_one all.arrivals new by op clock (element_at all.arrivals new.anchor) admitted makes (not_settled held.kept (label_count records) fresh))
+    kept = kept_alike more same (kept_known (all.arrivals ++ new ∷ []) d next held.kept fresh stand.count
+        (longer_by_one all.arrivals new next (element_at all.arrivals new.anchor) admitted makes
+        (not_settled held.kept (label_count records) fresh))
         (needed_same (all.arrivals ++ new ∷ []) (deeds_stand stand) (first_same all.arrivals new)));
-    greatest = greatest_alike more same (greatest_known by op clock held.greatest fresh);
+    greatest = greatest_alike more same (greatest_known next held.greatest fresh);
   }
 
-  unfoldable pub known_other : (d : Option Deed) (more : ℕ → Bool) → AreElementsOf all deeds records → IsListBy list all.arrivals deeds records test → test (label_count records) ≡ false → ((n : ℕ) → test n ≡ more n)
-      → IsListBy list all.arrivals (deeds ++ d ∷ []) (Operate by op clock ∷ records) more
+  unfoldable pub known_other : (d : Option Deed) (more : ℕ → Bool) → AreElementsOf all deeds records
+      → IsListBy list all.arrivals deeds records test → test (label_count records) ≡ false → ((n : ℕ) → test n ≡ more n)
+      → IsListBy list all.arrivals (deeds ++ d ∷ []) (operate next ∷ records) more
   known_other d more stand held fresh same = record {
     settled = held.settled;
-    kept = kept_alike more same (kept_known all.arrivals d by op clock held.kept fresh stand.count
-        (none_longer all.arrivals (Operate by op clock ∷ records) held.settled) (λ n deed is. refl));
-    greatest = greatest_alike more same (greatest_known by op clock held.greatest fresh);
+    kept = kept_alike more same (kept_known all.arrivals d next held.kept fresh stand.count
+        (none_longer all.arrivals (operate next ∷ records) held.settled) (λ n deed is. refl));
+    greatest = greatest_alike more same (greatest_known next held.greatest fresh);
   }
 
-pub insertion-stays : (list : ReplicaList) (all : ElementList) (new : Arrival) (deeds : List (Option Deed)) (records : Records) (replica by : ℕ) (op : Op) (clock : Option ℕ) → AreElementsOf all deeds records → IsListOf list all.arrivals deeds records replica
-    → ¬ (by ≡ replica) → Makes op (After (element_at all.arrivals new.anchor) new.element) → updates_admitted Rga (named_sequence Rga (Operate by op clock ∷ records)) ≡ true
-    → IsListOf list (all.arrivals ++ new ∷ []) (deeds ++ Some (PutsIn (length all.arrivals)) ∷ []) (Operate by op clock ∷ records) replica
-insertion-stays list all new deeds records replica by op clock stand held other makes admitted =
-    known_insertion by op clock new (Some (PutsIn (length all.arrivals))) (had (Operate by op clock ∷ records) replica) stand held (not_had records replica) makes admitted (had_by_other records by op clock replica other)
+pub insertion-stays : (list : ReplicaList) (all : ElementList) (new : Arrival) (deeds : List (Option Deed))
+    (records : Records) (replica : ℕ) (next : Next) → AreElementsOf all deeds records
+    → IsListOf list all.arrivals deeds records replica
+    → ¬ (next.by ≡ replica) → Makes next.op (After (element_at all.arrivals new.anchor) new.element)
+    → updates_admitted Rga (named_sequence Rga (operate next ∷ records)) ≡ true
+    → IsListOf list (all.arrivals ++ new ∷ []) (deeds ++ Some (PutsIn (length all.arrivals)) ∷ [])
+    (operate next ∷ records) replica
+insertion-stays list all new deeds records replica next stand held other makes admitted =
+    known_insertion next new (Some (PutsIn (length all.arrivals))) (had (operate next ∷ records) replica) stand held
+    (not_had records replica) makes admitted (had_by_other records next replica other)
 
-pub removal-stays : (list : ReplicaList) (all : ElementList) (deeds : List (Option Deed)) (records : Records) (replica by number : ℕ) (op : Op) (clock : Option ℕ) → AreElementsOf all deeds records → IsListOf list all.arrivals deeds records replica
-    → ¬ (by ≡ replica) → IsListOf list all.arrivals (deeds ++ Some (Removes number) ∷ []) (Operate by op clock ∷ records) replica
-removal-stays list all deeds records replica by number op clock stand held other =
-    known_other by op clock (Some (Removes number)) (had (Operate by op clock ∷ records) replica) stand held (not_had records replica) (had_by_other records by op clock replica other)
+pub removal-stays : (list : ReplicaList) (all : ElementList) (deeds : List (Option Deed)) (records : Records)
+    (replica number : ℕ) (next : Next) → AreElementsOf all deeds records
+    → IsListOf list all.arrivals deeds records replica
+    → ¬ (next.by ≡ replica) → IsListOf list all.arrivals (deeds ++ Some (Removes number) ∷ []) (operate next ∷ records)
+    replica
+removal-stays list all deeds records replica number next stand held other =
+    known_other next (Some (Removes number)) (had (operate next ∷ records) replica) stand held (not_had records replica)
+    (had_by_other records next replica other)
 
 pub query-stays : (list : ReplicaList) (all : ElementList) (deeds : List (Option Deed)) (records : Records)
-    (replica by : ℕ) (op : Op) (clock : Option ℕ) → AreElementsOf all deeds records
-    → (was : IsListOf list all.arrivals deeds records replica) → is_update op ≡ false
-    → (is : IsListOf list all.arrivals (deeds ++ None ∷ []) (Operate by op clock ∷ records) replica)
+    (replica : ℕ) (next : Next) → AreElementsOf all deeds records
+    → (was : IsListOf list all.arrivals deeds records replica) → is_update next.op ≡ false
+    → (is : IsListOf list all.arrivals (deeds ++ None ∷ []) (operate next ∷ records) replica)
     × (settled_count is ≡ settled_count was)
 unfolding known_other
-query-stays list all deeds records replica by op clock stand held query = (
-  known_other by op clock None (had (Operate by op clock ∷ records) replica) stand held (not_had records replica)
-      (had_no_query records by op clock replica query),
-  ap length (a_later_command_leaves_the_updates_that_pass-operation Rga records by op clock held.settled
+query-stays list all deeds records replica next stand held query = (
+  known_other next None (had (operate next ∷ records) replica) stand held (not_had records replica)
+      (had_no_query records next replica query),
+  ap length (a_later_command_leaves_the_updates_that_pass-operation Rga records next.by next.op next.clock held.settled
       (not_settled held.kept (label_count records) (not_had records replica))),
 )
 
-pub delivery-stays : (list : ReplicaList) (all : ElementList) (deeds : List (Option Deed)) (records : Records) (replica to n : ℕ) → AreElementsOf all deeds records → IsListOf list all.arrivals deeds records replica → ¬ (to ≡ replica)
+pub delivery-stays : (list : ReplicaList) (all : ElementList) (deeds : List (Option Deed)) (records : Records)
+    (replica to n : ℕ) → AreElementsOf all deeds records → IsListOf list all.arrivals deeds records replica
+    → ¬ (to ≡ replica)
     → IsListOf list all.arrivals deeds (Deliver to n ∷ records) replica
 delivery-stays list all deeds records replica to n stand held other =
     let same = had_to_other records to n replica other in
@@ -79,7 +95,8 @@ delivery-stays list all deeds records replica to n stand held other =
     }
 
 -- a replica that joins leaves the list of what the same labels were had
-joined_alike : (list : ReplicaList) (arrivals : List Arrival) (deeds : List (Option Deed)) (records : Records) (joined from : ℕ) (was now : ℕ → Bool) → ((n : ℕ) → was n ≡ now n) → IsListBy list arrivals deeds records was
+joined_alike : (list : ReplicaList) (arrivals : List Arrival) (deeds : List (Option Deed)) (records : Records)
+    (joined from : ℕ) (was now : ℕ → Bool) → ((n : ℕ) → was n ≡ now n) → IsListBy list arrivals deeds records was
     → IsListBy list arrivals deeds (Join joined from ∷ records) now
 joined_alike list arrivals deeds records joined from was now same held = record {
   settled = held.settled;
@@ -87,13 +104,16 @@ joined_alike list arrivals deeds records joined from was now same held = record 
   greatest = greatest_alike now same (greatest_joined joined from held.greatest);
 }
 
-pub join-stays : (list : ReplicaList) (arrivals : List Arrival) (deeds : List (Option Deed)) (records : Records) (replica joined from : ℕ) → IsListOf list arrivals deeds records replica → ¬ (joined ≡ replica)
+pub join-stays : (list : ReplicaList) (arrivals : List Arrival) (deeds : List (Option Deed)) (records : Records)
+    (replica joined from : ℕ) → IsListOf list arrivals deeds records replica → ¬ (joined ≡ replica)
     → IsListOf list arrivals deeds (Join joined from ∷ records) replica
 join-stays list arrivals deeds records replica joined from held other =
-    joined_alike list arrivals deeds records joined from (had records replica) (had (Join joined from ∷ records) replica) (had_by_new records joined from replica other) held
+    joined_alike list arrivals deeds records joined from (had records replica)
+    (had (Join joined from ∷ records) replica) (had_by_new records joined from replica other) held
 
 -- and it has the list of the other one
-pub join-copied : (list : ReplicaList) (arrivals : List Arrival) (deeds : List (Option Deed)) (first : ℕ) (records : Records) (from : ℕ) → NoneHadBeyond first records → IsListOf list arrivals deeds records from
+pub join-copied : (list : ReplicaList) (arrivals : List Arrival) (deeds : List (Option Deed)) (first : ℕ)
+    (records : Records) (from : ℕ) → NoneHadBeyond first records → IsListOf list arrivals deeds records from
     → let joined = replica_count first records in IsListOf list arrivals deeds (Join joined from ∷ records) joined
 join-copied list arrivals deeds first records from beyond held =
     let joined = replica_count first records in

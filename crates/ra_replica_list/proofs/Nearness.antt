@@ -28,9 +28,12 @@ use Rattle.ra_replica_list.specs.ReplicaList.{AreThere, IsGreatestOf}
 use Rattle.ra_replica_list.proofs.Deeds.{all_admitted, deeds_stand, needed_marked}
 
 -- a test that each passes
-all_pass : (p : ℕ × Bool → Bool) (xs : List (ℕ × Bool)) → ((x : ℕ × Bool) → Contains xs x → p x ≡ true) → list_all p xs ≡ true
+all_pass : (p : ℕ × Bool → Bool) (xs : List (ℕ × Bool)) → ((x : ℕ × Bool) → Contains xs x → p x ≡ true)
+    → list_all p xs ≡ true
 all_pass p [] each = refl
-all_pass p (x ∷ xs) each = and_from (p x) (list_all p xs) (each x (at_head x xs x refl)) (all_pass p xs (λ y found. each y (behind_head x xs y found)))
+all_pass p (x ∷ xs) each =
+    and_from (p x) (list_all p xs) (each x (at_head x xs x refl))
+    (all_pass p xs (λ y found. each y (behind_head x xs y found)))
 
 in_elements : (xs : List (ℕ × Bool)) (x : ℕ × Bool) → Contains xs x → Contains (elements_in xs) x.0
 in_elements [] x found = absurd (none_there x found)
@@ -43,30 +46,41 @@ in_elements (y ∷ xs) x found = elim (head_or_behind y xs x found) [
 first_is_once : (e : ℕ) (es rest : List ℕ) → NoneTwice (e ∷ es) → e ∷ es ≡ 0 ∷ rest → ¬ Contains es 0
 first_is_once e es rest once is found = let root : e ≡ 0 = cc in once.0 (subst (Contains es) (sym root) found)
 
-root_not_between : (before between behind rest : List ℕ) (p x : ℕ) → NoneTwice ((before ++ p ∷ between) ++ x ∷ behind) → (before ++ p ∷ between) ++ x ∷ behind ≡ 0 ∷ rest → ¬ Contains between 0
-root_not_between [] between behind rest p x once is found = first_is_once p (between ++ x ∷ behind) rest once is (Contains-append_left between (x ∷ behind) 0 found)
+root_not_between : (before between behind rest : List ℕ) (p x : ℕ) → NoneTwice ((before ++ p ∷ between) ++ x ∷ behind)
+    → (before ++ p ∷ between) ++ x ∷ behind ≡ 0 ∷ rest → ¬ Contains between 0
+root_not_between [] between behind rest p x once is found =
+    first_is_once p (between ++ x ∷ behind) rest once is (Contains-append_left between (x ∷ behind) 0 found)
 root_not_between (b ∷ before) between behind rest p x once is found =
     first_is_once b ((before ++ p ∷ between) ++ x ∷ behind) rest once is
-    (Contains-append_left (before ++ p ∷ between) (x ∷ behind) 0 (Contains-append_right before (p ∷ between) 0 (behind_head p between 0 found)))
+    (Contains-append_left (before ++ p ∷ between) (x ∷ behind) 0
+    (Contains-append_right before (p ∷ between) 0 (behind_head p between 0 found)))
 
-elements_round : (before between behind : List (ℕ × Bool)) (p x : ℕ × Bool) → elements_in ((before ++ p ∷ between) ++ x ∷ behind) ≡ (elements_in before ++ p.0 ∷ elements_in between) ++ x.0 ∷ elements_in behind
+elements_round : (before between behind : List (ℕ × Bool)) (p x : ℕ × Bool)
+    → elements_in ((before ++ p ∷ between) ++ x ∷ behind)
+    ≡ (elements_in before ++ p.0 ∷ elements_in between) ++ x.0 ∷ elements_in behind
 elements_round before between behind p x =
     map-append (λ (e : ℕ × Bool). e.0) (before ++ p ∷ between) (x ∷ behind)
     ∙ ap (λ es. es ++ x.0 ∷ elements_in behind) (map-append (λ (e : ℕ × Bool). e.0) before (p ∷ between))
 
 -- the deed of a label that puts an element in
-puts_a_deed : (d : Deed) → (all : ElementList) (anchor y : ℕ) → update_of all.arrivals d ≡ After anchor y → (k : ℕ) × (d ≡ PutsIn k)
+puts_a_deed : (d : Deed) → (all : ElementList) (anchor y : ℕ) → update_of all.arrivals d ≡ After anchor y
+    → (k : ℕ) × (d ≡ PutsIn k)
 puts_a_deed (PutsIn k) all anchor y is = (k, refl)
 puts_a_deed (Removes k) all anchor y is = absurd (cc (is))
 
-module _ {all : ElementList} {deeds : List (Option Deed)} {records : Records} {marks : List Bool} {settled had : ℕ → Bool} {greatest : Stamp} where
+module _ {all : ElementList} {deeds : List (Option Deed)} {records : Records} {marks : List Bool}
+    {settled had : ℕ → Bool} {greatest : Stamp} where
   -- where the element's stamp is above all that were had, nothing that is there stands between its anchor and it
-  pub newest_is_nearest : AreElementsOf all deeds records → AreThere marks all.arrivals records settled → ((n : ℕ) → settled n ≡ true → had n ≡ true) → IsGreatestOf records had greatest
-      → (label number : ℕ) (list : List (ℕ × Bool)) → deed_at deeds label ≡ Some (PutsIn number) → is_marked marks (arrival_at all.arrivals number).anchor ≡ true
+  pub newest_is_nearest : AreElementsOf all deeds records → AreThere marks all.arrivals records settled
+      → ((n : ℕ) → settled n ≡ true → had n ≡ true) → IsGreatestOf records had greatest
+      → (label number : ℕ) (list : List (ℕ × Bool)) → deed_at deeds label ≡ Some (PutsIn number)
+      → is_marked marks (arrival_at all.arrivals number).anchor ≡ true
       → IsStampBelow greatest (arrival_at all.arrivals number).stamp
       → state_after Rga (updates_of (named_sequence Rga records)) ≡ Some (Listed list)
-      → IsSomewhereBehind list (element_at all.arrivals number) (element_at all.arrivals (arrival_at all.arrivals number).anchor)
-      → IsNearestBefore (λ x. is_there x (updates_passing Rga records settled)) list (element_at all.arrivals number) (element_at all.arrivals (arrival_at all.arrivals number).anchor)
+      → IsSomewhereBehind list (element_at all.arrivals number)
+      (element_at all.arrivals (arrival_at all.arrivals number).anchor)
+      → IsNearestBefore (λ x. is_there x (updates_passing Rga records settled)) list (element_at all.arrivals number)
+      (element_at all.arrivals (arrival_at all.arrivals number).anchor)
   newest_is_nearest stands there had_them top label number list is needs above led somewhere =
       let stand = deeds_stand stands in
       let (l, l_in, l_num, l_makes) = stand.makes label (PutsIn number) is in
@@ -77,14 +91,18 @@ module _ {all : ElementList} {deeds : List (Option Deed)} {records : Records} {m
       let (before, between, behind, is_shown, was_shown, pieces) = somewhere in
       let all_led = led ∙ ap (λ ls. Some (Listed ls)) pieces in
       let l_stamp : l.stamp ≡ Some stamp = stands.stamp l number l_in (ap (deed_at deeds) l_num ∙ is) in
-      let none_between : (entry : ℕ × Bool) → Contains between entry → is_there entry.0 updates ≡ false = λ entry found. false_from_ne_true (is_there entry.0 updates) (λ it.
+      let none_between : (entry : ℕ × Bool) → Contains between entry → is_there entry.0 updates ≡ false =
+      λ entry found. false_from_ne_true (is_there entry.0 updates) (λ it.
       let y_found = in_elements between entry found in
       elim (put_in_by_had entry.0 it) [
         | inl root ↦
-            let (rest, starts) = a_list_has_what_was_put_in-root (updates_of (named_sequence Rga records)) ((before ++ (anchor, is_shown) ∷ between) ++ (x, was_shown) ∷ behind) all_led in
-            let once = a_list_has_what_was_put_in-once (updates_of (named_sequence Rga records)) ((before ++ (anchor, is_shown) ∷ between) ++ (x, was_shown) ∷ behind) all_led in
+            let (rest, starts) = a_list_has_what_was_put_in-root (updates_of (named_sequence Rga records))
+            ((before ++ (anchor, is_shown) ∷ between) ++ (x, was_shown) ∷ behind) all_led in
+            let once = a_list_has_what_was_put_in-once (updates_of (named_sequence Rga records))
+            ((before ++ (anchor, is_shown) ∷ between) ++ (x, was_shown) ∷ behind) all_led in
             let round = elements_round before between behind (anchor, is_shown) (x, was_shown) in
-            root_not_between (elements_in before) (elements_in between) (elements_in behind) (elements_in rest) anchor x (subst NoneTwice round once) (sym round ∙ ap elements_in starts)
+            root_not_between (elements_in before) (elements_in between) (elements_in behind) (elements_in rest) anchor x
+            (subst NoneTwice round once) (sym round ∙ ap elements_in starts)
             (subst (Contains (elements_in between)) root y_found)
         | inr (m, b, m_in, m_makes, m_had) ↦
             let (d, d_is, d_does) = stand.made m (After b entry.0) m_in m_makes in
@@ -93,9 +111,12 @@ module _ {all : ElementList} {deeds : List (Option Deed)} {records : Records} {m
             let t = (arrival_at all.arrivals k).stamp in
             let not_above = top.above m t m_in m_had m_stamp in
             let other_stamp : ¬ (stamp ≡ t) = λ same. not_above (subst (IsStampBelow greatest) same above) in
-            let less = between_an_anchor_and_its_element_stand_later_ones records l m anchor x b entry.0 before between behind is_shown was_shown all_led l_in l_makes m_in m_makes y_found in
-            let cmp = labels_with_stamps_stand_in_their_order Rga records l m stamp t (λ e. absurd (cc (e))) (λ e. absurd (cc (e))) l_stamp m_stamp other_stamp in
-            not_above (below_below greatest stamp t above ((stamps_by_clock_and_then_by_replica-less stamp t).0 (sym cmp ∙ less)))
+            let less = between_an_anchor_and_its_element_stand_later_ones records l m anchor x b entry.0 before between
+            behind is_shown was_shown all_led l_in l_makes m_in m_makes y_found in
+            let cmp = labels_with_stamps_stand_in_their_order Rga records l m stamp t (λ e. absurd (cc (e)))
+            (λ e. absurd (cc (e))) l_stamp m_stamp other_stamp in
+            not_above (below_below greatest stamp t above ((stamps_by_clock_and_then_by_replica-less stamp t).0
+            (sym cmp ∙ less)))
       ]) in (
         before,
         between,
@@ -104,21 +125,26 @@ module _ {all : ElementList} {deeds : List (Option Deed)} {records : Records} {m
         was_shown,
         pieces,
         needed_marked stand there label (PutsIn number) is ∙ needs,
-        all_pass (λ (entry : ℕ × Bool). not (is_there entry.0 updates)) between (λ entry found. not_from_false (is_there entry.0 updates) (none_between entry found)),
+        all_pass (λ (entry : ℕ × Bool). not (is_there entry.0 updates)) between
+            (λ entry found. not_from_false (is_there entry.0 updates) (none_between entry found)),
       )
     where
-      put_in_by_had : (y : ℕ) → is_there y (updates_passing Rga records settled) ≡ true → (y ≡ 0) ⊎ ((m : Label) × (b : ℕ) × Contains (labels_of records) m × Makes m.op (After b y) × (had m.number ≡ true))
+      put_in_by_had : (y : ℕ) → is_there y (updates_passing Rga records settled) ≡ true
+          → (y ≡ 0) ⊎ ((m : Label) × (b : ℕ) × Contains (labels_of records) m × Makes m.op (After b y)
+          × (had m.number ≡ true))
       put_in_by_had y it = elim (what_is_there_a_label_put_in-passing settled (named_labels Rga records) y it) [
         | inl root ↦ inl root
         | inr (m, b, m_there, m_makes) ↦
             let m_in = All-contains (Contains (labels_of records)) (named_labels Rga records) m
-            (All-permutation (Contains (labels_of records)) (labels_of records) (named_labels Rga records) (named_labels_are_sorted-same Rga records) (All-contains_itself (labels_of records))) m_there in
+            (All-permutation (Contains (labels_of records)) (labels_of records) (named_labels Rga records)
+            (named_labels_are_sorted-same Rga records) (All-contains_itself (labels_of records))) m_there in
             inr (
               m,
               b,
               m_in,
               m_makes,
               had_them m.number
-                  (sym (an_element_is_there_where_its_label_passes-label records settled m b y (all_admitted stands) m_in m_makes) ∙ it),
+                  (sym (an_element_is_there_where_its_label_passes-label records settled m b y (all_admitted stands)
+                  m_in m_makes) ∙ it),
             )
       ]

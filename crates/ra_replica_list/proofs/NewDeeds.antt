@@ -5,11 +5,10 @@ use Rattle.std.proofs.lemmas.Bool.{cases_lt, cases_eq}
 use Rattle.std.proofs.lemmas.Option.{same_Some}
 use Rattle.std.proofs.lemmas.List.{get_or_append_left, get_or_at, length-append}
 use Rattle.ra_labels.specs.declared.kind.Kind.TheVariants.{Rga}
-use Rattle.ra_labels.specs.declared.operation.Op.{Op}
 use Rattle.ra_labels.specs.declared.operation.Update.TheVariants.{After, RgaRemove}
 use Rattle.ra_labels.specs.declared.label.Label.{Label}
-use Rattle.ra_labels.specs.declared.command.Command.TheVariants.{Operate}
-use Rattle.ra_labels.specs.Records.{Records, label_count, labels_of, next_label}
+use Rattle.ra_labels.specs.Records.{Records, label_count, labels_of}
+use Rattle.ra_labels.specs.Situation.{Next, operate, label_of}
 use Rattle.ra_labels.specs.Linearization.{updates_admitted}
 use Rattle.ra_labels.specs.NamedOrder.{named_sequence}
 use Rattle.ra_labels.specs.Insertion.{updates_passing, Makes}
@@ -25,50 +24,81 @@ use Rattle.ra_replica_list.proofs.NewMarks.{AreLonger, older_deed, still_deed}
 
 -- the first elements are as they were
 abbrev pub AreFirst : List Arrival → List Arrival → Type 0
-AreFirst arrivals next = (number : ℕ) → number < length arrivals → arrival_at next number ≡ arrival_at arrivals number
+AreFirst arrivals later = (number : ℕ) → number < length arrivals → arrival_at later number ≡ arrival_at arrivals number
 
 module _ {arrivals : List Arrival} {deeds : List (Option Deed)} {records : Records} where
-  pub needed_same : (next : List Arrival) → AreDeedsOf arrivals deeds records → AreFirst arrivals next → (n : ℕ) (deed : Deed) → deed_at deeds n ≡ Some deed → needed_number next deed ≡ needed_number arrivals deed
-  needed_same next stand first n (PutsIn k) is = ap (λ (a : Arrival). a.anchor) (first k (stand.known n (PutsIn k) is))
-  needed_same next stand first n (Removes k) is = refl
+  pub needed_same : (later : List Arrival) → AreDeedsOf arrivals deeds records → AreFirst arrivals later
+      → (n : ℕ) (deed : Deed) → deed_at deeds n ≡ Some deed → needed_number later deed ≡ needed_number arrivals deed
+  needed_same later stand first n (PutsIn k) is = ap (λ (a : Arrival). a.anchor) (first k (stand.known n (PutsIn k) is))
+  needed_same later stand first n (Removes k) is = refl
 
-  pub update_same : (next : List Arrival) → AreDeedsOf arrivals deeds records → AreFirst arrivals next → (n : ℕ) (deed : Deed) → deed_at deeds n ≡ Some deed → update_of next deed ≡ update_of arrivals deed
-  update_same next stand first n (PutsIn k) is =
+  pub update_same : (later : List Arrival) → AreDeedsOf arrivals deeds records → AreFirst arrivals later
+      → (n : ℕ) (deed : Deed) → deed_at deeds n ≡ Some deed → update_of later deed ≡ update_of arrivals deed
+  update_same later stand first n (PutsIn k) is =
       let known = stand.known n (PutsIn k) is in
-      λ i. After ((ap (λ (a : Arrival). element_at next a.anchor) (first k known) ∙ ap (λ (a : Arrival). a.element) (first (arrival_at arrivals k).anchor (stand.anchored k known))) i) ((first k known i).element)
-  update_same next stand first n (Removes k) is = ap (λ (a : Arrival). RgaRemove a.element) (first k (stand.known n (Removes k) is))
+      λ i. After ((ap (λ (a : Arrival). element_at later a.anchor) (first k known)
+      ∙ ap (λ (a : Arrival). a.element) (first (arrival_at arrivals k).anchor (stand.anchored k known))) i)
+      ((first k known i).element)
+  update_same later stand first n (Removes k) is =
+      ap (λ (a : Arrival). RgaRemove a.element) (first k (stand.known n (Removes k) is))
 
-  pub grown : (next : List Arrival) (by : ℕ) (op : Op) (clock : Option ℕ) (deed : Deed) → AreDeedsOf arrivals deeds records → length deeds ≡ label_count records
-      → updates_admitted Rga (named_sequence Rga (Operate by op clock ∷ records)) ≡ true → Makes op (update_of next deed) → AreFirst arrivals next → length arrivals ≤ length next → number_of deed < length next
-      → ((number : ℕ) → number < length next → (arrival_at next number).anchor < length next)
-      → ((m n : ℕ) → m < length next → n < length next → element_at next m ≡ element_at next n → m ≡ n)
-      → AreDeedsOf next (deeds ++ Some deed ∷ []) (Operate by op clock ∷ records)
-  grown next by op clock deed stand counted admitted makes first more known anchored once =
-      let label = next_label records by op clock in
+  pub grown : (later : List Arrival) (next : Next) (deed : Deed) → AreDeedsOf arrivals deeds records
+      → length deeds ≡ label_count records
+      → updates_admitted Rga (named_sequence Rga (operate next ∷ records)) ≡ true → Makes next.op (update_of later deed)
+      → AreFirst arrivals later → length arrivals ≤ length later → number_of deed < length later
+      → ((number : ℕ) → number < length later → (arrival_at later number).anchor < length later)
+      → ((m n : ℕ) → m < length later → n < length later → element_at later m ≡ element_at later n → m ≡ n)
+      → AreDeedsOf later (deeds ++ Some deed ∷ []) (operate next ∷ records)
+  grown later next deed stand counted admitted makes first more known anchored once =
+      let label = label_of records next in
       record {
         admitted = admitted;
         made = λ l u l_in l_makes. elim (head_or_behind label (labels_of records) l l_in) [
           | inl here ↦
-              let u_makes : Makes op u = subst (λ (k : Label). Makes k.op u) (sym here) l_makes in
-              (deed, ap (λ (k : Label). deed_at (deeds ++ Some deed ∷ []) k.number) (sym here) ∙ get_or_at deeds (Some deed) [] None (label_count records) counted, an_operation_makes_one_update-one op (update_of next deed) u makes u_makes)
+              let u_makes : Makes next.op u = subst (λ (k : Label). Makes k.op u) (sym here) l_makes in (
+                deed,
+                ap (λ (k : Label). deed_at (deeds ++ Some deed ∷ []) k.number) (sym here)
+                    ∙ get_or_at deeds (Some deed) [] None (label_count records) counted,
+                an_operation_makes_one_update-one
+                    next.op (update_of later deed) u makes u_makes,
+              )
           | inr old ↦
               let (d, d_is, d_does) = stand.made l u old l_makes in
-              (d, still_deed deeds (Some deed) l.number d d_is, update_same next stand first l.number d d_is ∙ d_does)
+              (d, still_deed deeds (Some deed) l.number d d_is, update_same later stand first l.number d d_is ∙ d_does)
         ];
         makes = λ n d is. elim (cases_eq n (label_count records)) [
           | inl here ↦
-              let same : deed ≡ d = same_Some deed d (sym (get_or_at deeds (Some deed) [] None (label_count records) counted) ∙ ap (deed_at (deeds ++ Some deed ∷ [])) (sym here) ∙ is) in
-              (label, at_head label (labels_of records) label refl, sym here, subst (λ (e : Deed). Makes op (update_of next e)) same makes)
+              let same : deed ≡ d =
+              same_Some deed d (sym (get_or_at deeds (Some deed) [] None (label_count records) counted)
+              ∙ ap (deed_at (deeds ++ Some deed ∷ [])) (sym here) ∙ is) in (
+                label,
+                at_head label (labels_of records) label refl,
+                sym here,
+                subst
+                    (λ (e : Deed). Makes next.op (update_of later e)) same makes,
+              )
           | inr other ↦
               let d_is = older_deed deeds (Some deed) (label_count records) n d counted other is in
-              let (l, l_in, l_num, l_makes) = stand.makes n d d_is in
-              (l, behind_head label (labels_of records) l l_in, l_num, subst (Makes l.op) (sym (update_same next stand first n d d_is)) l_makes)
+              let (l, l_in, l_num, l_makes) = stand.makes n d d_is in (
+                l,
+                behind_head label (labels_of records) l l_in,
+                l_num,
+                subst (Makes l.op)
+                    (sym (update_same later stand first n d d_is)) l_makes,
+              )
         ];
         known = λ n d is. elim (cases_eq n (label_count records)) [
           | inl here ↦
-              let same : deed ≡ d = same_Some deed d (sym (get_or_at deeds (Some deed) [] None (label_count records) counted) ∙ ap (deed_at (deeds ++ Some deed ∷ [])) (sym here) ∙ is) in
-              subst (λ (e : Deed). number_of e < length next) same known
-          | inr other ↦ omega (arith, stand.known n d (older_deed deeds (Some deed) (label_count records) n d counted other is), more)
+              let same : deed ≡ d =
+              same_Some deed d (sym (get_or_at deeds (Some deed) [] None (label_count records) counted)
+              ∙ ap (deed_at (deeds ++ Some deed ∷ [])) (sym here) ∙ is) in
+              subst (λ (e : Deed). number_of e < length later) same known
+          | inr other ↦
+              omega (
+                arith,
+                stand.known n d (older_deed deeds (Some deed) (label_count records) n d counted other is),
+                more,
+              )
         ];
         anchored = anchored;
         once = once;
@@ -84,11 +114,13 @@ new_last arrivals new = get_or_at arrivals new [] root (length arrivals) refl
 pub counted_more : (arrivals : List Arrival) (new : Arrival) → length (arrivals ++ new ∷ []) ≡ length arrivals + 1
 counted_more arrivals new = length-append arrivals (new ∷ [])
 
-pub longer_by_one : {records : Records} {settled : ℕ → Bool} (arrivals : List Arrival) (new : Arrival) (by : ℕ) (op : Op) (clock : Option ℕ) (anchor : ℕ) → updates_admitted Rga (named_sequence Rga (Operate by op clock ∷ records)) ≡ true → Makes op (After anchor new.element)
-    → settled (label_count records) ≡ false → AreLonger arrivals (arrivals ++ new ∷ []) (Operate by op clock ∷ records) settled
-longer_by_one {records = records} {settled = settled} arrivals new by op clock anchor admitted makes not_settled =
-    let now = Operate by op clock ∷ records in
-    let label = next_label records by op clock in
+pub longer_by_one : {records : Records} {settled : ℕ → Bool} (arrivals : List Arrival) (new : Arrival) (next : Next)
+    (anchor : ℕ) → updates_admitted Rga (named_sequence Rga (operate next ∷ records)) ≡ true
+    → Makes next.op (After anchor new.element)
+    → settled (label_count records) ≡ false → AreLonger arrivals (arrivals ++ new ∷ []) (operate next ∷ records) settled
+longer_by_one {records = records} {settled = settled} arrivals new next anchor admitted makes not_settled =
+    let now = operate next ∷ records in
+    let label = label_of records next in
     record {
       same = λ number known. ap (λ (a : Arrival). a.element) (first_same arrivals new number known);
       more = omega (arith, counted_more arrivals new);
@@ -96,17 +128,19 @@ longer_by_one {records = records} {settled = settled} arrivals new by op clock a
           let last : number ≡ length arrivals = omega (arith, counted_more arrivals new, beyond, known) in
           ap (λ (n : ℕ). is_there (element_at (arrivals ++ new ∷ []) n) (updates_passing Rga now settled)) last
           ∙ ap (λ (a : Arrival). is_there a.element (updates_passing Rga now settled)) (new_last arrivals new)
-          ∙ an_element_is_there_where_its_label_passes-label now settled label anchor new.element admitted (at_head label (labels_of records) label refl) makes
+          ∙ an_element_is_there_where_its_label_passes-label now settled label anchor new.element admitted
+          (at_head label (labels_of records) label refl) makes
           ∙ not_settled;
     }
 
 -- an element that a new label puts in is none of the others
 module _ {all : ElementList} {deeds : List (Option Deed)} {records : Records} where
-  pub new_element : (by : ℕ) (op : Op) (clock : Option ℕ) (anchor x : ℕ) → AreElementsOf all deeds records → updates_admitted Rga (named_sequence Rga (Operate by op clock ∷ records)) ≡ true → Makes op (After anchor x)
+  pub new_element : (next : Next) (anchor x : ℕ) → AreElementsOf all deeds records
+      → updates_admitted Rga (named_sequence Rga (operate next ∷ records)) ≡ true → Makes next.op (After anchor x)
       → (number : ℕ) → number < length all.arrivals → ¬ (element_at all.arrivals number ≡ x)
-  new_element by op clock anchor x stand admitted makes number known is =
-      let now = Operate by op clock ∷ records in
-      let label = next_label records by op clock in
+  new_element next anchor x stand admitted makes number known is =
+      let now = operate next ∷ records in
+      let label = label_of records next in
       let label_in : Contains (labels_of now) label = at_head label (labels_of records) label refl in
       elim (cases_eq number 0) [
         | inl root_it ↦
@@ -116,33 +150,48 @@ module _ {all : ElementList} {deeds : List (Option Deed)} {records : Records} wh
             let (n, n_is) = stand.came number (omega (arith, other)) known in
             let (l, l_in, l_num, l_makes) = stand.makes n (PutsIn number) n_is in
             let its_anchor = element_at all.arrivals (arrival_at all.arrivals number).anchor in
-            let its_makes : Makes l.op (After its_anchor x) = subst (λ (y : ℕ). Makes l.op (After its_anchor y)) is l_makes in
-            let same = an_element_is_put_in_by_one_label-one now l label its_anchor anchor x admitted (behind_head label (labels_of records) l l_in) label_in its_makes makes in
+            let its_makes : Makes l.op (After its_anchor x) =
+            subst (λ (y : ℕ). Makes l.op (After its_anchor y)) is l_makes in
+            let same = an_element_is_put_in_by_one_label-one now l label its_anchor anchor x admitted
+            (behind_head label (labels_of records) l l_in) label_in its_makes makes in
             let number_same : l.number ≡ label_count records = ap (λ (k : Label). k.number) same in
             omega (arith, l_num, number_same, deed_there deeds n (PutsIn number) n_is, stand.count)
       ]
 
-  pub grown_by_one : (new : Arrival) (by : ℕ) (op : Op) (clock : Option ℕ) → AreElementsOf all deeds records → updates_admitted Rga (named_sequence Rga (Operate by op clock ∷ records)) ≡ true
-      → Makes op (After (element_at all.arrivals new.anchor) new.element) → new.anchor < length all.arrivals
-      → AreDeedsOf (all.arrivals ++ new ∷ []) (deeds ++ Some (PutsIn (length all.arrivals)) ∷ []) (Operate by op clock ∷ records)
-  grown_by_one new by op clock stand admitted makes known =
-      let next = all.arrivals ++ new ∷ [] in
+  pub grown_by_one : (new : Arrival) (next : Next) → AreElementsOf all deeds records
+      → updates_admitted Rga (named_sequence Rga (operate next ∷ records)) ≡ true
+      → Makes next.op (After (element_at all.arrivals new.anchor) new.element) → new.anchor < length all.arrivals
+      → AreDeedsOf (all.arrivals ++ new ∷ []) (deeds ++ Some (PutsIn (length all.arrivals)) ∷ [])
+      (operate next ∷ records)
+  grown_by_one new next stand admitted makes known =
+      let later = all.arrivals ++ new ∷ [] in
       let last = new_last all.arrivals new in
       let counted = counted_more all.arrivals new in
       let first = first_same all.arrivals new in
-      let its_update : After (element_at all.arrivals new.anchor) new.element ≡ update_of next (PutsIn (length all.arrivals)) =
-      λ i. After (sym (ap (λ (a : Arrival). element_at next a.anchor) last ∙ ap (λ (a : Arrival). a.element) (first new.anchor known)) i) (sym last i).element in
-      let fresh = new_element by op clock (element_at all.arrivals new.anchor) new.element stand admitted makes in
-      let which : (n : ℕ) → n < length next → (n < length all.arrivals) ⊎ (n ≡ length all.arrivals) = λ n within. elim (cases_lt n (length all.arrivals)) [
+      let its_update : After (element_at all.arrivals new.anchor) new.element
+      ≡ update_of later (PutsIn (length all.arrivals)) =
+      λ i. After (sym (ap (λ (a : Arrival). element_at later a.anchor) last
+      ∙ ap (λ (a : Arrival). a.element) (first new.anchor known)) i) (sym last i).element in
+      let fresh = new_element next (element_at all.arrivals new.anchor) new.element stand admitted makes in
+      let which : (n : ℕ) → n < length later → (n < length all.arrivals) ⊎ (n ≡ length all.arrivals) =
+      λ n within. elim (cases_lt n (length all.arrivals)) [
         | inl old ↦ inl old
         | inr beyond ↦ inr (omega (arith, beyond, within, counted))
       ] in
-      let at_last : (n : ℕ) → n ≡ length all.arrivals → element_at next n ≡ new.element = λ n it. ap (λ (k : ℕ). element_at next k) it ∙ ap (λ (a : Arrival). a.element) last in
-      let at_first : (n : ℕ) → n < length all.arrivals → element_at next n ≡ element_at all.arrivals n = λ n it. ap (λ (a : Arrival). a.element) (first n it) in
-      grown next by op clock (PutsIn (length all.arrivals)) (deeds_stand stand) stand.count admitted (subst (Makes op) its_update makes) first (omega (arith, counted)) (omega (arith, counted))
+      let at_last : (n : ℕ) → n ≡ length all.arrivals → element_at later n ≡ new.element =
+      λ n it. ap (λ (k : ℕ). element_at later k) it ∙ ap (λ (a : Arrival). a.element) last in
+      let at_first : (n : ℕ) → n < length all.arrivals → element_at later n ≡ element_at all.arrivals n =
+      λ n it. ap (λ (a : Arrival). a.element) (first n it) in
+      grown later next (PutsIn (length all.arrivals)) (deeds_stand stand) stand.count admitted
+      (subst (Makes next.op) its_update makes) first (omega (arith, counted)) (omega (arith, counted))
       (λ n within. elim (which n within) [
-        | inl old ↦ let anchored : (arrival_at next n).anchor ≡ (arrival_at all.arrivals n).anchor = ap (λ (a : Arrival). a.anchor) (first n old) in omega (arith, anchored, stand.anchored n old, counted)
-        | inr it ↦ let anchored : (arrival_at next n).anchor ≡ new.anchor = ap (λ (k : ℕ). (arrival_at next k).anchor) it ∙ ap (λ (a : Arrival). a.anchor) last in omega (arith, anchored, known, counted)
+        | inl old ↦
+            let anchored : (arrival_at later n).anchor ≡ (arrival_at all.arrivals n).anchor =
+            ap (λ (a : Arrival). a.anchor) (first n old) in omega (arith, anchored, stand.anchored n old, counted)
+        | inr it ↦
+            let anchored : (arrival_at later n).anchor ≡ new.anchor =
+            ap (λ (k : ℕ). (arrival_at later k).anchor) it ∙ ap (λ (a : Arrival). a.anchor) last in
+            omega (arith, anchored, known, counted)
       ])
       (λ m n m_in n_in same. elim (which m m_in) [
         | inl m_old ↦ elim (which n n_in) [
@@ -155,7 +204,10 @@ module _ {all : ElementList} {deeds : List (Option Deed)} {records : Records} wh
         ]
       ])
 
-  pub grown_by_removal : (number by : ℕ) (op : Op) (clock : Option ℕ) → AreElementsOf all deeds records → updates_admitted Rga (named_sequence Rga (Operate by op clock ∷ records)) ≡ true
-      → Makes op (RgaRemove (element_at all.arrivals number)) → number < length all.arrivals → AreDeedsOf all.arrivals (deeds ++ Some (Removes number) ∷ []) (Operate by op clock ∷ records)
-  grown_by_removal number by op clock stand admitted makes known =
-      grown all.arrivals by op clock (Removes number) (deeds_stand stand) stand.count admitted makes (λ n it. refl) (omega arith) known stand.anchored stand.once
+  pub grown_by_removal : (number : ℕ) (next : Next) → AreElementsOf all deeds records
+      → updates_admitted Rga (named_sequence Rga (operate next ∷ records)) ≡ true
+      → Makes next.op (RgaRemove (element_at all.arrivals number)) → number < length all.arrivals
+      → AreDeedsOf all.arrivals (deeds ++ Some (Removes number) ∷ []) (operate next ∷ records)
+  grown_by_removal number next stand admitted makes known =
+      grown all.arrivals next (Removes number) (deeds_stand stand) stand.count admitted makes (λ n it. refl)
+      (omega arith) known stand.anchored stand.once

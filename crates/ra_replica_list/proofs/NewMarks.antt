@@ -4,11 +4,11 @@ use Rattle.std.specs.Prelude.{◌==◌, ◌&&◌, ◌||◌, Contains}
 use Rattle.std.proofs.lemmas.Bool.{false≢true, cases_lt, ne_eqb, false_from_ne_true, and_right}
 use Rattle.std.proofs.lemmas.List.{get_or_append_left, length-append}
 use Rattle.ra_labels.specs.declared.kind.Kind.TheVariants.{Rga}
-use Rattle.ra_labels.specs.declared.operation.Op.{Op}
 use Rattle.ra_labels.specs.declared.label.Stamp.{Stamp}
 use Rattle.ra_labels.specs.declared.label.Label.{Label}
-use Rattle.ra_labels.specs.declared.command.Command.TheVariants.{Operate, Deliver, Join}
-use Rattle.ra_labels.specs.Records.{Records, label_count, labels_of, next_label}
+use Rattle.ra_labels.specs.declared.command.Command.TheVariants.{Deliver, Join}
+use Rattle.ra_labels.specs.Records.{Records, label_count, labels_of}
+use Rattle.ra_labels.specs.Situation.{Next, operate, label_of}
 use Rattle.ra_labels.specs.Visibility.{is_update, is_update_at, had}
 use Rattle.ra_labels.specs.Specification.{State, state_after}
 use Rattle.ra_labels.specs.Insertion.{updates_passing}
@@ -26,75 +26,102 @@ use Rattle.ra_replica_list.proofs.Deeds.{deed_there}
 -- no replica had a label that is not there
 pub not_had : (records : Records) (replica : ℕ) → had records replica (label_count records) ≡ false
 not_had records replica = false_from_ne_true (had records replica (label_count records)) (λ it.
-    omega (arith, had_updates-there records (label_count records) (had_updates-updates records replica (label_count records) it)))
+    omega (
+      arith,
+      had_updates-there records (label_count records)
+          (had_updates-updates records replica (label_count records) it),
+    ))
 
 or_same : (a b : Bool) → a ≡ false → (a || b) ≡ b
 or_same false b is = refl
 or_same true b is = absurd (false≢true (sym is))
 
 -- what others issue, and what is no update, was not had
-pub had_by_other : (records : Records) (by : ℕ) (op : Op) (clock : Option ℕ) (replica : ℕ) → ¬ (by ≡ replica) → (n : ℕ) → had records replica n ≡ had (Operate by op clock ∷ records) replica n
-had_by_other records by op clock replica other n = sym (or_same (by == replica && n == label_count records && is_update op) (had records replica n)
-    (ap (λ b. b && n == label_count records && is_update op) (ne_eqb by replica other)))
+pub had_by_other : (records : Records) (next : Next) (replica : ℕ) → ¬ (next.by ≡ replica) → (n : ℕ)
+    → had records replica n ≡ had (operate next ∷ records) replica n
+had_by_other records next replica other n =
+    sym (or_same (next.by == replica && n == label_count records && is_update next.op) (had records replica n)
+    (ap (λ b. b && n == label_count records && is_update next.op) (ne_eqb next.by replica other)))
 
-pub had_no_query : (records : Records) (by : ℕ) (op : Op) (clock : Option ℕ) (replica : ℕ) → is_update op ≡ false → (n : ℕ) → had records replica n ≡ had (Operate by op clock ∷ records) replica n
-had_no_query records by op clock replica query n = sym (or_same (by == replica && n == label_count records && is_update op) (had records replica n)
-    (and_right (by == replica && n == label_count records) (is_update op) query))
+pub had_no_query : (records : Records) (next : Next) (replica : ℕ) → is_update next.op ≡ false → (n : ℕ)
+    → had records replica n ≡ had (operate next ∷ records) replica n
+had_no_query records next replica query n =
+    sym (or_same (next.by == replica && n == label_count records && is_update next.op) (had records replica n)
+    (and_right (next.by == replica && n == label_count records) (is_update next.op) query))
 
-pub had_to_other : (records : Records) (to m replica : ℕ) → ¬ (to ≡ replica) → (n : ℕ) → had records replica n ≡ had (Deliver to m ∷ records) replica n
-had_to_other records to m replica other n = sym (or_same (to == replica && n == m && is_update_at records n) (had records replica n)
+pub had_to_other : (records : Records) (to m replica : ℕ) → ¬ (to ≡ replica) → (n : ℕ)
+    → had records replica n ≡ had (Deliver to m ∷ records) replica n
+had_to_other records to m replica other n =
+    sym (or_same (to == replica && n == m && is_update_at records n) (had records replica n)
     (ap (λ b. b && n == m && is_update_at records n) (ne_eqb to replica other)))
 
-pub had_by_new : (records : Records) (joined from replica : ℕ) → ¬ (joined ≡ replica) → (n : ℕ) → had records replica n ≡ had (Join joined from ∷ records) replica n
-had_by_new records joined from replica other n = sym (or_same (joined == replica && had records from n) (had records replica n)
+pub had_by_new : (records : Records) (joined from replica : ℕ) → ¬ (joined ≡ replica) → (n : ℕ)
+    → had records replica n ≡ had (Join joined from ∷ records) replica n
+had_by_new records joined from replica other n =
+    sym (or_same (joined == replica && had records from n) (had records replica n)
     (ap (λ b. b && had records from n) (ne_eqb joined replica other)))
 
 -- what each label but the next one does
-pub older_deed : (deeds : List (Option Deed)) (d : Option Deed) (count n : ℕ) (deed : Deed) → length deeds ≡ count → ¬ (n ≡ count) → deed_at (deeds ++ d ∷ []) n ≡ Some deed → deed_at deeds n ≡ Some deed
+pub older_deed : (deeds : List (Option Deed)) (d : Option Deed) (count n : ℕ) (deed : Deed) → length deeds ≡ count
+    → ¬ (n ≡ count) → deed_at (deeds ++ d ∷ []) n ≡ Some deed → deed_at deeds n ≡ Some deed
 older_deed deeds d count n deed counted other is =
     let within = deed_there (deeds ++ d ∷ []) n deed is in
-    sym (get_or_append_left deeds (d ∷ []) None n (omega (arith, within, length-append deeds (d ∷ []), counted, other))) ∙ is
+    sym (get_or_append_left deeds (d ∷ []) None n (omega (arith, within, length-append deeds (d ∷ []), counted, other)))
+    ∙ is
 
-pub still_deed : (deeds : List (Option Deed)) (d : Option Deed) (n : ℕ) (deed : Deed) → deed_at deeds n ≡ Some deed → deed_at (deeds ++ d ∷ []) n ≡ Some deed
+pub still_deed : (deeds : List (Option Deed)) (d : Option Deed) (n : ℕ) (deed : Deed) → deed_at deeds n ≡ Some deed
+    → deed_at (deeds ++ d ∷ []) n ≡ Some deed
 still_deed deeds d n deed is = get_or_append_left deeds (d ∷ []) None n (deed_there deeds n deed is) ∙ is
 
 -- elements that came later: none of them is there
-pub record AreLonger (arrivals next : List Arrival) (records : Records) (settled : ℕ → Bool) : Type 0 where
-  pub same : (number : ℕ) → number < length arrivals → element_at next number ≡ element_at arrivals number
-  pub more : length arrivals ≤ length next
-  pub fresh : (number : ℕ) → length arrivals ≤ number → number < length next → is_there (element_at next number) (updates_passing Rga records settled) ≡ false
+pub record AreLonger (arrivals later : List Arrival) (records : Records) (settled : ℕ → Bool) : Type 0 where
+  pub same : (number : ℕ) → number < length arrivals → element_at later number ≡ element_at arrivals number
+  pub more : length arrivals ≤ length later
+  pub fresh : (number : ℕ) → length arrivals ≤ number → number < length later
+      → is_there (element_at later number) (updates_passing Rga records settled) ≡ false
 
-pub none_longer : (arrivals : List Arrival) (records : Records) (settled : ℕ → Bool) → AreLonger arrivals arrivals records settled
+pub none_longer : (arrivals : List Arrival) (records : Records) (settled : ℕ → Bool)
+    → AreLonger arrivals arrivals records settled
 none_longer arrivals records settled = record {
   same = λ number known. refl;
   more = omega arith;
   fresh = λ number beyond known. absurd (omega (arith, beyond, known));
 }
 
-module _ {state : State} {marks : List Bool} {waiting : List (ℕ × List ℕ)} {arrivals : List Arrival} {deeds : List (Option Deed)} {records : Records} {test settled : ℕ → Bool} where
-  pub kept_known : (next : List Arrival) (d : Option Deed) (by : ℕ) (op : Op) (clock : Option ℕ) → IsListWith state marks waiting arrivals deeds records test settled → test (label_count records) ≡ false → length deeds ≡ label_count records
-      → AreLonger arrivals next (Operate by op clock ∷ records) settled
-      → ((n : ℕ) (deed : Deed) → deed_at deeds n ≡ Some deed → needed_number next deed ≡ needed_number arrivals deed)
-      → IsListWith state marks waiting next (deeds ++ d ∷ []) (Operate by op clock ∷ records) test settled
-  kept_known next d by op clock kept new counted longer needs =
-      let now = Operate by op clock ∷ records in
-      let not_settled : settled (label_count records) ≡ false = false_from_ne_true (settled (label_count records)) (λ it. not_both (test (label_count records)) new (kept.settles.had_them (label_count records) it)) in
-      let same = a_later_command_leaves_the_updates_that_pass-operation Rga records by op clock settled not_settled in
+module _ {state : State} {marks : List Bool} {waiting : List (ℕ × List ℕ)} {arrivals : List Arrival}
+    {deeds : List (Option Deed)} {records : Records} {test settled : ℕ → Bool} where
+  pub kept_known : (later : List Arrival) (d : Option Deed) (next : Next)
+      → IsListWith state marks waiting arrivals deeds records test settled → test (label_count records) ≡ false
+      → length deeds ≡ label_count records
+      → AreLonger arrivals later (operate next ∷ records) settled
+      → ((n : ℕ) (deed : Deed) → deed_at deeds n ≡ Some deed → needed_number later deed ≡ needed_number arrivals deed)
+      → IsListWith state marks waiting later (deeds ++ d ∷ []) (operate next ∷ records) test settled
+  kept_known later d next kept new counted longer needs =
+      let now = operate next ∷ records in
+      let not_settled : settled (label_count records) ≡ false =
+      false_from_ne_true (settled (label_count records)) (λ it.
+      not_both (test (label_count records)) new (kept.settles.had_them (label_count records) it)) in
+      let same = a_later_command_leaves_the_updates_that_pass-operation Rga records next.by next.op next.clock settled
+      not_settled in
       record {
-        settles = settled_labels_stay_settled-operation records by op clock test settled new kept.settles;
+        settles =
+            settled_labels_stay_settled-operation records next.by next.op next.clock test settled new kept.settles;
         after = ap (state_after Rga) same ∙ kept.after;
         there = record {
           there = λ number known. elim (cases_lt number (length arrivals)) [
             | inl old ↦
-                kept.there.there number old ∙ ap (is_there (element_at arrivals number)) (sym same) ∙ ap (λ x. is_there x (updates_passing Rga now settled)) (sym (longer.same number old))
+                kept.there.there number old ∙ ap (is_there (element_at arrivals number)) (sym same)
+                ∙ ap (λ x. is_there x (updates_passing Rga now settled)) (sym (longer.same number old))
             | inr beyond ↦ kept.there.others number beyond ∙ sym (longer.fresh number beyond known)
           ];
           others = λ number beyond. kept.there.others number (omega (arith, beyond, longer.more));
         };
         waiting_labels = record {
           waits = λ n deed is was_had fails.
-              let old = older_deed deeds d (label_count records) n deed counted (λ it. not_both (test n) (ap test it ∙ new) was_had) is in
-              subst (λ (k : ℕ). Contains (labels_under waiting k) n) (sym (needs n deed old)) (kept.waiting_labels.waits n deed old was_had fails);
+              let old = older_deed deeds d (label_count records) n deed counted
+              (λ it. not_both (test n) (ap test it ∙ new) was_had) is in
+              subst (λ (k : ℕ). Contains (labels_under waiting k) n) (sym (needs n deed old))
+              (kept.waiting_labels.waits n deed old was_had fails);
           only = λ number n found.
               let (deed, is, is_needed, was_had, waits) = kept.waiting_labels.only number n found in
               (deed, still_deed deeds d n deed is, needs n deed is ∙ is_needed, was_had, waits);
@@ -102,14 +129,17 @@ module _ {state : State} {marks : List Bool} {waiting : List (ℕ × List ℕ)} 
         };
       }
 
-pub greatest_known : {records : Records} {test : ℕ → Bool} {greatest : Stamp} (by : ℕ) (op : Op) (clock : Option ℕ) → IsGreatestOf records test greatest → test (label_count records) ≡ false → IsGreatestOf (Operate by op clock ∷ records) test greatest
-greatest_known {records = records} {test = test} by op clock top new = record {
-  above = λ l t l_in was_had t_is. elim (head_or_behind (next_label records by op clock) (labels_of records) l l_in) [
+pub greatest_known : {records : Records} {test : ℕ → Bool} {greatest : Stamp} (next : Next)
+    → IsGreatestOf records test greatest → test (label_count records) ≡ false
+    → IsGreatestOf (operate next ∷ records) test greatest
+greatest_known {records = records} {test = test} next top new = record {
+  above = λ l t l_in was_had t_is. elim (head_or_behind (label_of records next) (labels_of records) l l_in) [
     | inl here ↦ absurd (not_both (test l.number) (ap (λ (k : Label). test k.number) (sym here) ∙ new) was_had)
     | inr old ↦ top.above l t old was_had t_is
   ];
   own = elim top.own [
     | inl none ↦ inl none
-    | inr (l, l_in, was_had, l_is) ↦ inr (l, behind_head (next_label records by op clock) (labels_of records) l l_in, was_had, l_is)
+    | inr (l, l_in, was_had, l_is) ↦
+        inr (l, behind_head (label_of records next) (labels_of records) l l_in, was_had, l_is)
   ];
 }

@@ -1,5 +1,5 @@
 -- A new label that fits stands behind all that its replica had.
-use Rattle.std.proofs.Common.{◌≡◌, ℕ, true, false, List, ◌∷◌, ◌++◌, Option, sym, ap, ◌∙◌, subst}
+use Rattle.std.proofs.Common.{◌≡◌, true, false, List, ◌∷◌, ◌++◌, Option, sym, ap, ◌∙◌, subst}
 use Rattle.std.specs.Prelude.{◌||◌, not, Contains, flat_map}
 use Rattle.std.specs.Option.{option_map_or}
 use Rattle.std.proofs.lemmas.Bool.{or_left, false_from_ne_true, not-true}
@@ -7,11 +7,10 @@ use Rattle.std.proofs.lemmas.List.Elements.{All-contains, Contains-append_right}
 use Rattle.std.proofs.lemmas.List.Sums.{AllPass-from_list_all}
 use Rattle.std.proofs.lemmas.Grind.{flat_map-append}
 use Rattle.ra_labels.specs.declared.kind.Kind.TheVariants.{Rga}
-use Rattle.ra_labels.specs.declared.operation.Op.{Op}
 use Rattle.ra_labels.specs.declared.operation.Update.{Update}
 use Rattle.ra_labels.specs.declared.label.Label.{Label}
-use Rattle.ra_labels.specs.declared.command.Command.TheVariants.{Operate}
-use Rattle.ra_labels.specs.Records.{Records, labels_of, next_label}
+use Rattle.ra_labels.specs.Records.{Records, labels_of}
+use Rattle.ra_labels.specs.Situation.{Next, operate, label_of}
 use Rattle.ra_labels.specs.Visibility.{is_update, had, sees}
 use Rattle.ra_labels.specs.Rewriting.{Part, Does, acts_of, part_of, parts_of}
 use Rattle.ra_labels.specs.Linearization.{must_precede, is_earlier_there, is_query_half_of, is_visible_to, extends, extends_visibility}
@@ -25,36 +24,48 @@ use Rattle.ra_replica_list.proofs.Ranks.{sees_had}
 use Rattle.ra_replica_list.proofs.Deliveries.{in_named}
 
 -- the label is behind all others that the replica had
-pub record IsLastOf (records : Records) (by : ℕ) (op : Op) (clock : Option ℕ) : Type 0 where
+pub record IsLastOf (records : Records) (next : Next) : Type 0 where
   pub before : List Label
   pub behind : List Label
-  pub named : named_labels Rga (Operate by op clock ∷ records) ≡ before ++ next_label records by op clock ∷ behind
-  pub none_had : (other : Label) → Contains behind other → had records by other.number ≡ false
+  pub named : named_labels Rga (operate next ∷ records) ≡ before ++ label_of records next ∷ behind
+  pub none_had : (other : Label) → Contains behind other → had records next.by other.number ≡ false
 
-pub newest_is_last : (records : Records) (by : ℕ) (op : Op) (clock : Option ℕ) (u : Update) → Makes op u → let now = Operate by op clock ∷ records in extends_visibility now (named_sequence Rga now) ≡ true → IsLastOf records by op clock
-newest_is_last records by op clock u makes extended =
-    let now = Operate by op clock ∷ records in
-    let label = next_label records by op clock in
-    let (before, behind, was, is) = a_new_label_leaves_the_order_of_the_others Rga records by op clock in
+pub newest_is_last : (records : Records) (next : Next) (u : Update) → Makes next.op u → let now =
+    operate next ∷ records in extends_visibility now (named_sequence Rga now) ≡ true → IsLastOf records next
+newest_is_last records next u makes extended =
+    let now = operate next ∷ records in
+    let label = label_of records next in
+    let (before, behind, was, is) = a_new_label_leaves_the_order_of_the_others Rga records next.by next.op next.clock in
     let round : named_sequence Rga now ≡ flat_map parts_of before ++ (parts_of label ++ flat_map parts_of behind) =
     ap (flat_map parts_of) is ∙ flat_map-append parts_of before (label ∷ behind) in
-    let all : extends (must_precede now) (flat_map parts_of before ++ (parts_of label ++ flat_map parts_of behind)) ≡ true =
+    let all : extends (must_precede now) (flat_map parts_of before ++ (parts_of label ++ flat_map parts_of behind))
+    ≡ true =
     sym (ap (extends (must_precede now)) round) ∙ extended in
-    let from_it = extends-behind (must_precede now) (flat_map parts_of before) (parts_of label ++ flat_map parts_of behind) all in
-    let (q, is_own, free) = is_before (must_precede now) label (acts_of op) (makes.0, Does u) (flat_map parts_of behind) makes.1 from_it in
+    let from_it = extends-behind (must_precede now) (flat_map parts_of before)
+    (parts_of label ++ flat_map parts_of behind) all in
+    let (q, is_own, free) = is_before (must_precede now) label (acts_of next.op) (makes.0, Does u)
+    (flat_map parts_of behind) makes.1 from_it in
     record {
       before = before;
       behind = behind;
       named = is;
-      none_had = λ other found. false_from_ne_true (had records by other.number) (λ it.
-          let old : Contains (labels_of records) other = in_named records other (subst (λ (ls : List Label). Contains ls other) (sym was) (Contains-append_right before behind other found)) in
+      none_had = λ other found. false_from_ne_true (had records next.by other.number) (λ it.
+          let old : Contains (labels_of records) other = in_named records other
+          (subst (λ (ls : List Label). Contains ls other) (sym was)
+          (Contains-append_right before behind other found)) in
           let updates : is_update other.op ≡ true =
-          sym (ap (λ (o : Option Label). option_map_or (λ (l : Label). is_update l.op) o false) (each_number_has_its_label-found records other old)) ∙ had_updates-updates records by other.number it in
+          sym (ap (λ (o : Option Label). option_map_or (λ (l : Label). is_update l.op) o false)
+          (each_number_has_its_label-found records other old)) ∙ had_updates-updates records next.by other.number it in
           let (v, made) = (an_operation_makes_one_update-exactly other.op).0 updates in
           let part = part_of other (made.0, Does v) in
-          let part_in = in_piece parts_of behind other part found (reached (part_of other) (acts_of other.op) (made.0, Does v) made.1) in
-          let passes : not (must_precede now part q) ≡ true = All-contains (λ (p : Part). not (must_precede now p q) ≡ true) (flat_map parts_of behind) part
+          let part_in = in_piece parts_of behind other part found
+          (reached (part_of other) (acts_of other.op) (made.0, Does v) made.1) in
+          let passes : not (must_precede now part q) ≡ true =
+          All-contains (λ (p : Part). not (must_precede now p q) ≡ true) (flat_map parts_of behind) part
           (AllPass-from_list_all (λ (p : Part). not (must_precede now p q)) (flat_map parts_of behind) free) part_in in
-          let sees_it : is_visible_to now part q ≡ true = ap (λ (l : Label). sees now l.number other.number) is_own ∙ sees_had records by op clock other.number ∙ it in
-          not_both (must_precede now part q) (not-true (must_precede now part q) passes) (or_left (is_visible_to now part q || is_earlier_there part q) (is_query_half_of part q) (or_left (is_visible_to now part q) (is_earlier_there part q) sees_it)));
+          let sees_it : is_visible_to now part q ≡ true = ap (λ (l : Label). sees now l.number other.number) is_own
+          ∙ sees_had records next other.number ∙ it in
+          not_both (must_precede now part q) (not-true (must_precede now part q) passes)
+          (or_left (is_visible_to now part q || is_earlier_there part q) (is_query_half_of part q)
+          (or_left (is_visible_to now part q) (is_earlier_there part q) sees_it)));
     }

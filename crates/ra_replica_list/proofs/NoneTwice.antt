@@ -11,7 +11,8 @@ use Rattle.ra_labels.proofs.Members.{head_or_behind, at_head, behind_head, none_
 use Rattle.ra_labels.proofs.Comparisons.{eqb-comm}
 
 -- two lists with none twice, and none of one in the other, together
-pub none_twice-append : {A : Type 0} (xs ys : List A) → NoneTwice xs → NoneTwice ys → ((x : A) → Contains xs x → Contains ys x → ⊥) → NoneTwice (xs ++ ys)
+pub none_twice-append : {A : Type 0} (xs ys : List A) → NoneTwice xs → NoneTwice ys
+    → ((x : A) → Contains xs x → Contains ys x → ⊥) → NoneTwice (xs ++ ys)
 none_twice-append [] ys one two apart = two
 none_twice-append (x ∷ xs) ys one two apart = (
   (λ there. none_of x xs ys one.0 (apart x (at_head x xs x refl)) there),
@@ -35,7 +36,9 @@ none_twice-last (y ∷ ys) x once =
     let rest = none_twice-last ys x once.1 in (
       ((λ there. once.0 (Contains-append_left ys (x ∷ []) y there)), rest.0),
       (λ there. elim (head_or_behind y ys x there) [
-        | inl here ↦ once.0 (subst (Contains (ys ++ x ∷ [])) (sym here) (Contains-append_right ys (x ∷ []) x (at_head x [] x refl)))
+        | inl here ↦
+            once.0 (subst (Contains (ys ++ x ∷ [])) (sym here)
+            (Contains-append_right ys (x ∷ []) x (at_head x [] x refl)))
         | inr further ↦ rest.1 further
       ]),
     )
@@ -43,7 +46,8 @@ none_twice-last (y ∷ ys) x once =
 -- and in another order
 apart_all : (x : ℕ) (xs : List ℕ) → ¬ Contains xs x → AllByRecursion (λ z. (x == z) ≡ false) xs
 apart_all x [] none = tt
-apart_all x (y ∷ ys) none = (ne_eqb x y (λ is. none (at_head y ys x (sym is))), apart_all x ys (λ there. none (behind_head y ys x there)))
+apart_all x (y ∷ ys) none =
+    (ne_eqb x y (λ is. none (at_head y ys x (sym is))), apart_all x ys (λ there. none (behind_head y ys x there)))
 
 none_among : (x : ℕ) (xs : List ℕ) → AllByRecursion (λ z. (x == z) ≡ false) xs → ¬ Contains xs x
 none_among x [] all there = none_there x there
@@ -90,7 +94,8 @@ passes_or_is passes n m passes_it = elim (cases_eq m n) [
 ]
 
 pub not_before : (passes : ℕ → Bool) (n m : ℕ) → or_label passes n m ≡ false → passes m ≡ false
-not_before passes n m fails = false_from_ne_true (passes m) (λ it. not_both (or_label passes n m) fails (still_passes passes n m it))
+not_before passes n m fails =
+    false_from_ne_true (passes m) (λ it. not_both (or_label passes n m) fails (still_passes passes n m it))
 
 pub not_it : (passes : ℕ → Bool) (n m : ℕ) → or_label passes n m ≡ false → ¬ (m ≡ n)
 not_it passes n m fails is = not_both (or_label passes n m) fails (it_passes passes n m is)

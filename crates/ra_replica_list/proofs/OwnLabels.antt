@@ -3,12 +3,11 @@ use Rattle.std.proofs.Common.{◌≡◌, ℕ, ◌+◌, ◌<◌, Bool, true, fals
 use Rattle.std.specs.Prelude.{Contains, unwrap_or, option_map}
 use Rattle.std.proofs.lemmas.Bool.{eqb-true, false_from_ne_true}
 use Rattle.ra_labels.specs.declared.kind.Kind.TheVariants.{Rga}
-use Rattle.ra_labels.specs.declared.operation.Op.{Op}
 use Rattle.ra_labels.specs.declared.operation.Update.{Update}
 use Rattle.ra_labels.specs.declared.operation.Update.TheVariants.{After}
 use Rattle.ra_labels.specs.declared.label.Stamp.{Stamp}
-use Rattle.ra_labels.specs.declared.command.Command.TheVariants.{Operate}
-use Rattle.ra_labels.specs.Records.{Records, label_count, labels_of, next_label, stamp_at}
+use Rattle.ra_labels.specs.Records.{Records, label_count, labels_of, stamp_at}
+use Rattle.ra_labels.specs.Situation.{Next, operate, label_of}
 use Rattle.ra_labels.specs.Visibility.{had}
 use Rattle.ra_labels.specs.Specification.{State, step_of, state_after}
 use Rattle.ra_labels.specs.Linearization.{extends_visibility, updates_admitted}
@@ -40,97 +39,132 @@ none_in [] none = refl
 none_in (x ∷ xs) none = absurd (none x (at_head x xs x refl))
 
 -- the next label stands where the last deed says
-pub next_deed : (deeds : List (Option Deed)) (deed : Deed) (count : ℕ) → length deeds ≡ count → deed_at (deeds ++ Some deed ∷ []) count ≡ Some deed
+pub next_deed : (deeds : List (Option Deed)) (deed : Deed) (count : ℕ) → length deeds ≡ count
+    → deed_at (deeds ++ Some deed ∷ []) count ≡ Some deed
 next_deed deeds deed count counted = get_or_at deeds (Some deed) [] None count counted
 
 -- the list is that of the issuer, once it is kept with the label, and each step settles one label
 pub owned : {list : ReplicaList} {old_arrivals arrivals : List Arrival} {old_deeds deeds : List (Option Deed)}
-    {records : Records} {by : ℕ} (op : Op) (clock : Option ℕ) (u : Update) (next : ReplicaList)
-    (was : IsListOf list old_arrivals old_deeds records by) (steps : ℕ) → Makes op u
-    → let now = Operate by op clock ∷ records in
-    IsListWithAfter next.state next.marks next.waiting arrivals deeds now (had records by) was.settled
+    {records : Records} (next : Next) (u : Update) (later : ReplicaList)
+    (was : IsListOf list old_arrivals old_deeds records next.by) (steps : ℕ) → Makes next.op u
+    → let now = operate next ∷ records in
+    IsListWithAfter later.state later.marks later.waiting arrivals deeds now (had records next.by) was.settled
     (label_count records) steps
-    → IsGreatestOf now (or_label (had records by) (label_count records)) next.greatest
-    → (is : IsListOf next arrivals deeds now by) × (settled_count is ≡ settled_count was + steps)
-owned {records = records} {by = by} op clock u next was steps makes after top =
-    let now = Operate by op clock ∷ records in
-    let same : (m : ℕ) → or_label (had records by) (label_count records) m ≡ had now by m = λ m.
-    sym (a_replica_had_one_more-operation records by op clock m
-    ((an_operation_makes_one_update-exactly op).1 (u, makes))) in
-    let older = a_later_command_leaves_the_updates_that_pass-operation Rga records by op clock was.settled
-    (not_settled was.kept (label_count records) (not_had records by)) in (
+    → IsGreatestOf now (or_label (had records next.by) (label_count records)) later.greatest
+    → (is : IsListOf later arrivals deeds now next.by) × (settled_count is ≡ settled_count was + steps)
+owned {records = records} next u later was steps makes after top =
+    let now = operate next ∷ records in
+    let same : (m : ℕ) → or_label (had records next.by) (label_count records) m ≡ had now next.by m = λ m.
+    sym (a_replica_had_one_more-operation records next.by next.op next.clock m
+    ((an_operation_makes_one_update-exactly next.op).1 (u, makes))) in
+    let older = a_later_command_leaves_the_updates_that_pass-operation Rga records next.by next.op next.clock
+    was.settled
+    (not_settled was.kept (label_count records) (not_had records next.by)) in (
       record {
         settled = after.settled;
-        kept = kept_alike (had now by) same after.kept;
-        greatest = greatest_alike (had now by) same top;
+        kept = kept_alike (had now next.by) same after.kept;
+        greatest = greatest_alike (had now next.by) same top;
       },
       after.count ∙ ap (λ us. length us + steps) older,
     )
 
 -- the greatest stamp with it
-pub own_stamp : {records : Records} {by : ℕ} {greatest : Stamp} (op : Op) (clock : Option ℕ) (stamp : Stamp) → IsGreatestOf records (had records by) greatest → option_map (stamp_at by) clock ≡ Some stamp
-    → IsGreatestOf (Operate by op clock ∷ records) (or_label (had records by) (label_count records)) (greater_of greatest stamp)
-own_stamp {records = records} {by = by} {greatest = greatest} op clock stamp top is =
-    greatest_with (Operate by op clock ∷ records) (had records by) greatest stamp (next_label records by op clock) (greatest_known by op clock top (not_had records by)) (at_head _ (labels_of records) _ refl) is
+pub own_stamp : {records : Records} {greatest : Stamp} (next : Next) (stamp : Stamp)
+    → IsGreatestOf records (had records next.by) greatest → option_map (stamp_at next.by) next.clock ≡ Some stamp
+    → IsGreatestOf (operate next ∷ records) (or_label (had records next.by) (label_count records))
+    (greater_of greatest stamp)
+own_stamp {records = records} {greatest = greatest} next stamp top is =
+    greatest_with (operate next ∷ records) (had records next.by) greatest stamp (label_of records next)
+    (greatest_known next top (not_had records next.by)) (at_head _ (labels_of records) _ refl) is
 
-pub own_none : {records : Records} {by : ℕ} {greatest : Stamp} (op : Op) (clock : Option ℕ) → IsGreatestOf records (had records by) greatest → clock ≡ None
-    → IsGreatestOf (Operate by op clock ∷ records) (or_label (had records by) (label_count records)) greatest
-own_none {records = records} {by = by} {greatest = greatest} op clock top is =
-    greatest_without (Operate by op clock ∷ records) (had records by) greatest greatest (next_label records by op clock) (greatest_known by op clock top (not_had records by)) (at_head _ (labels_of records) _ refl) (ap (option_map (stamp_at by)) is)
+pub own_none : {records : Records} {greatest : Stamp} (next : Next)
+    → IsGreatestOf records (had records next.by) greatest → next.clock ≡ None
+    → IsGreatestOf (operate next ∷ records) (or_label (had records next.by) (label_count records)) greatest
+own_none {records = records} {greatest = greatest} next top is =
+    greatest_without (operate next ∷ records) (had records next.by) greatest greatest (label_of records next)
+    (greatest_known next top (not_had records next.by)) (at_head _ (labels_of records) _ refl)
+    (ap (option_map (stamp_at next.by)) is)
 
 -- behind all that is settled it is one step
-own_leads : {records : Records} {by : ℕ} {state : State} {marks : List Bool} {waiting : List (ℕ × List ℕ)} {settled : ℕ → Bool} (op : Op) (clock : Option ℕ) {arrivals : List Arrival} {more : List (Option Deed)} (u : Update) (deed : Deed) → Makes op u → extends_visibility (Operate by op clock ∷ records) (named_sequence Rga (Operate by op clock ∷ records)) ≡ true
-    → AreDeedsOf arrivals more (Operate by op clock ∷ records) → IsListWith state marks waiting arrivals more (Operate by op clock ∷ records) (had records by) settled
+own_leads : {records : Records} {state : State} {marks : List Bool} {waiting : List (ℕ × List ℕ)} {settled : ℕ → Bool}
+    (next : Next) {arrivals : List Arrival} {more : List (Option Deed)} (u : Update) (deed : Deed) → Makes next.op u
+    → extends_visibility (operate next ∷ records) (named_sequence Rga (operate next ∷ records)) ≡ true
+    → AreDeedsOf arrivals more (operate next ∷ records) → IsListWith state marks waiting arrivals more
+    (operate next ∷ records) (had records next.by) settled
     → deed_at more (label_count records) ≡ Some deed → is_marked marks (needed_number arrivals deed) ≡ true
-    → state_after Rga (updates_passing Rga (Operate by op clock ∷ records) (or_label settled (label_count records))) ≡ Some (unwrap_or (step_of state u) state)
-own_leads {records = records} {by = by} {state = state} {settled = settled} op clock u deed makes extended stand kept is needs =
-    let now = Operate by op clock ∷ records in
-    let new = not_settled kept (label_count records) (not_had records by) in
-    let none = ((what_is_settled_does_not_wait now (had records by) settled).0 kept.settles).1 in
-    let last = newest_is_last records by op clock u makes extended in
-    let step = a_label_behind_all_that_pass_is_one_step Rga now settled last.before last.behind (next_label records by op clock) u last.named makes new
-    (λ other found. false_from_ne_true (settled other.number) (λ it. not_both (had records by other.number) (last.none_had other found) (kept.settles.had_them other.number it))) in
-    leads_with settled stand (label_count records) (none_waits_with stand none kept.there (label_count records) deed is new needs) state u kept.after step
+    → state_after Rga (updates_passing Rga (operate next ∷ records) (or_label settled (label_count records)))
+    ≡ Some (unwrap_or (step_of state u) state)
+own_leads {records = records} {state = state} {settled = settled} next u deed makes extended stand kept is needs =
+    let now = operate next ∷ records in
+    let new = not_settled kept (label_count records) (not_had records next.by) in
+    let none = ((what_is_settled_does_not_wait now (had records next.by) settled).0 kept.settles).1 in
+    let last = newest_is_last records next u makes extended in
+    let step = a_label_behind_all_that_pass_is_one_step Rga now settled last.before last.behind (label_of records next)
+    u last.named makes new
+    (λ other found. false_from_ne_true (settled other.number)
+    (λ it. not_both (had records next.by other.number) (last.none_had other found)
+    (kept.settles.had_them other.number it))) in
+    leads_with settled stand (label_count records) (none_waits_with stand none kept.there (label_count records) deed is
+    new needs) state u kept.after step
 
-own_anchor : (arrivals : List Arrival) (new : Arrival) → needed_number (arrivals ++ new ∷ []) (PutsIn (length arrivals)) ≡ new.anchor
+own_anchor : (arrivals : List Arrival) (new : Arrival)
+    → needed_number (arrivals ++ new ∷ []) (PutsIn (length arrivals)) ≡ new.anchor
 own_anchor arrivals new = ap (λ (a : Arrival). a.anchor) (new_last arrivals new)
 
-module _ {all : ElementList} {deeds : List (Option Deed)} {records : Records} {by : ℕ} {state : State} {marks : List Bool} {waiting : List (ℕ × List ℕ)} {settled : ℕ → Bool} (op : Op) (clock : Option ℕ) where
-  pub own_known : (new : Arrival) → AreElementsOf all deeds records → IsListWith state marks waiting all.arrivals deeds records (had records by) settled → updates_admitted Rga (named_sequence Rga (Operate by op clock ∷ records)) ≡ true
-      → Makes op (After (element_at all.arrivals new.anchor) new.element)
-      → IsListWith state marks waiting (all.arrivals ++ new ∷ []) (deeds ++ Some (PutsIn (length all.arrivals)) ∷ []) (Operate by op clock ∷ records) (had records by) settled
+module _ {all : ElementList} {deeds : List (Option Deed)} {records : Records} {state : State} {marks : List Bool}
+    {waiting : List (ℕ × List ℕ)} {settled : ℕ → Bool} (next : Next) where
+  pub own_known : (new : Arrival) → AreElementsOf all deeds records
+      → IsListWith state marks waiting all.arrivals deeds records (had records next.by) settled
+      → updates_admitted Rga (named_sequence Rga (operate next ∷ records)) ≡ true
+      → Makes next.op (After (element_at all.arrivals new.anchor) new.element)
+      → IsListWith state marks waiting (all.arrivals ++ new ∷ []) (deeds ++ Some (PutsIn (length all.arrivals)) ∷ [])
+      (operate next ∷ records) (had records next.by) settled
   own_known new stand kept admitted makes =
-      kept_known (all.arrivals ++ new ∷ []) (Some (PutsIn (length all.arrivals))) by op clock kept (not_had records by) stand.count
-      (longer_by_one all.arrivals new by op clock (element_at all.arrivals new.anchor) admitted makes (not_settled kept (label_count records) (not_had records by)))
+      kept_known (all.arrivals ++ new ∷ []) (Some (PutsIn (length all.arrivals))) next kept (not_had records next.by)
+      stand.count
+      (longer_by_one all.arrivals new next (element_at all.arrivals new.anchor) admitted makes
+      (not_settled kept (label_count records) (not_had records next.by)))
       (needed_same (all.arrivals ++ new ∷ []) (deeds_stand stand) (first_same all.arrivals new))
 
   -- its anchor is there
-  pub own_put : (new : Arrival) (next : State) (next_marks : List Bool) → AreElementsOf all deeds records → IsListWith state marks waiting all.arrivals deeds records (had records by) settled
-      → Makes op (After (element_at all.arrivals new.anchor) new.element) → new.anchor < length all.arrivals
-      → extends_visibility (Operate by op clock ∷ records) (named_sequence Rga (Operate by op clock ∷ records)) ≡ true
-      → updates_admitted Rga (named_sequence Rga (Operate by op clock ∷ records)) ≡ true
-      → is_marked marks new.anchor ≡ true → next ≡ unwrap_or (step_of state (After (element_at all.arrivals new.anchor) new.element)) state → AreMarksWith marks next_marks (PutsIn (length all.arrivals))
-      → IsListWithAfter next next_marks waiting (all.arrivals ++ new ∷ []) (deeds ++ Some (PutsIn (length all.arrivals)) ∷ []) (Operate by op clock ∷ records) (had records by) settled (label_count records) 1
-  own_put new next next_marks stand kept makes known extended admitted there stepped with_it =
-      let grown = grown_by_one new by op clock stand admitted makes known in
+  pub own_put : (new : Arrival) (later : State) (later_marks : List Bool) → AreElementsOf all deeds records
+      → IsListWith state marks waiting all.arrivals deeds records (had records next.by) settled
+      → Makes next.op (After (element_at all.arrivals new.anchor) new.element) → new.anchor < length all.arrivals
+      → extends_visibility (operate next ∷ records) (named_sequence Rga (operate next ∷ records)) ≡ true
+      → updates_admitted Rga (named_sequence Rga (operate next ∷ records)) ≡ true
+      → is_marked marks new.anchor ≡ true → later ≡ unwrap_or
+      (step_of state (After (element_at all.arrivals new.anchor) new.element)) state
+      → AreMarksWith marks later_marks (PutsIn (length all.arrivals))
+      → IsListWithAfter later later_marks waiting (all.arrivals ++ new ∷ [])
+      (deeds ++ Some (PutsIn (length all.arrivals)) ∷ []) (operate next ∷ records) (had records next.by) settled
+      (label_count records) 1
+  own_put new later later_marks stand kept makes known extended admitted there stepped with_it =
+      let grown = grown_by_one new next stand admitted makes known in
       let now_kept = own_known new stand kept admitted makes in
       let is = next_deed deeds (PutsIn (length all.arrivals)) (label_count records) stand.count in
-      let needs : is_marked marks (needed_number (all.arrivals ++ new ∷ []) (PutsIn (length all.arrivals))) ≡ true = ap (is_marked marks) (own_anchor all.arrivals new) ∙ there in
-      goes_in next next_marks (label_count records) (PutsIn (length all.arrivals)) grown now_kept is (not_had records by) needs
-      (own_leads op clock (After (element_at all.arrivals new.anchor) new.element) (PutsIn (length all.arrivals)) makes extended grown now_kept is needs ∙ ap (λ (s : State). Some s) (sym stepped))
+      let needs : is_marked marks (needed_number (all.arrivals ++ new ∷ []) (PutsIn (length all.arrivals))) ≡ true =
+      ap (is_marked marks) (own_anchor all.arrivals new) ∙ there in
+      goes_in later later_marks (label_count records) (PutsIn (length all.arrivals)) grown now_kept is
+      (not_had records next.by) needs
+      (own_leads next (After (element_at all.arrivals new.anchor) new.element) (PutsIn (length all.arrivals)) makes
+      extended grown now_kept is needs ∙ ap (λ (s : State). Some s) (sym stepped))
       with_it
       (λ number puts_it. none_in (labels_under waiting number) (λ n found.
       let (d, d_is, d_needs, was_had, waits) = kept.waiting_labels.only number n found in
       omega (arith, needed_known (deeds_stand stand) n d d_is, d_needs, eqb-true number (length all.arrivals) puts_it)))
 
   -- it is not, and so the label waits
-  pub own_waits : (new : Arrival) (next : List (ℕ × List ℕ)) → AreElementsOf all deeds records → IsListWith state marks waiting all.arrivals deeds records (had records by) settled
-      → Makes op (After (element_at all.arrivals new.anchor) new.element) → new.anchor < length all.arrivals
-      → updates_admitted Rga (named_sequence Rga (Operate by op clock ∷ records)) ≡ true → is_marked marks new.anchor ≡ false → IsAdded waiting next new.anchor (label_count records)
-      → IsListWithAfter state marks next (all.arrivals ++ new ∷ []) (deeds ++ Some (PutsIn (length all.arrivals)) ∷ []) (Operate by op clock ∷ records) (had records by) settled (label_count records) 0
-  own_waits new next stand kept makes known admitted missing added =
-      let grown = grown_by_one new by op clock stand admitted makes known in
+  pub own_waits : (new : Arrival) (later : List (ℕ × List ℕ)) → AreElementsOf all deeds records
+      → IsListWith state marks waiting all.arrivals deeds records (had records next.by) settled
+      → Makes next.op (After (element_at all.arrivals new.anchor) new.element) → new.anchor < length all.arrivals
+      → updates_admitted Rga (named_sequence Rga (operate next ∷ records)) ≡ true → is_marked marks new.anchor ≡ false
+      → IsAdded waiting later new.anchor (label_count records)
+      → IsListWithAfter state marks later (all.arrivals ++ new ∷ []) (deeds ++ Some (PutsIn (length all.arrivals)) ∷ [])
+      (operate next ∷ records) (had records next.by) settled (label_count records) 0
+  own_waits new later stand kept makes known admitted missing added =
+      let grown = grown_by_one new next stand admitted makes known in
       let now_kept = own_known new stand kept admitted makes in
       let is = next_deed deeds (PutsIn (length all.arrivals)) (label_count records) stand.count in
-      held_back next (label_count records) (PutsIn (length all.arrivals)) grown now_kept is (not_had records by) (ap (is_marked marks) (own_anchor all.arrivals new) ∙ missing)
-      (subst (λ (n : ℕ). IsAdded waiting next n (label_count records)) (sym (own_anchor all.arrivals new)) added)
+      held_back later (label_count records) (PutsIn (length all.arrivals)) grown now_kept is (not_had records next.by)
+      (ap (is_marked marks) (own_anchor all.arrivals new) ∙ missing)
+      (subst (λ (n : ℕ). IsAdded waiting later n (label_count records)) (sym (own_anchor all.arrivals new)) added)

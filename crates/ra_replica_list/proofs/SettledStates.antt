@@ -21,24 +21,35 @@ not_some : {A : Type 0} (o : Option A) → is_some o ≡ false → None ≡ o
 not_some None is = refl
 not_some (Some x) is = absurd (true≢false is)
 
-module _ {all : ElementList} {deeds : List (Option Deed)} {records : Records} {state : State} {marks : List Bool} {waiting : List (ℕ × List ℕ)} {had settled : ℕ → Bool} where
+module _ {all : ElementList} {deeds : List (Option Deed)} {records : Records} {state : State} {marks : List Bool}
+    {waiting : List (ℕ × List ℕ)} {had settled : ℕ → Bool} where
   -- where none waits, it is that after all
-  pub told : AreElementsOf all deeds records → IsListWith state marks waiting all.arrivals deeds records had settled → ((number : ℕ) → labels_under waiting number ≡ []) → Some state ≡ state_after Rga (updates_passing Rga records had)
+  pub told : AreElementsOf all deeds records → IsListWith state marks waiting all.arrivals deeds records had settled
+      → ((number : ℕ) → labels_under waiting number ≡ []) → Some state
+      ≡ state_after Rga (updates_passing Rga records had)
   told stand kept none =
       let settle : AllSettled records had settled = λ l u l_in makes was_had.
       let (d, d_is, d_does) = stand.made l u l_in makes in
       elim (cases_Bool (settled l.number)) [
         | inl it ↦ it
-        | inr waits ↦ absurd (none_there l.number (subst (λ ls. Contains ls l.number) (none (needed_number all.arrivals d)) (kept.waiting_labels.waits l.number d d_is was_had waits)))
+        | inr waits ↦
+            absurd (none_there l.number (subst (λ ls. Contains ls l.number) (none (needed_number all.arrivals d))
+            (kept.waiting_labels.waits l.number d d_is was_had waits)))
       ] in
-      let admitted = (settled_updates_are_admitted-all records had settled (all_admitted stand) kept.settles).1 settle in
-      sym kept.after ∙ ap (state_after Rga) (settled_updates_are_admitted-same records had settled (all_admitted stand) kept.settles admitted)
+      let admitted = (settled_updates_are_admitted-all records had settled (all_admitted stand) kept.settles).1
+      settle in
+      sym kept.after ∙ ap (state_after Rga) (settled_updates_are_admitted-same records had settled (all_admitted stand)
+      kept.settles admitted)
 
   -- where one waits, all are not admitted
-  pub untold : AreElementsOf all deeds records → IsListWith state marks waiting all.arrivals deeds records had settled → (number n : ℕ) → Contains (labels_under waiting number) n → None ≡ state_after Rga (updates_passing Rga records had)
+  pub untold : AreElementsOf all deeds records → IsListWith state marks waiting all.arrivals deeds records had settled
+      → (number n : ℕ) → Contains (labels_under waiting number) n
+      → None ≡ state_after Rga (updates_passing Rga records had)
   untold stand kept number n found =
       let (d, d_is, d_needs, was_had, waits) = kept.waiting_labels.only number n found in
       let (l, l_in, l_num, l_makes) = stand.makes n d d_is in
       not_some (state_after Rga (updates_passing Rga records had))
       (false_from_ne_true (is_admitted Rga (updates_passing Rga records had)) (λ admitted.
-      not_both (settled n) waits (ap settled (sym l_num) ∙ (settled_updates_are_admitted-all records had settled (all_admitted stand) kept.settles).0 admitted l _ l_in l_makes (ap had l_num ∙ was_had))))
+      not_both (settled n) waits (ap settled (sym l_num)
+      ∙ (settled_updates_are_admitted-all records had settled (all_admitted stand) kept.settles).0 admitted l _ l_in
+      l_makes (ap had l_num ∙ was_had))))

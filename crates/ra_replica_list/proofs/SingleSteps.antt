@@ -32,7 +32,8 @@ after_in_range (Number n) anchor x = tt
 after_in_range (Written last) anchor x = tt
 after_in_range (Members xs) anchor x = tt
 after_in_range (Pairs pairs) anchor x = tt
-after_in_range (Listed list) anchor x = in_range_if (is_in_list anchor list && not (is_in_list x list)) (insert_after anchor x list)
+after_in_range (Listed list) anchor x =
+    in_range_if (is_in_list anchor list && not (is_in_list x list)) (insert_after anchor x list)
 
 pub remove_in_range : (state : State) (x : ℕ) → IfSome (step_of state (RgaRemove x)) IsInRange
 remove_in_range (Number n) x = tt
@@ -45,53 +46,73 @@ one_on : (next step : Option State) (old : State) → next ≡ step → is_some 
 one_on next (Some s) old is some = is
 one_on next None old is some = absurd (false≢true (sym (ap is_some is) ∙ some))
 
-pub leads_with : {arrivals : List Arrival} {deeds : List (Option Deed)} {records : Records} (passes : ℕ → Bool) → AreDeedsOf arrivals deeds records → (label : ℕ) → NoneWaits records (or_label passes label) → (state : State) (u : Update) → state_after Rga (updates_passing Rga records passes) ≡ Some state
-    → state_after Rga (updates_passing Rga records (or_label passes label)) ≡ then_step (state_after Rga (updates_passing Rga records passes)) u
+pub leads_with : {arrivals : List Arrival} {deeds : List (Option Deed)} {records : Records} (passes : ℕ → Bool)
+    → AreDeedsOf arrivals deeds records → (label : ℕ) → NoneWaits records (or_label passes label)
+    → (state : State) (u : Update) → state_after Rga (updates_passing Rga records passes) ≡ Some state
+    → state_after Rga (updates_passing Rga records (or_label passes label))
+    ≡ then_step (state_after Rga (updates_passing Rga records passes)) u
     → state_after Rga (updates_passing Rga records (or_label passes label)) ≡ Some (unwrap_or (step_of state u) state)
 leads_with {records = records} passes stand label none state u after is =
     one_on (state_after Rga (updates_passing Rga records (or_label passes label))) (step_of state u) state
     (is ∙ ap (λ (s : Option State). then_step s u) after)
     ((updates_are_admitted_where_none_waits-exactly records (or_label passes label) stand.admitted).1 none)
 
-module _ {arrivals : List Arrival} {deeds : List (Option Deed)} {records : Records} {marks : List Bool} {passes : ℕ → Bool} where
+module _ {arrivals : List Arrival} {deeds : List (Option Deed)} {records : Records} {marks : List Bool}
+    {passes : ℕ → Bool} where
   -- with the label none waits
-  pub none_waits_with : AreDeedsOf arrivals deeds records → NoneWaits records passes → AreThere marks arrivals records passes → (label : ℕ) (deed : Deed) → deed_at deeds label ≡ Some deed → passes label ≡ false
+  pub none_waits_with : AreDeedsOf arrivals deeds records → NoneWaits records passes
+      → AreThere marks arrivals records passes → (label : ℕ) (deed : Deed) → deed_at deeds label ≡ Some deed
+      → passes label ≡ false
       → is_marked marks (needed_number arrivals deed) ≡ true → NoneWaits records (or_label passes label)
   none_waits_with stand none there label deed is new needs =
       let (l, l_in, l_num, l_makes) = stand.makes label deed is in
       subst (λ (k : ℕ). NoneWaits records (or_label passes k)) l_num
-      (one_more_update_is_one_step-none_waits records passes l (update_of arrivals deed) l_in l_makes (ap passes l_num ∙ new) none (needed_marked stand there label deed is ∙ needs))
+      (one_more_update_is_one_step-none_waits records passes l (update_of arrivals deed) l_in l_makes
+      (ap passes l_num ∙ new) none (needed_marked stand there label deed is ∙ needs))
 
   -- a removal
-  pub removal_leads : AreDeedsOf arrivals deeds records → NoneWaits records passes → AreThere marks arrivals records passes → (state : State) → state_after Rga (updates_passing Rga records passes) ≡ Some state
-      → (label number : ℕ) → deed_at deeds label ≡ Some (Removes number) → passes label ≡ false → is_marked marks number ≡ true
-      → state_after Rga (updates_passing Rga records (or_label passes label)) ≡ Some (unwrap_or (step_of state (RgaRemove (element_at arrivals number))) state)
+  pub removal_leads : AreDeedsOf arrivals deeds records → NoneWaits records passes
+      → AreThere marks arrivals records passes → (state : State)
+      → state_after Rga (updates_passing Rga records passes) ≡ Some state
+      → (label number : ℕ) → deed_at deeds label ≡ Some (Removes number) → passes label ≡ false
+      → is_marked marks number ≡ true
+      → state_after Rga (updates_passing Rga records (or_label passes label))
+      ≡ Some (unwrap_or (step_of state (RgaRemove (element_at arrivals number))) state)
   removal_leads stand none there state after label number is new needs =
       let (l, l_in, l_num, l_makes) = stand.makes label (Removes number) is in
       let x = element_at arrivals number in
       let with_it = none_waits_with stand none there label (Removes number) is new needs in
-      let step = one_more_update_is_one_step-removal records passes l x stand.admitted l_in l_makes (ap passes l_num ∙ new)
+      let step = one_more_update_is_one_step-removal records passes l x stand.admitted l_in l_makes
+      (ap passes l_num ∙ new)
       ((updates_are_admitted_where_none_waits-exactly records passes stand.admitted).1 none)
       (needed_marked stand there label (Removes number) is ∙ needs) in
       leads_with passes stand label with_it state (RgaRemove x) after
-      (subst (λ (k : ℕ). state_after Rga (updates_passing Rga records (or_label passes k)) ≡ then_step (state_after Rga (updates_passing Rga records passes)) (RgaRemove x)) l_num step)
+      (subst (λ (k : ℕ). state_after Rga (updates_passing Rga records (or_label passes k))
+      ≡ then_step (state_after Rga (updates_passing Rga records passes)) (RgaRemove x)) l_num step)
 
 -- an insertion behind the nearest before it
-pub insertion_leads : {all : ElementList} {deeds : List (Option Deed)} {records : Records} {marks : List Bool} {passes : ℕ → Bool} → AreElementsOf all deeds records → NoneWaits records passes → AreThere marks all.arrivals records passes
+pub insertion_leads : {all : ElementList} {deeds : List (Option Deed)} {records : Records} {marks : List Bool}
+    {passes : ℕ → Bool} → AreElementsOf all deeds records → NoneWaits records passes
+    → AreThere marks all.arrivals records passes
     → (state : State) → state_after Rga (updates_passing Rga records passes) ≡ Some state
-    → (label number p : ℕ) (list : List (ℕ × Bool)) → deed_at deeds label ≡ Some (PutsIn number) → passes label ≡ false → is_marked marks (arrival_at all.arrivals number).anchor ≡ true
+    → (label number p : ℕ) (list : List (ℕ × Bool)) → deed_at deeds label ≡ Some (PutsIn number) → passes label ≡ false
+    → is_marked marks (arrival_at all.arrivals number).anchor ≡ true
     → state_after Rga (updates_of (named_sequence Rga records)) ≡ Some (Listed list)
     → IsNearestBefore (λ x. is_there x (updates_passing Rga records passes)) list (element_at all.arrivals number) p
-    → state_after Rga (updates_passing Rga records (or_label passes label)) ≡ Some (unwrap_or (step_of state (After p (element_at all.arrivals number))) state)
-insertion_leads {all = all} {records = records} {passes = passes} stands none there state after label number p list is new needs led near =
+    → state_after Rga (updates_passing Rga records (or_label passes label))
+    ≡ Some (unwrap_or (step_of state (After p (element_at all.arrivals number))) state)
+insertion_leads {all = all} {records = records} {passes = passes} stands none there state after label number p list is
+    new needs led near =
     let stand = deeds_stand stands in
     let (l, l_in, l_num, l_makes) = stand.makes label (PutsIn number) is in
     let x = element_at all.arrivals number in
     let with_it = none_waits_with stand none there label (PutsIn number) is new needs in
     let (before, between, behind, is_shown, was_shown, pieces, kept, others) = near in
-    let step = one_more_update_is_one_step-insertion records passes l (element_at all.arrivals (arrival_at all.arrivals number).anchor) x p before between behind is_shown was_shown
+    let step = one_more_update_is_one_step-insertion records passes l
+    (element_at all.arrivals (arrival_at all.arrivals number).anchor) x p before between behind is_shown was_shown
     (led ∙ ap (λ ls. Some (Listed ls)) pieces) l_in l_makes (ap passes l_num ∙ new)
     ((updates_are_admitted_where_none_waits-exactly records passes stand.admitted).1 none)
     (needed_marked stand there label (PutsIn number) is ∙ needs) kept others in
     leads_with passes stand label with_it state (After p x) after
-    (subst (λ (k : ℕ). state_after Rga (updates_passing Rga records (or_label passes k)) ≡ then_step (state_after Rga (updates_passing Rga records passes)) (After p x)) l_num step)
+    (subst (λ (k : ℕ). state_after Rga (updates_passing Rga records (or_label passes k))
+    ≡ then_step (state_after Rga (updates_passing Rga records passes)) (After p x)) l_num step)

@@ -27,34 +27,45 @@ pub or_nothing : (b : Bool) → b ≡ (b || false)
 or_nothing true = refl
 or_nothing false = refl
 
-module _ {arrivals : List Arrival} {deeds : List (Option Deed)} {records : Records} {state : State} {marks : List Bool} {waiting : List (ℕ × List ℕ)} {had settled : ℕ → Bool} where
+module _ {arrivals : List Arrival} {deeds : List (Option Deed)} {records : Records} {state : State} {marks : List Bool}
+    {waiting : List (ℕ × List ℕ)} {had settled : ℕ → Bool} where
   -- of a label that was not had
-  pub not_settled : IsListWith state marks waiting arrivals deeds records had settled → (label : ℕ) → had label ≡ false → settled label ≡ false
-  not_settled kept label new = false_from_ne_true (settled label) (λ it. not_both (had label) new (((what_is_settled_does_not_wait records had settled).0 kept.settles).0 label it))
+  pub not_settled : IsListWith state marks waiting arrivals deeds records had settled → (label : ℕ) → had label ≡ false
+      → settled label ≡ false
+  not_settled kept label new =
+      false_from_ne_true (settled label) (λ it. not_both (had label) new
+      (((what_is_settled_does_not_wait records had settled).0 kept.settles).0 label it))
 
   -- it removes an element that is there
-  pub removal_goes : AreDeedsOf arrivals deeds records → IsListWith state marks waiting arrivals deeds records had settled → (label number : ℕ) → deed_at deeds label ≡ Some (Removes number) → had label ≡ false
-      → is_marked marks number ≡ true → (next : State) → next ≡ unwrap_or (step_of state (RgaRemove (element_at arrivals number))) state
+  pub removal_goes : AreDeedsOf arrivals deeds records → IsListWith state marks waiting arrivals deeds records had
+      settled → (label number : ℕ) → deed_at deeds label ≡ Some (Removes number) → had label ≡ false
+      → is_marked marks number ≡ true → (next : State) → next
+      ≡ unwrap_or (step_of state (RgaRemove (element_at arrivals number))) state
       → IsListWithAfter next marks waiting arrivals deeds records had settled label 1
   removal_goes stand kept label number is new needs next stepped =
       let none = ((what_is_settled_does_not_wait records had settled).0 kept.settles).1 in
       goes_in next marks label (Removes number) stand kept is new needs
-      (removal_leads stand none kept.there state kept.after label number is (not_settled kept label new) needs ∙ ap (λ (s : State). Some s) (sym stepped))
+      (removal_leads stand none kept.there state kept.after label number is (not_settled kept label new) needs
+      ∙ ap (λ (s : State). Some s) (sym stepped))
       (λ n. or_nothing (is_marked marks n))
       (λ n puts_it. absurd (false≢true puts_it))
 
 -- it puts in an element behind the nearest before it that is there, and none waits for it
-pub insertion_goes : {all : ElementList} {deeds : List (Option Deed)} {records : Records} {state : State} {marks : List Bool} {waiting : List (ℕ × List ℕ)} {had settled : ℕ → Bool}
-    → AreElementsOf all deeds records → IsListWith state marks waiting all.arrivals deeds records had settled → (label number p : ℕ) (list : List (ℕ × Bool)) → deed_at deeds label ≡ Some (PutsIn number) → had label ≡ false
+pub insertion_goes : {all : ElementList} {deeds : List (Option Deed)} {records : Records} {state : State}
+    {marks : List Bool} {waiting : List (ℕ × List ℕ)} {had settled : ℕ → Bool}
+    → AreElementsOf all deeds records → IsListWith state marks waiting all.arrivals deeds records had settled
+    → (label number p : ℕ) (list : List (ℕ × Bool)) → deed_at deeds label ≡ Some (PutsIn number) → had label ≡ false
     → is_marked marks (arrival_at all.arrivals number).anchor ≡ true
     → state_after Rga (updates_of (named_sequence Rga records)) ≡ Some (Listed list)
     → IsNearestBefore (λ x. is_there x (updates_passing Rga records settled)) list (element_at all.arrivals number) p
     → (next : State) → next ≡ unwrap_or (step_of state (After p (element_at all.arrivals number))) state
     → (next_marks : List Bool) → AreMarksWith marks next_marks (PutsIn number) → labels_under waiting number ≡ []
     → IsListWithAfter next next_marks waiting all.arrivals deeds records had settled label 1
-insertion_goes {records = records} {state = state} {waiting = waiting} {had = had} {settled = settled} stands kept label number p list is new needs led near next stepped next_marks with_it none_for =
+insertion_goes {records = records} {state = state} {waiting = waiting} {had = had} {settled = settled} stands kept label
+    number p list is new needs led near next stepped next_marks with_it none_for =
     let none = ((what_is_settled_does_not_wait records had settled).0 kept.settles).1 in
     goes_in next next_marks label (PutsIn number) (deeds_stand stands) kept is new needs
-    (insertion_leads stands none kept.there state kept.after label number p list is (not_settled kept label new) needs led near ∙ ap (λ (s : State). Some s) (sym stepped))
+    (insertion_leads stands none kept.there state kept.after label number p list is (not_settled kept label new) needs
+    led near ∙ ap (λ (s : State). Some s) (sym stepped))
     with_it
     (λ n puts_it. ap (labels_under waiting) (eqb-true n number puts_it) ∙ none_for)

@@ -2,15 +2,15 @@
 //! nothing.
 ghost use Rattle.std.specs.Prelude.{◌≡◌, ℕ, true, false, List, ◌++◌, ◌∷◌, [], length, Option, Some, None};
 ghost use Rattle.ra_labels.specs.declared.kind.Kind.TheVariants.{Rga};
-ghost use Rattle.ra_labels.specs.declared.operation.Op.{Op};
 ghost use Rattle.ra_labels.specs.declared.operation.Update.TheVariants.{After, RgaRemove};
-ghost use Rattle.ra_labels.specs.declared.command.Command.TheVariants.{Operate, Deliver, Join};
-ghost use Rattle.ra_labels.specs.Records.{Records, replica_count, next_label};
+ghost use Rattle.ra_labels.specs.declared.command.Command.TheVariants.{Deliver, Join};
+ghost use Rattle.ra_labels.specs.Records.{Records, replica_count};
 ghost use Rattle.ra_labels.specs.Visibility.{is_update};
 ghost use Rattle.ra_labels.specs.Linearization.{updates_admitted};
 ghost use Rattle.ra_labels.specs.NamedOrder.{named_sequence, timestamp_of};
 ghost use Rattle.ra_labels.specs.Laws.{NoneHadBeyond};
 ghost use Rattle.ra_labels.specs.Insertion.{Makes};
+ghost use Rattle.ra_labels.specs.Situation.{Next, operate, label_of};
 ghost use Rattle.ra_element_list.specs.ElementList.{Arrival, ElementList};
 ghost use Rattle.ra_replica_list.specs.declared.deed.Deed.{Deed};
 ghost use Rattle.ra_replica_list.specs.declared.deed.Deed.TheVariants.{PutsIn, Removes};
@@ -21,21 +21,21 @@ ghost use Rattle.ra_replica_list.specs.ReplicaList.{ReplicaList, IsListOf, settl
 /// nothing; and so does a delivery to another one, and another one that joins.
 pub fn a_list_stays_with_what_others_do()
     ensures insertion { (list : ReplicaList) (all : ElementList) (new : Arrival) (deeds : List (Option Deed))
-        (records : Records) (replica by : ℕ) (op : Op) (clock : Option ℕ) → AreElementsOf all deeds records
-        → IsListOf list all.arrivals deeds records replica → ¬ (by ≡ replica)
-        → Makes op (After (element_at all.arrivals new.anchor) new.element)
-        → updates_admitted Rga (named_sequence Rga (Operate by op clock ∷ records)) ≡ true
+        (records : Records) (replica : ℕ) (next : Next) → AreElementsOf all deeds records
+        → IsListOf list all.arrivals deeds records replica → ¬ (next.by ≡ replica)
+        → Makes next.op (After (element_at all.arrivals new.anchor) new.element)
+        → updates_admitted Rga (named_sequence Rga (operate next ∷ records)) ≡ true
         → IsListOf list (all.arrivals ++ new ∷ []) (deeds ++ Some (PutsIn (length all.arrivals)) ∷ [])
-        (Operate by op clock ∷ records) replica }
+        (operate next ∷ records) replica }
     ensures removal { (list : ReplicaList) (all : ElementList) (deeds : List (Option Deed)) (records : Records)
-        (replica by number : ℕ) (op : Op) (clock : Option ℕ) → AreElementsOf all deeds records
-        → IsListOf list all.arrivals deeds records replica → ¬ (by ≡ replica)
-        → Makes op (RgaRemove (element_at all.arrivals number))
-        → IsListOf list all.arrivals (deeds ++ Some (Removes number) ∷ []) (Operate by op clock ∷ records) replica }
+        (replica number : ℕ) (next : Next) → AreElementsOf all deeds records
+        → IsListOf list all.arrivals deeds records replica → ¬ (next.by ≡ replica)
+        → Makes next.op (RgaRemove (element_at all.arrivals number))
+        → IsListOf list all.arrivals (deeds ++ Some (Removes number) ∷ []) (operate next ∷ records) replica }
     ensures query { (list : ReplicaList) (all : ElementList) (deeds : List (Option Deed)) (records : Records)
-        (replica by : ℕ) (op : Op) (clock : Option ℕ) → AreElementsOf all deeds records
-        → (was : IsListOf list all.arrivals deeds records replica) → is_update op ≡ false
-        → (is : IsListOf list all.arrivals (deeds ++ None ∷ []) (Operate by op clock ∷ records) replica)
+        (replica : ℕ) (next : Next) → AreElementsOf all deeds records
+        → (was : IsListOf list all.arrivals deeds records replica) → is_update next.op ≡ false
+        → (is : IsListOf list all.arrivals (deeds ++ None ∷ []) (operate next ∷ records) replica)
         × (settled_count is ≡ settled_count was) }
     ensures delivery { (list : ReplicaList) (all : ElementList) (deeds : List (Option Deed)) (records : Records)
         (replica to n : ℕ) → AreElementsOf all deeds records → IsListOf list all.arrivals deeds records replica
@@ -56,6 +56,6 @@ pub fn a_new_replica_has_the_list_of_the_other()
 /// A label with no stamp of its own ranks by the greatest stamp of the labels that its replica had.
 pub fn the_greatest_stamp_ranks_the_next_label()
     ensures { (list : ReplicaList) (arrivals : List Arrival) (deeds : List (Option Deed)) (records : Records)
-        (by : ℕ) (op : Op) → IsListOf list arrivals deeds records by
-        → timestamp_of (Operate by op None ∷ records) (next_label records by op None) ≡ list.greatest }
+        (next : Next) → IsListOf list arrivals deeds records next.by → next.clock ≡ None
+        → timestamp_of (operate next ∷ records) (label_of records next) ≡ list.greatest }
 {}

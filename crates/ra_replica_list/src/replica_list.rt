@@ -1,12 +1,11 @@
 //! The list of one replica of an RGA, after those of its updates that do not wait for another one.
-ghost use Rattle.std.specs.Prelude.{◌≡◌, ℕ, ◌+◌, ◌<◌, ◌≤◌, ◌^◌, Bool, true, false, List, ◌++◌, ◌∷◌, [], length, Option, Some, None, option_map, IfOk, OnOk, OnErr, if◌then◌else◌};
+ghost use Rattle.std.specs.Prelude.{◌≡◌, ℕ, ◌+◌, ◌<◌, ◌≤◌, ◌^◌, Bool, true, false, List, ◌++◌, ◌∷◌, [], length, Option, Some, None, IfOk, OnOk, OnErr, if◌then◌else◌};
 ghost use Rattle.std.specs.Option.{option_copied};
 ghost use Rattle.ra_labels.specs.declared.kind.Kind.TheVariants.{Rga};
-ghost use Rattle.ra_labels.specs.declared.operation.Op.{Op};
 ghost use Rattle.ra_labels.specs.declared.operation.Update.TheVariants.{After, RgaRemove};
 ghost use Rattle.ra_labels.specs.declared.label.Label.{Label};
-ghost use Rattle.ra_labels.specs.declared.command.Command.TheVariants.{Operate, Deliver};
-ghost use Rattle.ra_labels.specs.Records.{Records, label_count, stamp_at};
+ghost use Rattle.ra_labels.specs.declared.command.Command.TheVariants.{Deliver};
+ghost use Rattle.ra_labels.specs.Records.{Records, label_count};
 ghost use Rattle.ra_labels.specs.Visibility.{had};
 ghost use Rattle.ra_labels.specs.Rewriting.{updates_of};
 ghost use Rattle.ra_labels.specs.Specification.{Listed, state_after, is_admitted};
@@ -14,6 +13,7 @@ ghost use Rattle.ra_labels.specs.Linearization.{extends_visibility, updates_admi
 ghost use Rattle.ra_labels.specs.NamedOrder.{greater_of, named_labels, named_sequence};
 ghost use Rattle.ra_labels.specs.Laws.{StampsAreOneLabels, elements_in};
 ghost use Rattle.ra_labels.specs.Insertion.{updates_passing, updates_had, updates_among, Makes};
+ghost use Rattle.ra_labels.specs.Situation.{Next, operate, label_of};
 ghost use Rattle.ra_labels.specs.Waiting.{is_there};
 ghost use Rattle.ra_element_list.specs.ElementList.{Arrival, ElementList, root, arrival_at, is_marked, IsNearestBefore};
 ghost use Rattle.ra_replica_list.specs.declared.deed.Deed.{Deed};
@@ -122,17 +122,17 @@ impl ReplicaList {
     ) -> Result<u64, NoMemory>
         requires few { length all.now.arrivals < 2 ^ 32 }
         requires anchor { anchor < length all.now.arrivals }
-        ensures put { IfOk result (λ steps. (deeds : List (Option Deed)) (records : Records) (by : ℕ) (op : Op)
-            (clock : Option ℕ) → AreElementsOf all.now deeds records
-            → (was : IsListOf self.old all.now.arrivals deeds records by)
-            → label ≡ label_count records → Makes op (After (element_at all.now.arrivals anchor) element)
-            → option_map (stamp_at by) clock ≡ Some stamp
-            → let now = Operate by op clock ∷ records in
+        ensures put { IfOk result (λ steps. (deeds : List (Option Deed)) (records : Records) (next : Next)
+            → AreElementsOf all.now deeds records
+            → (was : IsListOf self.old all.now.arrivals deeds records next.by)
+            → label ≡ label_count records → Makes next.op (After (element_at all.now.arrivals anchor) element)
+            → (label_of records next).stamp ≡ Some stamp
+            → let now = operate next ∷ records in
             extends_visibility now (named_sequence Rga now) ≡ true
             → updates_admitted Rga (named_sequence Rga now) ≡ true
             → (is : IsListOf self.new
             (all.now.arrivals ++ record { element = element; stamp = stamp; anchor = anchor } ∷ [])
-            (deeds ++ Some (PutsIn (length all.now.arrivals)) ∷ []) now by)
+            (deeds ++ Some (PutsIn (length all.now.arrivals)) ∷ []) now next.by)
             × (settled_count is ≡ settled_count was + steps)) }
         ensures steps { IfOk result (λ steps. steps ≤ 1) }
         ensures err { OnErr result ((arrivals : List Arrival) (deeds : List (Option Deed)) (records : Records)
@@ -165,15 +165,15 @@ impl ReplicaList {
         number: u32,
     ) -> Result<u64, NoMemory>
         requires number { number < length all.now.arrivals }
-        ensures removed { IfOk result (λ steps. (deeds : List (Option Deed)) (records : Records) (by : ℕ) (op : Op)
-            (clock : Option ℕ) → AreElementsOf all.now deeds records
-            → (was : IsListOf self.old all.now.arrivals deeds records by)
-            → label ≡ label_count records → Makes op (RgaRemove (element_at all.now.arrivals number))
-            → clock ≡ None
-            → let now = Operate by op clock ∷ records in
+        ensures removed { IfOk result (λ steps. (deeds : List (Option Deed)) (records : Records) (next : Next)
+            → AreElementsOf all.now deeds records
+            → (was : IsListOf self.old all.now.arrivals deeds records next.by)
+            → label ≡ label_count records → Makes next.op (RgaRemove (element_at all.now.arrivals number))
+            → next.clock ≡ None
+            → let now = operate next ∷ records in
             extends_visibility now (named_sequence Rga now) ≡ true
             → updates_admitted Rga (named_sequence Rga now) ≡ true
-            → (is : IsListOf self.new all.now.arrivals (deeds ++ Some (Removes number) ∷ []) now by)
+            → (is : IsListOf self.new all.now.arrivals (deeds ++ Some (Removes number) ∷ []) now next.by)
             × (settled_count is ≡ settled_count was + steps)) }
         ensures steps { IfOk result (λ steps. steps ≤ 1) }
         ensures err { OnErr result ((arrivals : List Arrival) (deeds : List (Option Deed)) (records : Records)

@@ -90,7 +90,8 @@ module _ (records : Records) (next : Next) where
   -- what the replica had is among what the new label sees
   had_seen : (l : Label) → Contains (labels_of records) l → had records next.by l.number ≡ true → Contains all_seen l
   had_seen l found is =
-      kept-there (λ (other : Label). sees now n other.number) (labels_of now) l (behind_head x (labels_of records) l found)
+      kept-there (λ (other : Label). sees now n other.number) (labels_of now) l
+      (behind_head x (labels_of records) l found)
       (sees_had l.number ∙ is)
 
   module _ (causal : IsCausal records) (stamped : (label : Label) (stamp : Stamp) → Contains (labels_of records) label

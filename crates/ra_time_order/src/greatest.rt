@@ -1,5 +1,5 @@
 //! The greatest own stamp among a replica's first updates, for each number of them.
-ghost use Rattle.std.specs.Prelude.{◌≡◌, ◌<◌, ◌++◌, ◌∷◌, [], not, IfOk, OnOk};
+ghost use Rattle.std.specs.Prelude.{◌≡◌, ◌<◌, [], not, IfOk, OnOk};
 ghost use Rattle.std.specs.Ordering.{is_lt};
 ghost use Rattle.ra_labels.specs.NamedOrder.{stamp_cmp, greater_of};
 ghost use Rattle.ra_time_order.specs.Greatest.{greatest_among, with_stamp};

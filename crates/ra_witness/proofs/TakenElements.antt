@@ -43,7 +43,7 @@ module _ (old next : Rga) (first : ℕ) (records : Records) (by : ℕ) (clock : 
       let deeds = old.deeds.items in
       let elements = elements_more old.all old.all deeds records by op clock None stands.elements (adds_nothing old.all deeds records by op clock stands.elements asks) in
       let asked = λ (q : ℕ) (list : ReplicaList) (at : slice_get old.lists.items q ≡ Some list).
-      a_list_stays_with_what_others_do-query list old.all deeds records q by op clock stands.elements (stands.lists q list at) asks in
+      a_list_stays_with_what_others_do-query list old.all deeds records q (next_of by op clock) stands.elements (stands.lists q list at) asks in
       let lists : AreListsOf old.lists.items old.all.arrivals (deeds ++ None ∷ []) now =
       λ q list at. (asked q list at).0 in
       let settles : SettlesMore records (Operate by op clock) by 0 = elim (slice_get_cases old.lists.items by).1 [
@@ -89,7 +89,7 @@ module _ (old next : Rga) (first : ℕ) (records : Records) (by : ℕ) (clock : 
       (adds_removal old.all deeds records by op clock number stands.elements removes within unclocked admitted) in
       let lists : AreListsOf (set old.lists.items by list) old.all.arrivals with_it now =
       lists_with old.lists.items by list old.all.arrivals with_it now (omega (arith, stands.replicas, offered.replica)) own
-      (λ q other differ at. a_list_stays_with_what_others_do-removal other old.all deeds records q by number op clock stands.elements (stands.lists q other at) differ removes) in
+      (λ q other differ at. a_list_stays_with_what_others_do-removal other old.all deeds records q number (next_of by op clock) stands.elements (stands.lists q other at) differ removes) in
       record {
         elements =
             subst (λ ds. AreElementsOf next.all ds now) (sym its_deeds)
@@ -127,7 +127,7 @@ module _ (old next : Rga) (first : ℕ) (records : Records) (by : ℕ) (clock : 
       (adds_insertion old.all next.all deeds records by op clock m x stamp stands.elements makes within new own_stamp clocked offered.stamps admitted its_arrivals its_elements) in
       let lists : AreListsOf (set old.lists.items by list) (old.all.arrivals ++ newest ∷ []) with_it now =
       lists_with old.lists.items by list (old.all.arrivals ++ newest ∷ []) with_it now (omega (arith, stands.replicas, offered.replica)) own
-      (λ q other differ at. a_list_stays_with_what_others_do-insertion other old.all newest deeds records q by op clock stands.elements (stands.lists q other at) differ makes admitted) in
+      (λ q other differ at. a_list_stays_with_what_others_do-insertion other old.all newest deeds records q (next_of by op clock) stands.elements (stands.lists q other at) differ makes admitted) in
       record {
         elements = subst (λ ds. AreElementsOf next.all ds now) (sym its_deeds) elements;
         replicas = ap length its_lists ∙ length-set old.lists.items by list ∙ stands.replicas;

@@ -1,5 +1,4 @@
-use Rattle.ra_explain.proofs.LastDeliveries.{labels_without, had_without, had_there, sees_without, same_order, fault_without}
-use Rattle.ra_explain.specs.LastDeliveries.{without}
+use Rattle.ra_explain.proofs.LastDeliveries.{had_without, had_there, sees_without, order_without, fault_without}
 use Rattle.ra_explain.proofs.laws.what_a_replica_got_last_matters_to_it_alone.Goals as goal
 
 pub returns-clause-others : goal.returns-clause-others
@@ -9,8 +8,7 @@ pub returns-clause-sight : goal.returns-clause-sight
 returns-clause-sight c = sees_without
 
 pub returns-clause-order : goal.returns-clause-order
-returns-clause-order c = λ kind by left records.
-    same_order kind (without by left records) records (labels_without by left records) (sees_without by left records)
+returns-clause-order c = order_without
 
 pub returns-clause-fault : goal.returns-clause-fault
 returns-clause-fault c = fault_without

@@ -1,22 +1,17 @@
 use Rattle.std.proofs.Common.{◌≡◌, ◌∙◌}
 use Rattle.std.specs.Prelude.{◌||◌}
 use Rattle.ra_accepted.specs.Accepted.{is_no}
-use Rattle.ra_history_writer.proofs.Entries.{put_next, cut_entry, told_before, told_here}
+use Rattle.ra_history_writer.proofs.Entries.{put_next, cut_entry}
 use Rattle.ra_history_writer.proofs.writing.put_entries.Goals as goal
 use Rattle.ra_history_writer.proofs.writing.put_entries.Goals.{then-failed, else-failed}
 
 pub loop-entry-preserved : goal.loop-entry-preserved
 loop-entry-preserved c =
-    let cut = cut_entry c.args.log.now c.loop-entry.entry-index c.entry-item.result c.loop-entry-test.true
-    c.entry-item.is in
+    let cut = cut_entry _ _ _ c.loop-entry-test.true c.entry-item.is in
     let told : c.if-failed.failed ≡ (c.loop-entry.failed || is_no c.entry-item.result.reply) =
     elim c.if-failed.branch [
-      | then-failed w ↦ told_before c.if-failed.failed c.loop-entry.failed
-          (is_no c.entry-item.result.reply) w.if-failed.true (w.failed-is ∙ w.if-failed.true)
-      | else-failed w ↦ told_here c.if-failed.failed c.loop-entry.failed
-          (is_no c.entry-item.result.reply) w.if-failed.false (w.failed-is ∙ w.is_no-failed.ensures)
+      | then-failed w ↦ rw w.if-failed.true (w.failed-is ∙ w.if-failed.true)
+      | else-failed w ↦ rw w.if-failed.false (w.failed-is ∙ w.is_no-failed.ensures)
     ] in
-    put_next c.args.names.now c.args.log.now _ _ c.entry-item.result c.loop-entry.failed c.if-failed.failed
-    c.args.text.now.items
-    c.loop-entry.text.items c.put_entry.new.text.items c.loop-entry.invariant cut c.in_ok-put_entry.ensures.put
+    put_next _ _ _ _ _ _ _ _ _ _ c.loop-entry.invariant cut c.in_ok-put_entry.ensures.put
     c.in_ok-put_entry.ensures.small told

@@ -7,7 +7,5 @@ pub returns-in-Some-replica-clause-read : goal.returns-in-Some-replica-clause-re
 returns-in-Some-replica-clause-read c =
     let read : replica_read c.args.names.now c.in-Some.first.now ≡ Some c.in-Some-replica.replica = search rules in
     let parts : c.args.fields ≡ c.in-Some.first.now ∷ c.in-Some-take.word.now ∷ c.take-2.new.self = search rules in
-    replica_leads c.args.format c.args.kind c.args.names.now c.in-Some.first.now c.in-Some-take.word.now
-    c.take-2.new.self
-    c.args.fields c.in-Some-replica.replica
-    c.replica_command.result parts read c.replica_command.ensures.read
+    replica_leads c.args.format c.args.kind _ _ _ _ _ _ c.replica_command.result parts read
+    c.replica_command.ensures.read

@@ -5,19 +5,16 @@ use Rattle.ra_lines.proofs.reply.put_caused.Goals as goal
 pub returns-in_err-put_bytes-clause-part : goal.returns-in_err-put_bytes-clause-part
 returns-in_err-put_bytes-clause-part c =
     on_err_any c.from_residual-in_err-put_bytes.result
-    (begun_by c.args.out.now.items c.put_numbered.new.out.items _ _ c.in_ok-put_numbered.ensures.put
-    c.in_err-put_bytes.ensures.part)
+    (begun_by _ _ _ _ c.in_ok-put_numbered.ensures.put c.in_err-put_bytes.ensures.part)
 
 pub returns-in_err-put_bytes-2-clause-part : goal.returns-in_err-put_bytes-2-clause-part
 returns-in_err-put_bytes-2-clause-part c =
     on_err_any c.from_residual-in_err-put_bytes-2.result
-    (begun_by c.args.out.now.items c.put_numbered.new.out.items _ _ c.in_ok-put_numbered.ensures.put
-    (begun_by c.put_numbered.new.out.items c.put_bytes.new.out.items _ _ c.in_ok-put_bytes.ensures.put
-    c.in_err-put_bytes-2.ensures.part))
+    (begun_by _ _ _ _ c.in_ok-put_numbered.ensures.put
+    (begun_by _ _ _ _ c.in_ok-put_bytes.ensures.put c.in_err-put_bytes-2.ensures.part))
 
 pub returns-clause-part : goal.returns-clause-part
 returns-clause-part c =
-    on_err c.put_bytes-3.result c.put_bytes-3.ensures.part
-    (λ begins. begun_by c.args.out.now.items c.put_numbered.new.out.items _ _ c.in_ok-put_numbered.ensures.put
-    (begun_by c.put_numbered.new.out.items c.put_bytes.new.out.items _ _ c.in_ok-put_bytes.ensures.put
-    (begun_by c.put_bytes.new.out.items c.put_bytes-2.new.out.items _ _ c.in_ok-put_bytes-2.ensures.put begins)))
+    on_err c.put_bytes-3.result c.put_bytes-3.ensures.part (λ begins.
+    begun_by _ _ _ _ c.in_ok-put_numbered.ensures.put
+    (begun_by _ _ _ _ c.in_ok-put_bytes.ensures.put (begun_by _ _ _ _ c.in_ok-put_bytes-2.ensures.put begins)))

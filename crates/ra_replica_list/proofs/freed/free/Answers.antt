@@ -13,16 +13,20 @@ follow-requires-clause-amidst c =
       had = asked.had;
       settled = asked.settled;
       first = c.args.first;
-      amidst = none_followed start.followers.updates.items start.followers.labels.items start.followers.ready.items c.args.first asked.deed asked.elements asked.kept asked.deed_of asked.new asked.needed
+      amidst = none_followed start.followers.updates.items start.followers.labels.items start.followers.ready.items
+          c.args.first asked.deed asked.elements asked.kept asked.deed_of asked.new asked.needed
           start.ensures.updates start.ensures.labels start.ensures.ready;
     }
 
 pub follow-requires-clause-list : goal.follow-requires-clause-list
-follow-requires-clause-list c = states_are_of_their_kind Rga (updates_passing Rga c.requires.records c.requires.settled) c.args.state.now c.requires.kept.after
+follow-requires-clause-list c =
+    states_are_of_their_kind Rga (updates_passing Rga c.requires.records c.requires.settled) c.args.state.now
+    c.requires.kept.after
 
 pub returns-in-Ok-clause-freed : goal.returns-in-Ok-clause-freed
 returns-in-Ok-clause-freed c = λ records had settled deed stand kept is new needs.
     let start = c.in_ok-followers in
     c.in-Ok.ensures.followed records had settled c.args.first
-    (none_followed start.followers.updates.items start.followers.labels.items start.followers.ready.items c.args.first deed stand kept is new needs
+    (none_followed start.followers.updates.items start.followers.labels.items start.followers.ready.items c.args.first
+    deed stand kept is new needs
     start.ensures.updates start.ensures.labels start.ensures.ready)

@@ -25,7 +25,8 @@ invariant_of-self-in_err-reserve-2 c =
 
 pub invariant_of-self-2 : goal.invariant_of-self-2
 invariant_of-self-2 c =
-    let left = slice_left _ _ _ _ (c.as_mut_slice.ensures.value ∙ c.reserve-2.ensures.items) c.make_room.ensures.elements
+    let left = slice_left _ _ _ _ (c.as_mut_slice.ensures.value ∙ c.reserve-2.ensures.items)
+    c.make_room.ensures.elements
     c.as_mut_slice.ensures.len in
     let numbers = numbers_same _ _ _ c.self.invariant.numbers (λ y. c.reserve.ensures.entries.2 y) in
     subst (λ es. ElementListKept (get nat_eq c.reserve.new.self) es c.make_room.new.chunks.items
@@ -36,7 +37,8 @@ invariant_of-self-2 c =
 
 pub returns-clause-elements : goal.returns-clause-elements
 returns-clause-elements c =
-    let left = slice_left _ _ _ _ (c.as_mut_slice.ensures.value ∙ c.reserve-2.ensures.items) c.make_room.ensures.elements
+    let left = slice_left _ _ _ _ (c.as_mut_slice.ensures.value ∙ c.reserve-2.ensures.items)
+    c.make_room.ensures.elements
     c.as_mut_slice.ensures.len in
     ap (λ es. elements_by es (joined c.make_room.new.chunks.items)) (left.1 _)
     ∙ ap (elements_by c.make_room.new.elements) c.make_room.ensures.joined
@@ -45,7 +47,8 @@ returns-clause-elements c =
 
 pub returns-clause-arrivals : goal.returns-clause-arrivals
 returns-clause-arrivals c =
-    let left = slice_left _ _ _ _ (c.as_mut_slice.ensures.value ∙ c.reserve-2.ensures.items) c.make_room.ensures.elements
+    let left = slice_left _ _ _ _ (c.as_mut_slice.ensures.value ∙ c.reserve-2.ensures.items)
+    c.make_room.ensures.elements
     c.as_mut_slice.ensures.len in
     ap (map arrival_of) (left.1 _) ∙ arrivals_same _ _ left.0 ∙ ap (λ (l : ElementList). l.arrivals) c.self.view_is
 

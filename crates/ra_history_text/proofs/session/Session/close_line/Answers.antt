@@ -1,8 +1,7 @@
 use Rattle.std.proofs.Common.{◌≡◌, ◌≤◌, [], length, vec_len, rules, arith}
 use Rattle.std.proofs.lemmas.List.{nil_from_length}
-use Rattle.std.proofs.lemmas.Result.{err_from_is_err_and}
 use Rattle.ra_history_text.specs.Sessions.{StopsClosing}
-use Rattle.ra_history_text.proofs.Lines.{close_whole, close_whole_stops, gathering_stops, not_empty, no_parts, gathered_stops, gathered_takes}
+use Rattle.ra_history_text.proofs.Lines.{close_whole, close_whole_stops, gathering_stops, no_parts, gathered_stops, gathered_takes}
 use Rattle.ra_history_text.proofs.Halts.{passed_on}
 use Rattle.ra_history_text.proofs.session.Session.close_line.Goals as goal
 use Rattle.ra_history_text.proofs.session.Session.close_line.Goals.{else-is_empty-via-then-is_empty+else-last-le-LONGEST_LINE, else-is_empty-via-else-is_empty}
@@ -31,13 +30,10 @@ returns-in_err-extend-clause-fault c =
       | else-is_empty-via-then-is_empty+else-last-le-LONGEST_LINE w ↦
           λ nothing short. omega (arith, w.if-last-le-LONGEST_LINE.false, short)
       | else-is_empty-via-else-is_empty w ↦ λ nothing short.
-          no_parts _ c.args.self.now (vec_len c.self.inside.partial) c.self.view_is c.self.inside.partial.ok.0
-          (not_empty c.is_empty.result (vec_len c.self.inside.partial) c.is_empty.ensures w.if-is_empty.false) nothing
+          no_parts _ _ _ _ c.self.view_is c.self.inside.partial.ok.0 c.is_empty.ensures w.if-is_empty.false nothing
     ] in
-    let stops = gathering_stops c.args.self.now c.args.last.now c.in_err-extend.field-0.0 in_parts
-    c.in_err-extend.ensures.fault in
-    let passed = err_from_is_err_and c.from_residual.result c.from_residual.ensures.1 in
-    passed_on c.from_residual.result (StopsClosing c.args.self.now c.args.last.now) _ passed.0 passed.1 passed.2 stops
+    passed_on c.from_residual.result (StopsClosing c.args.self.now c.args.last.now) _ c.from_residual.ensures.1
+    (gathering_stops c.args.self.now c.args.last.now _ in_parts c.in_err-extend.ensures.fault)
 
 pub returns-in_err-take_line-clause-fault : goal.returns-in_err-take_line-clause-fault
 returns-in_err-take_line-clause-fault c =
@@ -46,19 +42,15 @@ returns-in_err-take_line-clause-fault c =
       | else-is_empty-via-then-is_empty+else-last-le-LONGEST_LINE w ↦
           λ nothing short. omega (arith, w.if-last-le-LONGEST_LINE.false, short)
       | else-is_empty-via-else-is_empty w ↦ λ nothing short.
-          no_parts _ c.args.self.now (vec_len c.self.inside.partial) c.self.view_is c.self.inside.partial.ok.0
-          (not_empty c.is_empty.result (vec_len c.self.inside.partial) c.is_empty.ensures w.if-is_empty.false) nothing
+          no_parts _ _ _ _ c.self.view_is c.self.inside.partial.ok.0 c.is_empty.ensures w.if-is_empty.false nothing
     ] in
-    let stops = gathered_stops c.args.self.now c.extend.new.self _ c.args.last.now c.deref.result.now
-    c.in_err-take_line.field-0.0 c.requires c.in_ok-extend.ensures.taken
-    c.in_ok-extend.ensures.said in_parts c.self-2.view_is c.deref.ensures.value c.in_err-take_line.ensures.fault in
-    let passed =
-    err_from_is_err_and c.from_residual-in_err-take_line.result c.from_residual-in_err-take_line.ensures.1 in
-    passed_on c.from_residual-in_err-take_line.result
-    (StopsClosing c.args.self.now c.args.last.now) _ passed.0 passed.1 passed.2 stops
+    passed_on c.from_residual-in_err-take_line.result (StopsClosing c.args.self.now c.args.last.now) _
+    c.from_residual-in_err-take_line.ensures.1
+    (gathered_stops _ _ _ _ _ _ c.requires c.in_ok-extend.ensures.taken c.in_ok-extend.ensures.said in_parts
+    c.self-2.view_is c.deref.ensures.value c.in_err-take_line.ensures.fault)
 
 pub returns-clause-taken : goal.returns-clause-taken
 returns-clause-taken c =
-    gathered_takes c.args.self.now c.extend.new.self _ c.args.last.now c.deref.result.now c.clear.new.self.items _
-    c.in_ok-extend.ensures.taken c.self-2.view_is
-    c.deref.ensures.value c.in_ok-take_line.ensures.taken c.clear.ensures.items
+    gathered_takes c.args.self.now _ _ c.args.last.now _ _ _ c.in_ok-extend.ensures.taken c.self-2.view_is
+    c.deref.ensures.value
+    c.in_ok-take_line.ensures.taken c.clear.ensures.items

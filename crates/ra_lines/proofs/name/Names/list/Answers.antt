@@ -1,7 +1,6 @@
-use Rattle.std.proofs.Common.{◌≡◌, ◌<◌, true, false, rules, length, arith, sym, ◌∙◌}
-use Rattle.ra_lines.specs.Grammar.{most_names}
-use Rattle.ra_lines.proofs.NameLists.{as_many, may_join, in_any, not_bad}
-use Rattle.ra_lines.proofs.NewNames.{good_tested, bad_tested}
+use Rattle.std.proofs.Common.{◌≡◌, true, false, rules, arith, sym, ◌∙◌}
+use Rattle.ra_lines.proofs.NameLists.{as_many, in_any, not_bad}
+use Rattle.ra_lines.proofs.NewNames.{new_may_join, bad_tested}
 use Rattle.ra_lines.proofs.name.Names.list.Goals as goal
 use Rattle.ra_lines.proofs.name.Names.list.Goals.{then-len-most_names-via-then-len-most_names}
 use Rattle.ra_lines.proofs.name.Names.list.Goals.{then-len-most_names-via-else-len-most_names+then-not-is_new}
@@ -21,18 +20,10 @@ returns-then-len-most_names-clause-syntax c is_syntax may =
     ]
 
 pub push-requires : goal.push-requires
-push-requires c =
-    let keys = c.self.inside.set.keys in
-    let room : length keys < most_names c.args.format = search rules steps 100000 in
-    let good = good_tested c.is_new.result c.args.self.now c.args.name.now c.is_new.ensures c.if-not-is_new.false in
-    in_any c.args.format c.args.self.now c.args.name.now
-    (may_join c.args.format c.args.self.now c.args.name.now
-    (omega (arith, room, as_many keys c.args.self.now c.self.view_is)) good)
+push-requires c = in_any c.args.format _ _
+    (new_may_join c.args.format c.self.inside.set.keys _ _ _ c.self.view_is (search rules steps 100000)
+    c.is_new.ensures c.if-not-is_new.false)
 
 pub returns-in-Ok-clause-may : goal.returns-in-Ok-clause-may
-returns-in-Ok-clause-may c =
-    let keys = c.self.inside.set.keys in
-    let room : length keys < most_names c.args.format = search rules steps 100000 in
-    let good = good_tested c.is_new.result c.args.self.now c.args.name.now c.is_new.ensures c.if-not-is_new.false in
-    may_join c.args.format c.args.self.now c.args.name.now
-    (omega (arith, room, as_many keys c.args.self.now c.self.view_is)) good
+returns-in-Ok-clause-may c = new_may_join c.args.format c.self.inside.set.keys _ _ _ c.self.view_is
+    (search rules steps 100000) c.is_new.ensures c.if-not-is_new.false

@@ -15,10 +15,7 @@ loop-name-preserved c =
     let front : ListsSoFar c.args.format c.args.line.now c.loop-name.names
     (c.in-Some-take.name.now ∷ c.take-in-loop-name.new.self) =
     rw c.in-Some-take.ensures at c.loop-name.invariant in
-    let next = so_far_next c.args.format c.args.line.now c.loop-name.names c.in-Some-take.name.now
-    c.take-in-loop-name.new.self front
-    c.in_default-list.ensures.may in
-    rw c.in_default-list.ensures.ok next
+    rw c.in_default-list.ensures.ok (so_far_next _ _ _ _ _ front c.in_default-list.ensures.may)
 
 pub returns-in-Err-clause-syntax : goal.returns-in-Err-clause-syntax
 returns-in-Err-clause-syntax c is_syntax others lists =
@@ -26,6 +23,4 @@ returns-in-Err-clause-syntax c is_syntax others lists =
     (c.in-Some-take.name.now ∷ c.take-in-loop-name.new.self) =
     rw c.in-Some-take.ensures at c.loop-name.invariant in
     let same : c.in-Err.fault ≡ Syntax = let e = is_syntax in cc in
-    so_far_refused c.args.format c.args.line.now c.loop-name.names c.in-Some-take.name.now
-    c.take-in-loop-name.new.self others front
-    (c.in-Err.ensures.syntax (ap failed same)) lists
+    so_far_refused _ _ _ _ _ others front (c.in-Err.ensures.syntax (ap failed same)) lists

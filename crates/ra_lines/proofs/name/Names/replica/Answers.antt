@@ -1,6 +1,6 @@
 use Rattle.std.proofs.Common.{◌≡◌, true, ℕ, List, sym, ap, ◌∙◌, arith}
 use Rattle.std.proofs.lemmas.List.{length-map}
-use Rattle.ra_lines.specs.Grammar.{is_name, place_of}
+use Rattle.ra_lines.specs.Grammar.{is_name, index_of_name}
 use Rattle.ra_lines.specs.Names.{bytes_of_each}
 use Rattle.ra_lines.proofs.NameLists.{placed_is_name, replica_is_read}
 use Rattle.ra_lines.proofs.name.Names.replica.Goals as goal
@@ -10,7 +10,7 @@ pub returns-then-is_name : goal.returns-then-is_name
 returns-then-is_name c =
     let keys = c.self.inside.set.keys in
     let word = c.args.word.now in
-    let place : c.place_in-place.result ≡ place_of (bytes_of_each keys) word = c.place_in-place.ensures.place in
+    let place : c.place_in-place.result ≡ index_of_name (bytes_of_each keys) word = c.place_in-place.ensures.place in
     let is : is_name word ≡ true =
     elim c.if-place-len.branch [
       | then-place-len w ↦
@@ -19,4 +19,4 @@ returns-then-is_name c =
       | else-place-len w ↦ sym w.is_name.ensures ∙ sym w.value-is ∙ c.if-is_name.true
     ] in
     replica_is_read c.args.self.now word c.place_in-place.result is
-    (place ∙ ap (λ (names : List (List ℕ)). place_of names word) c.self.view_is)
+    (place ∙ ap (λ (names : List (List ℕ)). index_of_name names word) c.self.view_is)

@@ -17,7 +17,9 @@ follow_one-requires c =
         settled = asked.settled;
         first = asked.first;
         amidst =
-            subst (λ (ls : List ℕ). IsAmidst (after_all c.args.state.now now.updates.items) c.loop-label.there.marks.items now.labels.items ls c.args.waiting.now c.args.all.now c.args.deeds.now asked.records asked.had asked.settled asked.first)
+            subst (λ (ls : List ℕ). IsAmidst (after_all c.args.state.now now.updates.items)
+            c.loop-label.there.marks.items now.labels.items ls c.args.waiting.now c.args.all.now c.args.deeds.now
+            asked.records asked.had asked.settled asked.first)
             popped (c.loop-label.invariant.followed asked.records asked.had asked.settled asked.first asked.amidst);
       },
     )
@@ -27,7 +29,15 @@ loop-label-smaller c =
     let asked = c.requires.amidst in
     let now = c.loop-label.self in
     let popped : now.ready.items ≡ c.pop.new.self.items ++ c.in-Some.label ∷ [] = search rules in
-    let amidst = subst (λ (ls : List ℕ). IsAmidst (after_all c.args.state.now now.updates.items) c.loop-label.there.marks.items now.labels.items ls c.args.waiting.now c.args.all.now c.args.deeds.now asked.records asked.had asked.settled asked.first)
+    let amidst = subst (λ (ls : List ℕ). IsAmidst (after_all c.args.state.now now.updates.items)
+    c.loop-label.there.marks.items now.labels.items ls c.args.waiting.now c.args.all.now c.args.deeds.now asked.records
+    asked.had asked.settled asked.first)
     popped (c.loop-label.invariant.followed asked.records asked.had asked.settled asked.first asked.amidst) in
-    let after = c.in_ok-follow_one.ensures.followed c.args.state.now asked.records asked.had asked.settled asked.first amidst in
-    omega (arith, not_many asked.amidst.elements after.freeing, ap length c.in_ok-follow_one.ensures.labels, length-append now.labels.items (c.in-Some.label ∷ []))
+    let after = c.in_ok-follow_one.ensures.followed c.args.state.now asked.records asked.had asked.settled asked.first
+    amidst in
+    omega (
+      arith,
+      not_many asked.amidst.elements after.freeing,
+      ap length c.in_ok-follow_one.ensures.labels,
+      length-append now.labels.items (c.in-Some.label ∷ []),
+    )

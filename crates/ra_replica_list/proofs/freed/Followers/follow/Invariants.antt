@@ -9,9 +9,12 @@ use Rattle.ra_replica_list.proofs.freed.Followers.follow.Given as goal
 abbrev pub invariant-loop-label : goal.invariant-loop-label
 invariant-loop-label l = record {
   followed : (records : Records) (had settled : ℕ → Bool) (first : ℕ)
-      → IsAmidst (after_all l.initial.state l.initial.self.updates.items) l.initial.there.marks.items l.initial.self.labels.items l.initial.self.ready.items l.waiting l.all l.deeds records had settled first
-      → IsAmidst (after_all l.initial.state l.self.updates.items) l.there.marks.items l.self.labels.items l.self.ready.items l.waiting l.all l.deeds records had settled first;
-  put : (number : ℕ) → was_marked l.there.marks.items l.self.put.items number ≡ was_marked l.initial.there.marks.items l.initial.self.put.items number;
+      → IsAmidst (after_all l.initial.state l.initial.self.updates.items) l.initial.there.marks.items
+      l.initial.self.labels.items l.initial.self.ready.items l.waiting l.all l.deeds records had settled first
+      → IsAmidst (after_all l.initial.state l.self.updates.items) l.there.marks.items l.self.labels.items
+      l.self.ready.items l.waiting l.all l.deeds records had settled first;
+  put : (number : ℕ) → was_marked l.there.marks.items l.self.put.items number
+      ≡ was_marked l.initial.there.marks.items l.initial.self.put.items number;
 }
 
 abbrev pub decreases-loop-label : goal.decreases-loop-label

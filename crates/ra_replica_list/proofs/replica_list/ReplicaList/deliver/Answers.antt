@@ -16,22 +16,29 @@ use Rattle.ra_replica_list.proofs.replica_list.ReplicaList.deliver.Goals as goal
 
 pub returns-in_err-steps-in-PutsIn-clause-err : goal.returns-in_err-steps-in-PutsIn-clause-err
 returns-in_err-steps-in-PutsIn-clause-err c = on_err_any c.from_residual.result
-    (λ arrivals deeds records replica held. list_alike c.args.self.now c.put_in.new.self c.in_err-steps-in-PutsIn.ensures.err held)
+    (λ arrivals deeds records replica held. list_alike c.args.self.now c.put_in.new.self
+    c.in_err-steps-in-PutsIn.ensures.err held)
 
 pub stamp-requires : goal.stamp-requires
-stamp-requires c = c.requires.elements.known c.args.label (PutsIn c.in-PutsIn.number) (c.requires.deed_of ∙ ap (λ (d : Deed). Some d) c.in-PutsIn.is)
+stamp-requires c =
+    c.requires.elements.known c.args.label (PutsIn c.in-PutsIn.number)
+    (c.requires.deed_of ∙ ap (λ (d : Deed). Some d) c.in-PutsIn.is)
 
 pub remove-requires : goal.remove-requires
-remove-requires c = c.requires.elements.known c.args.label (Removes c.in-Removes.number) (c.requires.deed_of ∙ ap (λ (d : Deed). Some d) c.in-Removes.is)
+remove-requires c =
+    c.requires.elements.known c.args.label (Removes c.in-Removes.number)
+    (c.requires.deed_of ∙ ap (λ (d : Deed). Some d) c.in-Removes.is)
 
 pub returns-in_ok-steps-in-PutsIn-clause-got : goal.returns-in_ok-steps-in-PutsIn-clause-got
 returns-in_ok-steps-in-PutsIn-clause-got c = λ records to stand held is new once.
     let all = c.args.all.now in
     let now = c.put_in.new.self in
-    let puts : deed_at c.args.deeds.now c.args.label ≡ Some (PutsIn c.in-PutsIn.number) = is ∙ ap (λ (d : Deed). Some d) c.in-PutsIn.is in
+    let puts : deed_at c.args.deeds.now c.args.label ≡ Some (PutsIn c.in-PutsIn.number) =
+    is ∙ ap (λ (d : Deed). Some d) c.in-PutsIn.is in
     let after = c.in_ok-steps-in-PutsIn.ensures.got records (had records to) stand held puts new in
     let next : ReplicaList = record now { greatest = greater_of now.greatest c.stamp.result } in
-    let top = subst (λ (s : Stamp). IsGreatestOf records (had records to) s) (sym c.in_ok-steps-in-PutsIn.ensures.greatest) held.greatest in
+    let top = subst (λ (s : Stamp). IsGreatestOf records (had records to) s)
+    (sym c.in_ok-steps-in-PutsIn.ensures.greatest) held.greatest in
     subst
     (λ (l : ReplicaList). (is : IsListOf l all.arrivals c.args.deeds.now (Deliver to c.args.label ∷ records) to)
     × (settled_count is ≡ settled_count held + c.in_ok-steps-in-PutsIn.steps))
@@ -41,10 +48,13 @@ returns-in_ok-steps-in-PutsIn-clause-got c = λ records to stand held is new onc
 
 pub returns-in-Removes-clause-got : goal.returns-in-Removes-clause-got
 returns-in-Removes-clause-got c = IfOk-weaker c.remove.result _ _ (λ steps got records to stand held is new once.
-    let removes : deed_at c.args.deeds.now c.args.label ≡ Some (Removes c.in-Removes.number) = is ∙ ap (λ (d : Deed). Some d) c.in-Removes.is in
+    let removes : deed_at c.args.deeds.now c.args.label ≡ Some (Removes c.in-Removes.number) =
+    is ∙ ap (λ (d : Deed). Some d) c.in-Removes.is in
     let after = got c.args.deeds.now records (had records to) (deeds_stand stand) held removes new in
-    let top = subst (λ (s : Stamp). IsGreatestOf records (had records to) s) (sym c.remove.ensures.greatest) held.greatest in
-    delivered c.remove.new.self held c.args.label steps (Removes c.in-Removes.number) stand removes after (with_none c.args.label c.in-Removes.number stand top removes))
+    let top = subst (λ (s : Stamp). IsGreatestOf records (had records to) s) (sym c.remove.ensures.greatest)
+    held.greatest in
+    delivered c.remove.new.self held c.args.label steps (Removes c.in-Removes.number) stand removes after
+    (with_none c.args.label c.in-Removes.number stand top removes))
     c.remove.ensures.got
 
 pub returns-in-Removes-clause-err : goal.returns-in-Removes-clause-err

@@ -22,20 +22,27 @@ returns-then-lt-clause-nearest c = λ deeds records had label list stand held is
     let below = below_tested c.self.inside.greatest c.stamp.result tested in
     let top : ReplicaList → Stamp = λ l. l.greatest in
     let above : IsStampBelow c.args.self.now.greatest (arrival_at all.arrivals c.args.number).stamp =
-    subst (λ (s : Stamp). IsStampBelow s (arrival_at all.arrivals c.args.number).stamp) (ap top c.self.view_is) (subst (IsStampBelow c.self.inside.greatest) c.stamp.ensures below) in
-    subst (λ (n : ℕ). IsNearestBefore (λ x. is_there x (updates_passing Rga records held.settled)) list (element_at all.arrivals c.args.number) (element_at all.arrivals n)) (sym c.anchor.ensures.anchor)
-    (newest_is_nearest stand held.kept.there held.kept.settles.had_them held.greatest label c.args.number list is needs above led (c.anchor.ensures.behind c.requires.some list same))
+    subst (λ (s : Stamp). IsStampBelow s (arrival_at all.arrivals c.args.number).stamp) (ap top c.self.view_is)
+    (subst (IsStampBelow c.self.inside.greatest) c.stamp.ensures below) in
+    subst (λ (n : ℕ). IsNearestBefore (λ x. is_there x (updates_passing Rga records held.settled)) list
+    (element_at all.arrivals c.args.number) (element_at all.arrivals n)) (sym c.anchor.ensures.anchor)
+    (newest_is_nearest stand held.kept.there held.kept.settles.had_them held.greatest label c.args.number list is needs
+    above led (c.anchor.ensures.behind c.requires.some list same))
 
 pub returns-then-is_youngest-clause-nearest : goal.returns-then-is_youngest-clause-nearest
 returns-then-is_youngest-clause-nearest c = λ deeds records had label list stand held is needs led same.
     let all = c.args.all.now in
     let keep = λ (x : ℕ). is_there x (updates_passing Rga records held.settled) in
-    subst (λ (n : ℕ). IsNearestBefore keep list (element_at all.arrivals c.args.number) (element_at all.arrivals n)) (sym c.anchor-then-is_youngest.ensures.anchor)
-    (c.is_youngest.ensures.nearest keep list c.if-is_youngest.true same (needed_marked (deeds_stand stand) held.kept.there label (PutsIn c.args.number) is ∙ needs))
+    subst (λ (n : ℕ). IsNearestBefore keep list (element_at all.arrivals c.args.number) (element_at all.arrivals n))
+    (sym c.anchor-then-is_youngest.ensures.anchor)
+    (c.is_youngest.ensures.nearest keep list c.if-is_youngest.true same
+    (needed_marked (deeds_stand stand) held.kept.there label (PutsIn c.args.number) is ∙ needs))
 
 pub returns-clause-nearest : goal.returns-clause-nearest
 returns-clause-nearest c = λ deeds records had label list stand held is needs led same.
     let all = c.args.all.now in
     let keep = λ (x : ℕ). is_there x (updates_passing Rga records held.settled) in
-    let read : c.as_slice.result.now ≡ c.args.self.now.marks = c.as_slice.ensures.value ∙ ap (λ (l : ReplicaList). l.marks) c.self.view_is in
-    c.nearest_before.ensures.nearest keep list same (λ n known. sym (held.kept.there.there n known) ∙ ap (λ (ms : List Bool). is_marked ms n) (sym read))
+    let read : c.as_slice.result.now ≡ c.args.self.now.marks =
+    c.as_slice.ensures.value ∙ ap (λ (l : ReplicaList). l.marks) c.self.view_is in
+    c.nearest_before.ensures.nearest keep list same (λ n known. sym (held.kept.there.there n known)
+    ∙ ap (λ (ms : List Bool). is_marked ms n) (sym read))

@@ -1,10 +1,10 @@
 use Rattle.std.proofs.Common.{◌≡◌, ℕ, ◌+◌, true, false, [], ◌∷◌, ◌++◌, Some, length, sym, ap, ◌∙◌, subst}
 use Rattle.std.specs.Prelude.{unwrap_or, ◌==◌, ◌||◌}
 use Rattle.ra_labels.specs.declared.operation.Update.TheVariants.{After}
-use Rattle.ra_labels.specs.declared.command.Command.TheVariants.{Operate}
 use Rattle.ra_labels.specs.Visibility.{had}
 use Rattle.ra_labels.specs.Specification.{step_of}
 use Rattle.ra_labels.specs.NamedOrder.{greater_of}
+use Rattle.ra_labels.specs.Situation.{operate}
 use Rattle.ra_labels.proofs.Results.{on_err_any}
 use Rattle.ra_element_list.specs.ElementList.{Arrival, is_marked}
 use Rattle.ra_replica_list.specs.declared.deed.Deed.TheVariants.{PutsIn}
@@ -21,50 +21,78 @@ use Rattle.ra_replica_list.proofs.replica_list.ReplicaList.put_own.Goals as goal
 pub returns-in_err-add-clause-err : goal.returns-in_err-add-clause-err
 returns-in_err-add-clause-err c =
     let inside = c.self.inside in
-    let next : ReplicaList = record { state = inside.state; marks = inside.there.marks.items; greatest = inside.greatest; waiting = c.add.new.self } in
-    let alike : AreAlike c.args.self.now next = record {
+    let later : ReplicaList = record {
+      state = inside.state;
+      marks = inside.there.marks.items;
+      greatest =
+          inside.greatest;
+      waiting = c.add.new.self;
+    } in
+    let alike : AreAlike c.args.self.now later = record {
       state = ap (λ (l : ReplicaList). l.state) c.self.view_is;
       marks = λ number. ap (λ (l : ReplicaList). is_marked l.marks number) c.self.view_is;
       greatest = ap (λ (l : ReplicaList). l.greatest) c.self.view_is;
-      waiting = λ number. unadded inside.waiting c.add.new.self c.args.anchor c.in_err-add.ensures.err c.in_err-add.ensures.others number ∙ ap (λ (l : ReplicaList). labels_under l.waiting number) c.self.view_is;
+      waiting = λ number. unadded inside.waiting c.add.new.self c.args.anchor c.in_err-add.ensures.err
+          c.in_err-add.ensures.others number ∙ ap (λ (l : ReplicaList). labels_under l.waiting number) c.self.view_is;
     } in
-    on_err_any c.from_residual.result (λ arrivals deeds records replica held. list_alike c.args.self.now next alike held)
+    on_err_any c.from_residual.result (λ arrivals deeds records replica held.
+    list_alike c.args.self.now later alike held)
 
 pub returns-then-not-has-clause-put : goal.returns-then-not-has-clause-put
-returns-then-not-has-clause-put c = λ deeds records by op clock stand held label_is makes stamped extended admitted.
+returns-then-not-has-clause-put c = λ deeds records next stand held label_is makes stamped extended admitted.
     let all = c.args.all.now in
     let inside = c.self.inside in
     let new : Arrival = record { element = c.args.element; stamp = c.args.stamp; anchor = c.args.anchor } in
     let kept = kept_in c.args.self.now _ c.self.view_is held.kept in
     let missing : is_marked inside.there.marks.items c.args.anchor ≡ false = sym c.has.ensures ∙ c.if-not-has.true in
-    let added = subst (λ (n : ℕ). IsAdded inside.waiting c.add.new.self c.args.anchor n) label_is (record { added = c.in_ok-add.ensures.added; others = c.in_ok-add.ensures.others }) in
-    let next : ReplicaList = record { state = inside.state; marks = inside.there.marks.items; greatest = greater_of inside.greatest c.args.stamp; waiting = c.add.new.self } in
-    let after = own_waits op clock new c.add.new.self stand kept makes c.requires.anchor admitted missing added in
-    let top = subst (λ (l : ReplicaList). IsGreatestOf records (had records by) l.greatest) (sym c.self.view_is) held.greatest in
+    let added = subst (λ (n : ℕ). IsAdded inside.waiting c.add.new.self c.args.anchor n) label_is
+    (record { added = c.in_ok-add.ensures.added; others = c.in_ok-add.ensures.others }) in
+    let later : ReplicaList = record {
+      state = inside.state;
+      marks = inside.there.marks.items;
+      greatest =
+          greater_of inside.greatest c.args.stamp;
+      waiting = c.add.new.self;
+    } in
+    let after = own_waits next new c.add.new.self stand kept makes c.requires.anchor admitted missing added in
+    let top = subst (λ (l : ReplicaList). IsGreatestOf records (had records next.by) l.greatest) (sym c.self.view_is)
+    held.greatest in
     subst
-    (λ (l : ReplicaList). (is : IsListOf l (all.arrivals ++ new ∷ []) (deeds ++ Some (PutsIn (length all.arrivals)) ∷ [])
-    (Operate by op clock ∷ records) by) × (settled_count is ≡ settled_count held + 0))
+    (λ (l : ReplicaList). (is : IsListOf l (all.arrivals ++ new ∷ [])
+    (deeds ++ Some (PutsIn (length all.arrivals)) ∷ [])
+    (operate next ∷ records) next.by) × (settled_count is ≡ settled_count held + 0))
     (sym c.saw.ensures)
-    (owned op clock (After (element_at all.arrivals c.args.anchor) c.args.element) next held 0 makes after
-    (own_stamp op clock c.args.stamp top stamped))
+    (owned next (After (element_at all.arrivals c.args.anchor) c.args.element) later held 0 makes after
+    (own_stamp next c.args.stamp top stamped))
 
 pub returns-clause-put : goal.returns-clause-put
-returns-clause-put c = λ deeds records by op clock stand held label_is makes stamped extended admitted.
+returns-clause-put c = λ deeds records next stand held label_is makes stamped extended admitted.
     let all = c.args.all.now in
     let inside = c.self.inside in
     let state = inside.state in
     let new : Arrival = record { element = c.args.element; stamp = c.args.stamp; anchor = c.args.anchor } in
     let kept = kept_in c.args.self.now _ c.self.view_is held.kept in
     let there : is_marked inside.there.marks.items c.args.anchor ≡ true = sym c.has.ensures ∙ c.if-not-has.false in
-    let next : ReplicaList = record { state = c.put_in.new.state; marks = c.put_in.new.there.marks.items; greatest = greater_of inside.greatest c.args.stamp; waiting = inside.waiting } in
+    let later : ReplicaList = record {
+      state = c.put_in.new.state;
+      marks = c.put_in.new.there.marks.items;
+      greatest =
+          greater_of inside.greatest c.args.stamp;
+      waiting = inside.waiting;
+    } in
     let with_it : AreMarksWith inside.there.marks.items c.put_in.new.there.marks.items (PutsIn (length all.arrivals)) =
-    λ k. c.in_ok-put_in.ensures.marks k ∙ ap (λ (n : ℕ). is_marked inside.there.marks.items k || k == n) c.len-number.ensures in
-    let after = own_put op clock new c.put_in.new.state c.put_in.new.there.marks.items stand kept makes c.requires.anchor extended admitted there
-    (c.in_ok-put_in.ensures.step ∙ ap (λ (x : ℕ). unwrap_or (step_of state (After x c.args.element)) state) c.element.ensures) with_it in
-    let top = subst (λ (l : ReplicaList). IsGreatestOf records (had records by) l.greatest) (sym c.self.view_is) held.greatest in
+    λ k. c.in_ok-put_in.ensures.marks k ∙ ap (λ (n : ℕ). is_marked inside.there.marks.items k || k == n)
+    c.len-number.ensures in
+    let after = own_put next new c.put_in.new.state c.put_in.new.there.marks.items stand kept makes c.requires.anchor
+    extended admitted there
+    (c.in_ok-put_in.ensures.step ∙ ap (λ (x : ℕ). unwrap_or (step_of state (After x c.args.element)) state)
+    c.element.ensures) with_it in
+    let top = subst (λ (l : ReplicaList). IsGreatestOf records (had records next.by) l.greatest) (sym c.self.view_is)
+    held.greatest in
     subst
-    (λ (l : ReplicaList). (is : IsListOf l (all.arrivals ++ new ∷ []) (deeds ++ Some (PutsIn (length all.arrivals)) ∷ [])
-    (Operate by op clock ∷ records) by) × (settled_count is ≡ settled_count held + 1))
+    (λ (l : ReplicaList). (is : IsListOf l (all.arrivals ++ new ∷ [])
+    (deeds ++ Some (PutsIn (length all.arrivals)) ∷ [])
+    (operate next ∷ records) next.by) × (settled_count is ≡ settled_count held + 1))
     (sym c.saw-2.ensures)
-    (owned op clock (After (element_at all.arrivals c.args.anchor) c.args.element) next held 1 makes after
-    (own_stamp op clock c.args.stamp top stamped))
+    (owned next (After (element_at all.arrivals c.args.anchor) c.args.element) later held 1 makes after
+    (own_stamp next c.args.stamp top stamped))

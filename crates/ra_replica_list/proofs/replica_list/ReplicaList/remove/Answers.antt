@@ -14,13 +14,16 @@ apply-requires c = remove_in_range c.self.inside.state c.element.result
 
 pub returns-then-has-clause-got : goal.returns-then-has-clause-got
 returns-then-has-clause-got c = λ deeds records had stand held is new.
-    let kept = subst (λ (l : ReplicaList). IsListWith l.state l.marks l.waiting c.args.all.now.arrivals deeds records had held.settled) (sym c.self.view_is) held.kept in
+    let kept = subst (λ (l : ReplicaList). IsListWith l.state l.marks l.waiting c.args.all.now.arrivals deeds records
+    had held.settled) (sym c.self.view_is) held.kept in
     let state = c.self.inside.state in
     removal_goes stand kept c.args.label c.args.number is new (sym c.has.ensures ∙ c.if-has.true)
-    c.apply.new.self (c.in_ok-apply.ensures.step ∙ ap (λ x. unwrap_or (step_of state (RgaRemove x)) state) c.element.ensures)
+    c.apply.new.self (c.in_ok-apply.ensures.step ∙ ap (λ x. unwrap_or (step_of state (RgaRemove x)) state)
+    c.element.ensures)
 
 pub returns-clause-got : goal.returns-clause-got
 returns-clause-got c = λ deeds records had stand held is new.
-    let kept = subst (λ (l : ReplicaList). IsListWith l.state l.marks l.waiting c.args.all.now.arrivals deeds records had held.settled) (sym c.self.view_is) held.kept in
+    let kept = subst (λ (l : ReplicaList). IsListWith l.state l.marks l.waiting c.args.all.now.arrivals deeds records
+    had held.settled) (sym c.self.view_is) held.kept in
     held_back c.add.new.self c.args.label (Removes c.args.number) stand kept is new (sym c.has.ensures ∙ c.if-has.false)
     (record { added = c.in_ok-add.ensures.added; others = c.in_ok-add.ensures.others })

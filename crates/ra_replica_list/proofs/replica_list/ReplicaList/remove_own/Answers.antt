@@ -2,8 +2,8 @@ use Rattle.std.proofs.Common.{◌≡◌, ℕ, [], ◌∷◌, ◌++◌, Some, ref
 use Rattle.std.proofs.lemmas.Result.{IfOk-weaker}
 use Rattle.ra_labels.specs.declared.label.Stamp.{Stamp}
 use Rattle.ra_labels.specs.declared.operation.Update.TheVariants.{RgaRemove}
-use Rattle.ra_labels.specs.declared.command.Command.TheVariants.{Operate}
 use Rattle.ra_labels.specs.Visibility.{had}
+use Rattle.ra_labels.specs.Situation.{operate}
 use Rattle.ra_labels.proofs.Results.{on_err}
 use Rattle.ra_replica_list.specs.declared.deed.Deed.TheVariants.{Removes}
 use Rattle.ra_replica_list.specs.Deeds.{deed_at, element_at}
@@ -18,19 +18,26 @@ use Rattle.ra_replica_list.proofs.replica_list.ReplicaList.remove_own.Goals as g
 
 pub returns-clause-removed : goal.returns-clause-removed
 unfolding known_other
-returns-clause-removed c = IfOk-weaker c.remove.result _ _ (λ steps got deeds records by op clock stand held label_is makes unstamped extended admitted.
+returns-clause-removed c =
+    IfOk-weaker c.remove.result _ _
+    (λ steps got deeds records next stand held label_is makes unstamped extended admitted.
     let all = c.args.all.now in
     let number = c.args.number in
     let more = deeds ++ Some (Removes number) ∷ [] in
-    let now = Operate by op clock ∷ records in
-    let grown = grown_by_removal number by op clock stand admitted makes c.requires.number in
-    let known = known_other by op clock (Some (Removes number)) (had records by) stand held (not_had records by) (λ n. refl) in
-    let is : deed_at more c.args.label ≡ Some (Removes number) = next_deed deeds (Removes number) c.args.label (stand.count ∙ sym label_is) in
-    let after = got more now (had records by) grown known is (ap (had records by) label_is ∙ not_had records by) in
-    let after_it = subst (λ (n : ℕ). IsListWithAfter c.remove.new.self.state c.remove.new.self.marks c.remove.new.self.waiting all.arrivals more now (had records by) known.settled n steps) label_is after in
-    let top = subst (λ (s : Stamp). IsGreatestOf records (had records by) s) (sym c.remove.ensures.greatest) held.greatest in
-    owned op clock (RgaRemove (element_at all.arrivals number)) c.remove.new.self held steps makes after_it
-    (own_none op clock top unstamped))
+    let now = operate next ∷ records in
+    let grown = grown_by_removal number next stand admitted makes c.requires.number in
+    let known = known_other next (Some (Removes number)) (had records next.by) stand held (not_had records next.by)
+    (λ n. refl) in
+    let is : deed_at more c.args.label ≡ Some (Removes number) =
+    next_deed deeds (Removes number) c.args.label (stand.count ∙ sym label_is) in
+    let after = got more now (had records next.by) grown known is
+    (ap (had records next.by) label_is ∙ not_had records next.by) in
+    let after_it = subst (λ (n : ℕ). IsListWithAfter c.remove.new.self.state c.remove.new.self.marks
+    c.remove.new.self.waiting all.arrivals more now (had records next.by) known.settled n steps) label_is after in
+    let top = subst (λ (s : Stamp). IsGreatestOf records (had records next.by) s) (sym c.remove.ensures.greatest)
+    held.greatest in
+    owned next (RgaRemove (element_at all.arrivals number)) c.remove.new.self held steps makes after_it
+    (own_none next top unstamped))
     c.remove.ensures.got
 
 pub returns-clause-err : goal.returns-clause-err

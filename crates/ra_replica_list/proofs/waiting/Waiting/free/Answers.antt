@@ -6,12 +6,15 @@ use Rattle.ra_replica_list.proofs.waiting.Waiting.free.Goals as goal
 
 pub invariant_of-self : goal.invariant_of-self
 invariant_of-self c =
-    none_empty c.self.inside.under.entries c.remove.new.self.entries c.args.number None c.remove.ensures.updates.0 c.self.invariant (λ v is empty. none-some v is)
+    none_empty c.self.inside.under.entries c.remove.new.self.entries c.args.number None c.remove.ensures.updates.0
+    c.self.invariant (λ v is empty. none-some v is)
 
 pub returns-clause-freed : goal.returns-clause-freed
-returns-clause-freed c = under_now c.self.inside.under.entries c.remove.new.self.entries c.args.number None c.remove.ensures.updates.0
+returns-clause-freed c =
+    under_now c.self.inside.under.entries c.remove.new.self.entries c.args.number None c.remove.ensures.updates.0
 
 pub returns-clause-others : goal.returns-clause-others
 returns-clause-others c = λ other differs.
-    under_other c.self.inside.under.entries c.remove.new.self.entries c.args.number None c.remove.ensures.updates.0 other differs
+    under_other c.self.inside.under.entries c.remove.new.self.entries c.args.number None c.remove.ensures.updates.0
+    other differs
     ∙ ap (λ w. labels_under w other) c.self.view_is

@@ -7,5 +7,6 @@ use Rattle.ra_replica_list.proofs.waiting.Waiting.is_empty.Goals as goal
 
 pub returns-clause-some : goal.returns-clause-some
 returns-clause-some c = λ not.
-    subst (λ (w : List (ℕ × List ℕ)). (number : ℕ) × (label : ℕ) × Contains (labels_under w number) label) c.self.view_is
+    subst (λ (w : List (ℕ × List ℕ)). (number : ℕ) × (label : ℕ) × Contains (labels_under w number) label)
+    c.self.view_is
     (some_waits c.self.inside.under.entries (λ none. false≢true (sym not ∙ c.is_empty.ensures.1 none)) c.self.invariant)

@@ -9,7 +9,8 @@ use Rattle.ra_time_order.proofs.sorted.Sorted.insert.Goals as goal
 
 pub invariant_of-self : goal.invariant_of-self
 invariant_of-self c =
-    let at = filed _ _ _ _ _ c.insert.new.self _ c.self.invariant.kept (room_says c.self.inside.runs.items _ c.self.view_is c.requires.room)
+    let at = filed _ _ _ _ _ c.insert.new.self _ c.self.invariant.kept
+    (room_says c.self.inside.runs.items _ c.self.view_is c.requires.room)
     (subst (λ rs. IsRunOf rs c.args.entry.rank c.run_of-at.result) c.as_slice.ensures.value c.run_of-at.ensures)
     c.index_mut.ensures.value c.insert.ensures.inserted in
     record {
@@ -19,7 +20,8 @@ invariant_of-self c =
 
 pub returns-clause-one : goal.returns-clause-one
 returns-clause-one c =
-    let at = filed _ _ _ _ _ c.insert.new.self _ c.self.invariant.kept (room_says c.self.inside.runs.items _ c.self.view_is c.requires.room)
+    let at = filed _ _ _ _ _ c.insert.new.self _ c.self.invariant.kept
+    (room_says c.self.inside.runs.items _ c.self.view_is c.requires.room)
     (subst (λ rs. IsRunOf rs c.args.entry.rank c.run_of-at.result) c.as_slice.ensures.value c.run_of-at.ensures)
     c.index_mut.ensures.value c.insert.ensures.inserted in
     ap (λ (xs : List Entry). length xs) at.1.made
@@ -28,7 +30,8 @@ returns-clause-one c =
 
 pub returns-clause-inserted : goal.returns-clause-inserted
 returns-clause-inserted c = λ split.
-    let at = filed _ _ _ _ _ c.insert.new.self _ c.self.invariant.kept (room_says c.self.inside.runs.items _ c.self.view_is c.requires.room)
+    let at = filed _ _ _ _ _ c.insert.new.self _ c.self.invariant.kept
+    (room_says c.self.inside.runs.items _ c.self.view_is c.requires.room)
     (subst (λ rs. IsRunOf rs c.args.entry.rank c.run_of-at.result) c.as_slice.ensures.value c.run_of-at.ensures)
     c.index_mut.ensures.value c.insert.ensures.inserted in
     let same = ap (λ (s : Sorted). s.entries) c.self.view_is in (

@@ -8,13 +8,19 @@ use Rattle.ra_time_order.proofs.sorted.Sorted.position.Goals as goal
 pub count-behind-requires : goal.count-behind-requires
 count-behind-requires c =
     let of = subst (λ rs. IsRunOf rs c.args.rank c.run_of-at.result) c.as_slice.ensures.value c.run_of-at.ensures in
-    let few = few_behind c.self.inside.runs.items _ _ c.run_of-at.result c.self.invariant.kept (omega (arith, of.there)) in
-    omega (arith, ap (λ (xs : List Entry). length xs) (behind_is _ _ c.run_of-at.result c.as_slice-2.ensures.value), few)
+    let few = few_behind c.self.inside.runs.items _ _ c.run_of-at.result c.self.invariant.kept
+    (omega (arith, of.there)) in
+    omega (
+      arith,
+      ap (λ (xs : List Entry). length xs) (behind_is _ _ c.run_of-at.result c.as_slice-2.ensures.value),
+      few,
+    )
 
 pub overflow_sub-result : goal.overflow_sub-result
 overflow_sub-result c =
     let of = subst (λ rs. IsRunOf rs c.args.rank c.run_of-at.result) c.as_slice.ensures.value c.run_of-at.ensures in
-    let few = few_behind c.self.inside.runs.items _ _ c.run_of-at.result c.self.invariant.kept (omega (arith, of.there)) in
+    let few = few_behind c.self.inside.runs.items _ _ c.run_of-at.result c.self.invariant.kept
+    (omega (arith, of.there)) in
     omega (
       arith,
       c.count-behind.ensures,

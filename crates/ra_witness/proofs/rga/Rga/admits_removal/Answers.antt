@@ -1,4 +1,4 @@
-use Rattle.std.proofs.Common.{◌≡◌, ◌∷◌, ◌∙◌, length, true, refl, sym, ap, subst, arith}
+use Rattle.std.proofs.Common.{◌≡◌, ◌∷◌, ◌∙◌, length, true, None, refl, sym, ap, subst, arith}
 use Rattle.std.specs.Prelude.{not}
 use Rattle.std.specs.Ordering.{is_le}
 use Rattle.std.proofs.lemmas.Bool.{true≢false, false≢true, eq-eqb}
@@ -39,7 +39,8 @@ returns-then-number-ne-ROOT c = λ first records op clock label stands offered i
     let n = c.in-Some.number in
     let own = stands.lists by list (slice_get_read lists (length lists) by list refl (omega (arith, c.requires, self.lists.ok.0)) c.index.ensures) in
     let after = subst (λ o. IsOffered (past_of variant.Rga first records) (next_of by o clock) label) is offered in
-    let ranks = the_greatest_stamp_ranks_the_next_label list self.all.arrivals self.deeds.items records by (ops.RgaRemove c.args.element) own in
+    let ranks = the_greatest_stamp_ranks_the_next_label list self.all.arrivals self.deeds.items records
+    (next_of by (ops.RgaRemove c.args.element) None) own refl in
     let known = (c.in-Some.ensures n).0 refl in
     let said : c.is_up_to.result ≡ is_le (stamp_cmp (arrival_at self.all.arrivals n).stamp list.greatest) =
     c.is_up_to.ensures ∙ ap (λ s. is_le (stamp_cmp s c.greatest-greatest.result)) c.stamp.ensures ∙ ap (λ s. is_le (stamp_cmp (arrival_at self.all.arrivals n).stamp s)) c.greatest-greatest.ensures in (

@@ -92,7 +92,7 @@ returns-clause-taken c = λ first records next stands offered admitted is.
     let now_admitted = subst (λ b. updates_admitted variant.Rga (named_sequence variant.Rga (Operate b (ops.After anchor x) next.clock ∷ records)) ≡ true) (sym replica)
     (subst (λ o. updates_admitted variant.Rga (named_sequence variant.Rga (Operate next.by o next.clock ∷ records)) ≡ true) is admitted) in
     let makes = subst (λ y. Makes (ops.After anchor x) (After y x)) (sym m_is) (makes_after anchor x) in
-    let own = c.in_ok-steps.ensures.put self.deeds.items records r (ops.After anchor x) next.clock there_still.elements (there_still.lists r list there) (ap (λ l. l.number) after.becomes) makes
+    let own = c.in_ok-steps.ensures.put self.deeds.items records (next_of r (ops.After anchor x) next.clock) there_still.elements (there_still.lists r list there) (ap (λ l. l.number) after.becomes) makes
     (sym (ap (λ l. l.stamp) after.becomes) ∙ c.in-Some-stamp.is) after.fits now_admitted in
     let grown : Rga = record { deeds = c.push_reserved.new.self; all = c.insert.new.self; lists = with_item self.lists r c.put_own.new.self } in
     let pushed : c.push_reserved.new.self.items ≡ self.deeds.items ++ Some (PutsIn (length all.arrivals)) ∷ [] =

@@ -57,7 +57,7 @@ returns-clause-taken c = λ first records next stands offered admitted is.
     (subst (λ o. updates_admitted variant.Rga (named_sequence variant.Rga (Operate next.by o next.clock ∷ records)) ≡ true) is admitted) in
     let removes = subst (λ y. Makes (ops.RgaRemove x) (RgaRemove y)) (sym known.1) (makes_removal x) in
     let unclocked = (its_clock (past_of variant.Rga first records) (next_of r (ops.RgaRemove x) next.clock) label after).1 refl in
-    let own = c.in_ok-steps.ensures.removed self.deeds.items records r (ops.RgaRemove x) next.clock stands.elements (stands.lists r list there) (ap (λ l. l.number) after.becomes) removes unclocked after.fits now_admitted in
+    let own = c.in_ok-steps.ensures.removed self.deeds.items records (next_of r (ops.RgaRemove x) next.clock) stands.elements (stands.lists r list there) (ap (λ l. l.number) after.becomes) removes unclocked after.fits now_admitted in
     let grown : Rga = record { deeds = c.push_reserved.new.self; all = self.all; lists = with_item self.lists r c.remove_own.new.self } in
     let settles : SettlesMore records (Operate r (ops.RgaRemove x) next.clock) r c.in_ok-steps.steps = record {
       settled = (stands.lists r list there).settled;
