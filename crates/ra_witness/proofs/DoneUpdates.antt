@@ -35,19 +35,7 @@ use Rattle.ra_witness.proofs.ReplicaStates.{made_among}
 -- an operation does at most one thing
 pub at_most_one : (operation : Op) → length (updates_in (acts_of operation)) ≤ 1
 at_most_one op.Inc = omega arith
-at_most_one op.Dec = omega arith
-at_most_one (op.Count v) = omega arith
-at_most_one (op.Write value) = omega arith
-at_most_one (op.Last value) = omega arith
-at_most_one (op.LwwAdd x) = omega arith
-at_most_one (op.LwwRemove x) = omega arith
-at_most_one (op.LwwRead list) = omega arith
-at_most_one (op.OrAdd x id) = omega arith
-at_most_one (op.OrRemove x ids) = omega arith
-at_most_one (op.OrRead list) = omega arith
-at_most_one (op.After anchor x) = omega arith
-at_most_one (op.RgaRemove x) = omega arith
-at_most_one (op.RgaRead list) = omega arith
+at_most_one _ = omega arith
 
 some_made : (acts : List (Half × Act)) (half : Half) (u : Update) → Contains acts (half, Does u) → 0 < length (updates_in acts)
 some_made [] half u there = absurd (omega (arith, there.1))

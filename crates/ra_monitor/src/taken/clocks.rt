@@ -1,6 +1,6 @@
 //! The clocks of one replica's own stamps, rising.
 ghost use Rattle.std.specs.Prelude.{◌≡◌, ℕ, ◌<◌, ◌||◌, nat_eq, nat_lt, [], OnOk};
-ghost use Rattle.ra_monitor.specs.Clocks.{is_clock_in, IsPlaceFor};
+ghost use Rattle.ra_monitor.specs.Clocks.{is_clock_in, IsIndexFor};
 
 use ra_labels::NoMemory;
 use std::alloc::Global;
@@ -39,7 +39,7 @@ impl Clocks {
     pub fn has(&self, clock: u32) -> bool
         ensures { result ≡ is_clock_in self.now clock }
     {
-        match self.clocks.get(self.place_of(clock)) {
+        match self.clocks.get(self.index_of(clock)) {
             Some(own) => *own == clock,
             None => false,
         }
@@ -59,13 +59,13 @@ impl Clocks {
         requires room { 0 < self.old.room }
         ensures kept { (other : ℕ) → is_clock_in self.new other ≡ (nat_eq other clock || is_clock_in self.old other) }
     {
-        let place = self.place_of(clock);
+        let place = self.index_of(clock);
         let _ = self.clocks.insert(place, clock);
     }
 
     // How many clocks are below this one.
-    fn place_of(&self, clock: u32) -> usize
-        ensures { IsPlaceFor self.now.clocks clock result }
+    fn index_of(&self, clock: u32) -> usize
+        ensures { IsIndexFor self.now.clocks clock result }
     {
         match self.clocks.as_slice().last() {
             Some(last) if clock <= *last => self.clocks.as_slice().partition_point(
