@@ -9,7 +9,7 @@ use Rattle.ra_journal.specs.Log.{entry}
 use Rattle.ra_labels.specs.declared.command.Command.{Command}
 use Rattle.ra_labels.specs.declared.reply.Reply.{Reply}
 use Rattle.ra_monitor.specs.declared.setup.Setup.{Setup}
-use Rattle.ra_monitor.specs.Monitor.{MonitorEntry, answer_after, IsLegalLog}
+use Rattle.ra_monitor.specs.Monitor.{MonitorEntry, IsLegalLog}
 use Rattle.ra_desk.specs.Reports.{before_last, EndsWith}
 
 pub before_last-push : (log : List MonitorEntry) (e : MonitorEntry) → before_last (log ++ e ∷ []) ≡ log
@@ -44,14 +44,6 @@ pub legal_under : (found : Option Setup) (setup : Setup) (log : List MonitorEntr
     → IfSome found (λ s. IsLegalLog s log) → IsLegalLog setup log
 legal_under found setup log is legal = subst (λ (o : Option Setup). IfSome o (λ s. IsLegalLog s log)) is legal
 
--- what was legal stays so, where a call says that of the setup that its pass has
-pub legal_still : (before after : Option Setup) (setup : Setup) (old new : List MonitorEntry) → before ≡ Some setup
-    → after ≡ Some setup → (IfSome before (λ s. IsLegalLog s old) → IfSome after (λ s. IsLegalLog s new))
-    → IsLegalLog setup old → IsLegalLog setup new
-legal_still before after setup old new was is still legal =
-    legal_under after setup new is
-    (still (subst (λ (o : Option Setup). IfSome o (λ s. IsLegalLog s old)) (sym was) legal))
-
 module _ {E : Type 0} where
   -- what is said of each reply in a legal log is said of an answer that stands last in it
   pub said : (result : Result Reply E) (found : Option Setup) (setup : Setup) (log : List MonitorEntry) (number : ℕ)
@@ -64,19 +56,6 @@ module _ {E : Type 0} where
       told setup P law log (before_last log) (entry number ends.0 command reply) ends.1
       (legal_under found setup log is legal)
   said (Err e) found setup log number command P law is ends legal = tt
-
-  -- a reply that stands last in a legal log is the answer after what is before it
-  pub answered : (result : Result Reply E) (found : Option Setup) (setup : Setup) (log : List MonitorEntry) (number : ℕ)
-      (command : Command)
-      → ((before after : List MonitorEntry) (e : MonitorEntry) → IsLegalLog setup (before ++ e ∷ after)
-      → e.reply ≡ answer_after setup before e.command)
-      → found ≡ Some setup → IfOk result (λ reply. EndsWith log number command reply)
-      → IfOk result (λ _. IfSome found (λ s. IsLegalLog s log))
-      → IfOk result (λ reply. reply ≡ answer_after setup (before_last log) command)
-  answered (Ok reply) found setup log number command law is ends legal =
-      law (before_last log) [] (entry number ends.0 command reply)
-      (subst (IsLegalLog setup) ends.1 (legal_under found setup log is legal))
-  answered (Err e) found setup log number command law is ends legal = tt
 
 -- what holds of each image holds of each element
 pub All-of_map : {A B : Type 0} (P : B → Type 0) (f : A → B) (xs : List A) → All P (map f xs) → All (λ x. P (f x)) xs

@@ -135,7 +135,8 @@ none_followed {state = state} {marks = marks} {all = all} {deeds = deeds} {recor
       settles = kept.settles;
       waiting_labels = kept.waiting_labels;
       new = new;
-      freeing = subst (λ (us : List Update). IsFreeing (after_all state us) marks labels ready all.arrivals deeds records
+      freeing = subst (λ (us : List Update). IsFreeing (after_all state us) marks labels ready all.arrivals deeds
+          records
           had settled first) (sym no_updates)
           (subst (λ (ls : List ℕ). IsFreeing state marks ls ready all.arrivals deeds records had settled first)
           (sym no_labels)

@@ -23,6 +23,7 @@ use Rattle.ra_replica_list.specs.ReplicaList.{AreThere, AreWaiting, IsListWith}
 use Rattle.ra_replica_list.specs.Freed.{puts, IsFreeing}
 use Rattle.ra_replica_list.proofs.NoneTwice.{none_twice-append, none_twice-last, none_twice-permutation, none_twice-one, not_both, it_passes, still_passes, others_pass, passes_or_is, not_before, not_it}
 use Rattle.ra_replica_list.proofs.Deeds.{needed_marked, marked_label, AreMarksWith, there_with}
+use Rattle.ra_replica_list.proofs.HadLabels.{not_settled}
 use Rattle.ra_replica_list.proofs.SingleSteps.{none_waits_with}
 
 module _ {arrivals : List Arrival} {deeds : List (Option Deed)} {records : Records} where
@@ -46,15 +47,14 @@ module _ {arrivals : List Arrival} {deeds : List (Option Deed)} {records : Recor
       (ap passes l_num ∙ passes_it)
 
   -- the first label may follow
-  pub first_freed : {state : State} {marks : List Bool} {waiting : List (ℕ × List ℕ)} {had settled : ℕ → Bool}
+  unfoldable pub first_freed : {state : State} {marks : List Bool} {waiting : List (ℕ × List ℕ)}
+      {had settled : ℕ → Bool}
       (label : ℕ) (deed : Deed) → AreDeedsOf arrivals deeds records
       → IsListWith state marks waiting arrivals deeds records had settled → deed_at deeds label ≡ Some deed
       → had label ≡ false → is_marked marks (needed_number arrivals deed) ≡ true
       → IsFreeing state marks [] (label ∷ []) arrivals deeds records had settled label
   first_freed {had = had} {settled = settled} label deed stand kept is new needs =
       let (had_them, none, others) = (what_is_settled_does_not_wait records had settled).0 kept.settles in
-      let not_settled : settled label ≡ false = false_from_ne_true (settled label)
-      (λ it. not_both (had label) new (had_them label it)) in
       record {
         passes = settled;
         had_them = λ n passes. still_passes had label n (had_them n passes);
@@ -69,8 +69,7 @@ module _ {arrivals : List Arrival} {deeds : List (Option Deed)} {records : Recor
             deed,
             sym (ap (deed_at deeds) here) ∙ is,
             it_passes had label n (sym here),
-            sym (ap settled here)
-                ∙ not_settled,
+            sym (ap settled here) ∙ not_settled kept label new,
             needs,
           )
           | inr none_behind ↦ absurd (none_there n none_behind)

@@ -26,7 +26,8 @@ module _ (records : Records) (had : ℕ → Bool) (greatest stamp : Stamp) (labe
         (sym (cond-true (is_lt (stamp_cmp greatest stamp)) stamp greatest below)) (record {
           above = λ l t l_in had_it t_is. elim (passes_or_is had label.number l.number had_it) [
             | inl old ↦
-                λ less. top.above l t l_in old t_is (below_below greatest stamp t (below_tested greatest stamp below) less)
+                λ less. top.above l t l_in old t_is (below_below greatest stamp t (below_tested greatest stamp below)
+                less)
             | inr it ↦
                 not_below_itself stamp t (same_Some stamp t (sym is
                 ∙ sym (ap (λ (k : Label). k.stamp) (same_label records l label l_in there it)) ∙ t_is))

@@ -1,26 +1,24 @@
--- One more label that is had: it waits, or does what it does.
-use Rattle.std.proofs.Common.{◌≡◌, ◌≢◌, ℕ, ◌+◌, Bool, true, false, List, [], ◌∷◌, ◌++◌, length, Option, Some, sym, ap, ◌∙◌, subst, inl, inr, arith}
+-- One more label that is had, and waits.
+use Rattle.std.proofs.Common.{◌≡◌, ◌≢◌, ℕ, Bool, false, List, [], ◌∷◌, ◌++◌, Option, Some, sym, ap, ◌∙◌, subst, inl, inr, arith}
 use Rattle.std.specs.Prelude.{◌⊎◌, Contains}
-use Rattle.std.proofs.lemmas.Bool.{cases_eq, false_from_ne_true, or_from}
+use Rattle.std.proofs.lemmas.Bool.{cases_eq, false_from_ne_true}
 use Rattle.std.proofs.lemmas.Option.{same_Some}
 use Rattle.std.proofs.lemmas.List.Elements.{Contains-append_left, Contains-append_right, Contains-push_cases}
-use Rattle.ra_labels.specs.declared.kind.Kind.TheVariants.{Rga}
-use Rattle.ra_labels.specs.declared.operation.Update.{Update}
 use Rattle.ra_labels.specs.Records.{Records}
-use Rattle.ra_labels.specs.Specification.{State, state_after}
+use Rattle.ra_labels.specs.Specification.{State}
 use Rattle.ra_labels.specs.Laws.{NoneTwice}
-use Rattle.ra_labels.specs.Insertion.{updates_passing, or_label}
-use Rattle.ra_labels.specs.Waiting.{is_there, needed_by, NoneWaits, IsSettled}
+use Rattle.ra_labels.specs.Insertion.{or_label}
+use Rattle.ra_labels.specs.Waiting.{IsSettled}
 use Rattle.ra_labels.proofs.Members.{head_or_behind, at_head, none_there}
-use Rattle.ra_laws.proofs.TheLaws.{what_is_settled_does_not_wait, settled_labels_stay_settled-waiting, one_more_update_is_one_step-none_waits, one_more_label_puts_its_update_in-count}
+use Rattle.ra_laws.proofs.TheLaws.{settled_labels_stay_settled-waiting}
 use Rattle.ra_element_list.specs.ElementList.{Arrival, is_marked}
 use Rattle.ra_replica_list.specs.declared.deed.Deed.{Deed}
 use Rattle.ra_replica_list.specs.Waiting.{labels_under}
 use Rattle.ra_replica_list.specs.Deeds.{deed_at, needed_number, update_of, AreDeedsOf}
 use Rattle.ra_replica_list.specs.ReplicaList.{IsListWith}
-use Rattle.ra_replica_list.specs.Freed.{puts, IsListWithAfter}
-use Rattle.ra_replica_list.proofs.NoneTwice.{none_twice-append, none_twice-one, not_both, it_passes, still_passes, passes_or_is, others_pass, not_before, not_it}
-use Rattle.ra_replica_list.proofs.Deeds.{needed_marked, AreMarksWith, there_with}
+use Rattle.ra_replica_list.specs.Freed.{IsListWithAfter}
+use Rattle.ra_replica_list.proofs.NoneTwice.{none_twice-append, none_twice-one, not_both, it_passes, still_passes, passes_or_is}
+use Rattle.ra_replica_list.proofs.Deeds.{needed_marked}
 
 -- the label waits under this number from now on
 pub record IsAdded (waiting next : List (ℕ × List ℕ)) (number label : ℕ) : Type 0 where
@@ -53,6 +51,12 @@ from_added {waiting = waiting} next needed label number n added there = elim (ca
 
 module _ {arrivals : List Arrival} {deeds : List (Option Deed)} {records : Records} {state : State} {marks : List Bool}
     {waiting : List (ℕ × List ℕ)} {had settled : ℕ → Bool} where
+  -- it is not settled
+  pub not_settled : IsListWith state marks waiting arrivals deeds records had settled → (label : ℕ) → had label ≡ false
+      → settled label ≡ false
+  not_settled kept label new =
+      false_from_ne_true (settled label) (λ it. not_both (had label) new (kept.settles.had_them label it))
+
   -- it waits
   pub held_back : (next : List (ℕ × List ℕ)) (label : ℕ) (deed : Deed) → AreDeedsOf arrivals deeds records
       → IsListWith state marks waiting arrivals deeds records had settled → deed_at deeds label ≡ Some deed
@@ -62,13 +66,10 @@ module _ {arrivals : List Arrival} {deeds : List (Option Deed)} {records : Recor
   held_back next label deed stand kept is new missing added =
       let (l, l_in, l_num, l_makes) = stand.makes label deed is in
       let needed = needed_number arrivals deed in
-      let had_them = ((what_is_settled_does_not_wait records had settled).0 kept.settles).0 in
       let settles : IsSettled records (or_label had l.number) settled =
       settled_labels_stay_settled-waiting records had settled l (update_of arrivals deed) l_in l_makes
       (ap had l_num ∙ new) kept.settles
       (needed_marked stand kept.there label deed is ∙ missing) in
-      let not_settled : settled label ≡ false = false_from_ne_true (settled label)
-      (λ it. not_both (had label) new (had_them label it)) in
       record {
         settled = settled;
         kept = record {
@@ -95,8 +96,7 @@ module _ {arrivals : List Arrival} {deeds : List (Option Deed)} {records : Recor
                 sym (ap (deed_at deeds) it) ∙ is,
                 sym here,
                 it_passes had label n (sym it),
-                sym (ap settled it)
-                    ∙ not_settled,
+                sym (ap settled it) ∙ not_settled kept label new,
               )
             ];
             once = λ number. elim (cases_eq number needed) [
@@ -115,78 +115,4 @@ module _ {arrivals : List Arrival} {deeds : List (Option Deed)} {records : Recor
           };
         };
         count = omega arith;
-      }
-
-  -- it does what it does, and none waits for what it puts in
-  pub goes_in : (next_state : State) (next_marks : List Bool) (label : ℕ) (deed : Deed)
-      → AreDeedsOf arrivals deeds records → IsListWith state marks waiting arrivals deeds records had settled
-      → deed_at deeds label ≡ Some deed → had label ≡ false
-      → is_marked marks (needed_number arrivals deed) ≡ true
-      → state_after Rga (updates_passing Rga records (or_label settled label)) ≡ Some next_state
-      → AreMarksWith marks next_marks deed
-      → ((number : ℕ) → puts number deed ≡ true → labels_under waiting number ≡ [])
-      → IsListWithAfter next_state next_marks waiting arrivals deeds records had settled label 1
-  goes_in next_state next_marks label deed stand kept is new needs after with_it none_for =
-      let (l, l_in, l_num, l_makes) = stand.makes label deed is in
-      let (had_them, none, others) = (what_is_settled_does_not_wait records had settled).0 kept.settles in
-      let not_settled : settled label ≡ false = false_from_ne_true (settled label)
-      (λ it. not_both (had label) new (had_them label it)) in
-      let not_yet : settled l.number ≡ false = ap settled l_num ∙ not_settled in
-      let there = there_with stand kept.there label deed is not_settled with_it in
-      let none_waits = one_more_update_is_one_step-none_waits records settled l (update_of arrivals deed) l_in l_makes
-      not_yet none (needed_marked stand kept.there label deed is ∙ needs) in
-      let counted = one_more_label_puts_its_update_in-count Rga records settled l (update_of arrivals deed) l_in l_makes
-      not_yet in
-      record {
-        settled = or_label settled label;
-        kept = record {
-          settles = (what_is_settled_does_not_wait records (or_label had label) (or_label settled label)).1 (
-            (λ n passes. elim (passes_or_is settled label n passes) [
-              | inl old ↦ still_passes had label n (had_them n old)
-              | inr it ↦ it_passes had label n it
-            ]),
-            subst (λ (k : ℕ). NoneWaits records (or_label settled k)) l_num none_waits,
-            (λ m v m_in m_makes m_had m_fails.
-                let (d, d_is, d_does) = stand.made m v m_in m_makes in
-                let m_was : had m.number ≡ true = elim (passes_or_is had label m.number m_had) [
-                  | inl old ↦ old
-                  | inr it ↦ absurd (not_it settled label m.number m_fails it)
-                ] in
-                let m_waits = not_before settled label m.number m_fails in
-                let old_missing : is_marked marks (needed_number arrivals d) ≡ false =
-                sym (needed_marked stand kept.there m.number d d_is)
-                ∙ ap (λ (u : Update). is_there (needed_by u) (updates_passing Rga records settled)) d_does
-                ∙ others m v m_in m_makes m_was m_waits in
-                let not_put : puts (needed_number arrivals d) deed ≡ false =
-                false_from_ne_true (puts (needed_number arrivals d) deed) (λ it.
-                none_there m.number (subst (λ ls. Contains ls m.number) (none_for (needed_number arrivals d) it)
-                (kept.waiting_labels.waits m.number d d_is m_was m_waits))) in
-                ap (λ (u : Update). is_there (needed_by u) (updates_passing Rga records (or_label settled label)))
-                (sym d_does)
-                ∙ needed_marked stand there m.number d d_is
-                ∙ with_it (needed_number arrivals d)
-                ∙ or_from (is_marked marks (needed_number arrivals d)) (puts (needed_number arrivals d) deed)
-                old_missing not_put),
-          );
-          after = after;
-          there = there;
-          waiting_labels = record {
-            waits = λ n d d_is had_it fails. elim (passes_or_is had label n had_it) [
-              | inl old ↦ kept.waiting_labels.waits n d d_is old (not_before settled label n fails)
-              | inr it ↦ absurd (not_it settled label n fails it)
-            ];
-            only = λ number n found.
-                let (d, d_is, d_needs, was_had, waits) = kept.waiting_labels.only number n found in (
-                  d,
-                  d_is,
-                  d_needs,
-                  still_passes had label n was_had,
-                  others_pass settled label n
-                      (λ it. not_both (had n) (ap had it ∙ new) was_had) ∙ waits,
-                );
-            once = kept.waiting_labels.once;
-          };
-        };
-        count = subst (λ (k : ℕ). length (updates_passing Rga records (or_label settled k))
-            ≡ length (updates_passing Rga records settled) + 1) l_num counted;
       }

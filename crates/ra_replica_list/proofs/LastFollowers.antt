@@ -3,7 +3,7 @@ use Rattle.std.proofs.Common.{◌≡◌, ℕ, ◌<◌, ◌≤◌, Bool, true, fa
 use Rattle.std.specs.Prelude.{Contains, flat_map}
 use Rattle.std.specs.Option.{option_map_or}
 use Rattle.std.specs.List.{list_any}
-use Rattle.std.proofs.lemmas.Bool.{false≢true, cases_Bool, cases_eq, false_from_ne_true, eqb-true, eq-eqb, cond-true, cond-false, or_left, or_right, or_cases}
+use Rattle.std.proofs.lemmas.Bool.{false≢true, cases_Bool, cases_eq, false_from_ne_true, eqb-true, eq-eqb, cond-true, cond-false, or_left, or_right}
 use Rattle.std.proofs.lemmas.List.{length-append}
 use Rattle.std.proofs.lemmas.List.Elements.{filter-append, filter_map-append}
 use Rattle.std.proofs.lemmas.List.Sorted.{length_permutation}
@@ -15,33 +15,26 @@ use Rattle.ra_labels.specs.declared.operation.Query.{Query}
 use Rattle.ra_labels.specs.declared.label.Label.{Label}
 use Rattle.ra_labels.specs.Records.{Records, labels_of}
 use Rattle.ra_labels.specs.Rewriting.{Part, Half, Act, Does, Asks, acts_of, part_of, parts_of, update_of as act_update, updates_of}
-use Rattle.ra_labels.specs.Specification.{State}
+use Rattle.ra_labels.specs.Specification.{State, state_after}
 use Rattle.ra_labels.specs.NamedOrder.{named_labels}
 use Rattle.ra_labels.specs.Laws.{NoneTwice}
 use Rattle.ra_labels.specs.Insertion.{updates_among, updates_passing, or_label}
 use Rattle.ra_labels.specs.Waiting.{is_there, needed_by}
-use Rattle.ra_labels.proofs.Members.{head_or_behind, at_head, behind_head, none_there}
+use Rattle.ra_labels.proofs.Members.{head_or_behind, none_there, what_passes}
 use Rattle.ra_labels.proofs.Counted.{labels_counted}
 use Rattle.ra_laws.proofs.TheLaws.{what_is_settled_does_not_wait, named_labels_are_sorted-same}
-use Rattle.ra_element_list.specs.ElementList.{ElementList, is_marked}
+use Rattle.ra_element_list.specs.ElementList.{Arrival, ElementList, is_marked}
 use Rattle.ra_replica_list.specs.declared.deed.Deed.{Deed}
 use Rattle.ra_replica_list.specs.declared.deed.Deed.TheVariants.{PutsIn, Removes}
 use Rattle.ra_replica_list.specs.Waiting.{labels_under}
-use Rattle.ra_replica_list.specs.Deeds.{deed_at, needed_number, AreElementsOf}
+use Rattle.ra_replica_list.specs.Deeds.{deed_at, needed_number, AreElementsOf, AreDeedsOf}
 use Rattle.ra_replica_list.specs.ReplicaList.{IsListWith}
 use Rattle.ra_replica_list.specs.Freed.{puts, is_put_by, freed_under, IsFreeing, IsListWithAfter}
 use Rattle.ra_replica_list.proofs.NoneTwice.{not_both, still_passes, others_pass}
-use Rattle.ra_replica_list.proofs.Deeds.{deeds_stand, needed_marked, needed_known, marked_label, root_marked}
-use Rattle.ra_replica_list.proofs.FreedLabels.{unmarked, marked}
+use Rattle.ra_replica_list.proofs.Deeds.{deeds_stand, needed_marked, needed_known, marked_label, root_marked, AreMarksWith}
+use Rattle.ra_replica_list.proofs.FreedLabels.{unmarked, marked, first_freed, follows}
 
 -- one of the labels passes a test
-one_passes : (p : ℕ → Bool) (xs : List ℕ) → list_any p xs ≡ true → (x : ℕ) × Contains xs x × (p x ≡ true)
-one_passes p [] none = absurd (false≢true none)
-one_passes p (x ∷ xs) some = elim (or_cases (p x) (list_any p xs) some) [
-  | inl here ↦ (x, at_head x xs x refl, here)
-  | inr further ↦ let rest = one_passes p xs further in (rest.0, behind_head x xs rest.0 rest.1, rest.2)
-]
-
 passes_one : (p : ℕ → Bool) (xs : List ℕ) (x : ℕ) → Contains xs x → p x ≡ true → list_any p xs ≡ true
 passes_one p [] x there is = absurd (none_there x there)
 passes_one p (y ∷ xs) x there is = elim (head_or_behind y xs x there) [
@@ -58,37 +51,34 @@ puts_at (Some (Removes k)) number is = absurd (false≢true is)
 at_puts : (o : Option Deed) (number : ℕ) → o ≡ Some (PutsIn number) → option_map_or (puts number) o false ≡ true
 at_puts o number is = ap (λ (d : Option Deed). option_map_or (puts number) d false) is ∙ eq-eqb number number refl
 
-module _ {all : ElementList} {deeds : List (Option Deed)} {records : Records} {old_state : State}
+module _ {arrivals : List Arrival} {deeds : List (Option Deed)} {records : Records} {old_state : State}
     {old_marks : List Bool} {waiting : List (ℕ × List ℕ)} {had settled : ℕ → Bool} {state : State} {marks : List Bool}
     {labels : List ℕ} {first : ℕ} where
-  pub all_follow : (left : List (ℕ × List ℕ)) → AreElementsOf all deeds records
-      → IsListWith old_state old_marks waiting all.arrivals deeds records had settled
-      → IsFreeing state marks labels [] all.arrivals deeds records had settled first
-      → ((number : ℕ) → labels_under left number ≡ freed_under deeds labels (labels_under waiting) number)
-      → IsListWithAfter state marks left all.arrivals deeds records had settled first (length labels)
-  all_follow left stands kept free says =
-      let stand = deeds_stand stands in
+  -- all have followed, and of those that waited the ones wait on that are not settled
+  all_settled : (left : List (ℕ × List ℕ)) → AreDeedsOf arrivals deeds records
+      → IsListWith old_state old_marks waiting arrivals deeds records had settled
+      → (free : IsFreeing state marks labels [] arrivals deeds records had settled first)
+      → ((number n : ℕ) → Contains (labels_under left number) n
+      → Contains (labels_under waiting number) n × (free.passes n ≡ false))
+      → ((number n : ℕ) → Contains (labels_under waiting number) n → is_marked marks number ≡ false
+      → Contains (labels_under left number) n)
+      → ((number : ℕ) → NoneTwice (labels_under left number))
+      → IsListWithAfter state marks left arrivals deeds records had settled first (length labels)
+  all_settled left stand kept free waited waits_on once =
       let passes = free.passes in
       let first_passes : passes first ≡ true = elim free.itself [
         | inl it ↦ it
         | inr found ↦ absurd (none_there first found)
       ] in
-      let not_first : (n : ℕ) → passes n ≡ false → ¬ (n ≡ first) =
-      λ n fails it. not_both (passes n) fails (ap passes it ∙ first_passes) in
       let was_had : (n : ℕ) → or_label had first n ≡ true → passes n ≡ false → had n ≡ true =
-      λ n had_it fails. sym (others_pass had first n (not_first n fails)) ∙ had_it in
-      let missing : (n : ℕ) (d : Deed) → deed_at deeds n ≡ Some d → or_label had first n ≡ true → passes n
-      ≡ false → is_marked marks (needed_number all.arrivals d) ≡ false =
+      λ n had_it fails. sym (others_pass had first n (λ it. not_both (passes n) fails (ap passes it ∙ first_passes)))
+      ∙ had_it in
+      let missing : (n : ℕ) (d : Deed) → deed_at deeds n ≡ Some d → or_label had first n ≡ true → passes n ≡ false
+      → is_marked marks (needed_number arrivals d) ≡ false =
       λ n d d_is had_it fails. elim (free.others n d d_is (was_had n had_it fails) fails) [
         | inl it ↦ it
         | inr found ↦ absurd (none_there n found)
       ] in
-      let waited : (n : ℕ) → passes n ≡ false → settled n ≡ false =
-      λ n fails. false_from_ne_true (settled n) (λ it. not_both (passes n) fails (free.older n it)) in
-      let freed : (number : ℕ) → is_put_by deeds labels number ≡ true → is_marked marks number ≡ true = λ number is.
-      let (m, found, puts_it) = one_passes (λ label. option_map_or (puts number) (deed_at deeds label) false) labels
-      is in
-      marked_label stand free.there m number (puts_at (deed_at deeds m) number puts_it) ∙ free.gone m found in
       record {
         settled = passes;
         kept = record {
@@ -103,60 +93,114 @@ module _ {all : ElementList} {deeds : List (Option Deed)} {records : Records} {o
           after = free.after;
           there = free.there;
           waiting_labels = record {
-            waits = λ n d d_is had_it fails.
-                let number = needed_number all.arrivals d in
-                let not_freed : is_put_by deeds labels number ≡ false =
-                false_from_ne_true (is_put_by deeds labels number)
-                (λ is. not_both (is_marked marks number) (missing n d d_is had_it fails) (freed number is)) in
-                subst (λ ls. Contains ls n)
-                (sym (says number ∙ cond-false (is_put_by deeds labels number) [] (labels_under waiting number)
-                not_freed))
-                (kept.waiting_labels.waits n d d_is (was_had n had_it fails) (waited n fails));
-            only = λ number n found. elim (cases_Bool (is_put_by deeds labels number)) [
-              | inl is ↦
-                  absurd (none_there n (subst (λ ls. Contains ls n)
-                  (says number ∙ cond-true (is_put_by deeds labels number) [] (labels_under waiting number) is) found))
-              | inr not ↦
-                  let (d, d_is, d_needs, n_had, n_waits) = kept.waiting_labels.only number n
-                  (subst (λ ls. Contains ls n) (says number ∙ cond-false (is_put_by deeds labels number) []
-                  (labels_under waiting number) not) found) in
-                  let old_missing : is_marked old_marks number ≡ false =
-                  ap (is_marked old_marks) (sym d_needs) ∙ unmarked had stand kept.there
-                  ((what_is_settled_does_not_wait records had settled).0 kept.settles).2 n d d_is n_had n_waits in
-                  let not_root : 0 < number = elim (cases_eq number 0) [
-                    | inl it ↦
-                        absurd (not_both (is_marked old_marks number) old_missing
-                        (ap (is_marked old_marks) it ∙ root_marked stands kept.there))
-                    | inr other ↦ omega (arith, other)
-                  ] in
-                  let known : number < length all.arrivals = subst (λ (k : ℕ). k < length all.arrivals) d_needs
-                  (needed_known stand n d d_is) in
-                  let (m, m_is) = stands.came number not_root known in
-                  let not_yet : passes n ≡ false = false_from_ne_true (passes n) (λ passes_it.
+            waits = λ n d d_is had_it fails. waits_on (needed_number arrivals d) n
+                (kept.waiting_labels.waits n d d_is (was_had n had_it fails)
+                (false_from_ne_true (settled n) (λ it. not_both (passes n) fails (free.older n it))))
+                (missing n d d_is had_it fails);
+            only = λ number n found.
+                let (old, not_yet) = waited number n found in
+                let (d, d_is, d_needs, n_had, n_waits) = kept.waiting_labels.only number n old in
+                (d, d_is, d_needs, still_passes had first n n_had, not_yet);
+            once = once;
+          };
+        };
+        count = free.count;
+      }
+
+module _ {arrivals : List Arrival} {deeds : List (Option Deed)} {records : Records} {state : State} {marks : List Bool}
+    {waiting : List (ℕ × List ℕ)} {had settled : ℕ → Bool} where
+  -- one label alone follows, since none waits for what it puts in
+  pub goes_in : (next_state : State) (next_marks : List Bool) (label : ℕ) (deed : Deed)
+      → AreDeedsOf arrivals deeds records → IsListWith state marks waiting arrivals deeds records had settled
+      → deed_at deeds label ≡ Some deed → had label ≡ false
+      → is_marked marks (needed_number arrivals deed) ≡ true
+      → state_after Rga (updates_passing Rga records (or_label settled label)) ≡ Some next_state
+      → AreMarksWith marks next_marks deed
+      → ((number : ℕ) → puts number deed ≡ true → labels_under waiting number ≡ [])
+      → IsListWithAfter next_state next_marks waiting arrivals deeds records had settled label 1
+  unfolding first_freed
+  goes_in next_state next_marks label deed stand kept is new needs after with_it none_for =
+      let free = follows [] next_state next_marks [] label deed stand
+      (first_freed label deed stand kept is new needs) is after with_it (record {
+        only = λ n found. absurd (none_there n found);
+        all = λ n d d_is was_had waits puts_it. absurd (none_there n
+            (subst (λ ls. Contains ls n) (none_for (needed_number arrivals d) puts_it)
+            (kept.waiting_labels.waits n d d_is was_had waits)));
+        once = tt;
+      }) in
+      all_settled waiting stand kept free
+      (λ number n found.
+      let (d, d_is, d_needs, was_had, waits) = kept.waiting_labels.only number n found in (
+        found,
+        false_from_ne_true (free.passes n) (λ it. elim (free.only n it) [
+          | inl settled_it ↦ not_both (settled n) waits settled_it
+          | inr is_it ↦ elim (head_or_behind label [] n is_it) [
+            | inl here ↦ not_both (had n) (ap had (sym here) ∙ new) was_had
+            | inr none ↦ none_there n none
+          ]
+        ]),
+      ))
+      (λ number n found missing. found) kept.waiting_labels.once
+
+module _ {all : ElementList} {deeds : List (Option Deed)} {records : Records} {old_state : State}
+    {old_marks : List Bool} {waiting : List (ℕ × List ℕ)} {had settled : ℕ → Bool} {state : State} {marks : List Bool}
+    {labels : List ℕ} {first : ℕ} where
+  pub all_follow : (left : List (ℕ × List ℕ)) → AreElementsOf all deeds records
+      → IsListWith old_state old_marks waiting all.arrivals deeds records had settled
+      → IsFreeing state marks labels [] all.arrivals deeds records had settled first
+      → ((number : ℕ) → labels_under left number ≡ freed_under deeds labels (labels_under waiting) number)
+      → IsListWithAfter state marks left all.arrivals deeds records had settled first (length labels)
+  all_follow left stands kept free says =
+      let stand = deeds_stand stands in
+      let passes = free.passes in
+      let put = is_put_by deeds labels in
+      let freed : (number : ℕ) → put number ≡ true → is_marked marks number ≡ true =
+      λ number is.
+      let (m, found, puts_it) = what_passes (λ label. option_map_or (puts number) (deed_at deeds label) false) labels
+      is in
+      marked_label stand free.there m number (puts_at (deed_at deeds m) number puts_it) ∙ free.gone m found in
+      let goes : (number : ℕ) → put number ≡ true → labels_under left number ≡ [] =
+      λ number is. says number ∙ cond-true (put number) [] (labels_under waiting number) is in
+      let stays : (number : ℕ) → put number ≡ false → labels_under left number ≡ labels_under waiting number =
+      λ number not. says number ∙ cond-false (put number) [] (labels_under waiting number) not in
+      all_settled left stand kept free
+      (λ number n found. elim (cases_Bool (put number)) [
+        | inl is ↦ absurd (none_there n (subst (λ ls. Contains ls n) (goes number is) found))
+        | inr not ↦
+            let old : Contains (labels_under waiting number) n = subst (λ ls. Contains ls n) (stays number not) found in
+            let (d, d_is, d_needs, n_had, n_waits) = kept.waiting_labels.only number n old in
+            let old_missing : is_marked old_marks number ≡ false =
+            ap (is_marked old_marks) (sym d_needs) ∙ unmarked had stand kept.there
+            ((what_is_settled_does_not_wait records had settled).0 kept.settles).2 n d d_is n_had n_waits in
+            let not_root : 0 < number = elim (cases_eq number 0) [
+              | inl it ↦
+                  absurd (not_both (is_marked old_marks number) old_missing
+                  (ap (is_marked old_marks) it ∙ root_marked stands kept.there))
+              | inr other ↦ omega (arith, other)
+            ] in
+            let known : number < length all.arrivals = subst (λ (k : ℕ). k < length all.arrivals) d_needs
+            (needed_known stand n d d_is) in
+            let (m, m_is) = stands.came number not_root known in (
+              old,
+              false_from_ne_true (passes n) (λ passes_it.
                   let m_passes : passes m ≡ true = sym (marked_label stand free.there m number m_is)
                   ∙ ap (is_marked marks) (sym d_needs) ∙ marked stand free.there free.none_waits n d d_is passes_it in
                   elim (free.only m m_passes) [
                     | inl m_settled ↦
                         not_both (is_marked old_marks number) old_missing
                         (marked_label stand kept.there m number m_is ∙ m_settled)
-                    | inr m_found ↦ not_both (is_put_by deeds labels number) not
+                    | inr m_found ↦ not_both (put number) not
                         (passes_one (λ label. option_map_or (puts number) (deed_at deeds label) false) labels m m_found
                         (at_puts (deed_at deeds m) number m_is))
-                  ]) in
-                  (d, d_is, d_needs, still_passes had first n n_had, not_yet)
-            ];
-            once = λ number. elim (cases_Bool (is_put_by deeds labels number)) [
-              | inl is ↦
-                  subst NoneTwice (sym (says number ∙ cond-true (is_put_by deeds labels number) []
-                  (labels_under waiting number) is)) tt
-              | inr not ↦
-                  subst NoneTwice (sym (says number ∙ cond-false (is_put_by deeds labels number) []
-                  (labels_under waiting number) not)) (kept.waiting_labels.once number)
-            ];
-          };
-        };
-        count = free.count;
-      }
+                  ]),
+            )
+      ])
+      (λ number n found missing. subst (λ ls. Contains ls n) (sym (stays number (false_from_ne_true (put number)
+      (λ is. not_both (is_marked marks number) missing (freed number is))))) found)
+      (λ number. elim (cases_Bool (put number)) [
+        | inl is ↦ subst NoneTwice (sym (goes number is)) tt
+        | inr not ↦ subst NoneTwice (sym (stays number not)) (kept.waiting_labels.once number)
+      ])
 
 -- there are no more updates than labels
 one_act : (b : Bool) (label : Label) (half : Half) (act : Act)
@@ -173,20 +217,8 @@ two_acts false label half other u q = omega arith
 
 few_acts : (passes : ℕ → Bool) (label : Label) (o : Op)
     → length (updates_of (filter (λ (p : Part). passes p.label.number) (map (part_of label) (acts_of o)))) ≤ 1
-few_acts passes label op.Inc = one_act (passes label.number) label _ _
-few_acts passes label op.Dec = one_act (passes label.number) label _ _
-few_acts passes label (op.Count v) = one_act (passes label.number) label _ _
-few_acts passes label (op.Write v) = one_act (passes label.number) label _ _
-few_acts passes label (op.Last v) = one_act (passes label.number) label _ _
-few_acts passes label (op.LwwAdd x) = one_act (passes label.number) label _ _
-few_acts passes label (op.LwwRemove x) = one_act (passes label.number) label _ _
-few_acts passes label (op.LwwRead xs) = one_act (passes label.number) label _ _
-few_acts passes label (op.OrAdd x id) = one_act (passes label.number) label _ _
 few_acts passes label (op.OrRemove x ids) = two_acts (passes label.number) label _ _ _ _
-few_acts passes label (op.OrRead xs) = one_act (passes label.number) label _ _
-few_acts passes label (op.After anchor x) = one_act (passes label.number) label _ _
-few_acts passes label (op.RgaRemove x) = one_act (passes label.number) label _ _
-few_acts passes label (op.RgaRead xs) = one_act (passes label.number) label _ _
+few_acts passes label _ = one_act (passes label.number) label _ _
 
 few_updates : (passes : ℕ → Bool) (labels : List Label) → length (updates_among passes labels) ≤ length labels
 few_updates passes [] = omega arith

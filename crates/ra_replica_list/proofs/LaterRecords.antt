@@ -18,7 +18,7 @@ use Rattle.ra_replica_list.specs.Deeds.{element_at, AreElementsOf}
 use Rattle.ra_replica_list.specs.ReplicaList.{ReplicaList, IsListOf, IsListBy, settled_count}
 use Rattle.ra_replica_list.proofs.Deeds.{deeds_stand}
 use Rattle.ra_replica_list.proofs.AlikeLists.{kept_alike, kept_delivered, kept_joined, greatest_alike, greatest_delivered, greatest_joined}
-use Rattle.ra_replica_list.proofs.TakenLabels.{not_settled}
+use Rattle.ra_replica_list.proofs.HadLabels.{not_settled}
 use Rattle.ra_replica_list.proofs.NewMarks.{not_had, had_by_other, had_no_query, had_to_other, had_by_new, none_longer, kept_known, greatest_known}
 use Rattle.ra_replica_list.proofs.NewDeeds.{needed_same, first_same, longer_by_one}
 

@@ -22,6 +22,7 @@ use Rattle.ra_replica_list.specs.Deeds.{deed_at, element_at, needed_number}
 use Rattle.ra_replica_list.specs.ReplicaList.{IsListWith, IsGreatestOf}
 use Rattle.ra_replica_list.proofs.NoneTwice.{not_both}
 use Rattle.ra_replica_list.proofs.Deeds.{deed_there}
+use Rattle.ra_replica_list.proofs.HadLabels.{not_settled}
 
 -- no replica had a label that is not there
 pub not_had : (records : Records) (replica : ℕ) → had records replica (label_count records) ≡ false
@@ -98,11 +99,8 @@ module _ {state : State} {marks : List Bool} {waiting : List (ℕ × List ℕ)} 
       → IsListWith state marks waiting later (deeds ++ d ∷ []) (operate next ∷ records) test settled
   kept_known later d next kept new counted longer needs =
       let now = operate next ∷ records in
-      let not_settled : settled (label_count records) ≡ false =
-      false_from_ne_true (settled (label_count records)) (λ it.
-      not_both (test (label_count records)) new (kept.settles.had_them (label_count records) it)) in
       let same = a_later_command_leaves_the_updates_that_pass-operation Rga records next.by next.op next.clock settled
-      not_settled in
+      (not_settled kept (label_count records) new) in
       record {
         settles =
             settled_labels_stay_settled-operation records next.by next.op next.clock test settled new kept.settles;

@@ -27,8 +27,8 @@ use Rattle.ra_replica_list.proofs.Deeds.{deeds_stand, needed_known, AreMarksWith
 use Rattle.ra_replica_list.proofs.AlikeLists.{kept_alike, greatest_alike}
 use Rattle.ra_replica_list.proofs.Greatest.{greatest_with, greatest_without}
 use Rattle.ra_replica_list.proofs.SingleSteps.{none_waits_with, leads_with}
-use Rattle.ra_replica_list.proofs.HadLabels.{IsAdded, held_back, goes_in}
-use Rattle.ra_replica_list.proofs.TakenLabels.{not_settled}
+use Rattle.ra_replica_list.proofs.HadLabels.{IsAdded, not_settled, held_back}
+use Rattle.ra_replica_list.proofs.LastFollowers.{goes_in}
 use Rattle.ra_replica_list.proofs.NewMarks.{not_had, kept_known, greatest_known}
 use Rattle.ra_replica_list.proofs.NewDeeds.{needed_same, first_same, new_last, longer_by_one, grown_by_one}
 use Rattle.ra_replica_list.proofs.Newest.{newest_is_last}

@@ -53,7 +53,8 @@ greatest-ranks list arrivals deeds records next held no_clock =
     → l.stamp ≡ Some s → SeesStamp now label s =
     λ l s l_in was_had l_is.
     (l, behind_head label (labels_of records) l l_in, sees_had records next l.number ∙ was_had, l_is) in
-    let not_above : ¬ IsStampBelow list.greatest rank = elim (a_timestamp_is_the_greatest_seen-seen now label no_stamp) [
+    let not_above : ¬ IsStampBelow list.greatest rank =
+    elim (a_timestamp_is_the_greatest_seen-seen now label no_stamp) [
       | inl (l, l_in, sees_it, l_is) ↦ let (old, was_had) = seen l l_in sees_it in top.above l rank old was_had l_is
       | inr (lowest, none) ↦ λ below. none_below_lowest list.greatest (subst (IsStampBelow list.greatest) lowest below)
     ] in

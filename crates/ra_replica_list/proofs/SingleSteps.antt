@@ -8,7 +8,7 @@ use Rattle.ra_labels.specs.declared.operation.Update.TheVariants.{After, RgaRemo
 use Rattle.ra_labels.specs.Records.{Records}
 use Rattle.ra_labels.specs.Rewriting.{updates_of}
 use Rattle.ra_labels.specs.Lists.{is_in_list, insert_after, hide}
-use Rattle.ra_labels.specs.Specification.{State, Number, Written, Members, Pairs, Listed, step_of, state_after}
+use Rattle.ra_labels.specs.Specification.{State, Listed, step_of, state_after}
 use Rattle.ra_labels.specs.NamedOrder.{named_sequence}
 use Rattle.ra_labels.specs.Commuting.{then_step}
 use Rattle.ra_labels.specs.Insertion.{updates_passing, or_label}
@@ -28,19 +28,13 @@ in_range_if true next = tt
 in_range_if false next = tt
 
 pub after_in_range : (state : State) (anchor x : ℕ) → IfSome (step_of state (After anchor x)) IsInRange
-after_in_range (Number n) anchor x = tt
-after_in_range (Written last) anchor x = tt
-after_in_range (Members xs) anchor x = tt
-after_in_range (Pairs pairs) anchor x = tt
 after_in_range (Listed list) anchor x =
     in_range_if (is_in_list anchor list && not (is_in_list x list)) (insert_after anchor x list)
+after_in_range _ anchor x = tt
 
 pub remove_in_range : (state : State) (x : ℕ) → IfSome (step_of state (RgaRemove x)) IsInRange
-remove_in_range (Number n) x = tt
-remove_in_range (Written last) x = tt
-remove_in_range (Members xs) x = tt
-remove_in_range (Pairs pairs) x = tt
 remove_in_range (Listed list) x = in_range_if (is_in_list x list && not (x == 0)) (hide x list)
+remove_in_range _ x = tt
 
 one_on : (next step : Option State) (old : State) → next ≡ step → is_some next ≡ true → next ≡ Some (unwrap_or step old)
 one_on next (Some s) old is some = is

@@ -1,7 +1,7 @@
 -- What a list does with a label that it gets or issues.
 use Rattle.std.proofs.Common.{◌≡◌, ℕ, Bool, true, false, List, [], Option, Some, refl, sym, ap, ◌∙◌}
 use Rattle.std.specs.Prelude.{unwrap_or, ◌||◌}
-use Rattle.std.proofs.lemmas.Bool.{false≢true, false_from_ne_true, eqb-true}
+use Rattle.std.proofs.lemmas.Bool.{false≢true, eqb-true}
 use Rattle.ra_labels.specs.declared.kind.Kind.TheVariants.{Rga}
 use Rattle.ra_labels.specs.declared.operation.Update.TheVariants.{After, RgaRemove}
 use Rattle.ra_labels.specs.Records.{Records}
@@ -18,10 +18,10 @@ use Rattle.ra_replica_list.specs.Waiting.{labels_under}
 use Rattle.ra_replica_list.specs.Deeds.{deed_at, element_at, AreElementsOf, AreDeedsOf}
 use Rattle.ra_replica_list.specs.ReplicaList.{IsListWith}
 use Rattle.ra_replica_list.specs.Freed.{IsListWithAfter}
-use Rattle.ra_replica_list.proofs.NoneTwice.{not_both}
 use Rattle.ra_replica_list.proofs.Deeds.{AreMarksWith, deeds_stand}
 use Rattle.ra_replica_list.proofs.SingleSteps.{removal_leads, insertion_leads}
-use Rattle.ra_replica_list.proofs.HadLabels.{goes_in}
+use Rattle.ra_replica_list.proofs.HadLabels.{not_settled}
+use Rattle.ra_replica_list.proofs.LastFollowers.{goes_in}
 
 pub or_nothing : (b : Bool) → b ≡ (b || false)
 or_nothing true = refl
@@ -29,13 +29,6 @@ or_nothing false = refl
 
 module _ {arrivals : List Arrival} {deeds : List (Option Deed)} {records : Records} {state : State} {marks : List Bool}
     {waiting : List (ℕ × List ℕ)} {had settled : ℕ → Bool} where
-  -- of a label that was not had
-  pub not_settled : IsListWith state marks waiting arrivals deeds records had settled → (label : ℕ) → had label ≡ false
-      → settled label ≡ false
-  not_settled kept label new =
-      false_from_ne_true (settled label) (λ it. not_both (had label) new
-      (((what_is_settled_does_not_wait records had settled).0 kept.settles).0 label it))
-
   -- it removes an element that is there
   pub removal_goes : AreDeedsOf arrivals deeds records → IsListWith state marks waiting arrivals deeds records had
       settled → (label number : ℕ) → deed_at deeds label ≡ Some (Removes number) → had label ≡ false

@@ -1,5 +1,7 @@
 -- One seat goes from one view to another, and the words go up: what the rule of the lock asks of that.
-use Rattle.std.proofs.Common.{◌≡◌, ◌≢◌, ℕ, ◌+◌, ◌^◌, ◌<◌, ◌≤◌, List, [], ◌∷◌, set, Option, Some, refl, sym, ap, ◌∙◌, subst, ⊎_elim, le_refl, le_trans, arith}
+use Rattle.std.proofs.Common.{◌≡◌, ◌≢◌, ◌⊎◌, ℕ, ◌+◌, ◌^◌, ◌<◌, ◌≤◌, List, [], ◌∷◌, set, Option, Some, None}
+use Rattle.std.proofs.Common.{refl, sym, ap, ◌∙◌, subst, ⊎_elim, le_refl, le_trans, arith}
+use Rattle.std.proofs.lemmas.Option.{none-some}
 use mathlib.Core.Option.{none, some, some-injective}
 use mathlib.Core.Option as maybe
 use lib.ListN.{get_elem?}
@@ -7,17 +9,16 @@ use Rattle.atomic_table.specs.Table.{State}
 use Rattle.atomic_table.proofs.Lists.{at_set}
 use Rattle.ra_journal.specs.declared.entry.Entry.{Entry}
 use Rattle.ra_ticket.specs.declared.board.View.{View}
-use Rattle.ra_ticket.specs.declared.board.View.TheVariants.{Spent, Knows, Met}
+use Rattle.ra_ticket.specs.declared.board.View.TheVariants.{Knows}
 use Rattle.ra_ticket.specs.declared.board.Known.{Known}
 use Rattle.ra_ticket.specs.declared.board.Stage.{Stage}
-use Rattle.ra_ticket.specs.declared.board.Stage.TheVariants.{Idle, Waiting, Holding}
+use Rattle.ra_ticket.specs.declared.board.Stage.TheVariants.{Waiting, Holding}
 use Rattle.ra_journal.specs.Log.{Readings, AllBelow, BeginsWith, IsLegal}
 use Rattle.ra_ticket.specs.Mark.{IsMarkOf}
 use Rattle.ra_ticket.specs.Views.{numbers_of, next_of, serving_of, ticket_at, ticket_of, held_at, held_of, seen_of, HasBegun, HasOwn, IsSetUp}
 use Rattle.ra_ticket.specs.Rule.{At, SitsAt, NobodyHolds, TurnsKept}
 use Rattle.ra_ticket.proofs.Seats.{each_after, at_after, at_back, at_forth, apart_after}
 use Rattle.ra_ticket.proofs.Logs.{begins_same, begun_more}
-use Rattle.ra_ticket.proofs.OwnPasses.{own_same}
 
 module _ {M C R S : Type 0} (j : Readings M C R S) (opened : S) where
   abbrev pub Table : Type 0
@@ -32,16 +33,23 @@ module _ {M C R S : Type 0} (j : Readings M C R S) (opened : S) where
   abbrev pub Rule : Table → Type 0
   Rule = TurnsKept j opened
 
+  -- the words as the rule spells them
+  abbrev pub words : (s : Table) → Rule s → List ℕ
+  words s r = r.next ∷ r.serving ∷ r.mark ∷ r.others
+
+  -- the rule once the words are these, the slots these and the seat id has this view
+  abbrev pub Then : (s : Table) → Rule s → ℕ → ℕ → ℕ → ℕ → Homes → View C R S → Type 0
+  Then s r id next' serving' mark' homes' w =
+      Rule record { words = next' ∷ serving' ∷ mark' ∷ r.others; homes = homes'; views = set s.views id w }
+
   -- who holds has a ticket
+  held_at_all : (st : Stage) (t : ℕ) → held_at st ≡ Some t → ticket_at st ≡ Some t
+  held_at_all (Holding n) t e = e
+  held_at_all _ t e = absurd (cc)
+
   held_ticket : (v : View C R S) (t : ℕ) → held_of v ≡ Some t → ticket_of v ≡ Some t
-  held_ticket Spent t e = absurd (cc)
-  held_ticket (Met k l) t e = absurd (cc)
-  held_ticket (Knows k) t e = go k.stage e
-    where
-      go : (st : Stage) → held_at st ≡ Some t → ticket_at st ≡ Some t
-      go Idle e = e
-      go (Waiting n) e = absurd (cc)
-      go (Holding n) e = e
+  held_ticket (Knows k) t e = held_at_all k.stage t e
+  held_ticket _ t e = absurd (cc)
 
   -- the seat whose ticket is served is the only one that can hold
   pub holder_is : (s : Table) (r : Rule s) (id t : ℕ) → At ticket_of s.views id t → t ≡ r.serving → (seat u : ℕ)
@@ -105,8 +113,7 @@ module _ {M C R S : Type 0} (j : Readings M C R S) (opened : S) where
 
     -- such a change keeps the rule
     pub changed : (next' serving' mark' : ℕ) (homes' : Homes) (front' : Log)
-        → Change s r id v w next' serving' mark' homes' front'
-        → Rule record { words = next' ∷ serving' ∷ mark' ∷ r.others; homes = homes'; views = set s.views id w }
+        → Change s r id v w next' serving' mark' homes' front' → Then s r id next' serving' mark' homes' w
     changed next' serving' mark' homes' front' c = record {
       next = next';
       serving = serving';
@@ -147,7 +154,7 @@ module _ {M C R S : Type 0} (j : Readings M C R S) (opened : S) where
         → ((t : ℕ) → held_of w ≡ Some t → seen_of w ≡ r.front)
         → ((t : ℕ) → ticket_of w ≡ Some t → (r.serving ≤ t) × (t < next'))
         → ((seat t : ℕ) → ticket_of w ≡ Some t → seat ≢ id → At ticket_of s.views seat t → ⊥)
-        → Rule record { words = next' ∷ r.serving ∷ r.mark ∷ r.others; homes = s.homes; views = set s.views id w }
+        → Then s r id next' r.serving r.mark s.homes w
     seeing next' fits up reached numbers held set_up begun own front drawn apart =
         changed next' r.serving r.mark s.homes r.front record {
           order = le_trans r.order up;
@@ -175,21 +182,57 @@ module _ {M C R S : Type 0} (j : Readings M C R S) (opened : S) where
           home_set_up = r.home_set_up;
         }
 
-  -- the same, where the seat sees what it saw before
-  module _ (s : Table) (r : Rule s) (id : ℕ) (k k' : Known C R S) (here : get_elem? s.views id ≡ some (Knows k)) where
-    pub unmoved : (next' : ℕ) → next' < 2 ^ 64 → r.next ≤ next' → (k'.next ≤ next') × (k'.serving ≤ r.serving)
-        → k'.numbers ≡ k.numbers → held_at k'.stage ≡ held_at k.stage
-        → k'.setup ≡ k.setup → k'.seen ≡ k.seen
-        → ((t : ℕ) → ticket_at k'.stage ≡ Some t → (r.serving ≤ t) × (t < next'))
-        → ((seat t : ℕ) → ticket_at k'.stage ≡ Some t → seat ≢ id → At ticket_of s.views seat t → ⊥)
-        → Rule record {
-          words = next' ∷ r.serving ∷ r.mark ∷ r.others;
-          homes = s.homes;
-          views =
-              set s.views id (Knows k');
-        }
-    unmoved next' fits up reached numbers held setup seen drawn apart =
-        seeing s r id (Knows k) (Knows k') here next' fits up reached numbers held (setup ∙ r.set_up id (Knows k) here)
-        (subst (λ (l : Log). BeginsWith r.front l) (sym seen) (r.begun id (Knows k) here))
-        (own_same k k' r.front numbers seen (r.own id (Knows k) here))
-        (λ t e. seen ∙ r.held id t (Knows k) here (sym held ∙ e)) drawn apart
+  -- a view that a seat may have anew while words, slots and front stay: no ticket is out with it
+  pub record Fits (s : Table) (r : Rule s) (u : View C R S) : Type 0 where
+    pub reached : (next_of u ≤ r.next) × (serving_of u ≤ r.serving)
+    pub no_ticket : ticket_of u ≡ None
+    pub set_up : IsSetUp opened u
+    pub begun : HasBegun u r.front
+    pub own : HasOwn u r.front
+
+  -- each seat has the view that it had, or one that fits
+  module _ (s : Table) (r : Rule s) (views : List (View C R S))
+      (who : (seat : ℕ) (u : View C R S) → get_elem? views seat ≡ some u → (get_elem? s.views seat ≡ some u) ⊎ Fits s r u)
+    where
+      each : (P : View C R S → Type 0) → ((u : View C R S) → Fits s r u → P u)
+          → ((seat : ℕ) (u : View C R S) → get_elem? s.views seat ≡ some u → P u)
+          → (seat : ℕ) (u : View C R S) → get_elem? views seat ≡ some u → P u
+      each P new old seat u at = ⊎_elim (λ (e : get_elem? s.views seat ≡ some u). old seat u e)
+          (λ (f : Fits s r u). new u f) (who seat u at)
+
+      back : (of : View C R S → Option ℕ) → ((u : View C R S) (t : ℕ) → of u ≡ Some t → ticket_of u ≡ Some t)
+          → (seat t : ℕ) → At of views seat t → At of s.views seat t
+      back of has seat t a = ⊎_elim (λ (e : get_elem? s.views seat ≡ some a.0). (a.0, e, a.2))
+          (λ (f : Fits s r a.0). absurd (none-some t (sym f.no_ticket ∙ has a.0 t a.2))) (who seat a.0 a.1)
+
+      pub reseated : ((seat t : ℕ) → At held_of s.views seat t → At held_of views seat t)
+          → ((a b k l number : ℕ) → SitsAt views a k number → SitsAt views b l number → (a ≡ b) × (k ≡ l))
+          → Rule record { words = s.words; homes = s.homes; views = views }
+      reseated holds apart = record {
+        next = r.next;
+        serving = r.serving;
+        mark = r.mark;
+        others = r.others;
+        words = r.words;
+        order = r.order;
+        fits = r.fits;
+        reached = each (λ (x : View C R S). (next_of x ≤ r.next) × (serving_of x ≤ r.serving)) (λ u f. f.reached) r.reached;
+        drawn = λ seat t a. r.drawn seat t (back ticket_of (λ u n e. e) seat t a);
+        tickets_apart = λ a b t p q. r.tickets_apart a b t (back ticket_of (λ u n e. e) a t p)
+            (back ticket_of (λ u n e. e) b t q);
+        out = λ seat t a. r.out seat t (back held_of held_ticket seat t a);
+        home = λ nobody. r.home (λ seat t a. nobody seat t (holds seat t a));
+        front = r.front;
+        held = λ seat t u at. each (λ (x : View C R S). held_of x ≡ Some t → seen_of x ≡ r.front)
+            (λ x f e. absurd (none-some t (sym f.no_ticket ∙ held_ticket x t e))) (λ a x there. r.held a t x there)
+            seat u at;
+        rests = r.rests;
+        served = r.served;
+        legal = r.legal;
+        told = r.told;
+        begun = each (λ (x : View C R S). HasBegun x r.front) (λ u f. f.begun) r.begun;
+        own = each (λ (x : View C R S). HasOwn x r.front) (λ u f. f.own) r.own;
+        passes_apart = apart;
+        set_up = each (IsSetUp opened) (λ u f. f.set_up) r.set_up;
+        home_set_up = r.home_set_up;
+      }

@@ -5,7 +5,7 @@ use lib.ListN.{get_elem?}
 use Rattle.atomic_table.specs.Table.{Final, Seen}
 use Rattle.ra_journal.specs.declared.entry.Entry.{Entry}
 use Rattle.ra_ticket.specs.declared.board.View.{View}
-use Rattle.ra_ticket.specs.declared.board.View.TheVariants.{Spent, Knows, Met}
+use Rattle.ra_ticket.specs.declared.board.View.TheVariants.{Knows}
 use Rattle.ra_ticket.specs.declared.board.Stage.TheVariants.{Idle}
 use Rattle.ra_journal.specs.Log.{Readings, AllBelow, BeginsWith, IsLegal}
 use Rattle.ra_ticket.specs.Views.{stage_of, setup_of, seen_of, HasBegun, HasOwn, IsSetUp}
@@ -17,20 +17,17 @@ use Rattle.ra_ticket.proofs.OwnPasses.{own_alone}
 module _ {C R S : Type 0} where
   begun : (v : View C R S) → stage_of v ≡ Some Idle → (log : List (Entry C R)) → HasBegun v log
       → BeginsWith log (seen_of v)
-  begun Spent idle log has = absurd (cc)
   begun (Knows k) idle log has = has
-  begun (Met k l) idle log has = absurd (cc)
+  begun _ idle log has = absurd (cc)
 
   -- a view that may make any step has a setup
   pub idle_set_up : (v : View C R S) → stage_of v ≡ Some Idle → (setup : S) × (setup_of v ≡ Some setup)
-  idle_set_up Spent idle = absurd (cc)
   idle_set_up (Knows k) idle = (k.setup, refl)
-  idle_set_up (Met k l) idle = absurd (cc)
+  idle_set_up _ idle = absurd (cc)
 
   set_up_as : (v : View C R S) → stage_of v ≡ Some Idle → (opened : S) → IsSetUp opened v → setup_of v ≡ Some opened
-  set_up_as Spent idle opened is = absurd (cc)
   set_up_as (Knows k) idle opened is = ap (λ (x : S). Some x) is
-  set_up_as (Met k l) idle opened is = absurd (cc)
+  set_up_as _ idle opened is = absurd (cc)
 
 module _ {M C R S : Type 0} (j : Readings M C R S) (opened : S) where
   pub is_left : (id : ℕ) (v : View C R S) (words : List ℕ) (slots : List (Option M)) (next serving : ℕ)

@@ -1,25 +1,25 @@
 -- The first state keeps the rule of the lock, and so does a seat that is cut in two.
 use Rattle.std.proofs.Common.{◌≡◌, ◌≢◌, ◌⊎◌, ℕ, zero, suc, ◌+◌, ◌^◌, ◌<◌, ◌≤◌, List, [], ◌∷◌, ◌++◌, length, set, Option}
 use Rattle.std.proofs.Common.{Some, None, refl, sym, ap, ◌∙◌, subst, ⊎_elim, inl, inr, le_refl, arith, length-set}
-use mathlib.Core.Logic.{dite}
 use mathlib.Core.Option.{some, some-ne-none, some-injective}
-use native.Mathlib.Decide.{ℕ_discrete}
 use lib.ListN.{get_elem?}
 use Rattle.atomic_table.specs.Table.{State, opening, Splits}
 use Rattle.atomic_table.proofs.Lists.{at_set, at_longer, set_else}
 use Rattle.std.specs.List.{range_with_len}
 use Rattle.ra_journal.specs.declared.entry.Entry.{Entry}
 use Rattle.ra_ticket.specs.declared.board.View.{View}
-use Rattle.ra_ticket.specs.declared.board.View.TheVariants.{Spent, Knows, Met}
+use Rattle.ra_ticket.specs.declared.board.View.TheVariants.{Knows}
 use Rattle.ra_ticket.specs.declared.board.Known.{Known}
 use Rattle.ra_ticket.specs.declared.board.Stage.TheVariants.{Idle}
 use Rattle.ra_journal.specs.Log.{Readings, AllBelow}
 use Rattle.ra_ticket.specs.Mark.{IsMarkOf}
 use Rattle.ra_ticket.specs.Views.{stage_of, numbers_of, next_of, serving_of, ticket_at, ticket_of, held_at, held_of}
-use Rattle.ra_ticket.specs.Views.{setup_of, seen_of, HasBegun, HasOwn, IsSetUp, starting, first_only, others_only}
+use Rattle.ra_ticket.specs.Views.{HasBegun, HasOwn, SeesOwn, IsSetUp, starting, first_only, others_only}
 use Rattle.ra_ticket.specs.Views.{first_pass, other_passes}
 use Rattle.ra_ticket.specs.Rule.{At, SitsAt, TurnsKept}
-use Rattle.ra_ticket.proofs.Seats.{inside}
+use Rattle.ra_ticket.specs.Steps.{IsPart}
+use Rattle.ra_ticket.proofs.Changes as changes
+use Rattle.ra_ticket.proofs.Seats.{inside, elsewhere}
 use Rattle.ra_ticket.proofs.Logs.{begins_same}
 use Rattle.std.proofs.lemmas.List.Elements.{All-nil}
 
@@ -109,39 +109,44 @@ module _ {M C R S : Type 0} (j : Readings M C R S) (opened : S) where
     cut = set s.views id left ++ right ∷ []
 
     abbrev IsCut : ℕ → View C R S → Type 0
-    IsCut seat u = ((seat ≡ id) × (left ≡ u))
-        ⊎ (((seat ≢ id) × (get_elem? s.views seat ≡ some u)) ⊎ ((seat ≡ length s.views) × (right ≡ u)))
+    IsCut seat u = (((seat ≡ id) × (left ≡ u)) ⊎ ((seat ≢ id) × (get_elem? s.views seat ≡ some u)))
+        ⊎ ((seat ≡ length s.views) × (right ≡ u))
 
     -- who sits at a seat after the cut
     cut_at : (seat : ℕ) (u : View C R S) → get_elem? cut seat ≡ some u → IsCut seat u
     cut_at seat u e = ⊎_elim
-        (λ (t : (seat < length (set s.views id left)) × (get_elem? (set s.views id left) seat ≡ some u)). ⊎_elim
-        (λ (x : (seat ≡ id) × (left ≡ u)). inl x)
-        (λ (x : (seat ≢ id) × (get_elem? s.views seat ≡ some u)). inr (inl x)) (at_set s.views id seat left u t.1))
-        (λ (t : (seat ≡ length (set s.views id left)) × (right ≡ u)). inr (inr (t.0 ∙ length-set s.views id left, t.1)))
+        (λ (t : (seat < length (set s.views id left)) × (get_elem? (set s.views id left) seat ≡ some u)).
+        inl (at_set s.views id seat left u t.1))
+        (λ (t : (seat ≡ length (set s.views id left)) × (right ≡ u)). inr (t.0 ∙ length-set s.views id left, t.1))
         (at_end (set s.views id left) right u seat e)
 
-    -- a reading that gives nothing at an idle view reads the same as before
-    back : (of : View C R S → Option ℕ) → of left ≡ None → of right ≡ None → (seat t : ℕ) → At of cut seat t
-        → At of s.views seat t
-    back of l i seat t a =
-        ⊎_elim (λ (x : (seat ≡ id) × (left ≡ a.0)). let no : None ≡ Some t = sym l ∙ (ap of x.1 ∙ a.2) in absurd (cc))
-        (λ (y : ((seat ≢ id) × (get_elem? s.views seat ≡ some a.0)) ⊎ ((seat ≡ length s.views) × (right ≡ a.0))). ⊎_elim
-        (λ (x : (seat ≢ id) × (get_elem? s.views seat ≡ some a.0)). (a.0, x.1, a.2))
-        (λ (x : (seat ≡ length s.views) × (right ≡ a.0)). let no : None ≡ Some t = sym i ∙ (ap of x.1 ∙ a.2) in
-        absurd (cc)) y) (cut_at seat a.0 a.1)
+    -- either part fits
+    fits : (numbers : List ℕ) → SeesOwn (record k { numbers = numbers }) r.front
+        → changes.Fits j opened s r (Knows (record k { numbers = numbers }))
+    fits numbers own = record {
+      reached = r.reached id (Knows k) here;
+      no_ticket = ap ticket_at idle;
+      set_up = r.set_up id (Knows k) here;
+      begun = r.begun id (Knows k) here;
+      own = own;
+    }
 
-    forth : (of : View C R S → Option ℕ) → of (Knows k) ≡ None → (seat t : ℕ) → At of s.views seat t → At of cut seat t
-    forth of i seat t a = dite (ℕ_discrete seat id)
-        (λ e. let no : None ≡ Some t = sym i
-        ∙ (ap of (some-injective (Knows k) a.0 (sym here ∙ (ap (get_elem? s.views) (sym e) ∙ a.1))) ∙ a.2) in
-        absurd (cc))
-        (λ other. (
-          a.0,
-          at_longer (set s.views id left) (right ∷ []) seat a.0
-              (set_else s.views id seat left other ∙ a.1),
-          a.2,
-        ))
+    fitting : (seat : ℕ) (u : View C R S) → IsCut seat u
+        → (get_elem? s.views seat ≡ some u) ⊎ changes.Fits j opened s r u
+    fitting seat u (inl (inl x)) = inr (subst (changes.Fits j opened s r) x.1 (fits (others_only k.numbers)
+        (λ i n at. r.own id (Knows k) here (suc i) n (at_others_only k.numbers i n at))))
+    fitting seat u (inl (inr x)) = inl x.1
+    fitting seat u (inr x) = inr (subst (changes.Fits j opened s r) x.1 (fits (first_only k.numbers)
+        (λ i n at. r.own id (Knows k) here 0 n (at_first_only k.numbers i n at).1)))
+
+    -- who holds does so still
+    forth : (seat t : ℕ) → At held_of s.views seat t → At held_of cut seat t
+    forth seat t a = (
+      a.0,
+      at_longer (set s.views id left) (right ∷ []) seat a.0 (set_else s.views id seat left
+          (elsewhere held_of s.views seat id t (Knows k) here (ap held_at idle) a) ∙ a.1),
+      a.2,
+    )
 
     -- where a pass sat before the cut
     abbrev Was : ℕ → ℕ → ℕ → ℕ → Type 0
@@ -149,114 +154,45 @@ module _ {M C R S : Type 0} (j : Readings M C R S) (opened : S) where
         ⊎ (((seat ≢ id) × (seat < length s.views) × (seat' ≡ seat) × (j' ≡ j))
         ⊎ ((seat ≡ length s.views) × (seat' ≡ id) × (j' ≡ 0) × (j ≡ 0)))
 
-    was : (seat j number : ℕ) → SitsAt cut seat j number → (seat' j' : ℕ) × SitsAt s.views seat' j' number
-        × Was seat j seat' j'
-    was seat j number a = ⊎_elim
-        (λ (x : (seat ≡ id) × (left ≡ a.0)). (
-          id,
-          suc j,
-          (
-            Knows k,
-            here,
-            at_others_only k.numbers j number
-                (ap (λ (u : View C R S). get_elem? (numbers_of u) j) x.1 ∙ a.2),
-          ),
-          inl (x.0, refl, refl),
-        ))
-        (λ (y : ((seat ≢ id) × (get_elem? s.views seat ≡ some a.0)) ⊎ ((seat ≡ length s.views) × (right ≡ a.0))). ⊎_elim
-        (λ (x : (seat ≢ id) × (get_elem? s.views seat ≡ some a.0)).
-        (seat, j, (a.0, x.1, a.2), inr (inl (x.0, inside s.views seat a.0 x.1, refl, refl))))
-        (λ (x : (seat ≡ length s.views) × (right ≡ a.0)). let f =
+    was : (seat j number : ℕ) (a : SitsAt cut seat j number) → IsCut seat a.0
+        → (seat' j' : ℕ) × SitsAt s.views seat' j' number × Was seat j seat' j'
+    was seat j number a (inl (inl x)) = (
+      id,
+      suc j,
+      (Knows k, here, at_others_only k.numbers j number (ap (λ (u : View C R S). get_elem? (numbers_of u) j) x.1 ∙ a.2)),
+      inl (x.0, refl, refl),
+    )
+    was seat j number a (inl (inr x)) =
+        (seat, j, (a.0, x.1, a.2), inr (inl (x.0, inside s.views seat a.0 x.1, refl, refl)))
+    was seat j number a (inr x) = let f =
         at_first_only k.numbers j number (ap (λ (u : View C R S). get_elem? (numbers_of u) j) x.1 ∙ a.2) in
-        (id, 0, (Knows k, here, f.1), inr (inr (x.0, refl, refl, f.0)))) y)
-        (cut_at seat a.0 a.1)
+        (id, 0, (Knows k, here, f.1), inr (inr (x.0, refl, refl, f.0)))
 
     -- who sat in one seat sits in one seat
     told_apart : (a b i j a' b' i' j' : ℕ) → id < length s.views → (a' ≡ b') × (i' ≡ j') → Was a i a' i' → Was b j b' j'
         → (a ≡ b) × (i ≡ j)
     told_apart a b i j a' b' i' j' within same p q = (omega arith, omega arith)
 
-    -- what holds of a seat before the cut and of both halves holds of each seat after it
-    each_cut : (P : View C R S → Type 0) → P left → P right
-        → ((seat : ℕ) (u : View C R S) → get_elem? s.views seat ≡ some u → P u)
-        → (seat : ℕ) (u : View C R S) → get_elem? cut seat ≡ some u → P u
-    each_cut P l i others seat u e = ⊎_elim (λ (x : (seat ≡ id) × (left ≡ u)). subst P x.1 l)
-        (λ (y : ((seat ≢ id) × (get_elem? s.views seat ≡ some u)) ⊎ ((seat ≡ length s.views) × (right ≡ u))). ⊎_elim
-        (λ (x : (seat ≢ id) × (get_elem? s.views seat ≡ some u)). others seat u x.1)
-        (λ (x : (seat ≡ length s.views) × (right ≡ u)). subst P x.1 i) y) (cut_at seat u e)
-
     pub splits_here : Rule record { words = s.words; homes = s.homes; views = cut }
-    splits_here = let no_ticket : ticket_at k.stage ≡ None = ap ticket_at idle in
-        let not_held : held_at k.stage ≡ None = ap held_at idle in record {
-          next = r.next;
-          serving = r.serving;
-          mark = r.mark;
-          others = r.others;
-          words = r.words;
-          order = r.order;
-          fits = r.fits;
-          reached = let low = r.reached id (Knows k) here in
-              each_cut (λ (z : View C R S). (next_of z ≤ r.next) × (serving_of z ≤ r.serving)) low low r.reached;
-          drawn = λ seat t a. r.drawn seat t (back ticket_of no_ticket no_ticket seat t a);
-          tickets_apart = λ a b t p q. r.tickets_apart a b t (back ticket_of no_ticket no_ticket a t p)
-              (back ticket_of no_ticket no_ticket b t q);
-          out = λ seat t a. r.out seat t (back held_of not_held not_held seat t a);
-          home = λ nobody. r.home (λ seat t a. nobody seat t (forth held_of not_held seat t a));
-          front = r.front;
-          held = λ seat t u at. each_cut (λ (z : View C R S). held_of z ≡ Some t → seen_of z ≡ r.front)
-              (λ e. let no = not_held in absurd (cc)) (λ e. let no = not_held in absurd (cc))
-              (λ a x there. r.held a t x there) seat u at;
-          rests = r.rests;
-          served = r.served;
-          legal = r.legal;
-          told = r.told;
-          begun = let b = r.begun id (Knows k) here in each_cut (λ (z : View C R S). HasBegun z r.front) b b r.begun;
-          own = each_cut (λ (z : View C R S). HasOwn z r.front)
-              (λ i n at. r.own id (Knows k) here (suc i) n (at_others_only k.numbers i n at))
-              (λ i n at. r.own id (Knows k) here 0 n (at_first_only k.numbers i n at).1) r.own;
-          passes_apart = λ a b i j number p q. let x = was a i number p in let y = was b j number q in
-              told_apart a b i j x.0 y.0 x.1 y.1 (inside s.views id (Knows k) here)
-              (r.passes_apart x.0 y.0 x.1 y.1 number x.2 y.2) x.3 y.3;
-          set_up = let b = r.set_up id (Knows k) here in each_cut (IsSetUp opened) b b r.set_up;
-          home_set_up = r.home_set_up;
-        }
+    splits_here = changes.reseated j opened s r cut (λ seat u e. fitting seat u (cut_at seat u e)) forth
+        (λ a b i j number p q. let x = was a i number p (cut_at a p.0 p.1) in
+        let y = was b j number q (cut_at b q.0 q.1) in
+        told_apart a b i j x.0 y.0 x.1 y.1 (inside s.views id (Knows k) here)
+        (r.passes_apart x.0 y.0 x.1 y.1 number x.2 y.2) x.3 y.3)
 
   -- an idle seat is cut in two
   pub splits : (id : ℕ) (v : View C R S) → stage_of v ≡ Some Idle → Splits Rule id v (other_passes v) (first_pass v)
-  splits id Spent idle s r at = absurd (cc)
-  splits id (Met k l) idle s r at = absurd (cc)
   splits id (Knows k) idle s r at = let is : k.stage ≡ Idle = cc in splits_here s r id k at is
+  splits id _ idle s r at = absurd (cc)
 
--- what an idle seat with numbers from k on is cut into
-pub record AreCut {C R S : Type 0} (v : View C R S) (k n : ℕ) : Type 0 where
-  pub idle : stage_of (other_passes v) ≡ Some Idle
-  pub numbers : numbers_of (other_passes v) ≡ range_with_len (k + 1) n
-  pub next : next_of (other_passes v) ≡ next_of v
-  pub serving : serving_of (other_passes v) ≡ serving_of v
-  pub first_idle : stage_of (first_pass v) ≡ Some Idle
-  pub first_number : numbers_of (first_pass v) ≡ k ∷ []
-  pub first_next : next_of (first_pass v) ≡ next_of v
-  pub first_serving : serving_of (first_pass v) ≡ serving_of v
-  pub setup : setup_of (other_passes v) ≡ setup_of v
-  pub first_setup : setup_of (first_pass v) ≡ setup_of v
-  pub seen : seen_of (other_passes v) ≡ seen_of v
-  pub first_seen : seen_of (first_pass v) ≡ seen_of v
+-- what an idle seat is cut into
+module _ {C R S : Type 0} where
+  pub first_part : (v : View C R S) → stage_of v ≡ Some Idle → IsPart v (first_pass v) (first_only (numbers_of v))
+  first_part (Knows k) idle =
+      record { its = refl; stage = refl; next = refl; serving = refl; setup = refl; seen = refl }
+  first_part _ idle = absurd (cc)
 
-pub are_cut : {C R S : Type 0} (v : View C R S) (k n : ℕ) → stage_of v ≡ Some Idle
-    → numbers_of v ≡ range_with_len k (suc n) → AreCut v k n
-are_cut Spent k n idle numbers = absurd (cc)
-are_cut (Met w u) k n idle numbers = absurd (cc)
-are_cut (Knows w) k n idle numbers = record {
-  idle = idle;
-  numbers = ap others_only numbers;
-  next = refl;
-  serving = refl;
-  first_idle = idle;
-  first_number = ap first_only numbers;
-  first_next = refl;
-  first_serving = refl;
-  setup = refl;
-  first_setup = refl;
-  seen = refl;
-  first_seen = refl;
-}
+  pub others_part : (v : View C R S) → stage_of v ≡ Some Idle → IsPart v (other_passes v) (others_only (numbers_of v))
+  others_part (Knows k) idle =
+      record { its = refl; stage = refl; next = refl; serving = refl; setup = refl; seen = refl }
+  others_part _ idle = absurd (cc)

@@ -13,4 +13,3 @@ pub mod Logs
 pub mod Journals
 pub mod Marks
 pub mod OwnPasses
-pub mod Served

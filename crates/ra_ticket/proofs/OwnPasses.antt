@@ -42,17 +42,11 @@ at_behind [] m i n at = (i, at)
 at_behind (x ∷ xs) m i n at = let behind = at_behind xs m i n at in (suc behind.0, behind.1)
 
 module _ {C R S : Type 0} where
-  pub own_same : (k k' : Known C R S) (log : List (Entry C R)) → k'.numbers ≡ k.numbers → k'.seen ≡ k.seen
-      → SeesOwn k log → SeesOwn k' log
-  own_same k k' log numbers seen own i n at = ap (entries_of n) seen
-      ∙ own i n (ap (λ (l : List ℕ). get_elem? l i) (sym numbers) ∙ at)
-
   -- a seat of one pass alone
   pub own_alone : (v : View C R S) (log : List (Entry C R)) (n : ℕ) (st : Stage) → stage_of v ≡ Some st
       → numbers_of v ≡ n ∷ [] → HasOwn v log → entries_of n (seen_of v) ≡ entries_of n log
-  own_alone Spent log n st there alone own = absurd (cc)
   own_alone (Knows k) log n st there alone own = own 0 n (ap (λ (l : List ℕ). get_elem? l 0) alone)
-  own_alone (Met k l) log n st there alone own = absurd (cc)
+  own_alone _ log n st there alone own = absurd (cc)
 
   -- the entry of a pass that sits elsewhere is added
   sees_skip : (k : Known C R S) (log : List (Entry C R)) (e : Entry C R)

@@ -1,8 +1,9 @@
 -- The views of the seats, after one of them has changed.
-use Rattle.std.proofs.Common.{◌≡◌, ◌≢◌, ◌⊎◌, ℕ, zero, suc, ◌<◌, List, length, [], ◌∷◌, set, Option, Some, sym, ap, ◌∙◌, subst, ⊎_elim, inl, inr, arith}
+use Rattle.std.proofs.Common.{◌≡◌, ◌≢◌, ◌⊎◌, ℕ, zero, suc, ◌<◌, List, length, [], ◌∷◌, set, Option, Some, None, sym, ap, ◌∙◌, subst, ⊎_elim, inl, inr, arith}
 use mathlib.Core.Logic.{dite}
 use mathlib.Core.Option.{some, some-ne-none, some-injective}
 use native.Mathlib.Decide.{ℕ_discrete}
+use Rattle.std.proofs.lemmas.Option.{none-some}
 use lib.ListN.{get_elem?}
 use Rattle.atomic_table.proofs.Lists.{at_set, set_else, set_here}
 use Rattle.ra_ticket.specs.declared.board.View.{View}
@@ -13,6 +14,12 @@ pub inside : {A : Type 0} (l : List A) (j : ℕ) (b : A) → get_elem? l j ≡ s
 inside [] j b e = absurd (some-ne-none b (sym e))
 inside (x ∷ xs) zero b e = omega arith
 inside (x ∷ xs) (suc j) b e = let l = inside xs j b e in omega arith
+
+-- who has such a ticket sits elsewhere than one who has none
+pub elsewhere : {C R S X : Type 0} (of : View C R S → Option X) (views : List (View C R S)) (seat place : ℕ) (x : X)
+    (v : View C R S) → get_elem? views place ≡ some v → of v ≡ None → At of views seat x → seat ≢ place
+elsewhere of views seat place x v there nothing a same = none-some x (sym nothing
+    ∙ (ap of (some-injective v a.0 (sym there ∙ (ap (get_elem? views) (sym same) ∙ a.1))) ∙ a.2))
 
 -- what holds of each seat, after one has changed
 pub each_after : {C R S : Type 0} (P : View C R S → Type 0) (views : List (View C R S)) (id : ℕ) (w : View C R S) → P w

@@ -1,16 +1,14 @@
 -- What each step on the table tells the seat that made it.
-use Rattle.std.specs.Prelude.{◌≡◌, ◌≢◌, max, ℕ, ◌+◌, ◌<◌, ◌≤◌, [], ◌∷◌, ◌++◌, Option, Some, None, IfSome}
+use Rattle.std.specs.Prelude.{◌≡◌, ◌≢◌, ℕ, ◌+◌, ◌<◌, ◌≤◌, List, [], ◌∷◌, ◌++◌, Option, Some, None, IfSome}
 use Rattle.atomic_table.specs.Table.{Me, Step, rest}
 use Rattle.atomic_table.specs.Seated.{TableId}
 use Rattle.atomic_table.specs.declared.shared.Seat.{Seat}
 use Rattle.ra_journal.specs.declared.entry.Entry.{Entry}
-use Rattle.ra_ticket.specs.declared.board.Known.{Known}
 use Rattle.ra_ticket.specs.declared.board.View.{View}
-use Rattle.ra_ticket.specs.declared.board.View.TheVariants.{Met}
 use Rattle.ra_ticket.specs.declared.board.Stage.TheVariants.{Idle, Waiting, Holding}
 use Rattle.ra_journal.specs.Log.{Readings, AllBelow, entries_of, BeginsWith, MayFollow, IsLegal}
 use Rattle.ra_ticket.specs.Mark.{IsMarkOf}
-use Rattle.ra_ticket.specs.Views.{stage_of, numbers_of, next_of, serving_of, setup_of, seen_of, HasOwn, SeesOwn}
+use Rattle.ra_ticket.specs.Views.{stage_of, numbers_of, next_of, serving_of, setup_of, seen_of, IsMet, HasBegun, HasOwn, IsSetUp}
 
 module _ {C R S : Type 0} where
   -- the same passes and setup, and no less is known of the words
@@ -28,13 +26,11 @@ module _ {C R S : Type 0} where
   abbrev pub SeesMore : View C R S → View C R S → Type 0
   SeesMore v w = BeginsWith (seen_of w) (seen_of v) × HasOwn v (seen_of w)
 
-  -- no less is known than this, and all that its own passes entered was seen before
-  pub record KnowsNoLess (k : Known C R S) (w : View C R S) : Type 0 where
-    pub setup : setup_of w ≡ Some k.setup
-    pub next : k.next ≤ next_of w
-    pub serving : k.serving ≤ serving_of w
-    pub begins : BeginsWith (seen_of w) k.seen
-    pub own : SeesOwn k (seen_of w)
+  -- of two that met, this one has the setup of both, and has seen all that either had seen and what the passes of both
+  -- entered
+  abbrev pub SeesFor : View C R S → View C R S → Type 0
+  SeesFor v w = ((setup : S) × (setup_of w ≡ Some setup) × IsSetUp setup v) × HasBegun v (seen_of w)
+      × HasOwn v (seen_of w)
 
   -- of the one pass that sits there the same entries are seen
   abbrev pub KeepsOwn : View C R S → View C R S → Type 0
@@ -50,6 +46,15 @@ module _ {C R S : Type 0} where
     pub setup : setup_of w ≡ setup_of v
     pub begins : BeginsWith (seen_of w) (seen_of v)
     pub mine : entries_of number (seen_of w) ≡ entries_of number (seen_of v)
+
+  -- of a seat that was cut in two, the part with these passes
+  pub record IsPart (v w : View C R S) (numbers : List ℕ) : Type 0 where
+    pub its : numbers_of w ≡ numbers
+    pub stage : stage_of w ≡ stage_of v
+    pub next : next_of w ≡ next_of v
+    pub serving : serving_of w ≡ serving_of v
+    pub setup : setup_of w ≡ setup_of v
+    pub seen : seen_of w ≡ seen_of v
 
 module _ {M C R S : Type 0} (j : Readings M C R S) where
   -- the journal is as the seat has seen it
@@ -97,12 +102,12 @@ module _ {M C R S : Type 0} where
       → Stays m.0 m'.0 × (m'.1 ≡ m.1) × (stage_of m'.0 ≡ Some Idle) × SeesMore m.0 m'.0
       × IsTold j m'.0 found × (next_of m'.0 ≡ next_of m.0) × (serving_of m'.0 ≡ serving_of m.0)
 
-  -- two idle seats that met see the front, which is a legal log with this mark
+  -- a seat to which another was joined sees the front, which is a legal log with this mark, and is idle. It learns
+  -- nothing of the other words
   abbrev pub looked_together : Readings M C R S → Step (Option M) → Sat M C R S → ℕ → Sat M C R S → Type 0
-  looked_together j step m found m' = (k l : Known C R S) → m.0 ≡ Met k l
-      → (numbers_of m'.0 ≡ k.numbers ++ l.numbers) × (m'.1 ≡ m.1) × (stage_of m'.0 ≡ Some Idle)
-      × KnowsNoLess k m'.0 × KnowsNoLess l m'.0 × IsTold j m'.0 found
-      × (next_of m'.0 ≡ max k.next l.next) × (serving_of m'.0 ≡ max k.serving l.serving)
+  looked_together j step m found m' = IsMet m.0
+      → (numbers_of m'.0 ≡ numbers_of m.0) × (m'.1 ≡ m.1) × (stage_of m'.0 ≡ Some Idle)
+      × SeesFor m.0 m'.0 × IsTold j m'.0 found × (next_of m'.0 ≡ next_of m.0) × (serving_of m'.0 ≡ serving_of m.0)
 
   -- an idle seat draws the ticket, where `next` was it
   abbrev pub drew : Step (Option M) → Sat M C R S → ℕ → Sat M C R S → Type 0

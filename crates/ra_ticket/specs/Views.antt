@@ -39,6 +39,11 @@ module _ {C R S : Type 0} where
   stage_of (Knows k) = Some k.stage
   stage_of (Met k l) = None
 
+  -- another one was joined to it
+  abbrev pub IsMet : View C R S → Type 0
+  IsMet (Met k l) = Unit {0}
+  IsMet _ = ⊥
+
   -- the numbers of its passes
   abbrev pub numbers_of : View C R S → List ℕ
   numbers_of Spent = []

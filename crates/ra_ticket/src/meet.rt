@@ -1,11 +1,9 @@
 //! How two passes tell each other what they know.
-ghost use Rattle.std.specs.Prelude.{◌≡◌, ℕ, max, [], ◌∷◌, ◌++◌, Some};
+ghost use Rattle.std.specs.Prelude.{◌≡◌, ℕ, max, [], ◌∷◌, Some};
 ghost use Rattle.ra_journal.specs.Log.{readings};
-ghost use Rattle.ra_ticket.specs.Steps.{IsSeated, IsTold, KnowsNoLess, GoesOn};
-ghost use Rattle.ra_ticket.specs.Views.{stage_of, numbers_of, next_of, serving_of, seen_of, met};
-ghost use Rattle.ra_ticket.specs.declared.board.Known.{Known};
+ghost use Rattle.ra_ticket.specs.Steps.{IsSeated, IsTold, SeesFor, GoesOn};
+ghost use Rattle.ra_ticket.specs.Views.{stage_of, numbers_of, next_of, serving_of, seen_of, IsMet, met};
 ghost use Rattle.ra_ticket.specs.declared.board.Stage.TheVariants.{Idle};
-ghost use Rattle.ra_ticket.specs.declared.board.View.TheVariants.{Met};
 
 use crate::board::{Board, LockSeat, MARK};
 use crate::lock::TicketLock;
@@ -21,7 +19,8 @@ fn join<M: Journal>(board: &Board<M>, seat: &mut LockSeat<M>, other: LockSeat<M>
     requires idle { (stage_of seat.old.me.0 ≡ Some Idle) × (stage_of other.me.0 ≡ Some Idle) }
     requires slots { other.me.1 ≡ [] }
     ensures table { seat.new.table_id ≡ seat.old.table_id }
-    ensures met { seat.new.me ≡ (met seat.old.me.0 other.me.0, seat.old.me.1) }
+    ensures met { seat.new.me.0 ≡ met seat.old.me.0 other.me.0 }
+    ensures slot { seat.new.me.1 ≡ seat.old.me.1 }
 {
     board.join_seat::<Meet>(seat, other);
 }
@@ -29,16 +28,15 @@ fn join<M: Journal>(board: &Board<M>, seat: &mut LockSeat<M>, other: LockSeat<M>
 // A load of `mark` by a seat to which another was joined: it has then seen the log that it tells.
 fn look_together<M: Journal>(board: &Board<M>, seat: &mut LockSeat<M>) -> u64
     requires table { IsSeated seat.old.table_id board.now.table_id }
-    requires both { (k l : Known M.Command M.Reply M.Setup) × (seat.old.me.0 ≡ Met k l) }
+    requires both { IsMet seat.old.me.0 }
     ensures table { seat.new.table_id ≡ seat.old.table_id }
     ensures slot { seat.new.me.1 ≡ seat.old.me.1 }
     ensures idle { stage_of seat.new.me.0 ≡ Some Idle }
+    ensures numbers { numbers_of seat.new.me.0 ≡ numbers_of seat.old.me.0 }
+    ensures sees { SeesFor seat.old.me.0 seat.new.me.0 }
     ensures told { IsTold (readings M.setup M.log M.reply_of M.fault_of) seat.new.me.0 result }
-    ensures no_less { (k l : Known M.Command M.Reply M.Setup) → seat.old.me.0 ≡ Met k l
-        → (numbers_of seat.new.me.0 ≡ k.numbers ++ l.numbers) × KnowsNoLess k seat.new.me.0
-        × KnowsNoLess l seat.new.me.0 }
-    ensures bounds { (k l : Known M.Command M.Reply M.Setup) → seat.old.me.0 ≡ Met k l
-        → (next_of seat.new.me.0 ≡ max k.next l.next) × (serving_of seat.new.me.0 ≡ max k.serving l.serving) }
+    ensures bounds { (next_of seat.new.me.0 ≡ next_of seat.old.me.0)
+        × (serving_of seat.new.me.0 ≡ serving_of seat.old.me.0) }
 {
     board.load::<LookTogether<M>>(seat, MARK)
 }

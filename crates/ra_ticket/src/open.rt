@@ -1,9 +1,9 @@
 //! How a lock is opened and its passes are dealt out.
 ghost use Rattle.std.specs.Prelude.{◌≡◌, ◌+◌, ◌-◌, ◌<◌, ◌≤◌, ◌⊎◌, [], map, All, IfOk, IsOkUnless, Some};
 ghost use Rattle.std.specs.List.{range_with_len};
-ghost use Rattle.ra_ticket.specs.Steps.{IsSeated, IsSameSeat};
+ghost use Rattle.ra_ticket.specs.Steps.{IsSeated, IsPart};
 ghost use Rattle.ra_ticket.specs.Views.{stage_of, numbers_of, seen_of};
-ghost use Rattle.ra_ticket.specs.Views.{first_pass, other_passes, starting};
+ghost use Rattle.ra_ticket.specs.Views.{first_only, others_only, starting};
 ghost use Rattle.ra_ticket.specs.Passes.{number_of, next_reached, serving_reached, pass_setup, seen, IsPassOf};
 ghost use Rattle.ra_ticket.specs.Dealing.{AreDealt};
 ghost use Rattle.ra_ticket.specs.declared.board.Stage.TheVariants.{Idle};
@@ -27,8 +27,9 @@ pub(crate) fn split_first<M: Journal>(board: &Board<M>, rest: &mut LockSeat<M>) 
     requires table { IsSeated rest.old.table_id board.now.table_id }
     requires idle { stage_of rest.old.me.0 ≡ Some Idle }
     ensures table { (rest.new.table_id ≡ rest.old.table_id) × (result.table_id ≡ rest.old.table_id) }
-    ensures rest { rest.new.me ≡ (other_passes rest.old.me.0, rest.old.me.1) }
-    ensures first { result.me ≡ (first_pass rest.old.me.0, []) }
+    ensures slots { (rest.new.me.1 ≡ rest.old.me.1) × (result.me.1 ≡ []) }
+    ensures first { IsPart rest.old.me.0 result.me.0 (first_only (numbers_of rest.old.me.0)) }
+    ensures rest { IsPart rest.old.me.0 rest.new.me.0 (others_only (numbers_of rest.old.me.0)) }
 {
     board.split_seat::<CutFirst>(rest)
 }

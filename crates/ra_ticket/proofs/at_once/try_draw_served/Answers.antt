@@ -1,4 +1,4 @@
-use Rattle.std.proofs.Common.{rules, ◌+◌, ◌∷◌, Some, refl, sym, ap, ◌∙◌, arith}
+use Rattle.std.proofs.Common.{rules, ◌+◌, refl, sym, arith}
 use mathlib.Core.Option.{none}
 use Rattle.atomic_table.specs.Table.{step}
 use Rattle.ra_ticket.proofs.Journals.{of_journal}
@@ -21,12 +21,3 @@ returns-clause-own g c =
     λ n of. sym
     (own_alone c.args.seat.now.me.0 _ n Idle c.requires.idle.0 of
     (c.compare_exchange.ensures.2 c.requires.idle.0 c.requires.served).1.1)
-
-pub returns-clause-drawn : goal.returns-clause-drawn
-returns-clause-drawn g c = λ same. let drawn = (c.compare_exchange.ensures.2 c.requires.idle.0 c.requires.served).2 same
-    in (drawn.0, (drawn.1.0, drawn.1.1 ∙ ap (λ cs. (0, Some drawn.1.0) ∷ cs) c.requires.idle.1, drawn.1.2))
-
-pub returns-clause-missed : goal.returns-clause-missed
-returns-clause-missed g c = λ other.
-    let missed = (c.compare_exchange.ensures.2 c.requires.idle.0 c.requires.served).3 other in
-    (missed.0, missed.1 ∙ c.requires.idle.1, missed.2, missed.3, missed.4, missed.5)

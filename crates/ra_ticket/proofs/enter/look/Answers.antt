@@ -15,9 +15,6 @@ load-requires g c = (
       (step 1 1 0 0 none) c.requires.waits.0,
 )
 
-pub returns-clause-served : goal.returns-clause-served
-returns-clause-served g c = search rules
-
 pub returns-clause-own : goal.returns-clause-own
 returns-clause-own g c =
     λ n of. sym

@@ -1,4 +1,4 @@
-use Rattle.std.proofs.Common.{rules, subst, sym, ◌∙◌}
+use Rattle.std.proofs.Common.{rules, subst, sym}
 use mathlib.Core.Option.{none}
 use Rattle.atomic_table.specs.Table.{step, Allows}
 use Rattle.ra_ticket.specs.Rule.{TurnsKept}
@@ -17,15 +17,3 @@ store-requires g c = let it = c.args.seat.now in let h = c.requires.ahead in let
           (it.me.0, cs) 2 (λ _. mark) (λ _. published (of_journal g.M.Journal) st (it.me.0, cs) mark)) (sym h.2.1)
           (publishes (of_journal g.M.Journal) opened _ _ _ h.2.0 _ mark st h.1 h.2.2 h.2.3),
     )
-
-pub returns-clause-holds : goal.returns-clause-holds
-returns-clause-holds g c = let h = c.requires.ahead in let told = c.store.ensures.2 h.0 h.2.0 h.1 h.2.1 in
-    let ahead = h.2.2 in (
-      h.0,
-      told.2,
-      (h.2.0, told.1 ∙ h.2.1, record { setup = told.0.setup ∙ ahead.setup; log = sym told.3 }),
-    )
-
-pub returns-clause-told : goal.returns-clause-told
-returns-clause-told g c = λ journal carries. let h = c.requires.ahead in
-    let told = c.store.ensures.2 h.0 journal h.1 carries in (told.3, told.4)

@@ -1,9 +1,7 @@
 use Rattle.std.proofs.Common.{rules, subst, sym}
 use Rattle.ra_ticket.specs.Steps.{HoldsPublished}
 use Rattle.ra_ticket.proofs.Journals.{of_journal}
-use Rattle.ra_journal.specs.Log.{IsAboveLast}
 use Rattle.ra_ticket.proofs.Logs.{is_ahead}
-use Rattle.ra_ticket.proofs.Tickets.{above_last}
 use Rattle.ra_ticket.proofs.serve.serve.Goals as goal
 use Rattle.ra_ticket.proofs.serve.serve.Goals.{in-Ok, in-Err}
 
@@ -26,10 +24,3 @@ release-requires-clause-holds g c κs within = elim c.match-step.branch [
     (c.step.new.self, search rules, record { setup = search rules; log = search rules }),
   )
 ]
-
-pub returns-clause-logged : goal.returns-clause-logged
-returns-clause-logged g c = search rules
-
-pub step-requires : goal.step-requires
-step-requires g c = let entered = c.requires.entered in subst (λ log. IsAboveLast log c.args.ticket)
-    (sym entered.as_seen.log) (above_last _ c.args.ticket entered.below)

@@ -1,17 +1,10 @@
-use Rattle.std.proofs.Common.{◌≡◌, [], ◌∷◌, ◌++◌, All, Some, refl, sym, ap, ◌∙◌, subst, append_assoc}
+use Rattle.std.proofs.Common.{◌≡◌, [], ◌∷◌, ◌++◌, Some, refl, sym, ap, ◌∙◌, append_assoc}
 use mathlib.Core.List.{map-append}
-use Rattle.std.proofs.lemmas.List.Elements.{All-head, All-rest, All-same, All-push}
+use Rattle.std.proofs.lemmas.List.Elements.{All-rest, All-same, All-push}
 use Rattle.ra_ticket.specs.Callers.{pass_of}
 use Rattle.ra_ticket.specs.Passes.{pass_setup}
 use Rattle.ra_desk.specs.Reports.{setup_of}
 use Rattle.ra_desk.proofs.reporter.DeskReporter.set_up.Goals as goal
-
-pub invariant_of-push : goal.invariant_of-push
-invariant_of-push c = record {
-  same = All-head (λ d. pass_setup (pass_of d) ≡ Some c.args.setup) c.in-Some.caller _
-      (subst (All (λ d. pass_setup (pass_of d) ≡ Some c.args.setup)) c.in-Some.ensures.steps.0
-      c.loop-caller.invariant.same);
-}
 
 pub loop-caller-preserved : goal.loop-caller-preserved
 loop-caller-preserved c =

@@ -1,13 +1,11 @@
-use Rattle.std.proofs.Common.{◌≡◌, true, refl, sym, ◌∙◌, subst}
+use Rattle.std.proofs.Common.{◌≡◌, true, ◌∙◌}
 use Rattle.std.proofs.lemmas.Result.{IfOk-weaker}
-use Rattle.ra_journal.specs.Log.{BeginsWith}
 use Rattle.ra_laws.specs.AnyOrder.{is_of_any_order}
-use Rattle.ra_monitor.specs.Monitor.{IsRaLinearizable, IsNoAtFault, IsFinalNo}
-use Rattle.ra_monitor.specs.Replies.{is_yes}
+use Rattle.ra_monitor.specs.Monitor.{IsNoAtFault, IsFinalNo}
 use Rattle.ra_ticket.specs.Callers.{pass_of}
 use Rattle.ra_ticket.specs.Passes.{pass_setup, seen}
 use Rattle.ra_desk.specs.Reports.{number_of}
-use Rattle.ra_desk.proofs.Told.{before_last-of, ends_with, legal_under, legal_still, said, answered}
+use Rattle.ra_desk.proofs.Told.{ends_with, said}
 use Rattle.ra_desk.proofs.reporter.DeskReporter.try_tell.Goals as goal
 
 pub returns-clause-logged : goal.returns-clause-logged
@@ -33,56 +31,4 @@ returns-clause-final_no c =
     said c.try_submit.result (pass_setup after) setup (seen after) (number_of c.args.self.now) c.args.command
     (λ log reply. is_of_any_order setup.kind ≡ true → IsFinalNo setup log reply)
     (λ before later e legal any. c.each_reply_under_the_lock.ensures.final_no setup before later e any legal)
-    (c.try_submit.ensures.pass.setup ∙ c.args.self.now.same) (returns-clause-logged c) c.try_submit.ensures.legal
-
-pub returns-clause-legal_still : goal.returns-clause-legal_still
-returns-clause-legal_still c =
-    let setup = c.args.self.now.setup in
-    let before = pass_of c.args.self.now.caller in
-    let after = pass_of c.try_submit.new.self in
-    legal_still (pass_setup before) (pass_setup after) setup (seen before) (seen after) c.args.self.now.same
-    (c.try_submit.ensures.pass.setup ∙ c.args.self.now.same) c.try_submit.ensures.legal_still
-
-pub returns-clause-same : goal.returns-clause-same
-returns-clause-same c = let pass = c.try_submit.ensures.pass in record {
-  number = pass.number;
-  desk = pass.lock;
-  setup = refl;
-  seen_more = pass.seen_more;
-  drawn = pass.next;
-  served = pass.serving;
-}
-
-pub returns-clause-not_before : goal.returns-clause-not_before
-returns-clause-not_before c =
-    let old = seen (pass_of c.args.self.now.caller) in
-    let log = seen (pass_of c.try_submit.new.self) in
-    IfOk-weaker c.try_submit.result _ _
-    (λ _ known. subst (λ before. BeginsWith before old) (sym (before_last-of log known.before _ known.last)) known.begins)
-    c.try_submit.ensures.logged
-
-pub returns-clause-mine : goal.returns-clause-mine
-returns-clause-mine c = c.try_submit.ensures.mine
-
-pub returns-clause-legal : goal.returns-clause-legal
-returns-clause-legal c =
-    let after = pass_of c.try_submit.new.self in
-    IfOk-weaker c.try_submit.result _ _
-    (λ _ legal. legal_under (pass_setup after) c.args.self.now.setup (seen after)
-    (c.try_submit.ensures.pass.setup ∙ c.args.self.now.same) legal) c.try_submit.ensures.legal
-
-pub returns-clause-answer : goal.returns-clause-answer
-returns-clause-answer c =
-    let setup = c.args.self.now.setup in
-    let after = pass_of c.try_submit.new.self in
-    answered c.try_submit.result (pass_setup after) setup (seen after) (number_of c.args.self.now) c.args.command
-    (c.each_reply_under_the_lock.ensures.reply setup) (c.try_submit.ensures.pass.setup ∙ c.args.self.now.same)
-    (returns-clause-logged c) c.try_submit.ensures.legal
-
-pub returns-clause-yes : goal.returns-clause-yes
-returns-clause-yes c =
-    let setup = c.args.self.now.setup in
-    let after = pass_of c.try_submit.new.self in
-    said c.try_submit.result (pass_setup after) setup (seen after) (number_of c.args.self.now) c.args.command
-    (λ log reply. is_yes reply ≡ true → IsRaLinearizable setup log) (c.each_reply_under_the_lock.ensures.yes setup)
     (c.try_submit.ensures.pass.setup ∙ c.args.self.now.same) (returns-clause-logged c) c.try_submit.ensures.legal

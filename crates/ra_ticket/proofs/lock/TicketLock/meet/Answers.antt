@@ -1,7 +1,25 @@
 use Rattle.std.proofs.Common.{rules}
 use Rattle.ra_ticket.proofs.Journals.{of_journal}
-use Rattle.ra_ticket.proofs.Marks.{told_calls}
+use Rattle.ra_ticket.proofs.Marks.{read_off}
+use Rattle.ra_ticket.proofs.Partings.{pass_goes_on}
 use Rattle.ra_ticket.proofs.lock.TicketLock.meet.Goals as goal
+
+pub returns-clause-second : goal.returns-clause-second
+returns-clause-second g c = pass_goes_on c.args.second _ (search rules) (search rules)
+    (c.look_and_part-own.ensures.parted _ _ c.args.first.numbered c.args.second.numbered).1
+
+pub returns-clause-mine_first : goal.returns-clause-mine_first
+returns-clause-mine_first g c =
+    (c.look_and_part-own.ensures.parted _ _ c.args.first.numbered c.args.second.numbered).0.mine
+
+pub returns-clause-mine_second : goal.returns-clause-mine_second
+returns-clause-mine_second g c =
+    (c.look_and_part-own.ensures.parted _ _ c.args.first.numbered c.args.second.numbered).1.mine
+
+pub returns-clause-calls : goal.returns-clause-calls
+returns-clause-calls g c = (read_off (of_journal g.M.Journal) _ _ _ _
+    (c.look_and_part-own.ensures.parted _ _ c.args.first.numbered c.args.second.numbered).0.idle
+    c.look_and_part-own.ensures.told.0 c.read-calls.ensures.packed).0
 
 pub invariant_of-first : goal.invariant_of-first
 invariant_of-first g c = let its =
@@ -14,44 +32,5 @@ invariant_of-second g c = let its =
     record { numbered = its.numbers; idle = its.idle; empty = search rules }
 
 pub returns-clause-first : goal.returns-clause-first
-returns-clause-first g c = let its =
-    (c.look_and_part-own.ensures.parted _ _ c.args.first.numbered c.args.second.numbered).0 in
-    record {
-      number = search rules;
-      lock = search rules;
-      next = its.next;
-      serving = its.serving;
-      setup =
-          its.setup;
-      seen_more = its.begins;
-    }
-
-pub returns-clause-second : goal.returns-clause-second
-returns-clause-second g c = let its =
-    (c.look_and_part-own.ensures.parted _ _ c.args.first.numbered c.args.second.numbered).1 in
-    record {
-      number = search rules;
-      lock = search rules;
-      next = its.next;
-      serving = its.serving;
-      setup =
-          its.setup;
-      seen_more = its.begins;
-    }
-
-pub returns-clause-mine_first : goal.returns-clause-mine_first
-returns-clause-mine_first g c =
-    (c.look_and_part-own.ensures.parted _ _ c.args.first.numbered c.args.second.numbered).0.mine
-
-pub returns-clause-mine_second : goal.returns-clause-mine_second
-returns-clause-mine_second g c =
-    (c.look_and_part-own.ensures.parted _ _ c.args.first.numbered c.args.second.numbered).1.mine
-
-pub returns-clause-calls : goal.returns-clause-calls
-returns-clause-calls g c = told_calls (of_journal g.M.Journal)
-    c.look_and_part-own.result.0.me.0 c.look_and_part-own.result.1 c.read-calls.result.0 c.read-calls.result.1
-    (c.look_and_part-own.ensures.parted _ _ c.args.first.numbered c.args.second.numbered).0.idle
-    c.look_and_part-own.ensures.told.0 c.read-calls.ensures.packed
-
-pub returns-clause-one_log : goal.returns-clause-one_log
-returns-clause-one_log g c = c.look_and_part-own.ensures.one_log
+returns-clause-first g c = pass_goes_on c.args.first _ (search rules) (search rules)
+    (c.look_and_part-own.ensures.parted _ _ c.args.first.numbered c.args.second.numbered).0
