@@ -15,10 +15,10 @@ ghost use Rattle.ra_monitor.specs.Limits.{AreReplicas};
 ghost use Rattle.ra_monitor.specs.History.{StandsFor, IsAnswered, JoinsRecords, HasNewest, IsOfFew, IsFaultless, MayOperate, MayAccept, MayJoin, MayAnswer, past_in, before_fault};
 ghost use Rattle.ra_monitor.specs.declared.setup.Setup.{Setup};
 
-use crate::taken::brought::Brought;
 use crate::order::Order;
 use crate::setup::Setup;
 use crate::taken::Taken;
+use crate::taken::brought::Brought;
 use ra_labels::{Command, Fault, Label, MOST_REPLICAS, NoMemory, Op, Refusal, Reply, Stamp, fits};
 use ra_visibility::{DeliverFault, Tracker};
 use ra_witness::{PartRef, Witness};
