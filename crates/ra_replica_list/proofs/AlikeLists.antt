@@ -50,56 +50,56 @@ module _ {arrivals : List Arrival} {deeds : List (Option Deed)} {records : Recor
     greatest = subst (IsGreatestOf records had) (sym alike.greatest) held.greatest;
   }
 
-  -- tests that say the same of what was had
-  pub kept_alike : {state : State} {marks : List Bool} {waiting : List (ℕ × List ℕ)} {had settled : ℕ → Bool}
-      (more : ℕ → Bool) → ((n : ℕ) → had n ≡ more n) → IsListWith state marks waiting arrivals deeds records had settled
-      → IsListWith state marks waiting arrivals deeds records more settled
-  kept_alike {had = had} {settled = settled} more same kept = record {
-    settles = settled_labels_stay_settled-alike records had more settled settled same (λ n. refl) kept.settles;
-    after = kept.after;
-    there = kept.there;
-    waiting_labels = record {
-      waits = λ n d d_is was_had fails. kept.waiting_labels.waits n d d_is (same n ∙ was_had) fails;
-      only = λ number n found.
-          let (d, d_is, d_needs, was_had, waits) = kept.waiting_labels.only number n found in
-          (d, d_is, d_needs, sym (same n) ∙ was_had, waits);
-      once = kept.waiting_labels.once;
-    };
-  }
+  module _ {state : State} {marks : List Bool} {waiting : List (ℕ × List ℕ)} {had settled : ℕ → Bool} where
+    -- tests that say the same of what was had
+    pub kept_alike : (more : ℕ → Bool) → ((n : ℕ) → had n ≡ more n)
+        → IsListWith state marks waiting arrivals deeds records had settled
+        → IsListWith state marks waiting arrivals deeds records more settled
+    kept_alike more same kept = record {
+      settles = settled_labels_stay_settled-alike records had more settled settled same (λ n. refl) kept.settles;
+      after = kept.after;
+      there = kept.there;
+      waiting_labels = record {
+        waits = λ n d d_is was_had fails. kept.waiting_labels.waits n d d_is (same n ∙ was_had) fails;
+        only = λ number n found.
+            let (d, d_is, d_needs, was_had, waits) = kept.waiting_labels.only number n found in
+            (d, d_is, d_needs, sym (same n) ∙ was_had, waits);
+        once = kept.waiting_labels.once;
+      };
+    }
 
-  -- later records in which the same labels are settled, and make the same updates, leave what is kept of these labels
-  kept_left : {state : State} {marks : List Bool} {waiting : List (ℕ × List ℕ)} {had settled : ℕ → Bool} (now : Records)
-      → IsSettled now had settled → updates_passing Rga now settled ≡ updates_passing Rga records settled
-      → IsListWith state marks waiting arrivals deeds records had settled
-      → IsListWith state marks waiting arrivals deeds now had settled
-  kept_left now settles same kept = record {
-    settles = settles;
-    after = ap (state_after Rga) same ∙ kept.after;
-    there = record {
-      there = λ number known. kept.there.there number known ∙ ap (is_there (element_at arrivals number)) (sym same);
-      others = kept.there.others;
-    };
-    waiting_labels = record {
-      waits = kept.waiting_labels.waits;
-      only = kept.waiting_labels.only;
-      once = kept.waiting_labels.once;
-    };
-  }
+    -- later records in which the same labels are settled, and make the same updates, leave what is kept of these labels
+    kept_left : (now : Records) → IsSettled now had settled
+        → updates_passing Rga now settled ≡ updates_passing Rga records settled
+        → IsListWith state marks waiting arrivals deeds records had settled
+        → IsListWith state marks waiting arrivals deeds now had settled
+    kept_left now settles same kept = record {
+      settles = settles;
+      after = ap (state_after Rga) same ∙ kept.after;
+      there = record {
+        there = λ number known. kept.there.there number known ∙ ap (is_there (element_at arrivals number)) (sym same);
+        others = kept.there.others;
+      };
+      waiting_labels = record {
+        waits = kept.waiting_labels.waits;
+        only = kept.waiting_labels.only;
+        once = kept.waiting_labels.once;
+      };
+    }
 
-  -- so does a delivery, and so does a replica that joins
-  pub kept_delivered : {state : State} {marks : List Bool} {waiting : List (ℕ × List ℕ)} {had settled : ℕ → Bool}
-      (to m : ℕ) → IsListWith state marks waiting arrivals deeds records had settled
-      → IsListWith state marks waiting arrivals deeds (Deliver to m ∷ records) had settled
-  kept_delivered {had = had} {settled = settled} to m kept =
-      kept_left (Deliver to m ∷ records) (settled_labels_stay_settled-delivery records to m had settled kept.settles)
-      (a_later_command_leaves_the_updates_that_pass-delivery Rga records to m settled) kept
+    -- so does a delivery, and so does a replica that joins
+    pub kept_delivered : (to m : ℕ) → IsListWith state marks waiting arrivals deeds records had settled
+        → IsListWith state marks waiting arrivals deeds (Deliver to m ∷ records) had settled
+    kept_delivered to m kept =
+        kept_left (Deliver to m ∷ records) (settled_labels_stay_settled-delivery records to m had settled kept.settles)
+        (a_later_command_leaves_the_updates_that_pass-delivery Rga records to m settled) kept
 
-  pub kept_joined : {state : State} {marks : List Bool} {waiting : List (ℕ × List ℕ)} {had settled : ℕ → Bool}
-      (joined from : ℕ) → IsListWith state marks waiting arrivals deeds records had settled
-      → IsListWith state marks waiting arrivals deeds (Join joined from ∷ records) had settled
-  kept_joined {had = had} {settled = settled} joined from kept =
-      kept_left (Join joined from ∷ records) (settled_labels_stay_settled-join records joined from had settled
-      kept.settles) (a_later_command_leaves_the_updates_that_pass-join Rga records joined from settled) kept
+    pub kept_joined : (joined from : ℕ) → IsListWith state marks waiting arrivals deeds records had settled
+        → IsListWith state marks waiting arrivals deeds (Join joined from ∷ records) had settled
+    kept_joined joined from kept =
+        kept_left (Join joined from ∷ records)
+        (settled_labels_stay_settled-join records joined from had settled kept.settles)
+        (a_later_command_leaves_the_updates_that_pass-join Rga records joined from settled) kept
 
 pub greatest_joined : {records : Records} {greatest : Stamp} {had : ℕ → Bool} (joined from : ℕ)
     → IsGreatestOf records had greatest → IsGreatestOf (Join joined from ∷ records) had greatest

@@ -1,7 +1,7 @@
 -- Deeds, and the labels that do them.
 use Rattle.std.proofs.Common.{◌≡◌, ℕ, ◌<◌, ◌≤◌, Bool, true, false, List, length, Option, Some, None, refl, sym, ap, ◌∙◌, subst, inl, inr, arith}
 use Rattle.std.specs.Prelude.{◌==◌, ◌||◌, Contains}
-use Rattle.std.proofs.lemmas.Bool.{eq-eqb, ne_eqb, eqb-true, cases_eq, cases_lt}
+use Rattle.std.proofs.lemmas.Bool.{eq-eqb, ne_eqb, eqb-true, cases_eq, cases_lt, or_from}
 use Rattle.std.proofs.lemmas.Option.{none-some, same_Some}
 use Rattle.std.proofs.lemmas.List.{get_or_past}
 use Rattle.ra_labels.specs.declared.kind.Kind.TheVariants.{Rga}
@@ -28,23 +28,6 @@ same_label records l m l_in m_in is =
     same_Some l m (sym (each_number_has_its_label-found records l l_in) ∙ ap (label_at records) is
     ∙ each_number_has_its_label-found records m m_in)
 
-pub all_admitted : {list : ElementList} {deeds : List (Option Deed)} {records : Records}
-    → AreElementsOf list deeds records → updates_admitted Rga (named_sequence Rga records) ≡ true
-all_admitted {records = records} stand =
-    let (all, led, same) = stand.listed in
-    (updates_admitted_where_they_lead_to_a_state Rga (named_sequence Rga records)).1 (Listed all, led)
-
-pub deeds_stand : {list : ElementList} {deeds : List (Option Deed)} {records : Records}
-    → AreElementsOf list deeds records → AreDeedsOf list.arrivals deeds records
-deeds_stand stand = record {
-  admitted = all_admitted stand;
-  made = stand.made;
-  makes = stand.makes;
-  known = stand.known;
-  anchored = stand.anchored;
-  once = stand.once;
-}
-
 -- a label that does something is there
 pub deed_there : (deeds : List (Option Deed)) (n : ℕ) (deed : Deed) → deed_at deeds n ≡ Some deed → n < length deeds
 deed_there deeds n deed is = elim (cases_lt n (length deeds)) [
@@ -52,104 +35,107 @@ deed_there deeds n deed is = elim (cases_lt n (length deeds)) [
   | inr beyond ↦ absurd (none-some deed (sym (get_or_past deeds n None beyond) ∙ is))
 ]
 
-pub needed_is : (arrivals : List Arrival) (deed : Deed)
+needed_is : (arrivals : List Arrival) (deed : Deed)
     → needed_by (update_of arrivals deed) ≡ element_at arrivals (needed_number arrivals deed)
 needed_is arrivals (PutsIn number) = refl
 needed_is arrivals (Removes number) = refl
-
-pub needed_known : {arrivals : List Arrival} {deeds : List (Option Deed)} {records : Records}
-    → AreDeedsOf arrivals deeds records → (n : ℕ) (deed : Deed) → deed_at deeds n ≡ Some deed
-    → needed_number arrivals deed < length arrivals
-needed_known stand n (PutsIn number) is = stand.anchored number (stand.known n (PutsIn number) is)
-needed_known stand n (Removes number) is = stand.known n (Removes number) is
-
--- what a label needs is there where its number is marked
-pub needed_marked : {arrivals : List Arrival} {deeds : List (Option Deed)} {records : Records} {marks : List Bool}
-    {passes : ℕ → Bool} → AreDeedsOf arrivals deeds records → AreThere marks arrivals records passes
-    → (n : ℕ) (deed : Deed) → deed_at deeds n ≡ Some deed
-    → is_there (needed_by (update_of arrivals deed)) (updates_passing Rga records passes)
-    ≡ is_marked marks (needed_number arrivals deed)
-needed_marked {arrivals = arrivals} {records = records} {passes = passes} stand there n deed is =
-    ap (λ x. is_there x (updates_passing Rga records passes)) (needed_is arrivals deed)
-    ∙ sym (there.there (needed_number arrivals deed) (needed_known stand n deed is))
-
--- an element that a label puts in is not the root
-pub put_in_other : {arrivals : List Arrival} {deeds : List (Option Deed)} {records : Records}
-    → AreDeedsOf arrivals deeds records → (n number : ℕ) → deed_at deeds n ≡ Some (PutsIn number)
-    → ¬ (element_at arrivals number ≡ 0)
-put_in_other {arrivals = arrivals} {records = records} stand n number is =
-    let (k, k_in, k_num, k_makes) = stand.makes n (PutsIn number) is in
-    let anchor = element_at arrivals (arrival_at arrivals number).anchor in
-    an_element_is_put_in_by_one_label-other records k anchor (element_at arrivals number) stand.admitted k_in k_makes
-
-pub put_in_later : {list : ElementList} {deeds : List (Option Deed)} {records : Records}
-    → AreElementsOf list deeds records → (n number : ℕ) → deed_at deeds n ≡ Some (PutsIn number) → 0 < number
-put_in_later {list = list} stand n number is = elim (cases_eq number 0) [
-  | inl zero_it ↦
-      absurd (put_in_other (deeds_stand stand) n number is
-      (ap (λ (k : ℕ). element_at list.arrivals k) zero_it ∙ ap (λ (a : Arrival). a.element) stand.first))
-  | inr other ↦ omega (arith, other)
-]
-
--- an element is marked where its label passes
-pub marked_label : {arrivals : List Arrival} {deeds : List (Option Deed)} {records : Records} {marks : List Bool}
-    {passes : ℕ → Bool} → AreDeedsOf arrivals deeds records → AreThere marks arrivals records passes
-    → (n number : ℕ) → deed_at deeds n ≡ Some (PutsIn number) → is_marked marks number ≡ passes n
-marked_label {arrivals = arrivals} {records = records} {passes = passes} stand there n number is =
-    let (k, k_in, k_num, k_makes) = stand.makes n (PutsIn number) is in
-    let anchor = element_at arrivals (arrival_at arrivals number).anchor in
-    there.there number (stand.known n (PutsIn number) is)
-    ∙ an_element_is_there_where_its_label_passes-label records passes k anchor (element_at arrivals number)
-    stand.admitted k_in k_makes
-    ∙ ap passes k_num
-
--- the root is marked
-pub root_marked : {list : ElementList} {deeds : List (Option Deed)} {records : Records} {marks : List Bool}
-    {passes : ℕ → Bool} → AreElementsOf list deeds records → AreThere marks list.arrivals records passes
-    → is_marked marks 0 ≡ true
-root_marked {records = records} {passes = passes} stand there =
-    there.there 0 stand.some ∙ ap (λ (a : Arrival). is_there a.element (updates_passing Rga records passes)) stand.first
-
--- what a deed puts in, by numbers and by elements
-pub puts_same : {arrivals : List Arrival} {deeds : List (Option Deed)} {records : Records}
-    → AreDeedsOf arrivals deeds records → (n : ℕ) (deed : Deed) → deed_at deeds n ≡ Some deed → (number : ℕ)
-    → number < length arrivals
-    → puts_in (element_at arrivals number) (update_of arrivals deed) ≡ puts number deed
-puts_same {arrivals = arrivals} stand n (PutsIn k) is number known =
-    bool_same (element_at arrivals k == element_at arrivals number) (number == k)
-    (λ same. eq-eqb number k
-    (sym (stand.once k number (stand.known n (PutsIn k) is) known
-    (eqb-true (element_at arrivals k) (element_at arrivals number) same))))
-    (λ same. eq-eqb (element_at arrivals k) (element_at arrivals number)
-    (sym (ap (λ (m : ℕ). element_at arrivals m) (eqb-true number k same))))
-puts_same stand n (Removes k) is number known = refl
 
 -- marks with what the deed puts in
 abbrev pub AreMarksWith : List Bool → List Bool → Deed → Type 0
 AreMarksWith marks next deed = (number : ℕ) → is_marked next number ≡ (is_marked marks number || puts number deed)
 
-or_not : (a b : Bool) → a ≡ false → b ≡ false → (a || b) ≡ false
-or_not false b fails none = none
-or_not true b fails none = fails
-
 none_beyond : (deed : Deed) (number count : ℕ) → number_of deed < count → count ≤ number → puts number deed ≡ false
 none_beyond (PutsIn k) number count known beyond = ne_eqb number k (λ is. omega (arith, is))
 none_beyond (Removes k) number count known beyond = refl
 
-pub there_with : {arrivals : List Arrival} {deeds : List (Option Deed)} {records : Records} {marks next : List Bool}
-    {passes : ℕ → Bool} → AreDeedsOf arrivals deeds records → AreThere marks arrivals records passes
-    → (n : ℕ) (deed : Deed) → deed_at deeds n ≡ Some deed → passes n ≡ false → AreMarksWith marks next deed
-    → AreThere next arrivals records (or_label passes n)
-there_with {arrivals = arrivals} {records = records} {marks = marks} {next = next} {passes = passes} stand there n deed
-    is new with_it =
-    let (l, l_in, l_num, l_makes) = stand.makes n deed is in
-    let at : AreThere next arrivals records (or_label passes l.number) = record {
-      there = λ number known.
-          with_it number
-          ∙ (λ i. there.there number known i || sym (puts_same stand n deed is number known) i)
-          ∙ sym (one_more_label_puts_its_update_in-there Rga records passes l (update_of arrivals deed)
-          (element_at arrivals number) l_in l_makes (ap passes l_num ∙ new));
-      others = λ number beyond. with_it number ∙ or_not (is_marked marks number) (puts number deed)
-          (there.others number beyond) (none_beyond deed number (length arrivals) (stand.known n deed is) beyond);
-    } in
-    subst (λ (k : ℕ). AreThere next arrivals records (or_label passes k)) l_num at
+module _ {arrivals : List Arrival} {deeds : List (Option Deed)} {records : Records}
+    (stand : AreDeedsOf arrivals deeds records) where
+  pub needed_known : (n : ℕ) (deed : Deed) → deed_at deeds n ≡ Some deed
+      → needed_number arrivals deed < length arrivals
+  needed_known n (PutsIn number) is = stand.anchored number (stand.known n (PutsIn number) is)
+  needed_known n (Removes number) is = stand.known n (Removes number) is
+
+  -- an element that a label puts in is not the root
+  pub put_in_other : (n number : ℕ) → deed_at deeds n ≡ Some (PutsIn number) → ¬ (element_at arrivals number ≡ 0)
+  put_in_other n number is =
+      let (k, k_in, k_num, k_makes) = stand.makes n (PutsIn number) is in
+      let anchor = element_at arrivals (arrival_at arrivals number).anchor in
+      an_element_is_put_in_by_one_label-other records k anchor (element_at arrivals number) stand.admitted k_in k_makes
+
+  -- what a deed puts in, by numbers and by elements
+  puts_same : (n : ℕ) (deed : Deed) → deed_at deeds n ≡ Some deed → (number : ℕ) → number < length arrivals
+      → puts_in (element_at arrivals number) (update_of arrivals deed) ≡ puts number deed
+  puts_same n (PutsIn k) is number known =
+      bool_same (element_at arrivals k == element_at arrivals number) (number == k)
+      (λ same. eq-eqb number k
+      (sym (stand.once k number (stand.known n (PutsIn k) is) known
+      (eqb-true (element_at arrivals k) (element_at arrivals number) same))))
+      (λ same. eq-eqb (element_at arrivals k) (element_at arrivals number)
+      (sym (ap (λ (m : ℕ). element_at arrivals m) (eqb-true number k same))))
+  puts_same n (Removes k) is number known = refl
+
+  module _ {marks : List Bool} {passes : ℕ → Bool} (there : AreThere marks arrivals records passes) where
+    -- what a label needs is there where its number is marked
+    pub needed_marked : (n : ℕ) (deed : Deed) → deed_at deeds n ≡ Some deed
+        → is_there (needed_by (update_of arrivals deed)) (updates_passing Rga records passes)
+        ≡ is_marked marks (needed_number arrivals deed)
+    needed_marked n deed is =
+        ap (λ x. is_there x (updates_passing Rga records passes)) (needed_is arrivals deed)
+        ∙ sym (there.there (needed_number arrivals deed) (needed_known n deed is))
+
+    -- an element is marked where its label passes
+    pub marked_label : (n number : ℕ) → deed_at deeds n ≡ Some (PutsIn number) → is_marked marks number ≡ passes n
+    marked_label n number is =
+        let (k, k_in, k_num, k_makes) = stand.makes n (PutsIn number) is in
+        let anchor = element_at arrivals (arrival_at arrivals number).anchor in
+        there.there number (stand.known n (PutsIn number) is)
+        ∙ an_element_is_there_where_its_label_passes-label records passes k anchor (element_at arrivals number)
+        stand.admitted k_in k_makes
+        ∙ ap passes k_num
+
+    -- with one more label its element is marked too
+    pub there_with : {next : List Bool} (n : ℕ) (deed : Deed) → deed_at deeds n ≡ Some deed → passes n ≡ false
+        → AreMarksWith marks next deed → AreThere next arrivals records (or_label passes n)
+    there_with {next = next} n deed is new with_it =
+        let (l, l_in, l_num, l_makes) = stand.makes n deed is in
+        let at : AreThere next arrivals records (or_label passes l.number) = record {
+          there = λ number known.
+              with_it number
+              ∙ (λ i. there.there number known i || sym (puts_same n deed is number known) i)
+              ∙ sym (one_more_label_puts_its_update_in-there Rga records passes l (update_of arrivals deed)
+              (element_at arrivals number) l_in l_makes (ap passes l_num ∙ new));
+          others = λ number beyond. with_it number ∙ or_from (is_marked marks number) (puts number deed)
+              (there.others number beyond) (none_beyond deed number (length arrivals) (stand.known n deed is) beyond);
+        } in
+        subst (λ (k : ℕ). AreThere next arrivals records (or_label passes k)) l_num at
+
+module _ {list : ElementList} {deeds : List (Option Deed)} {records : Records}
+    (stand : AreElementsOf list deeds records) where
+  pub all_admitted : updates_admitted Rga (named_sequence Rga records) ≡ true
+  all_admitted =
+      let (all, led, same) = stand.listed in
+      (updates_admitted_where_they_lead_to_a_state Rga (named_sequence Rga records)).1 (Listed all, led)
+
+  pub deeds_stand : AreDeedsOf list.arrivals deeds records
+  deeds_stand = record {
+    admitted = all_admitted;
+    made = stand.made;
+    makes = stand.makes;
+    known = stand.known;
+    anchored = stand.anchored;
+    once = stand.once;
+  }
+
+  pub put_in_later : (n number : ℕ) → deed_at deeds n ≡ Some (PutsIn number) → 0 < number
+  put_in_later n number is = elim (cases_eq number 0) [
+    | inl zero_it ↦
+        absurd (put_in_other deeds_stand n number is
+        (ap (λ (k : ℕ). element_at list.arrivals k) zero_it ∙ ap (λ (a : Arrival). a.element) stand.first))
+    | inr other ↦ omega (arith, other)
+  ]
+
+  -- the root is marked
+  pub root_marked : {marks : List Bool} {passes : ℕ → Bool} → AreThere marks list.arrivals records passes
+      → is_marked marks 0 ≡ true
+  root_marked {passes = passes} there = there.there 0 stand.some
+      ∙ ap (λ (a : Arrival). is_there a.element (updates_passing Rga records passes)) stand.first

@@ -1,8 +1,7 @@
 -- Where a new element comes in among those that are there.
 use Rattle.std.proofs.Common.{◌≡◌, ℕ, Bool, true, false, List, [], ◌∷◌, ◌++◌, Option, Some, refl, sym, ap, ◌∙◌, subst, inl, inr}
 use Rattle.std.specs.Prelude.{◌⊎◌, not, Contains}
-use Rattle.std.specs.List.{list_all}
-use Rattle.std.proofs.lemmas.Bool.{and_from, not_from_false, false_from_ne_true}
+use Rattle.std.proofs.lemmas.Bool.{not_from_false, false_from_ne_true}
 use Rattle.std.proofs.lemmas.List.{map-append}
 use Rattle.std.proofs.lemmas.List.Elements.{All-contains, All-contains_itself, Contains-append_left, Contains-append_right}
 use Rattle.std.proofs.lemmas.List.Sorted.{All-permutation}
@@ -17,7 +16,8 @@ use Rattle.ra_labels.specs.NamedOrder.{named_labels, named_sequence}
 use Rattle.ra_labels.specs.Laws.{elements_in, NoneTwice, IsStampBelow}
 use Rattle.ra_labels.specs.Insertion.{updates_passing, Makes}
 use Rattle.ra_labels.specs.Waiting.{is_there}
-use Rattle.ra_labels.proofs.Members.{head_or_behind, at_head, behind_head, none_there}
+use Rattle.ra_labels.proofs.InLists.{list_all-from_contains}
+use Rattle.ra_labels.proofs.Members.{behind_head, reached}
 use Rattle.ra_labels.proofs.StampOrder.{below_below}
 use Rattle.ra_laws.proofs.TheLaws.{a_list_has_what_was_put_in-root, a_list_has_what_was_put_in-once, between_an_anchor_and_its_element_stand_later_ones, labels_with_stamps_stand_in_their_order, stamps_by_clock_and_then_by_replica-less, an_element_is_there_where_its_label_passes-label, what_is_there_a_label_put_in-passing, named_labels_are_sorted-same}
 use Rattle.ra_element_list.specs.ElementList.{ElementList, arrival_at, is_marked, IsSomewhereBehind, IsNearestBefore}
@@ -26,21 +26,6 @@ use Rattle.ra_replica_list.specs.declared.deed.Deed.TheVariants.{PutsIn, Removes
 use Rattle.ra_replica_list.specs.Deeds.{deed_at, element_at, update_of, AreElementsOf}
 use Rattle.ra_replica_list.specs.ReplicaList.{AreThere, IsGreatestOf}
 use Rattle.ra_replica_list.proofs.Deeds.{all_admitted, deeds_stand, needed_marked}
-
--- a test that each passes
-all_pass : (p : ℕ × Bool → Bool) (xs : List (ℕ × Bool)) → ((x : ℕ × Bool) → Contains xs x → p x ≡ true)
-    → list_all p xs ≡ true
-all_pass p [] each = refl
-all_pass p (x ∷ xs) each =
-    and_from (p x) (list_all p xs) (each x (at_head x xs x refl))
-    (all_pass p xs (λ y found. each y (behind_head x xs y found)))
-
-in_elements : (xs : List (ℕ × Bool)) (x : ℕ × Bool) → Contains xs x → Contains (elements_in xs) x.0
-in_elements [] x found = absurd (none_there x found)
-in_elements (y ∷ xs) x found = elim (head_or_behind y xs x found) [
-  | inl here ↦ at_head y.0 (elements_in xs) x.0 (ap (λ (e : ℕ × Bool). e.0) here)
-  | inr further ↦ behind_head y.0 (elements_in xs) x.0 (in_elements xs x further)
-]
 
 -- the root stands before all others
 first_is_once : (e : ℕ) (es rest : List ℕ) → NoneTwice (e ∷ es) → e ∷ es ≡ 0 ∷ rest → ¬ Contains es 0
@@ -93,7 +78,7 @@ module _ {all : ElementList} {deeds : List (Option Deed)} {records : Records} {m
       let l_stamp : l.stamp ≡ Some stamp = stands.stamp l number l_in (ap (deed_at deeds) l_num ∙ is) in
       let none_between : (entry : ℕ × Bool) → Contains between entry → is_there entry.0 updates ≡ false =
       λ entry found. false_from_ne_true (is_there entry.0 updates) (λ it.
-      let y_found = in_elements between entry found in
+      let y_found = reached (λ (e : ℕ × Bool). e.0) between entry found in
       elim (put_in_by_had entry.0 it) [
         | inl root ↦
             let (rest, starts) = a_list_has_what_was_put_in-root (updates_of (named_sequence Rga records))
@@ -125,7 +110,7 @@ module _ {all : ElementList} {deeds : List (Option Deed)} {records : Records} {m
         was_shown,
         pieces,
         needed_marked stand there label (PutsIn number) is ∙ needs,
-        all_pass (λ (entry : ℕ × Bool). not (is_there entry.0 updates)) between
+        list_all-from_contains (λ (entry : ℕ × Bool). not (is_there entry.0 updates)) between
             (λ entry found. not_from_false (is_there entry.0 updates) (none_between entry found)),
       )
     where

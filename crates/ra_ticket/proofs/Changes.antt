@@ -93,7 +93,7 @@ module _ {M C R S : Type 0} (j : Readings M C R S) (opened : S) where
     pub rests : (journal : M) → homes' ≡ some (Some journal) ∷ [] → (j.log journal ≡ front') × AllBelow serving' front'
     pub served : AllBelow (serving' + 1) front'
     pub legal : IsLegal (j.reply_of opened) front'
-    pub told : IsMarkOf j opened front' mark'
+    pub marked : IsMarkOf j opened front' mark'
     pub begun : HasBegun w front'
     pub own : HasOwn w front'
     pub others_own : (seat : ℕ) (u : View C R S) → seat ≢ id → get_elem? s.views seat ≡ some u → HasOwn u front'
@@ -137,7 +137,7 @@ module _ {M C R S : Type 0} (j : Readings M C R S) (opened : S) where
       rests = c.rests;
       served = c.served;
       legal = c.legal;
-      told = c.told;
+      marked = c.marked;
       begun = each_after (λ (x : View C R S). HasBegun x front') s.views id w c.begun
           (λ seat u _ at. begun_more u r.front front' c.grows (r.begun seat u at));
       own = each_after (λ (x : View C R S). HasOwn x front') s.views id w c.own c.others_own;
@@ -175,7 +175,7 @@ module _ {M C R S : Type 0} (j : Readings M C R S) (opened : S) where
           rests = r.rests;
           served = r.served;
           legal = r.legal;
-          told = r.told;
+          marked = r.marked;
           begun = begun;
           own = own;
           others_own = λ seat u _ at. r.own seat u at;
@@ -229,7 +229,7 @@ module _ {M C R S : Type 0} (j : Readings M C R S) (opened : S) where
         rests = r.rests;
         served = r.served;
         legal = r.legal;
-        told = r.told;
+        marked = r.marked;
         begun = each (λ (x : View C R S). HasBegun x r.front) (λ u f. f.begun) r.begun;
         own = each (λ (x : View C R S). HasOwn x r.front) (λ u f. f.own) r.own;
         passes_apart = apart;

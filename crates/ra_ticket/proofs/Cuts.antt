@@ -81,7 +81,7 @@ module _ {M C R S : Type 0} (j : Readings M C R S) (opened : S) where
         (empty, All-nil (λ (e : Entry C R). e.ticket < first));
     served = All-nil (λ (e : Entry C R). e.ticket < first + 1);
     legal = tt;
-    told = subst (λ (l : List (Entry C R)). IsMarkOf j opened l mark) empty
+    marked = subst (λ (l : List (Entry C R)). IsMarkOf j opened l mark) empty
         (subst (λ (x : S). IsMarkOf j x (j.log journal) mark) so is_mark);
     begun = λ seat u e. subst (λ (x : View C R S). HasBegun x []) (only v u seat e).1
         (begins_same {C = C} {R = R} [] [] refl);
@@ -169,15 +169,15 @@ module _ {M C R S : Type 0} (j : Readings M C R S) (opened : S) where
         (id, 0, (Knows k, here, f.1), inr (inr (x.0, refl, refl, f.0)))
 
     -- who sat in one seat sits in one seat
-    told_apart : (a b i j a' b' i' j' : ℕ) → id < length s.views → (a' ≡ b') × (i' ≡ j') → Was a i a' i' → Was b j b' j'
+    kept_apart : (a b i j a' b' i' j' : ℕ) → id < length s.views → (a' ≡ b') × (i' ≡ j') → Was a i a' i' → Was b j b' j'
         → (a ≡ b) × (i ≡ j)
-    told_apart a b i j a' b' i' j' within same p q = (omega arith, omega arith)
+    kept_apart a b i j a' b' i' j' within same p q = (omega arith, omega arith)
 
     pub splits_here : Rule record { words = s.words; homes = s.homes; views = cut }
     splits_here = changes.reseated j opened s r cut (λ seat u e. fitting seat u (cut_at seat u e)) forth
         (λ a b i j number p q. let x = was a i number p (cut_at a p.0 p.1) in
         let y = was b j number q (cut_at b q.0 q.1) in
-        told_apart a b i j x.0 y.0 x.1 y.1 (inside s.views id (Knows k) here)
+        kept_apart a b i j x.0 y.0 x.1 y.1 (inside s.views id (Knows k) here)
         (r.passes_apart x.0 y.0 x.1 y.1 number x.2 y.2) x.3 y.3)
 
   -- an idle seat is cut in two

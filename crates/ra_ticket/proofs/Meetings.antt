@@ -100,14 +100,14 @@ module _ {M C R S : Type 0} (j : Readings M C R S) (opened : S) where
         (at_either k.numbers l.numbers i number (ap (λ (u : View C R S). get_elem? (numbers_of u) i) x.1 ∙ a.2))
     was seat i number a (inr (inr x)) = (seat, i, (a.0, x.2, a.2), inr (inr (x.0, x.1, refl, refl)))
 
-    told_apart : (a b i m a' b' i' m' : ℕ) → (a' ≡ b') × (i' ≡ m') → Was a i a' i' → Was b m b' m' → (a ≡ b) × (i ≡ m)
-    told_apart a b i m a' b' i' m' same p q = let ne = apart in (omega arith, omega arith)
+    kept_apart : (a b i m a' b' i' m' : ℕ) → (a' ≡ b') × (i' ≡ m') → Was a i a' i' → Was b m b' m' → (a ≡ b) × (i ≡ m)
+    kept_apart a b i m a' b' i' m' same p q = let ne = apart in (omega arith, omega arith)
 
     pub joins_here : Rule record { words = s.words; homes = s.homes; views = joined }
     joins_here = changes.reseated j opened s r joined (λ seat u e. fitting seat u (joined_at seat u e)) forth
         (λ a b i m number p q. let x = was a i number p (joined_at a p.0 p.1) in
         let y = was b m number q (joined_at b q.0 q.1) in
-        told_apart a b i m x.0 y.0 x.1 y.1 (r.passes_apart x.0 y.0 x.1 y.1 number x.2 y.2) x.3 y.3)
+        kept_apart a b i m x.0 y.0 x.1 y.1 (r.passes_apart x.0 y.0 x.1 y.1 number x.2 y.2) x.3 y.3)
 
   -- an idle seat is joined to another one
   pub joins : (id : ℕ) (v : View C R S) (other : ℕ) (w : View C R S) → stage_of v ≡ Some Idle → stage_of w ≡ Some Idle
@@ -133,7 +133,7 @@ module _ {M C R S : Type 0} (j : Readings M C R S) (opened : S) where
           refl,
           refl,
           ((opened, refl, r.set_up id (Met k l) here), r.begun id (Met k l) here, r.own id (Met k l) here),
-          (r.legal, r.told),
+          (r.legal, r.marked),
           refl,
           refl,
         ),

@@ -64,7 +64,7 @@ module _ {M C R S : Type 0} (j : Readings M C R S) (opened : S) where
         refl,
         idle,
         (r.begun id (Knows k) at, r.own id (Knows k) at),
-        steps.front_told j opened s r id k at,
+        steps.front_marked j opened s r id k at,
         refl,
         refl,
       )))

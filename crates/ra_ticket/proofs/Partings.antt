@@ -12,7 +12,7 @@ use Rattle.ra_ticket.specs.Mark.{IsMarkOf}
 use Rattle.ra_ticket.specs.declared.pass.Pass.{Pass}
 use Rattle.ra_ticket.specs.Passes.{number_of, IsSamePass}
 use Rattle.ra_ticket.specs.Views.{stage_of, numbers_of, next_of, serving_of, setup_of, seen_of, first_only, others_only, IsMet, SeesOwn, met}
-use Rattle.ra_ticket.specs.Steps.{IsTold, IsPart, SeesFor, GoesOn}
+use Rattle.ra_ticket.specs.Steps.{SeesMarked, IsPart, SeesFor, GoesOn}
 
 module _ {C R S : Type 0} where
   pub met_so : (v w : View C R S) → stage_of v ≡ Some Idle → stage_of w ≡ Some Idle → IsMet (met v w)
@@ -56,17 +56,17 @@ module _ {C R S : Type 0} where
   pub bounds_are : (v w joined u own : View C R S) (numbers : List ℕ) → stage_of v ≡ Some Idle → stage_of w ≡ Some Idle
       → joined ≡ met v w → (next_of u ≡ next_of joined) × (serving_of u ≡ serving_of joined) → IsPart u own numbers
       → (next_of own ≡ max (next_of v) (next_of w)) × (serving_of own ≡ max (serving_of v) (serving_of w))
-  bounds_are (Knows k) (Knows l) joined u own numbers i i' is told part =
-      (part.next ∙ (told.0 ∙ ap next_of is), part.serving ∙ (told.1 ∙ ap serving_of is))
-  bounds_are _ _ joined u own numbers i i' is told part = absurd (cc)
+  bounds_are (Knows k) (Knows l) joined u own numbers i i' is learned part =
+      (part.next ∙ (learned.0 ∙ ap next_of is), part.serving ∙ (learned.1 ∙ ap serving_of is))
+  bounds_are _ _ joined u own numbers i i' is learned part = absurd (cc)
 
 module _ {M C R S : Type 0} (j : Readings M C R S) where
-  -- a cut leaves what was told as it is
-  pub told_part : (u own : View C R S) (numbers : List ℕ) (mark : ℕ) → IsPart u own numbers → IsTold j u mark
-      → IsTold j own mark
-  told_part u own numbers mark part told =
+  -- a part has seen the log of which its whole had the mark
+  pub part_marked : (u own : View C R S) (numbers : List ℕ) (mark : ℕ) → IsPart u own numbers → SeesMarked j u mark
+      → SeesMarked j own mark
+  part_marked u own numbers mark part sees =
       subst (λ o. IfSome o (λ s. IsLegal (j.reply_of s) (seen_of own) × IsMarkOf j s (seen_of own) mark)) (sym part.setup)
-      (subst (λ log. IfSome (setup_of u) (λ s. IsLegal (j.reply_of s) log × IsMarkOf j s log mark)) (sym part.seen) told)
+      (subst (λ log. IfSome (setup_of u) (λ s. IsLegal (j.reply_of s) log × IsMarkOf j s log mark)) (sym part.seen) sees)
 
 -- the pass whose seat went on
 module _ {M C R S : Type 0} {g : Ghosts M C R S} where

@@ -14,7 +14,7 @@ use Rattle.ra_journal.specs.Log.{Readings, AllBelow, BeginsWith, MayFollow, IsLe
 use Rattle.ra_ticket.specs.Mark.{IsMarkOf}
 use Rattle.ra_ticket.specs.Views.{stage_of, ticket_at, ticket_of, held_at, held_of, setup_of, HasOwn}
 use Rattle.ra_ticket.specs.Rule.{At, NobodyHolds}
-use Rattle.ra_ticket.specs.Steps.{Stays, IsAsSeen, HasEntered, IsAhead, IsTold, drew_served, looked, published, released}
+use Rattle.ra_ticket.specs.Steps.{Stays, IsAsSeen, HasEntered, IsAhead, SeesMarked, drew_served, looked, published, released}
 use Rattle.ra_ticket.proofs.Slots.{carries_one}
 use Rattle.ra_ticket.proofs.Seats.{at_after, at_back, at_new}
 use Rattle.ra_ticket.proofs.Logs.{begins_same, legal_push}
@@ -71,26 +71,26 @@ module _ {M C R S : Type 0} (j : Readings M C R S) (opened : S) where
         → held_at k.stage ≡ None → (n ≤ r.next) × (m ≤ r.serving) → BeginsWith r.front log
         → HasOwn (knowing k n m k.stage log) r.front → then (knowing k n m k.stage log, c)
         → Goes s id c (changes.words j opened s r) then
-    learns_more n m log c then not_held reached begun own told = (
+    learns_more n m log c then not_held reached begun own says = (
       knowing k n m k.stage log,
       keeps,
       tt,
       changes.seeing j opened s r id (Knows k) (knowing k n m k.stage log) here r.next r.fits (le_refl r.next) reached
           refl refl set_up begun own (λ t e. absurd (cc)) (λ t e. r.drawn id t (Knows k, here, e))
           (λ seat t e other a. other (r.tickets_apart seat id t a (Knows k, here, e))),
-      told,
+      says,
     )
 
     -- of the words alone
     pub learns_words : (n m : ℕ) (c : Slots) (then : View C R S × Slots → Type 0) → held_at k.stage ≡ None
         → (n ≤ r.next) × (m ≤ r.serving) → then (knowing k n m k.stage k.seen, c)
         → Goes s id c (changes.words j opened s r) then
-    learns_words n m c then not_held reached told = learns_more n m k.seen c then not_held reached
-        (r.begun id (Knows k) here) (r.own id (Knows k) here) told
+    learns_words n m c then not_held reached says = learns_more n m k.seen c then not_held reached
+        (r.begun id (Knows k) here) (r.own id (Knows k) here) says
 
-    pub front_told : IsTold j (knowing k k.next k.serving k.stage r.front) r.mark
-    front_told = subst (λ (x : S). IsLegal (j.reply_of x) r.front × IsMarkOf j x r.front r.mark) (sym set_up)
-        (r.legal, r.told)
+    pub front_marked : SeesMarked j (knowing k k.next k.serving k.stage r.front) r.mark
+    front_marked = subst (λ (x : S). IsLegal (j.reply_of x) r.front × IsMarkOf j x r.front r.mark) (sym set_up)
+        (r.legal, r.marked)
 
     pub drawing : (t : ℕ) → k.stage ≡ Idle → r.next ≡ t → t + 1 < 2 ^ 64
         → Then (t + 1) r.serving r.mark s.homes (knowing k (t + 1) k.serving (Waiting t) k.seen)
@@ -136,7 +136,7 @@ module _ {M C R S : Type 0} (j : Readings M C R S) (opened : S) where
           rests = λ other there. let away = gone in absurd (cc);
           served = r.served;
           legal = r.legal;
-          told = r.told;
+          marked = r.marked;
           begun = begins_same r.front r.front refl;
           own = λ a n at. refl;
           others_own = λ seat u _ at. r.own seat u at;
@@ -260,7 +260,7 @@ module _ {M C R S : Type 0} (j : Readings M C R S) (opened : S) where
                 (seen.log ∙ has_front, below);
             served = below_more r.front (t + 1) below;
             legal = r.legal;
-            told = r.told;
+            marked = r.marked;
             begun = r.begun id (Knows k) here;
             own = r.own id (Knows k) here;
             others_own = λ seat u _ at. r.own seat u at;
@@ -351,7 +351,7 @@ module _ {M C R S : Type 0} (j : Readings M C R S) (opened : S) where
                   (All-push (λ (e : Entry C R). e.ticket < r.serving + 1) r.front ahead.last r.served
                   (let a = ahead.its_ticket in let b = slot.0 in omega arith));
               legal = legal;
-              told = subst (λ (x : S). IsMarkOf j x (j.log journal) mark) (opened_so journal ahead.setup) is_mark;
+              marked = subst (λ (x : S). IsMarkOf j x (j.log journal) mark) (opened_so journal ahead.setup) is_mark;
               begun = begins_same (j.log journal) (j.log journal) refl;
               own = λ a n at. refl;
               others_own = λ seat u other at. subst (HasOwn u) (sym grown) (own_skip u r.front ahead.last

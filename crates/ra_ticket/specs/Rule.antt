@@ -54,7 +54,7 @@ module _ {M C R S : Type 0} (j : Readings M C R S) (opened : S) where
     pub served : AllBelow (serving + 1) front
     pub legal : IsLegal (j.reply_of opened) front
     -- mark
-    pub told : IsMarkOf j opened front mark
+    pub marked : IsMarkOf j opened front mark
     -- knowledge: each seat has seen a beginning of the front, and all entries of its own passes
     pub begun : (seat : ℕ) (v : View C R S) → get_elem? s.views seat ≡ some v → HasBegun v front
     pub own : (seat : ℕ) (v : View C R S) → get_elem? s.views seat ≡ some v → HasOwn v front

@@ -78,8 +78,8 @@ module _ {M C R S : Type 0} (j : Readings M C R S) where
     pub follows : MayFollow (j.reply_of (j.setup journal)) (seen_of v) last
 
   -- what the seat has seen is a legal log under its setup, and this is its mark
-  abbrev pub IsTold : View C R S → ℕ → Type 0
-  IsTold v mark = IfSome (setup_of v) (λ s. IsLegal (j.reply_of s) (seen_of v) × IsMarkOf j s (seen_of v) mark)
+  abbrev pub SeesMarked : View C R S → ℕ → Type 0
+  SeesMarked v mark = IfSome (setup_of v) (λ s. IsLegal (j.reply_of s) (seen_of v) × IsMarkOf j s (seen_of v) mark)
 
 abbrev Sat : Type 0 → Type 0 → Type 0 → Type 0 → Type 0
 Sat M C R S = Me (Option M) (View C R S)
@@ -100,14 +100,14 @@ module _ {M C R S : Type 0} where
   abbrev pub glanced : Readings M C R S → Step (Option M) → Sat M C R S → ℕ → Sat M C R S → Type 0
   glanced j step m found m' = stage_of m.0 ≡ Some Idle
       → Stays m.0 m'.0 × (m'.1 ≡ m.1) × (stage_of m'.0 ≡ Some Idle) × SeesMore m.0 m'.0
-      × IsTold j m'.0 found × (next_of m'.0 ≡ next_of m.0) × (serving_of m'.0 ≡ serving_of m.0)
+      × SeesMarked j m'.0 found × (next_of m'.0 ≡ next_of m.0) × (serving_of m'.0 ≡ serving_of m.0)
 
   -- a seat to which another was joined sees the front, which is a legal log with this mark, and is idle. It learns
   -- nothing of the other words
   abbrev pub looked_together : Readings M C R S → Step (Option M) → Sat M C R S → ℕ → Sat M C R S → Type 0
   looked_together j step m found m' = IsMet m.0
       → (numbers_of m'.0 ≡ numbers_of m.0) × (m'.1 ≡ m.1) × (stage_of m'.0 ≡ Some Idle)
-      × SeesFor m.0 m'.0 × IsTold j m'.0 found × (next_of m'.0 ≡ next_of m.0) × (serving_of m'.0 ≡ serving_of m.0)
+      × SeesFor m.0 m'.0 × SeesMarked j m'.0 found × (next_of m'.0 ≡ next_of m.0) × (serving_of m'.0 ≡ serving_of m.0)
 
   -- an idle seat draws the ticket, where `next` was it
   abbrev pub drew : Step (Option M) → Sat M C R S → ℕ → Sat M C R S → Type 0

@@ -57,7 +57,7 @@ pub enum View<C, R, S> {
     Met(Known<C, R, S>, Known<C, R, S>),
 }
 
-/// What the table is told when it is made.
+/// What the table is made with.
 #[derive(Drop)]
 pub struct About<M> {
     /// The number of passes.

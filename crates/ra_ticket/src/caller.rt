@@ -157,7 +157,7 @@ impl<M: Journal> Caller<M> {
         self.lock.glance(&mut self.pass)
     }
 
-    /// Two callers of one lock tell each other what they know, as `TicketLock::meet` by their passes, at the same cost:
+    /// Two callers of one lock share what they know, as `TicketLock::meet` by their passes, at the same cost:
     /// it waits for nobody and always answers.
     pub fn meet(self, other: Caller<M>) -> (Caller<M>, Caller<M>, u32)
         requires one_lock { AreOfOneLock (pass_of self ∷ pass_of other ∷ []) }

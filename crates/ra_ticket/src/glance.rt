@@ -1,7 +1,7 @@
 //! How a pass looks at the log without a call.
 ghost use Rattle.std.specs.Prelude.{◌≡◌, Some};
 ghost use Rattle.ra_journal.specs.Log.{readings, BeginsWith};
-ghost use Rattle.ra_ticket.specs.Steps.{IsSeated, IsSameSeat, IsTold};
+ghost use Rattle.ra_ticket.specs.Steps.{IsSeated, IsSameSeat, SeesMarked};
 ghost use Rattle.ra_ticket.specs.Views.{stage_of, next_of, serving_of, seen_of, HasOwn};
 ghost use Rattle.ra_ticket.specs.declared.board.Stage.TheVariants.{Idle};
 
@@ -30,7 +30,7 @@ pub(crate) fn look_at_mark<M: Journal>(board: &Board<M>, seat: &mut LockSeat<M>)
     ensures idle { stage_of seat.new.me.0 ≡ Some Idle }
     ensures begins { BeginsWith (seen_of seat.new.me.0) (seen_of seat.old.me.0) }
     ensures own { HasOwn seat.old.me.0 (seen_of seat.new.me.0) }
-    ensures told { IsTold (readings M.setup M.log M.reply_of M.fault_of) seat.new.me.0 result }
+    ensures marked { SeesMarked (readings M.setup M.log M.reply_of M.fault_of) seat.new.me.0 result }
     ensures bounds { (next_of seat.new.me.0 ≡ next_of seat.old.me.0)
         × (serving_of seat.new.me.0 ≡ serving_of seat.old.me.0) }
 {

@@ -1,7 +1,7 @@
-//! How two passes tell each other what they know.
+//! How two passes share what they know.
 ghost use Rattle.std.specs.Prelude.{◌≡◌, ℕ, max, [], ◌∷◌, Some};
 ghost use Rattle.ra_journal.specs.Log.{readings};
-ghost use Rattle.ra_ticket.specs.Steps.{IsSeated, IsTold, SeesFor, GoesOn};
+ghost use Rattle.ra_ticket.specs.Steps.{IsSeated, SeesMarked, SeesFor, GoesOn};
 ghost use Rattle.ra_ticket.specs.Views.{stage_of, numbers_of, next_of, serving_of, seen_of, IsMet, met};
 ghost use Rattle.ra_ticket.specs.declared.board.Stage.TheVariants.{Idle};
 
@@ -34,7 +34,7 @@ fn look_together<M: Journal>(board: &Board<M>, seat: &mut LockSeat<M>) -> u64
     ensures idle { stage_of seat.new.me.0 ≡ Some Idle }
     ensures numbers { numbers_of seat.new.me.0 ≡ numbers_of seat.old.me.0 }
     ensures sees { SeesFor seat.old.me.0 seat.new.me.0 }
-    ensures told { IsTold (readings M.setup M.log M.reply_of M.fault_of) seat.new.me.0 result }
+    ensures marked { SeesMarked (readings M.setup M.log M.reply_of M.fault_of) seat.new.me.0 result }
     ensures bounds { (next_of seat.new.me.0 ≡ next_of seat.old.me.0)
         × (serving_of seat.new.me.0 ≡ serving_of seat.old.me.0) }
 {
@@ -57,8 +57,8 @@ fn look_and_part<M: Journal>(
     ensures one_log { seen_of seat.new.me.0 ≡ seen_of result.0.me.0 }
     ensures bounds { (next_of result.0.me.0 ≡ max (next_of seat.old.me.0) (next_of other.me.0))
         × (serving_of result.0.me.0 ≡ max (serving_of seat.old.me.0) (serving_of other.me.0)) }
-    ensures told { IsTold (readings M.setup M.log M.reply_of M.fault_of) result.0.me.0 result.1
-        × IsTold (readings M.setup M.log M.reply_of M.fault_of) seat.new.me.0 result.1 }
+    ensures marked { SeesMarked (readings M.setup M.log M.reply_of M.fault_of) result.0.me.0 result.1
+        × SeesMarked (readings M.setup M.log M.reply_of M.fault_of) seat.new.me.0 result.1 }
 {
     join(board, seat, other);
     let mark = look_together(board, seat);
@@ -70,7 +70,7 @@ impl<M: Journal> TicketLock<M> {
     ghost use Rattle.std.specs.Prelude.{◌≡◌, length};
     ghost use Rattle.ra_ticket.specs.Passes.{IsPassOf, IsSamePass, KnowsWhatEitherKnew, KnowsLegal, seen, mine};
 
-    /// Two passes tell each other what they know: both come back, in the order in which they were given, and have then
+    /// Two passes share what they know: both come back, in the order in which they were given, and have then
     /// seen one log, at a point during this call. It begins with all that either had seen before, and it has all calls
     /// of both. The number answered is how many entries it has. It waits for nobody, needs no memory and always
     /// answers. It costs three atomic loads.

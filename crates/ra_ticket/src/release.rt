@@ -18,7 +18,7 @@ fn store_mark<M: Journal>(board: &Board<M>, seat: &mut LockSeat<M>, mark: u64)
     ensures seat { IsSameSeat seat.old seat.new }
     ensures stage { stage_of seat.new.me.0 ≡ stage_of seat.old.me.0 }
     ensures holds { HoldsPublished (readings M.setup M.log M.reply_of M.fault_of) seat.new }
-    ensures told { (journal : M) → seat.old.me.1 ≡ (0, Some journal) ∷ []
+    ensures published { (journal : M) → seat.old.me.1 ≡ (0, Some journal) ∷ []
         → (seen_of seat.new.me.0 ≡ M.log journal) × IsLegal (M.reply_of (M.setup journal)) (M.log journal) }
 {
     board.store::<Publish<M>>(seat, MARK, mark);

@@ -11,8 +11,8 @@ returns-clause-mine g c =
 
 pub returns-clause-calls : goal.returns-clause-calls
 returns-clause-calls g c = (read_off (of_journal g.M.Journal) _ _ _ _ c.look_at_mark-mark.ensures.idle
-    c.look_at_mark-mark.ensures.told c.read-calls.ensures.packed).0
+    c.look_at_mark-mark.ensures.marked c.read-calls.ensures.packed).0
 
 pub returns-clause-fault : goal.returns-clause-fault
 returns-clause-fault g c = (read_off (of_journal g.M.Journal) _ _ _ _ c.look_at_mark-mark.ensures.idle
-    c.look_at_mark-mark.ensures.told c.read-calls.ensures.packed).1
+    c.look_at_mark-mark.ensures.marked c.read-calls.ensures.packed).1

@@ -19,7 +19,7 @@ returns-clause-mine_second g c =
 pub returns-clause-calls : goal.returns-clause-calls
 returns-clause-calls g c = (read_off (of_journal g.M.Journal) _ _ _ _
     (c.look_and_part-own.ensures.parted _ _ c.args.first.numbered c.args.second.numbered).0.idle
-    c.look_and_part-own.ensures.told.0 c.read-calls.ensures.packed).0
+    c.look_and_part-own.ensures.marked.0 c.read-calls.ensures.packed).0
 
 pub invariant_of-first : goal.invariant_of-first
 invariant_of-first g c = let its =
