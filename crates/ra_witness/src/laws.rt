@@ -88,8 +88,9 @@ pub fn what_is_kept_with_a_join()
 pub fn what_is_kept_with_a_delivery_that_may_be_overridden()
     ensures register { (writes : List (Option Written)) (lasts : List (List (Option ℕ))) (number_of : ℕ → Option ℕ)
         (states : List State) (first : ℕ) (records : Records) (to n : ℕ) (write : Written)
-        → AreStatesOf (updates_written writes) states (past_of Register first records) → AreWritesOf writes number_of records
-        → AreLastOf writes lasts records → StampsAreOneLabels records → Holds Register records
+        → AreStatesOf (updates_written writes) states (past_of Register first records)
+        → AreWritesOf writes number_of records → AreLastOf writes lasts records → StampsAreOneLabels records
+        → Holds Register records
         → to < length lasts → to < length states → is_update_at records n ≡ true → had records to n ≡ false
         → write_at writes n ≡ Some write
         → let update = update_at (updates_written writes) (counting writes lasts to n write) in
@@ -97,8 +98,9 @@ pub fn what_is_kept_with_a_delivery_that_may_be_overridden()
         AreStatesOf (updates_written writes) (states_after states to update) now }
     ensures lww_set { (writes : List (Option Written)) (lasts : List (List (Option ℕ))) (number_of : ℕ → Option ℕ)
         (states : List State) (first : ℕ) (records : Records) (to n : ℕ) (write : Written)
-        → AreStatesOf (updates_written writes) states (past_of LwwSet first records) → AreWritesOf writes number_of records
-        → AreLastOf writes lasts records → StampsAreOneLabels records → Holds LwwSet records
+        → AreStatesOf (updates_written writes) states (past_of LwwSet first records)
+        → AreWritesOf writes number_of records → AreLastOf writes lasts records → StampsAreOneLabels records
+        → Holds LwwSet records
         → to < length lasts → to < length states → is_update_at records n ≡ true → had records to n ≡ false
         → write_at writes n ≡ Some write
         → let update = update_at (updates_written writes) (counting writes lasts to n write) in
