@@ -17,12 +17,12 @@ use Rattle.ra_labels.specs.Insertion.{updates_had}
 use Rattle.ra_monitor.specs.declared.setup.Setup.{Setup}
 use Rattle.ra_monitor.specs.Monitor.{MonitorEntry, records_of, fault_in}
 use Rattle.ra_seqspec.specs.Answered.{answered_in}
-use Rattle.ra_witness.specs.Labels.{first_of, queries_in}
+use Rattle.ra_witness.specs.Labels.{head_of, queries_in}
 use Rattle.ra_explain.specs.Seen.{state_had}
 
 -- what the operation asks, if anything
 abbrev pub query_in : Op → Option Query
-query_in op = first_of (queries_in (acts_of op))
+query_in op = head_of (queries_in (acts_of op))
 
 -- the operation that asks this
 abbrev pub asking : Query → Op

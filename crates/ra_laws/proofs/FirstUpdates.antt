@@ -49,7 +49,7 @@ own_first records replica = (
 )
 
 -- the next label is not among what a replica had, nor among what a label sees
-had-next : (before : Records) (replica : ℕ) → had before replica (label_count before) ≡ false
+pub had-next : (before : Records) (replica : ℕ) → had before replica (label_count before) ≡ false
 had-next before replica = false_from_ne_true (had before replica (label_count before)) (λ had_it.
     let below = is_update_at-below before (label_count before)
     (had_update before replica (label_count before) had_it) in

@@ -50,6 +50,10 @@ in-labels kind records label there =
     (IsPermutation-sym (labels_of records) (named_labels kind records) (IsPermutation-named_labels kind records))
     there
 
+pub named-exactly : (kind : Kind) (records : Records) (label : Label)
+    → Contains (named_labels kind records) label ↔ Contains (labels_of records) label
+named-exactly kind records label = (in-labels kind records label, in-named kind records label)
+
 -- of the labels but one, the same pass together with it
 pub others-pass : (passes : ℕ → Bool) (n m : ℕ) → ¬ (m ≡ n) → or_label passes n m ≡ passes m
 others-pass passes n m other = ap (λ b. passes m || b) (ne_eqb m n other) ∙ or-false (passes m)
@@ -406,3 +410,9 @@ among-fewer passes others labels more =
     ap (λ (m : Label). others m.number) same ∙ more l found (sym (ap (λ (m : Label). passes m.number) same) ∙ is)) in
     subst (λ us. length (updates_among passes labels) ≤ length us) (kept_parts others parts)
     (subst (λ us. length us ≤ length (kept_marked (mark others parts))) (kept_parts passes parts) fewer)
+
+pub passing-fewer : (kind : Kind) (records : Records) (passes others : ℕ → Bool)
+    → ((n : ℕ) → passes n ≡ true → others n ≡ true)
+    → length (updates_passing kind records passes) ≤ length (updates_passing kind records others)
+passing-fewer kind records passes others more =
+    among-fewer passes others (named_labels kind records) (λ l found. more l.number)

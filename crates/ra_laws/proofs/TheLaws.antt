@@ -119,6 +119,7 @@ pub use Rattle.ra_laws.proofs.KeptEntries.{kept-nearest as an_element_comes_in_b
 pub use Rattle.ra_laws.proofs.PassingUpdates.{had-delivery as a_replica_had_one_more-delivery}
 pub use Rattle.ra_laws.proofs.PassingUpdates.{had-operation as a_replica_had_one_more-operation}
 pub use Rattle.ra_laws.proofs.PassingUpdates.{passing-alike as tests_that_agree_let_the_same_updates_pass}
+pub use Rattle.ra_laws.proofs.PassingUpdates.{passing-fewer as more_labels_let_no_fewer_updates_pass}
 pub use Rattle.ra_laws.proofs.PassingUpdates.{passing-of_kind as updates_that_pass_are_admitted_where_all_are}
 pub use Rattle.ra_laws.proofs.PassingUpdates.{passing-delivery as a_later_command_leaves_the_updates_that_pass-delivery}
 pub use Rattle.ra_laws.proofs.PassingUpdates.{passing-join as a_later_command_leaves_the_updates_that_pass-join}
@@ -192,6 +193,8 @@ pub use Rattle.ra_laws.proofs.LabelNumbers.{records_to-none as records_to_a_labe
 pub use Rattle.ra_laws.proofs.Meanings.{had-exactly as had_what_it_issued_got_or_joined_with, sees-exactly as sees_what_its_replica_had}
 pub use Rattle.ra_laws.proofs.SeenLabels.{sees-append as sees_the_same_later, is_update_at-append as is_the_same_later}
 pub use Rattle.ra_laws.proofs.SeenLabels.{had_update as had_updates-updates, is_update_at-below as had_updates-there}
+pub use Rattle.ra_laws.proofs.FirstUpdates.{had-next as had_updates-next}
+pub use Rattle.ra_laws.proofs.Extensions.{sees_not_itself as sees_earlier_updates-itself}
 pub use Rattle.ra_laws.proofs.SeenLabels.{had-append as had_is_kept, causal-exactly as causal_where_each_delivery_is}
 pub use Rattle.ra_laws.proofs.SeenLabels.{had_closed as causal_records_leave_nothing_out-had}
 pub use Rattle.ra_laws.proofs.SeenLabels.{sees_through as causal_records_leave_nothing_out-sees}
@@ -209,6 +212,7 @@ pub use Rattle.ra_laws.proofs.LabelNumbers.{numbers_of_labels as labels_are_numb
 pub use Rattle.ra_laws.proofs.LabelNumbers.{label_there as each_number_has_its_label-there}
 pub use Rattle.ra_laws.proofs.LabelNumbers.{no_label_there as each_number_has_its_label-none}
 pub use Rattle.ra_laws.proofs.UniqueOrder.{label_found as each_number_has_its_label-found, named_labels-only as the_order_is_pinned}
+pub use Rattle.ra_laws.proofs.RgaSteps.{same_number as each_number_has_its_label-one}
 pub use Rattle.ra_laws.proofs.Faults.{IsPermutation-named_sequence as each_part_once}
 pub use Rattle.ra_labels.proofs.StampOrder.{stamp_below as stamps_by_clock_and_then_by_replica-less}
 pub use Rattle.ra_labels.proofs.StampOrder.{stamp_same as stamps_by_clock_and_then_by_replica-equal}
@@ -216,6 +220,9 @@ pub use Rattle.ra_labels.proofs.StampOrder.{lowest_below as the_lowest_rank_is_b
 pub use Rattle.ra_laws.proofs.Order.{label_below as labels_by_rank_and_then_by_number}
 pub use Rattle.ra_laws.proofs.Order.{IsPermutation-named_labels as named_labels_are_sorted-same}
 pub use Rattle.ra_laws.proofs.Order.{IsSorted-named_labels as named_labels_are_sorted-sorted}
+pub use Rattle.ra_laws.proofs.PassingUpdates.{named-exactly as named_labels_are_sorted-among}
+pub use Rattle.ra_laws.proofs.Insertion.{rank_later as a_later_command_leaves_the_order-rank}
+pub use Rattle.ra_laws.proofs.Insertion.{order_later as a_later_command_leaves_the_order-labels}
 pub use Rattle.ra_laws.proofs.Order.{named_labels-by_number as named_in_order_of_execution-labels}
 pub use Rattle.ra_laws.proofs.Ranks.{execution-extends as the_order_of_execution_extends_visibility-labels}
 pub use Rattle.ra_laws.proofs.Ranks.{counter-extends as the_order_of_execution_extends_visibility-counter}

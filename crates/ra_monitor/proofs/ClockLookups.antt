@@ -13,7 +13,7 @@ use Rattle.std.proofs.lemmas.Grind.{get_or_default_zero}
 use Rattle.ra_labels.specs.declared.label.Stamp.{Stamp}
 use Rattle.ra_labels.specs.NamedOrder.{stamp_cmp}
 use Rattle.ra_labels.proofs.Comparisons.{eqb-comm, is_eq-nat_cmp, then_eq}
-use Rattle.ra_monitor.specs.Clocks.{Clocks, is_clock_in, IsPlaceFor}
+use Rattle.ra_monitor.specs.Clocks.{Clocks, is_clock_in, IsIndexFor}
 use Rattle.ra_monitor.specs.Taken.{clocks_at}
 
 both : true ≡ false → ⊥
@@ -21,7 +21,7 @@ both e = absurd (cc e)
 
 -- the place that a search finds
 pub place_found : (xs : List ℕ) (clock place : ℕ) → place ≤ length xs
-    → IsPartitionPoint (λ own. nat_lt own clock ≡ true) (λ own. nat_lt own clock ≡ false) xs place → IsPlaceFor xs clock place
+    → IsPartitionPoint (λ own. nat_lt own clock ≡ true) (λ own. nat_lt own clock ≡ false) xs place → IsIndexFor xs clock place
 place_found xs clock place among point = record {
   among = among;
   before = λ k below. ltb-true (get_or xs k 0) clock (point.0 k 0 (omega arith) below);
@@ -29,7 +29,7 @@ place_found xs clock place among point = record {
 }
 
 -- where another one stands at its place, a clock is none of them
-differs : (xs : List ℕ) (clock place own i : ℕ) (b : Bool) → IsNonDecreasing xs → IsPlaceFor xs clock place → place < length xs
+differs : (xs : List ℕ) (clock place own i : ℕ) (b : Bool) → IsNonDecreasing xs → IsIndexFor xs clock place → place < length xs
     → get_or xs place 0 ≡ own → ¬ (own ≡ clock) → i < length xs → nat_lt i place ≡ b → ¬ (clock ≡ get_or xs i 0)
 differs xs clock place own i true sorted at there is other below e same = absurd (omega (arith, same, at.before i (ltb-true i place e)))
 differs xs clock place own i false sorted at there is other below e same =
@@ -37,7 +37,7 @@ differs xs clock place own i false sorted at there is other below e same =
     other (omega (arith, is, same, sorted place i 0 behind below, at.behind place (omega arith) there))
 
 -- a clock stands at its place where it is one of them
-pub found_at : (xs : List ℕ) (clock place own : ℕ) (b : Bool) → IsNonDecreasing xs → IsPlaceFor xs clock place
+pub found_at : (xs : List ℕ) (clock place own : ℕ) (b : Bool) → IsNonDecreasing xs → IsIndexFor xs clock place
     → place < length xs → get_or xs place 0 ≡ own → nat_eq own clock ≡ b → b ≡ list_any (nat_eq clock) xs
 found_at xs clock place own true sorted at there is same =
     sym (list_any_at (nat_eq clock) xs place 0 there (eq-eqb clock (get_or xs place 0) (sym (is ∙ eqb-true own clock same))))
@@ -46,7 +46,7 @@ found_at xs clock place own false sorted at there is same =
     (λ i below. ne_eqb clock (get_or xs i 0) (differs xs clock place own i (nat_lt i place) sorted at there is (λ e. both (sym (eq-eqb own clock e) ∙ same)) below refl))))
 
 -- where its place is behind all, it is none of them
-pub not_found : (xs : List ℕ) (clock place : ℕ) → IsPlaceFor xs clock place → length xs ≤ place → false ≡ list_any (nat_eq clock) xs
+pub not_found : (xs : List ℕ) (clock place : ℕ) → IsIndexFor xs clock place → length xs ≤ place → false ≡ list_any (nat_eq clock) xs
 not_found xs clock place at past =
     sym (list_any_none (nat_eq clock) xs (All-from_get_or (λ x. nat_eq clock x ≡ false) xs 0
     (λ i below. ne_eqb clock (get_or xs i 0) (λ same. absurd (omega (arith, same, at.before i (omega (arith, below, past))))))))
@@ -56,7 +56,7 @@ pub one_more : (xs : List ℕ) (place clock other : ℕ) → list_any (nat_eq ot
 one_more xs place clock other =
     sym (list_any-IsPermutation (nat_eq other) (clock ∷ xs) (insert xs place clock) (IsPermutation-insert xs place clock))
 
-pub sorted_with : (xs : List ℕ) (place clock : ℕ) → IsNonDecreasing xs → IsPlaceFor xs clock place → IsNonDecreasing (insert xs place clock)
+pub sorted_with : (xs : List ℕ) (place clock : ℕ) → IsNonDecreasing xs → IsIndexFor xs clock place → IsNonDecreasing (insert xs place clock)
 sorted_with xs place clock sorted at =
     IsNonDecreasingBy-insert (λ x. x) xs place clock sorted at.among
     (λ k d below. omega (arith, get_or_default_zero xs k d (omega (arith, below, at.among)), at.before k below))

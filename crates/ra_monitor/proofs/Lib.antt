@@ -1,6 +1,7 @@
 pub mod ClockLookups
 pub mod TakenLookups
 pub mod NewRecords
+pub mod Answered
 pub mod Legal
 pub mod NewEntries
 pub mod LogLaws

@@ -19,16 +19,12 @@ use Rattle.ra_visibility.specs.Tracked.{IsVisibilityOf, seen_in}
 use Rattle.ra_visibility.proofs.TheLaws.{what_a_label_sees}
 use Rattle.ra_witness.specs.Witness.{IsWitnessOf}
 use Rattle.ra_monitor.specs.declared.history.History.{History}
-use Rattle.ra_monitor.specs.declared.brought.Brought.{Brought}
+use Rattle.ra_monitor.specs.declared.taken.brought.Brought.{Brought}
 use Rattle.ra_monitor.specs.declared.taken.Taken.{Taken}
 use Rattle.ra_monitor.specs.Order.{IsOrderOf}
 use Rattle.ra_monitor.specs.Taken.{brought_by, is_stamp_in, is_identifier_in, IsTakenIn}
 use Rattle.ra_monitor.specs.History.{StandsFor, HasNewest, before_fault}
 use Rattle.ra_visibility.specs.Order.{ComesNext}
-
--- where nothing failed, the records before the fault are all
-pub none_lost : (kind : Kind) (records : Records) → fault_of kind records ≡ None → records_before_fault kind records ≡ records
-none_lost kind records none = records_before_fault_have_none-all kind records none
 
 -- the newest label comes to the witness
 pub comes_next : (history : History) (past : Past) (next : Next) (label : Label) (brought : Brought) (seen : Seen)
@@ -57,7 +53,7 @@ before_failed : (kind : Kind) (records : Records) (next : Next) (why : Cause)
     → records_before_fault kind (operate next ∷ records) ≡ records
 before_failed kind records next why none because =
     ap (λ o. cond (is_none o) (operate next ∷ records) (records_before_fault kind records)) (fault_with kind records next (Some why) none because)
-    ∙ none_lost kind records none
+    ∙ records_before_fault_have_none-all kind records none
 
 -- the newest label is taken in
 pub stands_taken : (old new : History) (past : Past) (next : Next) (label : Label) (brought : Brought)
@@ -75,8 +71,8 @@ stands_taken old new past next label brought newest because witness taken places
       causal = newest.causal;
       labels = omega (arith, labels, ap (λ (l : Label). l.number) newest.becomes);
       replicas = replicas ∙ newest.replicas;
-      witness = rw (none_lost past.kind now none) witness;
-      taken = rw (none_lost past.kind now none) taken;
+      witness = rw (records_before_fault_have_none-all past.kind now none) witness;
+      taken = rw (records_before_fault_have_none-all past.kind now none) taken;
       places = places ∙ newest.places;
       fault = fault ∙ newest.fault ∙ sym none;
     }
@@ -119,12 +115,12 @@ reply_to kind records next why n none because is =
 -- where nothing failed, what is taken is what all labels have
 pub taken_known : (history : History) (past : Past) → StandsFor history past
     → fault_of past.kind past.records ≡ None → IsTakenIn past.records history.taken
-taken_known history past stands none = rw (none_lost past.kind past.records none) at stands.taken
+taken_known history past stands none = rw (records_before_fault_have_none-all past.kind past.records none) at stands.taken
 
 -- and the witness is that of all
 pub witness_known : (history : History) (past : Past) → StandsFor history past
     → fault_of past.kind past.records ≡ None → IsWitnessOf IsOrderOf history.witness past
-witness_known history past stands none = rw (none_lost past.kind past.records none) at stands.witness
+witness_known history past stands none = rw (records_before_fault_have_none-all past.kind past.records none) at stands.witness
 
 -- what is taken is what looks up the same
 pub taken_alike : (records : Records) (old new : Taken) → ((stamp : Stamp) → is_stamp_in new stamp ≡ is_stamp_in old stamp)
@@ -150,8 +146,8 @@ stands_delivered old new past to label stands none tracker causal witness labels
   causal = causal;
   labels = labels ∙ stands.labels;
   replicas = replicas ∙ stands.replicas;
-  witness = rw (none_lost past.kind (Deliver to label ∷ past.records) none) witness;
-  taken = rw (none_lost past.kind (Deliver to label ∷ past.records) none, taken) (taken_delivered past.records to label old.taken (taken_known old past stands none));
+  witness = rw (records_before_fault_have_none-all past.kind (Deliver to label ∷ past.records) none) witness;
+  taken = rw (records_before_fault_have_none-all past.kind (Deliver to label ∷ past.records) none, taken) (taken_delivered past.records to label old.taken (taken_known old past stands none));
   places = ap (λ (t : Taken). vec_len t.clocks) taken ∙ stands.places;
   fault = fault ∙ stands.fault;
 }
@@ -217,8 +213,8 @@ stands_joined old new past joined from stands none tracker witness stamps identi
   causal = stands.causal;
   labels = labels ∙ stands.labels;
   replicas = replicas ∙ ap (λ k. k + 1) stands.replicas;
-  witness = rw (none_lost past.kind (Join joined from ∷ past.records) none) witness;
-  taken = rw (none_lost past.kind (Join joined from ∷ past.records) none) (taken_joined past.records joined from new.taken
+  witness = rw (records_before_fault_have_none-all past.kind (Join joined from ∷ past.records) none) witness;
+  taken = rw (records_before_fault_have_none-all past.kind (Join joined from ∷ past.records) none) (taken_joined past.records joined from new.taken
       (taken_alike past.records old.taken new.taken stamps identifiers (taken_known old past stands none)));
   places = places ∙ ap (λ k. k + 1) stands.places;
   fault = fault ∙ stands.fault;

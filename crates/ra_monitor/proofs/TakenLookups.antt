@@ -34,7 +34,7 @@ carries_none (op.RgaRemove x) given e = refl
 carries_none (op.RgaRead list) given e = refl
 
 -- so no clock came with it, where its form fits
-no_clock : (kind : Kind) (by : ℕ) (op : Op) (clock : Option ℕ) (given : ℕ) → misfit_of kind (Operate by op clock) ≡ None
+pub no_clock : (kind : Kind) (by : ℕ) (op : Op) (clock : Option ℕ) (given : ℕ) → misfit_of kind (Operate by op clock) ≡ None
     → identifier_of op ≡ Some given → clock ≡ None
 no_clock kind by op clock given fits gives = ((forms_that_deserve_no_refusal kind by op clock).0 fits).2.1 (carries_none op given gives)
 

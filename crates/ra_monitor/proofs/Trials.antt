@@ -1,31 +1,25 @@
 -- What a trial was told of, with one command more.
-use Rattle.std.proofs.Common.{◌≡◌, ℕ, ◌+◌, ◌<◌, ◌≤◌, ◌∷◌, ◌++◌, [], List, arith}
+use Rattle.std.proofs.Common.{◌≡◌, ◌+◌, ◌<◌, ◌≤◌, ◌∷◌, ◌++◌, [], List, arith}
 use Rattle.ra_labels.specs.declared.command.Command.{Command}
 use Rattle.ra_labels.specs.declared.reply.Reply.{Reply}
-use Rattle.ra_labels.specs.Records.{Records}
-use Rattle.ra_labels.specs.Answer.{answer_of, records_after, records_after_all}
+use Rattle.ra_labels.specs.Answer.{answer_of, records_after_all}
 use Rattle.ra_laws.proofs.TheLaws.{answers_in_turn-records}
 use Rattle.ra_visibility.specs.declared.limits.TheConstants.{MOST_LABELS}
 use Rattle.ra_monitor.specs.declared.trial.Trial.{Trial}
-use Rattle.ra_monitor.specs.History.{past_in, StandsFor}
+use Rattle.ra_monitor.specs.History.{past_in, IsAnswered}
 use Rattle.ra_monitor.specs.Trial.{IsToldOf}
-
--- the history answered, and is that of the records with the command
-abbrev pub Takes : Trial → Trial → Command → Reply → Type 0
-Takes old new command reply = (records : Records) → StandsFor old.history (past_in old.setup records)
-    → (reply ≡ answer_of old.setup.kind old.setup.replicas records command)
-    × StandsFor new.history (past_in old.setup (records_after old.setup.kind old.setup.replicas records command))
 
 -- the reply is that to the command after these, and the trial is told of it too
 pub told_one : (old new : Trial) (commands : List Command) (command : Command) (reply : Reply)
-    → IsToldOf old commands → old.history.labels < MOST_LABELS → Takes old new command reply
+    → IsToldOf old commands → old.history.labels < MOST_LABELS
+    → let records = records_after_all old.setup.kind old.setup.replicas [] commands in
+    IsAnswered new.history (past_in old.setup records) command reply
     → new.setup ≡ old.setup → new.history.labels ≤ old.history.labels + 1
     → (reply ≡ answer_of old.setup.kind old.setup.replicas
     (records_after_all old.setup.kind old.setup.replicas [] commands) command)
     × IsToldOf new (commands ++ command ∷ [])
-told_one old new commands command reply is room takes setup labels =
-    let s = old.setup in
-    let taken = takes (records_after_all s.kind s.replicas [] commands) is.history in (
+told_one old new commands command reply is room taken setup labels =
+    let s = old.setup in (
       taken.0,
       record {
         history = rw (setup, answers_in_turn-records s.kind s.replicas [] commands (command ∷ [])) taken.1;

@@ -1,15 +1,14 @@
 -- The past that the fields of a history stand for.
-use Rattle.std.specs.Prelude.{◌≡◌, ℕ, ◌<◌, ◌∷◌, [], Option, None, vec_len}
+use Rattle.std.specs.Prelude.{◌≡◌, ℕ, ◌<◌, ◌∷◌, Option, None, vec_len}
 use Rattle.ra_labels.specs.declared.command.Command.{Command}
-use Rattle.ra_labels.specs.declared.command.Command.TheVariants.{Operate, Deliver, Join, Verdict}
-use Rattle.ra_labels.specs.declared.limits.TheConstants.{MOST_REPLICAS}
+use Rattle.ra_labels.specs.declared.command.Command.TheVariants.{Join}
 use Rattle.ra_labels.specs.declared.refusal.Refusal.{Refusal}
+use Rattle.ra_labels.specs.declared.reply.Reply.{Reply}
 use Rattle.ra_labels.specs.declared.label.Label.{Label}
 use Rattle.ra_labels.specs.Records.{Records, label_count}
 use Rattle.ra_labels.specs.Visibility.{IsCausal}
 use Rattle.ra_labels.specs.Fault.{fault_of, records_before_fault}
-use Rattle.ra_labels.specs.declared.refusal.Refusal.TheVariants.{StampTaken, IdTaken}
-use Rattle.ra_labels.specs.Answer.{when, first_of, comes_with_taken, gives_taken, refusal_of, refusal_at}
+use Rattle.ra_labels.specs.Answer.{misfit_of, answer_of, records_after}
 use Rattle.ra_labels.specs.Situation.{Past, past_of, replicas_of, past_with, IsAccepted, Next, operate, label_of}
 use Rattle.ra_visibility.specs.Tracked.{IsVisibilityOf}
 use Rattle.ra_visibility.specs.declared.limits.TheConstants.{MOST_LABELS}
@@ -17,32 +16,21 @@ use Rattle.ra_witness.specs.Witness.{IsWitnessOf}
 use Rattle.ra_monitor.specs.declared.setup.Setup.{Setup}
 use Rattle.ra_monitor.specs.declared.history.History.{History}
 use Rattle.ra_monitor.specs.Order.{IsOrderOf}
-use Rattle.ra_monitor.specs.declared.brought.Brought.{Brought}
+use Rattle.ra_monitor.specs.declared.taken.brought.Brought.{Brought}
 use Rattle.ra_monitor.specs.Taken.{HasRoom, brought_by, IsTakenIn}
-
--- the command is of a replica that is there, or of none; or it makes the next one, where one more may join
-abbrev pub IsAtReplica : ℕ → Command → Type 0
-IsAtReplica replicas (Operate replica op clock) = replica < replicas
-IsAtReplica replicas (Deliver replica label) = replica < replicas
-IsAtReplica replicas (Join replica from) = (from < replicas) × (replica ≡ replicas) × (replicas < MOST_REPLICAS)
-IsAtReplica replicas Verdict = Unit {0}
-
--- what may be refused of a command at a replica that is there, and whose form fits
-abbrev pub refusal_after_form : Records → Command → Option Refusal
-refusal_after_form records (Operate by op clock) =
-    first_of (when (comes_with_taken records by clock) StampTaken ∷ when (gives_taken records op) IdTaken ∷ [])
-refusal_after_form records (Deliver to label) = refusal_at records to label
-refusal_after_form records (Join replica from) = None
-refusal_after_form records Verdict = None
-
--- and what is left of that where nothing is taken
-abbrev pub refusal_left : Records → Command → Option Refusal
-refusal_left records (Deliver to label) = refusal_at records to label
-refusal_left records command = None
 
 -- the past of a history with this setup
 abbrev pub past_in : Setup → Records → Past
 past_in setup records = past_of setup.kind setup.replicas records
+
+-- the past that a command leaves
+abbrev pub past_after : Past → Command → Past
+past_after past command = past_of past.kind past.first (records_after past.kind past.first past.records command)
+
+-- the command joins the records
+abbrev pub JoinsRecords : Past → Command → Type 0
+JoinsRecords past command =
+    records_after past.kind past.first past.records command ≡ command ∷ past.records
 
 -- the past before its fault
 abbrev pub before_fault : Past → Past
@@ -62,6 +50,11 @@ pub record StandsFor (history : History) (past : Past) : Type 0 where
   -- clocks are kept for each replica
   pub places : vec_len history.taken.clocks ≡ replicas_of past
   pub fault : history.fault ≡ fault_of past.kind past.records
+
+-- the reply is the answer to the command after the past, and the history stands for the past that the command leaves
+abbrev pub IsAnswered : History → Past → Command → Reply → Type 0
+IsAnswered history past command reply =
+    (reply ≡ answer_of past.kind past.first past.records command) × StandsFor history (past_after past command)
 
 -- after a past without a fault the label comes next and is not refused: the tracker has it already, and the count of
 -- labels, the witness and what is taken do not have it yet
@@ -86,21 +79,29 @@ pub record IsOfFew (history : History) (setup : Setup) : Type 0 where
   pub stands : StandsFor history (past_in setup records)
   pub few : label_count records < MOST_LABELS
 
--- it stands for some past without a fault, of few labels, after which the operation is not refused
-pub record MayAccept (history : History) (next : Next) : Type 0 where
+-- it stands for some past without a fault
+pub record IsFaultless (history : History) : Type 0 where
+  pub past : Past
+  pub stands : StandsFor history past
+  pub none : fault_of past.kind past.records ≡ None
+
+-- it stands for some past without a fault, of few labels, and this is the first refusal that the operation's form
+-- deserves
+pub record MayOperate (history : History) (next : Next) (misfit : Option Refusal) : Type 0 where
+  pub past : Past
+  pub stands : StandsFor history past
+  pub few : label_count past.records < MOST_LABELS
+  pub none : fault_of past.kind past.records ≡ None
+  pub misfit_is : misfit ≡ misfit_of past.kind (operate next)
+
+-- it stands for some past without a fault, of few labels, after which the operation, which brings this, is not refused
+pub record MayAccept (history : History) (next : Next) (brought : Brought) : Type 0 where
   pub past : Past
   pub stands : StandsFor history past
   pub few : label_count past.records < MOST_LABELS
   pub none : fault_of past.kind past.records ≡ None
   pub accepted : IsAccepted past (operate next)
-
--- it stands for some past without a fault, after which the delivery is refused only where the records refuse it
-pub record MayPassOn (history : History) (to label : ℕ) : Type 0 where
-  pub past : Past
-  pub stands : StandsFor history past
-  pub none : fault_of past.kind past.records ≡ None
-  pub refused : refusal_of past.kind past.first past.records (Deliver to label) ≡ refusal_at past.records to label
-  pub replica : to < replicas_of past
+  pub brings : brought ≡ brought_by next.by next.op next.clock
 
 -- it stands for some past without a fault, after which the next replica may join from this one
 pub record MayJoin (history : History) (from : ℕ) : Type 0 where

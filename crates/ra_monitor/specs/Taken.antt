@@ -4,10 +4,12 @@ use Rattle.std.specs.HashSet.{contains, spare}
 use Rattle.std.specs.Ordering.{is_eq}
 use Rattle.ra_labels.specs.declared.label.Stamp.{Stamp}
 use Rattle.ra_labels.specs.declared.operation.Op.{Op}
+use Rattle.ra_labels.specs.declared.refusal.Refusal.{Refusal}
+use Rattle.ra_labels.specs.declared.refusal.Refusal.TheVariants.{StampTaken, IdTaken}
 use Rattle.ra_labels.specs.Records.{Records, stamp_at}
 use Rattle.ra_labels.specs.NamedOrder.{stamp_cmp}
-use Rattle.ra_labels.specs.Answer.{is_taken, identifier_of, is_identifier_taken}
-use Rattle.ra_monitor.specs.declared.brought.Brought as brought
+use Rattle.ra_labels.specs.Answer.{when, is_taken, identifier_of, is_identifier_taken}
+use Rattle.ra_monitor.specs.declared.taken.brought.Brought as brought
 use Rattle.ra_monitor.specs.declared.taken.Taken.{Taken}
 use Rattle.ra_monitor.specs.Clocks.{Clocks, is_clock_in}
 
@@ -49,6 +51,12 @@ has_brought _ stamp = false
 abbrev pub gives_brought : brought.Brought → ℕ → Bool
 gives_brought (brought.TheVariants.Identifier own) identifier = own == identifier
 gives_brought _ identifier = false
+
+-- why a label that brings this is refused, if one of the records has it
+abbrev pub refusal_by : Records → brought.Brought → Option Refusal
+refusal_by records (brought.TheVariants.Identifier identifier) = when (is_identifier_taken records identifier) IdTaken
+refusal_by records (brought.TheVariants.Stamp stamp) = when (is_taken records stamp) StampTaken
+refusal_by records brought.TheVariants.Nothing = None
 
 -- this is what the labels of the records have
 pub record IsTakenIn (records : Records) (taken : Taken) : Type 0 where

@@ -1,25 +1,24 @@
 //! The accepted commands as what they amount to: a command is taken here, refused or answered.
-ghost use Rattle.std.specs.Prelude.{◌≡◌, ℕ, ◌+◌, ◌≤◌, ◌∷◌, [], map, IfOk, OnErr, OnOk, Option, None, if◌then◌else◌, is_some};
-ghost use Rattle.std.specs.Option.{option_or, option_map_or};
+ghost use Rattle.std.specs.Prelude.{◌≡◌, ℕ, ◌+◌, ◌<◌, ◌≤◌, ◌∷◌, [], map, IfOk, OnErr, OnOk, Option, None};
 ghost use Rattle.ra_labels.specs.declared.operation.Op.{Op};
 ghost use Rattle.ra_labels.specs.Records.{Records, label_count, replica_count, next_label};
 ghost use Rattle.ra_labels.specs.Visibility.{had};
 ghost use Rattle.ra_labels.specs.NamedOrder.{named_sequence};
 ghost use Rattle.ra_labels.specs.Fault.{fault_of};
-ghost use Rattle.ra_labels.specs.Answer.{no_at, misfit_of, comes_with_taken, gives_taken, refusal_of, refusal_of_join, refusal_at, answer_of, answer_to_accepted, records_after};
-ghost use Rattle.ra_labels.specs.Situation.{Past, past_of, past_with, replicas_of, IsAccepted, Next, next_of, operate};
+ghost use Rattle.ra_labels.specs.Answer.{no_at, misfit_of, refusal_of, refusal_of_join, answer_to_accepted};
+ghost use Rattle.ra_labels.specs.Situation.{Past, past_with, replicas_of, IsAccepted, Next, next_of, operate};
 ghost use Rattle.ra_witness.specs.Sequence.{ref_of};
 ghost use Rattle.ra_witness.specs.Witness.{IsWitnessOf};
 ghost use Rattle.ra_monitor.specs.Order.{IsOrderOf};
-ghost use Rattle.ra_monitor.specs.Taken.{IsTakenIn};
+ghost use Rattle.ra_monitor.specs.Taken.{brought_by, IsTakenIn};
 ghost use Rattle.ra_monitor.specs.Limits.{AreReplicas};
-ghost use Rattle.ra_monitor.specs.History.{IsAtReplica, StandsFor, HasNewest, IsOfFew, MayAccept, MayPassOn, MayJoin, MayAnswer, refusal_after_form, refusal_left, past_in, before_fault};
+ghost use Rattle.ra_monitor.specs.History.{StandsFor, IsAnswered, JoinsRecords, HasNewest, IsOfFew, IsFaultless, MayOperate, MayAccept, MayJoin, MayAnswer, past_in, before_fault};
 ghost use Rattle.ra_monitor.specs.declared.setup.Setup.{Setup};
 
-use crate::brought::{Brought, identifier_of};
 use crate::order::Order;
 use crate::setup::Setup;
 use crate::taken::Taken;
+use crate::taken::brought::Brought;
 use ra_labels::{Command, Fault, Label, MOST_REPLICAS, NoMemory, Op, Refusal, Reply, Stamp, fits};
 use ra_visibility::{DeliverFault, Tracker};
 use ra_witness::{PartRef, Witness};
@@ -84,11 +83,10 @@ impl History {
     /// command's operation is that of a label in between, and is given back, so no list is copied.
     /// Costs what the tracker, the order and the witness ask, and of no label but the command's own; a join, a copy of
     /// what is kept of the one replica.
-    pub fn take(&mut self, setup: &Setup, command: &mut Command) -> Result<Reply, NoMemory>
+    pub fn answer(&mut self, setup: &Setup, command: &mut Command) -> Result<Reply, NoMemory>
         requires { IsOfFew self.old setup.now }
-        ensures taken { (records : Records) → StandsFor self.old (past_in setup.now records) → IfOk result (λ reply.
-            (reply ≡ answer_of setup.now.kind setup.now.replicas records command.old) × StandsFor self.new
-            (past_in setup.now (records_after setup.now.kind setup.now.replicas records command.old))) }
+        ensures taken { (records : Records) → let past = past_in setup.now records in StandsFor self.old past
+            → IfOk result (IsAnswered self.new past command.old) }
         ensures command { command.new ≡ command.old }
         ensures err { (records : Records) → StandsFor self.old (past_in setup.now records)
             → OnErr result (StandsFor self.new (past_in setup.now records)) }
@@ -96,104 +94,87 @@ impl History {
         ensures kept { OnErr result (self.new.labels ≡ self.old.labels) }
         ensures replicas { AreReplicas self.old.replicas → AreReplicas self.new.replicas }
         // It gives up only where the command joins the records.
-        ensures joins { (records : Records) → StandsFor self.old (past_in setup.now records) → OnErr result
-            (records_after setup.now.kind setup.now.replicas records command.old ≡ command.old ∷ records) }
+        ensures joins { (records : Records) → let past = past_in setup.now records in StandsFor self.old past
+            → OnErr result (JoinsRecords past command.old) }
     {
         if let Some(fault) = self.fault {
             return Ok(no_at(fault));
         }
-        if let Some(refusal) = self.refusal_of(setup, command) {
-            return Ok(Reply::Refused(refusal));
-        }
+        let misfit = fits(setup.kind, command);
         match command {
-            Command::Operate { replica, op, stamp } => self.accept(*replica, op, *stamp),
+            Command::Operate { replica, op, stamp } => self.operate(*replica, op, *stamp, misfit),
             Command::Deliver { replica, label } => self.deliver(*replica, *label),
-            Command::Join { from, .. } => self.join(*from),
+            Command::Join { replica, from } => self.join(*replica, *from),
             Command::Verdict => Ok(Reply::Yes(self.labels)),
         }
     }
 
-    // The first refusal that the command deserves, if any, but for those of a delivery to a replica that is there: the
-    // tracker tells them.
-    fn refusal_of(&self, setup: &Setup, command: &Command) -> Option<Refusal>
-        ensures first { (records : Records) → IsTakenIn records self.now.taken
-            → self.now.replicas ≡ replica_count setup.now.replicas records
-            → refusal_of setup.now.kind setup.now.replicas records command.now
-            ≡ option_or result (refusal_left records command.now) }
-        ensures known { result ≡ None → IsAtReplica self.now.replicas command.now }
-        ensures fits { result ≡ None → misfit_of setup.now.kind command.now ≡ None }
+    // Answers an operation, of which this is the first refusal that its form deserves, and gives it back.
+    fn operate(
+        &mut self,
+        replica: u8,
+        op: &mut Op,
+        clock: Option<u32>,
+        misfit: Option<Refusal>,
+    ) -> Result<Reply, NoMemory>
+        requires { MayOperate self.old (next_of replica op.old clock) misfit }
+        ensures taken { (past : Past) → StandsFor self.old past → fault_of past.kind past.records ≡ None
+            → let command = Command.Operate replica op.old clock in misfit ≡ misfit_of past.kind command
+            → IfOk result (IsAnswered self.new past command) }
+        ensures err { (past : Past) → StandsFor self.old past → OnErr result (StandsFor self.new past) }
+        ensures joins { (past : Past) → StandsFor self.old past → fault_of past.kind past.records ≡ None
+            → let command = Command.Operate replica op.old clock in misfit ≡ misfit_of past.kind command
+            → OnErr result (JoinsRecords past command) }
+        ensures op { op.new ≡ op.old }
+        ensures replicas { self.new.replicas ≡ self.old.replicas }
+        ensures one { self.new.labels ≤ self.old.labels + 1 }
+        ensures kept { OnErr result (self.new.labels ≡ self.old.labels) }
     {
-        match self.refusal_of_form(setup, command) {
+        let brought = Brought::by(replica, op, clock);
+        match self.refusal_of(replica, misfit, brought) {
+            Some(refusal) => Ok(Reply::Refused(refusal)),
+            None => self.accept(replica, op, clock, brought),
+        }
+    }
+
+    // The first refusal that an operation of the replica deserves which brings this, if any.
+    fn refusal_of(&self, replica: u8, misfit: Option<Refusal>, brought: Brought) -> Option<Refusal>
+        ensures { (past : Past) (op : Op) (clock : Option ℕ) → IsTakenIn past.records self.now.taken
+            → self.now.replicas ≡ replicas_of past → let command = Command.Operate replica op clock in
+            misfit ≡ misfit_of past.kind command → brought ≡ brought_by replica op clock
+            → result ≡ refusal_of past.kind past.first past.records command }
+    {
+        if replica >= self.replicas {
+            return Some(Refusal::UnknownReplica);
+        }
+        match misfit {
             Some(refusal) => Some(refusal),
-            None => self.refusal_of_taken(command),
+            None => self.taken.refusal_of(brought),
         }
     }
 
-    // The refusal that the command deserves where its stamp or its identifier is taken.
-    fn refusal_of_taken(&self, command: &Command) -> Option<Refusal>
-        ensures { (records : Records) → IsTakenIn records self.now.taken
-            → refusal_after_form records command.now ≡ option_or result (refusal_left records command.now) }
+    // Answers a join: where it is not refused, the next replica joins.
+    fn join(&mut self, replica: u8, from: u8) -> Result<Reply, NoMemory>
+        requires { IsFaultless self.old }
+        ensures taken { (past : Past) → StandsFor self.old past → fault_of past.kind past.records ≡ None
+            → IfOk result (IsAnswered self.new past (Command.Join replica from)) }
+        ensures err { (past : Past) → StandsFor self.old past → OnErr result (StandsFor self.new past) }
+        ensures joins { (past : Past) → StandsFor self.old past → fault_of past.kind past.records ≡ None
+            → OnErr result (JoinsRecords past (Command.Join replica from)) }
+        ensures replicas { AreReplicas self.old.replicas → AreReplicas self.new.replicas }
+        ensures labels { self.new.labels ≡ self.old.labels }
     {
-        match command {
-            Command::Operate { replica, op, stamp } => {
-                if self.has_stamp_at(*replica, *stamp) {
-                    Some(Refusal::StampTaken)
-                } else if self.has_given(op) {
-                    Some(Refusal::IdTaken)
-                } else {
-                    None
-                }
-            }
-            Command::Deliver { .. } | Command::Join { .. } | Command::Verdict => None,
+        match self.refusal_of_join(replica, from) {
+            Some(refusal) => Ok(Reply::Refused(refusal)),
+            None => self.add_replica(from),
         }
-    }
-
-    // Is the stamp taken that has this clock, if one came?
-    fn has_stamp_at(&self, replica: u8, clock: Option<u32>) -> bool
-        ensures { (records : Records) → IsTakenIn records self.now.taken
-            → result ≡ comes_with_taken records replica clock }
-    {
-        match clock {
-            Some(clock) => self.taken.has_stamp(Stamp { clock, replica }),
-            None => false,
-        }
-    }
-
-    // Is the identifier taken that the operation gives, if it gives one?
-    fn has_given(&self, op: &Op) -> bool
-        ensures { (records : Records) → IsTakenIn records self.now.taken → result ≡ gives_taken records op.now }
-    {
-        match identifier_of(op) {
-            Some(identifier) => self.taken.has_identifier(identifier),
-            None => false,
-        }
-    }
-
-    // The first refusal that the command deserves by its replicas or by its form, if any.
-    fn refusal_of_form(&self, setup: &Setup, command: &Command) -> Option<Refusal>
-        ensures first { (records : Records) → self.now.replicas ≡ replica_count setup.now.replicas records
-            → refusal_of setup.now.kind setup.now.replicas records command.now
-            ≡ option_or result (refusal_after_form records command.now) }
-        ensures known { result ≡ None → IsAtReplica self.now.replicas command.now }
-        ensures fits { result ≡ None → misfit_of setup.now.kind command.now ≡ None }
-    {
-        match command {
-            Command::Operate { replica, .. } | Command::Deliver { replica, .. } => {
-                if *replica >= self.replicas {
-                    return Some(Refusal::UnknownReplica);
-                }
-            }
-            Command::Join { replica, from } => return self.refusal_of_join(*replica, *from),
-            Command::Verdict => {}
-        }
-        fits(setup.kind, command)
     }
 
     // The first refusal that a join deserves, if any.
     fn refusal_of_join(&self, replica: u8, from: u8) -> Option<Refusal>
         ensures first { (first : ℕ) (records : Records) → self.now.replicas ≡ replica_count first records
             → refusal_of_join first records replica from ≡ result }
-        ensures known { result ≡ None → IsAtReplica self.now.replicas (Command.Join replica from) }
+        ensures few { result ≡ None → self.now.replicas < MOST_REPLICAS }
     {
         if from >= self.replicas || replica > self.replicas {
             Some(Refusal::UnknownReplica)
@@ -208,7 +189,7 @@ impl History {
 
     // Has the next replica join from this one, which is not refused. All that is taken besides is asked for before the
     // witness, and where that gives up, the tracker takes the replica back.
-    fn join(&mut self, from: u8) -> Result<Reply, NoMemory>
+    fn add_replica(&mut self, from: u8) -> Result<Reply, NoMemory>
         requires { MayJoin self.old from }
         ensures taken { (past : Past) → StandsFor self.old past → fault_of past.kind past.records ≡ None
             → let join = Command.Join (replicas_of past) from in IsAccepted past join
@@ -219,7 +200,7 @@ impl History {
         ensures kept { OnErr result (self.new.replicas ≡ self.old.replicas) }
         ensures labels { self.new.labels ≡ self.old.labels }
     {
-        self.taken.make_place()?;
+        self.taken.reserve_replica()?;
         let joined = self.tracker.join(from)?;
         match self.witness.join(from) {
             Ok(()) => {
@@ -234,22 +215,20 @@ impl History {
         }
     }
 
-    // Takes a delivery to a replica that is there, or refuses it.
+    // Answers a delivery: takes it, or refuses it.
     fn deliver(&mut self, replica: u8, label: u32) -> Result<Reply, NoMemory>
-        requires { MayPassOn self.old replica label }
+        requires { IsFaultless self.old }
         ensures taken { (past : Past) → StandsFor self.old past → fault_of past.kind past.records ≡ None
-            → refusal_of past.kind past.first past.records (Command.Deliver replica label)
-            ≡ refusal_at past.records replica label
-            → IfOk result (λ reply.
-            (reply ≡ option_map_or Reply.Refused (refusal_at past.records replica label) (Reply.Got label))
-            × StandsFor self.new (past_of past.kind past.first (if is_some (refusal_at past.records replica label)
-            then past.records else Command.Deliver replica label ∷ past.records))) }
+            → IfOk result (IsAnswered self.new past (Command.Deliver replica label)) }
         ensures err { (past : Past) → StandsFor self.old past → OnErr result (StandsFor self.new past) }
-        ensures joins { (past : Past) → StandsFor self.old past
-            → OnErr result (refusal_at past.records replica label ≡ None) }
+        ensures joins { (past : Past) → StandsFor self.old past → fault_of past.kind past.records ≡ None
+            → OnErr result (JoinsRecords past (Command.Deliver replica label)) }
         ensures labels { self.new.labels ≡ self.old.labels }
         ensures replicas { self.new.replicas ≡ self.old.replicas }
     {
+        if replica >= self.replicas {
+            return Ok(Reply::Refused(Refusal::UnknownReplica));
+        }
         match self.tracker.deliver(replica, label) {
             Ok(()) => {}
             Err(DeliverFault::Refused(refusal)) => return Ok(Reply::Refused(refusal)),
@@ -266,8 +245,14 @@ impl History {
 
     // Takes an operation that is not refused, and gives it back. All that is taken besides is asked for before the
     // witness, and where that gives up, the tracker takes the label back.
-    fn accept(&mut self, replica: u8, op: &mut Op, clock: Option<u32>) -> Result<Reply, NoMemory>
-        requires { MayAccept self.old (next_of replica op.old clock) }
+    fn accept(
+        &mut self,
+        replica: u8,
+        op: &mut Op,
+        clock: Option<u32>,
+        brought: Brought,
+    ) -> Result<Reply, NoMemory>
+        requires { MayAccept self.old (next_of replica op.old clock) brought }
         ensures taken { (past : Past) → StandsFor self.old past → fault_of past.kind past.records ≡ None
             → IsAccepted past (Command.Operate replica op.old clock) → IfOk result (λ reply.
             (reply ≡ answer_to_accepted past.kind past.records (Command.Operate replica op.old clock))
@@ -278,11 +263,10 @@ impl History {
         ensures one { OnOk result (self.new.labels ≡ self.old.labels + 1) }
         ensures kept { OnErr result (self.new.labels ≡ self.old.labels) }
     {
-        self.taken.make_room(replica)?;
+        self.taken.reserve(replica)?;
         self.tracker.issue(replica, op.is_update())?;
-        let brought = Brought::by(replica, op, clock);
         let label = label_of(self.labels, replica, mem::replace(op, Op::Inc), clock);
-        let answer = self.answer(&label, brought);
+        let answer = self.answer_newest(&label, brought);
         *op = label.op;
         match answer {
             Ok(reply) => Ok(reply),
@@ -294,7 +278,7 @@ impl History {
     }
 
     // Answers the newest label, and keeps what it brings where all holds.
-    fn answer(&mut self, label: &Label, brought: Brought) -> Result<Reply, NoMemory>
+    fn answer_newest(&mut self, label: &Label, brought: Brought) -> Result<Reply, NoMemory>
         requires { MayAnswer self.old label.now brought }
         ensures answered { (past : Past) (next : Next) → HasNewest self.old past next label.now brought
             → IfOk result (λ reply. (reply ≡ answer_to_accepted past.kind past.records (operate next))

@@ -12,8 +12,6 @@
 //! with a label the kept witness's (`ra_witness`).
 #![tactic(auto)]
 
-mod brought;
-mod clocks;
 mod faults;
 mod history;
 pub mod laws;

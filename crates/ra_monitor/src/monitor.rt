@@ -136,7 +136,8 @@ impl Monitor {
     }
 
     /// How many updates were made so far, at the label's own replica and where it was delivered: what time goes with,
-    /// as `ra_witness` has it (`counted`, `few_steps`). No more than 2^64 - 1 are counted. It takes no memory.
+    /// as `ra_witness` has it (`counted`, `settled`, `few_steps`). No more than 2^64 - 1 are counted. It takes no
+    /// memory.
     pub fn steps(&self) -> u64 {
         self.history.witness.steps()
     }
@@ -300,7 +301,7 @@ impl Journal for Monitor {
             return Err(StepFault::NoMemory(command));
         }
         let mut command = command;
-        match self.history.take(&self.setup, &mut command) {
+        match self.history.answer(&self.setup, &mut command) {
             Ok(reply) => {
                 self.refused += refusals(reply);
                 let entry = Entry {

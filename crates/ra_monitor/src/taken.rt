@@ -1,11 +1,15 @@
 //! What no two labels may have: own stamps, and identifiers of additions.
 ghost use Rattle.std.specs.Prelude.{◌≡◌, ℕ, ◌+◌, ◌<◌, ◌||◌, false, IfOk, OnOk, vec_len, vec_capacity};
 ghost use Rattle.ra_labels.specs.declared.label.Stamp.{Stamp};
-ghost use Rattle.ra_monitor.specs.Taken.{is_stamp_in, is_identifier_in, HasRoom, CanKeep, has_brought, gives_brought};
+ghost use Rattle.ra_labels.specs.Records.{Records};
+ghost use Rattle.ra_monitor.specs.Taken.{is_stamp_in, is_identifier_in, refusal_by, HasRoom, CanKeep, has_brought, gives_brought, IsTakenIn};
 
-use crate::brought::Brought;
-use crate::clocks::Clocks;
-use ra_labels::{NoMemory, Stamp};
+pub mod brought;
+mod clocks;
+
+use brought::Brought;
+use clocks::Clocks;
+use ra_labels::{NoMemory, Refusal, Stamp};
 use std::alloc::Global;
 use std::collections::HashSet;
 
@@ -34,8 +38,22 @@ impl Taken {
         })
     }
 
-    /// Is the stamp a label's own? Costs a constant where its clock is above all of its replica, and else a search.
-    pub fn has_stamp(&self, stamp: Stamp) -> bool
+    /// Why a label that brings this is refused, if another one has it. Costs a look-up of an identifier; of a stamp a
+    /// constant where its clock is above all of its replica, and else a search.
+    pub fn refusal_of(&self, brought: Brought) -> Option<Refusal>
+        ensures { (records : Records) → IsTakenIn records self.now → result ≡ refusal_by records brought }
+    {
+        match brought {
+            Brought::Identifier(identifier) if self.identifiers.contains(&identifier) => {
+                Some(Refusal::IdTaken)
+            }
+            Brought::Stamp(stamp) if self.has_stamp(stamp) => Some(Refusal::StampTaken),
+            Brought::Identifier(_) | Brought::Stamp(_) | Brought::Nothing => None,
+        }
+    }
+
+    // Is the stamp a label's own?
+    fn has_stamp(&self, stamp: Stamp) -> bool
         ensures { result ≡ is_stamp_in self.now stamp }
     {
         match self.clocks.get(stamp.replica as usize) {
@@ -44,15 +62,8 @@ impl Taken {
         }
     }
 
-    /// Did a label give the identifier? Costs a look-up.
-    pub fn has_identifier(&self, identifier: u32) -> bool
-        ensures { result ≡ is_identifier_in self.now identifier }
-    {
-        self.identifiers.contains(&identifier)
-    }
-
     /// Room for what a label of the replica brings, and nothing else changes.
-    pub fn make_room(&mut self, replica: u8) -> Result<(), NoMemory>
+    pub fn reserve(&mut self, replica: u8) -> Result<(), NoMemory>
         requires { replica < vec_len self.old.clocks }
         ensures room { OnOk result (HasRoom self.new replica) }
         ensures replicas { vec_len self.new.clocks ≡ vec_len self.old.clocks }
@@ -61,13 +72,13 @@ impl Taken {
             → is_identifier_in self.new identifier ≡ is_identifier_in self.old identifier }
     {
         let clocks = &mut self.clocks[replica as usize];
-        clocks.make_room()?;
+        clocks.reserve()?;
         self.identifiers.reserve(1)?;
         Ok(())
     }
 
     /// A place for one more replica, and nothing else changes.
-    pub fn make_place(&mut self) -> Result<(), NoMemory>
+    pub fn reserve_replica(&mut self) -> Result<(), NoMemory>
         ensures place { OnOk result (vec_len self.new.clocks < vec_capacity self.new.clocks) }
         ensures clocks { self.new.clocks.items ≡ self.old.clocks.items }
         ensures replicas { vec_len self.new.clocks ≡ vec_len self.old.clocks }

@@ -57,10 +57,9 @@ impl Trial {
             return Err(NoMemory);
         }
         let mut command = command;
-        let answer = self.history.take(&self.setup, &mut command);
+        let answer = self.history.answer(&self.setup, &mut command);
         // Let go by a call: the proof goes through what a command may have there, and not at each return.
         drop(command);
-        let reply = answer?;
-        Ok(reply)
+        answer
     }
 }

@@ -4,6 +4,7 @@
 //! answer (`ra_labels/specs/Specification`).
 #![tactic(auto)]
 
+pub mod laws;
 mod pairs;
 mod rga;
 mod state;

@@ -7,21 +7,17 @@ use Rattle.std.specs.declared.cmp.Ordering.TheVariants.{Less, Equal, Greater}
 use Rattle.std.specs.Ordering.{is_lt, nat_cmp, ordering_then}
 use Rattle.std.proofs.lemmas.Bool.{cond_both, cond-true, cond-false, cases_order, le-ltb, ne_eqb}
 use Rattle.std.proofs.lemmas.Option.{get_or_from_slice_get, slice_get_within}
-use Rattle.std.proofs.lemmas.List.Elements.{All-get_or, All-contains, All-contains_itself, Contains-get_or}
+use Rattle.std.proofs.lemmas.List.Elements.{All-get_or, All-contains, Contains-get_or}
 use Rattle.std.proofs.lemmas.List.Edits.{length-insert, get_or-insert_below, get_or-insert_above}
 use Rattle.std.proofs.lemmas.List.Sorted.{All-permutation, Contains-permutation, IsPermutation-sym}
 use Rattle.ra_labels.specs.declared.kind.Kind.{Kind}
-use Rattle.ra_labels.specs.declared.kind.Kind.TheVariants.{Counter, Register, LwwSet, OrSet, Rga}
-use Rattle.ra_labels.specs.declared.label.Stamp.{Stamp}
 use Rattle.ra_labels.specs.declared.label.Label.{Label}
-use Rattle.ra_labels.specs.declared.command.Command.{Command}
-use Rattle.ra_labels.specs.declared.command.Command.TheVariants.{Deliver, Verdict}
+use Rattle.ra_labels.specs.declared.command.Command.TheVariants.{Verdict}
 use Rattle.ra_labels.specs.Records.{Records, label_count, labels_of}
-use Rattle.ra_labels.specs.NamedOrder.{timestamp_of, rank_of, stamp_cmp, label_cmp, insert_by, sort_by, named_labels}
-use Rattle.ra_labels.proofs.InsertionSort.{sort_by_same}
+use Rattle.ra_labels.specs.NamedOrder.{rank_of, stamp_cmp, label_cmp, insert_by, named_labels}
 use Rattle.ra_labels.proofs.Counted.{numbers_below_count}
 use Rattle.ra_labels.specs.Situation.{Next, operate, label_of}
-use Rattle.ra_laws.proofs.TheLaws.{named_labels_are_sorted-same, a_timestamp_is_kept}
+use Rattle.ra_laws.proofs.TheLaws.{named_labels_are_sorted-same, a_later_command_leaves_the_order-rank, a_later_command_leaves_the_order-labels}
 use Rattle.ra_visibility.specs.declared.order.Place.{Place}
 use Rattle.ra_visibility.specs.Order.{IsPlaceOf}
 
@@ -49,41 +45,15 @@ module _ {A : Type 0} where
       (λ _. (0, omega arith, refl))
       (λ _. let rest = insert_by_somewhere cmp x ys in (suc rest.0, omega (arith, rest.1), ap (λ zs. y ∷ zs) rest.2))
 
-timestamp_later : (command : Command) (records : Records) (label : Label) → Contains (labels_of records) label → timestamp_of (command ∷ records) label ≡ timestamp_of records label
-timestamp_later command records label found =
-    a_timestamp_is_kept (command ∷ []) records label (All-contains (λ l. l.number < label_count records) (labels_of records) label (numbers_below_count records) found)
-
--- a later record leaves a label's rank
-pub rank_later : (kind : Kind) (command : Command) (records : Records) (label : Label) → Contains (labels_of records) label → rank_of kind (command ∷ records) label ≡ rank_of kind records label
-rank_later Counter command records label found = refl
-rank_later Register command records label found = timestamp_later command records label found
-rank_later LwwSet command records label found = timestamp_later command records label found
-rank_later OrSet command records label found = refl
-rank_later Rga command records label found = timestamp_later command records label found
-
-cmp_later : (kind : Kind) (command : Command) (records : Records) (l m : Label) → Contains (labels_of records) l → Contains (labels_of records) m
-    → label_cmp kind (command ∷ records) l m ≡ label_cmp kind records l m
-cmp_later kind command records l m found_l found_m =
-    let by_ranks : Stamp → Stamp → Ordering = λ r s. ordering_then (stamp_cmp r s) (nat_cmp l.number m.number) in
-    ap (λ r. by_ranks r (rank_of kind (command ∷ records) m)) (rank_later kind command records l found_l)
-    ∙ ap (by_ranks (rank_of kind records l)) (rank_later kind command records m found_m)
-
--- and so the order of the labels before
-order_later : (kind : Kind) (command : Command) (records : Records) → sort_by (label_cmp kind (command ∷ records)) (labels_of records) ≡ named_labels kind records
-order_later kind command records =
-    sort_by_same (Contains (labels_of records)) (label_cmp kind (command ∷ records)) (label_cmp kind records) (cmp_later kind command records) (labels_of records) (All-contains_itself (labels_of records))
-
-pub order_delivered : (kind : Kind) (records : Records) (to label : ℕ) → named_labels kind (Deliver to label ∷ records) ≡ named_labels kind records
-order_delivered kind records to label = order_later kind (Deliver to label) records
-
-pub order_after_verdict : (kind : Kind) (records : Records) → named_labels kind (Verdict ∷ records) ≡ named_labels kind records
-order_after_verdict kind records = order_later kind Verdict records
+pub order_after_verdict : (kind : Kind) (records : Records)
+    → named_labels kind (Verdict ∷ records) ≡ named_labels kind records
+order_after_verdict kind records = a_later_command_leaves_the_order-labels kind Verdict records
 
 -- a new label is inserted in the order of those before
 pub order_with : (kind : Kind) (records : Records) (next : Next)
     → named_labels kind (operate next ∷ records) ≡ insert_by (label_cmp kind (operate next ∷ records)) (label_of records next) (named_labels kind records)
 order_with kind records next =
-    ap (insert_by (label_cmp kind (operate next ∷ records)) (label_of records next)) (order_later kind (operate next) records)
+    ap (insert_by (label_cmp kind (operate next ∷ records)) (label_of records next)) (a_later_command_leaves_the_order-labels kind (operate next) records)
 
 not_lt_then : (o p : Ordering) → is_lt p ≡ false → is_lt (ordering_then o p) ≡ is_lt o
 not_lt_then Less p none = refl
@@ -103,7 +73,7 @@ below_by_rank kind records next m named =
     let below = All-contains (λ label. label.number < label_count records) (named_labels kind records) m (named_below_count kind records) named in
     let found = Contains-permutation (named_labels kind records) (labels_of records) m (IsPermutation-sym (labels_of records) (named_labels kind records) (named_labels_are_sorted-same kind records)) named in
     not_lt_then (stamp_cmp (rank_of kind now x) (rank_of kind now m)) (nat_cmp x.number m.number) (number_not_below m.number x.number below)
-    ∙ ap (λ r. is_lt (stamp_cmp (rank_of kind now x) r)) (rank_later kind (operate next) records m found)
+    ∙ ap (λ r. is_lt (stamp_cmp (rank_of kind now x) r)) (a_later_command_leaves_the_order-rank kind (operate next) records m found)
 
 -- a new label goes behind those of no greater rank
 pub behind_no_greater : (kind : Kind) (records : Records) (next : Next) (at : ℕ) → at ≤ length (named_labels kind records)

@@ -17,10 +17,10 @@ use Rattle.ra_labels.proofs.InLists.{bool_same, list_all-contains, list_all-from
 use Rattle.ra_labels.proofs.Members.{behind_head, piece_of, in_piece}
 use Rattle.ra_labels.proofs.Parts.{part_is_of, some_part}
 use Rattle.ra_labels.specs.Situation.{Next, next_of, operate, label_of}
-use Rattle.ra_laws.proofs.TheLaws.{named_labels_are_sorted-same, a_new_replica_had_what_the_other_had-order}
+use Rattle.ra_laws.proofs.TheLaws.{a_delivery_puts_its_update_in-order, named_labels_are_sorted-same, a_new_replica_had_what_the_other_had-order}
 use Rattle.ra_visibility.specs.declared.order.Place.{Place}
 use Rattle.ra_visibility.specs.Order.{must_stand_before, IsPlaceOf, EachFitted}
-use Rattle.ra_visibility.proofs.Insertions.{named_below_count, order_delivered, order_after_verdict, at_its_place}
+use Rattle.ra_visibility.proofs.Insertions.{named_below_count, order_after_verdict, at_its_place}
 use Rattle.ra_visibility.proofs.Extensions.{Apart, extends_pieces, extends_joined, extends_same}
 use Rattle.ra_visibility.proofs.Precedences.{parts_extend, precedes_later, not_backwards, labels_too, parts_too}
 
@@ -132,7 +132,7 @@ extends_where_it_fits kind records next place is =
 -- a delivery leaves it as it is
 pub delivery_extends : (kind : Kind) (records : Records) (to label : ℕ)
     → extends_visibility (Deliver to label ∷ records) (named_sequence kind (Deliver to label ∷ records)) ≡ extends_visibility records (named_sequence kind records)
-delivery_extends kind records to label = ap (λ labels. extends (must_precede records) (flat_map parts_of labels)) (order_delivered kind records to label)
+delivery_extends kind records to label = ap (λ labels. extends (must_precede records) (flat_map parts_of labels)) (a_delivery_puts_its_update_in-order kind records to label)
 
 -- nor does a join
 pub join_extends : (kind : Kind) (records : Records) (joined from : ℕ)

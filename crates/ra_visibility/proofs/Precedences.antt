@@ -1,5 +1,5 @@
 -- A new label fits where the sequence goes on extending visibility.
-use Rattle.std.proofs.Common.{◌≡◌, ℕ, ◌<◌, true, false, [], ◌∷◌, refl, sym, ap, ◌∙◌, inl, inr, arith}
+use Rattle.std.proofs.Common.{◌≡◌, ◌<◌, true, false, [], ◌∷◌, refl, sym, ap, ◌∙◌, inl, inr, arith}
 use Rattle.std.specs.Prelude.{◌==◌, ◌&&◌, ◌||◌, nat_lt, is_some, Contains}
 use Rattle.std.specs.Option.{option_map_or}
 use Rattle.std.proofs.lemmas.Bool.{and_from, or_cases, or_left, or_right, eq-eqb, le-ltb, lt-ltb, false_from_ne_true}
@@ -13,29 +13,18 @@ use Rattle.ra_labels.specs.Linearization.{must_precede, is_visible_to, is_earlie
 use Rattle.ra_labels.proofs.Members.{what_passes, reached}
 use Rattle.ra_labels.proofs.Parts.{part_is_of, some_part}
 use Rattle.ra_labels.specs.Situation.{Next, operate}
-use Rattle.ra_laws.proofs.TheLaws.{must_precede_in_three_cases-cases, sees_the_same_later, sees_earlier_updates-earlier, sees_earlier_updates-updates, each_number_has_its_label-found, update_where_a_part_is_one}
+use Rattle.ra_laws.proofs.TheLaws.{must_precede_in_three_cases-cases, sees_the_same_later, sees_earlier_updates-earlier, sees_earlier_updates-updates, sees_earlier_updates-itself, each_number_has_its_label-found, update_where_a_part_is_one}
 use Rattle.ra_visibility.specs.Order.{must_stand_before}
-
--- no label sees itself
-sees_not_itself : (records : Records) (n : ℕ) → sees records n n ≡ false
-sees_not_itself records n = false_from_ne_true (sees records n n) (λ itself. absurd (omega (arith, sees_earlier_updates-earlier records n n itself)))
 
 -- the parts of one label extend the order
 pub parts_extend : (records : Records) (label : Label) (operation : Op) → extends (must_precede records) (Rattle.std.specs.Prelude.map (part_of label) (acts_of operation)) ≡ true
-parts_extend records label op.Inc = refl
-parts_extend records label op.Dec = refl
-parts_extend records label (op.Count v) = refl
-parts_extend records label (op.Write value) = refl
-parts_extend records label (op.Last value) = refl
-parts_extend records label (op.LwwAdd x) = refl
-parts_extend records label (op.LwwRemove x) = refl
-parts_extend records label (op.LwwRead list) = refl
-parts_extend records label (op.OrAdd x id) = refl
-parts_extend records label (op.OrRemove x ids) = rw (sees_not_itself records label.number, le-ltb label.number label.number (omega arith), eq-eqb label.replica label.replica refl, eq-eqb label.number label.number refl) refl
-parts_extend records label (op.OrRead list) = refl
-parts_extend records label (op.After anchor x) = refl
-parts_extend records label (op.RgaRemove x) = refl
-parts_extend records label (op.RgaRead list) = refl
+parts_extend records label (op.OrRemove x ids) = rw (
+  sees_earlier_updates-itself records label.number,
+  le-ltb label.number label.number (omega arith),
+  eq-eqb label.replica label.replica refl,
+  eq-eqb label.number label.number refl,
+) refl
+parts_extend records label _ = refl
 
 -- a label that is there, and an update, has a part that is one
 update_part : (records : Records) (label : Label) → Contains (labels_of records) label → is_update_at records label.number ≡ true

@@ -16,7 +16,8 @@ use Rattle.ra_visibility.specs.Order.{IsSeenBy, IsPlaceOf}
 use Rattle.ra_visibility.proofs.Insertions.{at_its_place}
 -- laws
 pub use Rattle.ra_visibility.proofs.Refusals.{refusal_same as refused_as_the_records_say, delivery_causal as records_stay_causal}
-pub use Rattle.ra_visibility.proofs.Insertions.{order_delivered as deliveries_leave_the_order-order, behind_no_greater as a_label_goes_behind_no_greater_ranks}
+pub use Rattle.ra_laws.proofs.TheLaws.{a_delivery_puts_its_update_in-order as deliveries_leave_the_order-order}
+pub use Rattle.ra_visibility.proofs.Insertions.{behind_no_greater as a_label_goes_behind_no_greater_ranks}
 pub use Rattle.ra_visibility.proofs.NewLabels.{extends_where_it_fits as visibility_is_extended_where_a_label_fits, extends_where_each_fitted as visibility_is_extended_where_each_label_fitted, delivery_extends as deliveries_leave_the_order-visibility, join_extends as joins_leave_the_order-visibility}
 pub use Rattle.ra_laws.proofs.TheLaws.{a_new_replica_had_what_the_other_had-order as joins_leave_the_order-order}
 

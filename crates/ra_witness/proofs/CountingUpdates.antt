@@ -27,12 +27,12 @@ use Rattle.ra_labels.proofs.StampOrder.{not_below_itself, not_both_below}
 use Rattle.ra_labels.specs.Situation.{Past, past_of}
 use Rattle.ra_laws.proofs.TheLaws.{a_timestamp_is_the_greatest_seen-own, a_label_stands_before_those_that_it_is_below-behind, labels_by_rank_and_then_by_number, named_labels_are_sorted-same, the_last_label_has_the_last_update-register, the_last_label_has_the_last_update-lww_set, a_delivery_is_one_step-register, a_delivery_is_one_step-lww_set, a_delivery_puts_its_update_in-own, updates_of_the_kind_are_admitted-only, updates_of_the_kind_are_admitted-exactly, states_are_of_their_kind}
 use Rattle.ra_visibility.specs.Order.{IsByTimestamp}
-use Rattle.ra_witness.specs.declared.written.Written.{Written}
+use Rattle.ra_witness.specs.declared.overriding.written.Written.{Written}
 use Rattle.ra_witness.specs.Labels.{updates_by_number}
 use Rattle.ra_witness.specs.States.{state_at, update_at, after_step, states_after}
 use Rattle.ra_witness.specs.Standing.{AreStatesOf}
-use Rattle.ra_witness.specs.Numbers.{element_of}
-use Rattle.ra_witness.specs.Overriding.{updates_of, write_at, counting}
+use Rattle.ra_witness.specs.ElementNumbers.{element_of}
+use Rattle.ra_witness.specs.Overriding.{updates_written, write_at, counting}
 use Rattle.ra_witness.specs.Overridden.{IsNumberOf, AreWritesOf, IsLastOn, AreLastOf}
 use Rattle.ra_witness.proofs.Causes.{are_of}
 use Rattle.ra_witness.proofs.ReplicaStates.{kept-delivery, stepped}
@@ -63,7 +63,7 @@ rank_is : (kind : Kind) (records : Records) (label : Label) (s : Stamp) → IsBy
 rank_is kind records label s sorts is = sorts records label ∙ a_timestamp_is_the_greatest_seen-own records label s is
 
 module _ (kind : Kind) (writes : List (Option Written)) (number_of : ℕ → Option ℕ) (records : Records) (to c k : ℕ)
-    (sorts : IsByTimestamp kind) (kept : updates_of writes ≡ updates_by_number records) (are : AreWritesOf writes number_of records)
+    (sorts : IsByTimestamp kind) (kept : updates_written writes ≡ updates_by_number records) (are : AreWritesOf writes number_of records)
     (last : IsLastOn writes records to c k) where
   own_stamp : last.label.stamp ≡ Some last.write.stamp
   own_stamp = are.stamps last.label last.write last.there (ap (write_at writes) last.number ∙ last.found)
@@ -137,7 +137,7 @@ numbered number_of e x number is known = subst (λ o. IsNumberOf number_of o num
 unnumbered : (number_of : ℕ → Option ℕ) (e : Option ℕ) (number : ℕ) → e ≡ None → IsNumberOf number_of e number → number ≡ 0
 unnumbered number_of e number is known = subst (λ o. IsNumberOf number_of o number) is known
 
-module _ (writes : List (Option Written)) (lasts : List (List (Option ℕ))) (number_of : ℕ → Option ℕ) (states : List State) (past : Past) (to n : ℕ) (not_rga : ¬ (past.kind ≡ Rga)) (sorts : IsByTimestamp past.kind) (kept : AreStatesOf (updates_of writes) states past) (are : AreWritesOf writes number_of past.records)
+module _ (writes : List (Option Written)) (lasts : List (List (Option ℕ))) (number_of : ℕ → Option ℕ) (states : List State) (past : Past) (to n : ℕ) (not_rga : ¬ (past.kind ≡ Rga)) (sorts : IsByTimestamp past.kind) (kept : AreStatesOf (updates_written writes) states past) (are : AreWritesOf writes number_of past.records)
     (lastof : AreLastOf writes lasts past.records) (once : StampsAreOneLabels past.records) (holds : Holds past.kind past.records) (within : to < length lasts) (there : to < length states)
     (it : IsNewWrite writes past.records to n) where
   abbrev now : Records
@@ -169,7 +169,7 @@ module _ (writes : List (Option Written)) (lasts : List (List (Option ℕ))) (nu
 
   -- once the update that counts is made
   led_by : state_after past.kind (updates_had past.kind (Deliver to it.label.number ∷ past.records) to) ≡ then_step (state_after past.kind (updates_had past.kind past.records to)) last.write.update
-      → state_after past.kind (updates_had past.kind now to) ≡ Some (after_step (state_at states to) (update_at (updates_of writes) counts))
+      → state_after past.kind (updates_had past.kind now to) ≡ Some (after_step (state_at states to) (update_at (updates_written writes) counts))
   led_by step =
       let led = kept.folded to there in
       ap (λ m. state_after past.kind (updates_had past.kind (Deliver to m ∷ past.records) to)) (sym it.number)
@@ -179,8 +179,8 @@ module _ (writes : List (Option Written)) (lasts : List (List (Option ℕ))) (nu
       ∙ ap (λ o. Some (after_step (state_at states to) o)) (sym (update_of_write writes counts last.write last.found))
 
   pub kept-made : state_after past.kind (updates_had past.kind (Deliver to it.label.number ∷ past.records) to) ≡ then_step (state_after past.kind (updates_had past.kind past.records to)) last.write.update
-      → AreStatesOf (updates_of writes) (states_after states to (update_at (updates_of writes) counts)) (past_of past.kind past.first now)
-  kept-made step = kept-delivery (updates_of writes) states past kept to n (update_at (updates_of writes) counts) there (led_by step)
+      → AreStatesOf (updates_written writes) (states_after states to (update_at (updates_written writes) counts)) (past_of past.kind past.first now)
+  kept-made step = kept-delivery (updates_written writes) states past kept to n (update_at (updates_written writes) counts) there (led_by step)
 
   -- none behind the last label that counts is on its element
   none_on : (before behind : List Label) → named_labels past.kind now ≡ before ++ last.label ∷ behind → (other : Label) (v : Written) → Contains behind other
@@ -194,7 +194,7 @@ module _ (writes : List (Option Written)) (lasts : List (List (Option ℕ))) (nu
 
 -- of a register
 module _ (writes : List (Option Written)) (lasts : List (List (Option ℕ))) (number_of : ℕ → Option ℕ) (states : List State) (first : ℕ)
-    (records : Records) (to n : ℕ) (sorts : IsByTimestamp Register) (kept : AreStatesOf (updates_of writes) states (past_of Register first records)) (are : AreWritesOf writes number_of records)
+    (records : Records) (to n : ℕ) (sorts : IsByTimestamp Register) (kept : AreStatesOf (updates_written writes) states (past_of Register first records)) (are : AreWritesOf writes number_of records)
     (lastof : AreLastOf writes lasts records) (once : StampsAreOneLabels records) (holds : Holds Register records) (within : to < length lasts) (there : to < length states)
     (it : IsNewWrite writes records to n) where
   abbrev now_r : Records
@@ -242,12 +242,12 @@ module _ (writes : List (Option Written)) (lasts : List (List (Option ℕ))) (nu
       (admitted writes lasts number_of states (past_of Register first records) to n not_rga sorts kept are lastof once holds within there it) says
       ∙ ap (then_step (state_after Register (updates_had Register records to))) (sym counted.1)
 
-  pub kept-register : AreStatesOf (updates_of writes) (states_after states to (update_at (updates_of writes) (counting writes lasts to n it.write))) (past_of Register first (Deliver to n ∷ records))
+  pub kept-register : AreStatesOf (updates_written writes) (states_after states to (update_at (updates_written writes) (counting writes lasts to n it.write))) (past_of Register first (Deliver to n ∷ records))
   kept-register = kept-made writes lasts number_of states (past_of Register first records) to n not_rga sorts kept are lastof once holds within there it register_step
 
 -- of an LWW set
 module _ (writes : List (Option Written)) (lasts : List (List (Option ℕ))) (number_of : ℕ → Option ℕ) (states : List State) (first : ℕ)
-    (records : Records) (to n : ℕ) (sorts : IsByTimestamp LwwSet) (kept : AreStatesOf (updates_of writes) states (past_of LwwSet first records)) (are : AreWritesOf writes number_of records)
+    (records : Records) (to n : ℕ) (sorts : IsByTimestamp LwwSet) (kept : AreStatesOf (updates_written writes) states (past_of LwwSet first records)) (are : AreWritesOf writes number_of records)
     (lastof : AreLastOf writes lasts records) (once : StampsAreOneLabels records) (holds : Holds LwwSet records) (within : to < length lasts) (there : to < length states)
     (it : IsNewWrite writes records to n) where
   abbrev now_s : Records
@@ -304,5 +304,5 @@ module _ (writes : List (Option Written)) (lasts : List (List (Option ℕ))) (nu
       (admitted writes lasts number_of states (past_of LwwSet first records) to n not_rga_s sorts kept are lastof once holds within there it)
       (acts_there x it.write.update element) says
 
-  pub kept-lww_set : AreStatesOf (updates_of writes) (states_after states to (update_at (updates_of writes) (counting writes lasts to n it.write))) (past_of LwwSet first (Deliver to n ∷ records))
+  pub kept-lww_set : AreStatesOf (updates_written writes) (states_after states to (update_at (updates_written writes) (counting writes lasts to n it.write))) (past_of LwwSet first (Deliver to n ∷ records))
   kept-lww_set = kept-made writes lasts number_of states (past_of LwwSet first records) to n not_rga_s sorts kept are lastof once holds within there it set_step

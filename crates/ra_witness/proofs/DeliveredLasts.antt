@@ -12,7 +12,7 @@ use Rattle.ra_labels.specs.Visibility.{had, is_update_at}
 use Rattle.ra_labels.specs.NamedOrder.{stamp_cmp}
 use Rattle.ra_labels.specs.Laws.{IsStampBelow, StampsAreOneLabels}
 use Rattle.ra_labels.proofs.StampOrder.{below_tested, not_below_tested, below_below, below_else}
-use Rattle.ra_witness.specs.declared.written.Written.{Written}
+use Rattle.ra_witness.specs.declared.overriding.written.Written.{Written}
 use Rattle.ra_witness.specs.Overriding.{write_at, is_above, later_of, last_label, counting, last_with}
 use Rattle.ra_witness.specs.Overridden.{AreWritesOf, IsLastOn, NoneIsOn, AreLastOf}
 use Rattle.ra_witness.proofs.NumberedLabels.{update_found}

@@ -23,8 +23,8 @@ use Rattle.ra_labels.specs.Laws.{kind_of_update}
 use Rattle.ra_labels.specs.Insertion.{Makes}
 use Rattle.ra_labels.proofs.Members.{head_or_behind, split_at}
 use Rattle.ra_laws.proofs.TheLaws.{each_number_has_its_label-found, had_updates-updates, named_labels_are_sorted-same, updates_of_the_kind_are_admitted-only}
-use Rattle.ra_witness.specs.declared.written.Written.{Written}
-use Rattle.ra_witness.specs.Labels.{updates_in, first_of, update_in, updates_by_number}
+use Rattle.ra_witness.specs.declared.overriding.written.Written.{Written}
+use Rattle.ra_witness.specs.Labels.{updates_in, head_of, update_in, updates_by_number}
 use Rattle.ra_witness.specs.States.{update_at, steps_of}
 use Rattle.ra_witness.specs.Overriding as overriding
 use Rattle.ra_witness.specs.Overriding.{write_at}
@@ -35,19 +35,7 @@ use Rattle.ra_witness.proofs.ReplicaStates.{made_among}
 -- an operation does at most one thing
 pub at_most_one : (operation : Op) → length (updates_in (acts_of operation)) ≤ 1
 at_most_one op.Inc = omega arith
-at_most_one op.Dec = omega arith
-at_most_one (op.Count v) = omega arith
-at_most_one (op.Write value) = omega arith
-at_most_one (op.Last value) = omega arith
-at_most_one (op.LwwAdd x) = omega arith
-at_most_one (op.LwwRemove x) = omega arith
-at_most_one (op.LwwRead list) = omega arith
-at_most_one (op.OrAdd x id) = omega arith
-at_most_one (op.OrRemove x ids) = omega arith
-at_most_one (op.OrRead list) = omega arith
-at_most_one (op.After anchor x) = omega arith
-at_most_one (op.RgaRemove x) = omega arith
-at_most_one (op.RgaRead list) = omega arith
+at_most_one _ = omega arith
 
 some_made : (acts : List (Half × Act)) (half : Half) (u : Update) → Contains acts (half, Does u) → 0 < length (updates_in acts)
 some_made [] half u there = absurd (omega (arith, there.1))
@@ -57,7 +45,7 @@ some_made ((other, Asks query) ∷ acts) half u there = elim (head_or_behind (ot
   | inr further ↦ some_made acts half u further
 ]
 
-only_made : (acts : List (Half × Act)) (half : Half) (u : Update) → length (updates_in acts) ≤ 1 → Contains acts (half, Does u) → first_of (updates_in acts) ≡ Some u
+only_made : (acts : List (Half × Act)) (half : Half) (u : Update) → length (updates_in acts) ≤ 1 → Contains acts (half, Does u) → head_of (updates_in acts) ≡ Some u
 only_made [] half u one there = absurd (omega (arith, there.1))
 only_made ((other, Does v) ∷ acts) half u one there = elim (head_or_behind (other, Does v) acts (half, Does u) there) [
   | inl here ↦ ap (λ (a : Half × Act). update_of a.1) here
@@ -87,13 +75,13 @@ done_at records label there =
 abbrev pub HasWrite : List (Option Written) → ℕ → Update → Type 0
 HasWrite writes n u = (write : Written) × (write_at writes n ≡ Some write) × (write.update ≡ u)
 
-write_kept : (writes : List (Option Written)) (n : ℕ) (u : Update) → update_at (overriding.updates_of writes) n ≡ Some u → HasWrite writes n u
+write_kept : (writes : List (Option Written)) (n : ℕ) (u : Update) → update_at (overriding.updates_written writes) n ≡ Some u → HasWrite writes n u
 write_kept [] n u is = absurd (none-some u is)
 write_kept (None ∷ writes) zero u is = absurd (none-some u is)
 write_kept (Some write ∷ writes) zero u is = (write, refl, same_Some write.update u is)
 write_kept (w ∷ writes) (suc n) u is = write_kept writes n u is
 
-pub its_write : (writes : List (Option Written)) (records : Records) (label : Label) (u : Update) → overriding.updates_of writes ≡ updates_by_number records
+pub its_write : (writes : List (Option Written)) (records : Records) (label : Label) (u : Update) → overriding.updates_written writes ≡ updates_by_number records
     → Contains (labels_of records) label → Makes label.op u → HasWrite writes label.number u
 its_write writes records label u kept there makes =
     write_kept writes label.number u (ap (λ us. update_at us label.number) kept ∙ done_at records label there ∙ made_once label.op u makes)
@@ -116,18 +104,18 @@ told_step updates records n kept is =
     made (update_in label.op) refl
 
 -- a write that is kept is what its label does
-update_kept : (writes : List (Option Written)) (n : ℕ) (write : Written) → write_at writes n ≡ Some write → update_at (overriding.updates_of writes) n ≡ Some write.update
+update_kept : (writes : List (Option Written)) (n : ℕ) (write : Written) → write_at writes n ≡ Some write → update_at (overriding.updates_written writes) n ≡ Some write.update
 update_kept [] n write is = absurd (none-some write is)
 update_kept (None ∷ writes) zero write is = absurd (none-some write is)
 update_kept (Some w ∷ writes) zero write is = ap Some (ap (λ (v : Written). v.update) (same_Some w write is))
 update_kept (w ∷ writes) (suc n) write is = update_kept writes n write is
 
-pub written_made : (writes : List (Option Written)) (records : Records) (label : Label) (write : Written) → overriding.updates_of writes ≡ updates_by_number records
+pub written_made : (writes : List (Option Written)) (records : Records) (label : Label) (write : Written) → overriding.updates_written writes ≡ updates_by_number records
     → Contains (labels_of records) label → write_at writes label.number ≡ Some write → Makes label.op write.update
 written_made writes records label write kept there at =
     makes_it label.op write.update (sym (done_at records label there) ∙ sym (ap (λ us. update_at us label.number) kept) ∙ update_kept writes label.number write at)
 
-pub update_of_write : (writes : List (Option Written)) (n : ℕ) (write : Written) → write_at writes n ≡ Some write → update_at (overriding.updates_of writes) n ≡ Some write.update
+pub update_of_write : (writes : List (Option Written)) (n : ℕ) (write : Written) → write_at writes n ≡ Some write → update_at (overriding.updates_written writes) n ≡ Some write.update
 update_of_write = update_kept
 
 -- a label that a replica had does something

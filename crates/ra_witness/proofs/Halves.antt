@@ -26,20 +26,8 @@ refs_alike us vs (n ∷ ns) same =
     ∙ ap (λ rs. refs_at vs n ++ rs) (refs_alike us vs ns same)
 
 no_half : (operation : Op) → ¬ (kind_of operation ≡ OrSet) → has_query_half (Some (update_in operation)) ≡ false
-no_half op.Inc other = refl
-no_half op.Dec other = refl
-no_half (op.Count v) other = refl
-no_half (op.Write value) other = refl
-no_half (op.Last value) other = refl
-no_half (op.LwwAdd x) other = refl
-no_half (op.LwwRemove x) other = refl
-no_half (op.LwwRead list) other = refl
-no_half (op.OrAdd x id) other = refl
 no_half (op.OrRemove x ids) other = absurd (other refl)
-no_half (op.OrRead list) other = refl
-no_half (op.After anchor x) other = refl
-no_half (op.RgaRemove x) other = refl
-no_half (op.RgaRead list) other = refl
+no_half _ other = refl
 
 none_half : (ls : List Label) (n : ℕ) → ((l : Label) → Contains ls l → ¬ (kind_of l.op ≡ OrSet)) → has_query_half (slice_get (map (λ (l : Label). update_in l.op) ls) n) ≡ false
 none_half [] n other = refl

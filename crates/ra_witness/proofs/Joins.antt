@@ -15,11 +15,10 @@ use Rattle.ra_labels.specs.Situation.{Past, past_of, replicas_of, past_with}
 use Rattle.ra_laws.proofs.TheLaws.{a_new_replica_had_what_the_other_had-labels, a_new_replica_had_what_the_other_had-own, a_new_replica_had_what_the_other_had-others}
 use Rattle.ra_witness.specs.declared.commuting.Commuting.{Commuting}
 use Rattle.ra_witness.specs.declared.overriding.Overriding.{Overriding}
-use Rattle.ra_witness.specs.declared.written.Written.{Written}
+use Rattle.ra_witness.specs.declared.overriding.written.Written.{Written}
 use Rattle.ra_witness.specs.States.{state_at}
 use Rattle.ra_witness.specs.Standing.{AreStatesOf}
-use Rattle.ra_witness.specs.Last.{label_on}
-use Rattle.ra_witness.specs.Overriding.{updates_of, labels_in, last_label}
+use Rattle.ra_witness.specs.Overriding.{label_on, updates_written, labels_in, last_label}
 use Rattle.ra_witness.specs.Overridden.{AreWritesOf, IsLastOn, NoneIsOn, AreLastOf, AreBelow}
 use Rattle.ra_witness.specs.Offered.{IsJoinedFrom}
 use Rattle.ra_witness.specs.Effects.{IsCommutingOf, IsOverridingOf}
@@ -129,9 +128,9 @@ overriding_joined old new past from stands joins writes numbers states says =
     record {
       one = stands.one;
       states =
-          subst (λ ws. AreStatesOf (updates_of ws) new.states.items (past_of past.kind past.first now)) its_writes
-          (subst (λ ss. AreStatesOf (updates_of old.writes.items) ss (past_of past.kind past.first now)) (sym states)
-          (states_joined (updates_of old.writes.items) old.states.items past from stands.states joins.there joins.beyond));
+          subst (λ ws. AreStatesOf (updates_written ws) new.states.items (past_of past.kind past.first now)) its_writes
+          (subst (λ ss. AreStatesOf (updates_written old.writes.items) ss (past_of past.kind past.first now)) (sym states)
+          (states_joined (updates_written old.writes.items) old.states.items past from stands.states joins.there joins.beyond));
       writes =
           subst (λ ws. AreWritesOf ws (get nat_eq new.numbers.numbers) now) its_writes
           (subst (λ ns. AreWritesOf old.writes.items ns now) its_numbers

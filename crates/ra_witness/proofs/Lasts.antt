@@ -4,33 +4,32 @@ use Rattle.std.specs.Prelude.{◌==◌, ◌&&◌, IfSome, option_map}
 use Rattle.std.proofs.lemmas.Bool.{cases_eq, eq-eqb, ne_eqb}
 use Rattle.std.proofs.lemmas.Option.{slice_get_read, slice_get-map, get_or_from_slice_get}
 use Rattle.std.proofs.lemmas.List.{get_or_default, map-append, map-set, replicate_more, length-map, get_or-set_same, get_or-set_other}
-use Rattle.ra_witness.specs.declared.last.Last.{Last}
-use Rattle.ra_witness.specs.Last.{label_on}
-use Rattle.ra_witness.specs.declared.written.Written.{Written}
-use Rattle.ra_witness.specs.Overriding.{write_at, later_of, labels_in, last_label, counting, last_with}
+use Rattle.ra_witness.specs.declared.overriding.last_updates.LastUpdates.{LastUpdates}
+use Rattle.ra_witness.specs.Overriding.{label_on, write_at, later_of, labels_in, last_label, counting, last_with}
+use Rattle.ra_witness.specs.declared.overriding.written.Written.{Written}
 
 pub if_some_at : {A : Type 0} (o : Option A) (x : A) (P : A → Type 0) → o ≡ Some x → P x → IfSome o P
 if_some_at o x P is p = subst (λ a. IfSome a P) (sym is) p
 
-abbrev labels_of : Last → List (Option ℕ)
+abbrev labels_of : LastUpdates → List (Option ℕ)
 labels_of last = last.labels.items
 
 -- of the replica
-read_at : (lasts : List Last) (r : ℕ) (old : Last) → r < length lasts → old ≡ get_or lasts r old → get_or (labels_in lasts) r [] ≡ labels_of old
+read_at : (lasts : List LastUpdates) (r : ℕ) (old : LastUpdates) → r < length lasts → old ≡ get_or lasts r old → get_or (labels_in lasts) r [] ≡ labels_of old
 read_at lasts r old there is =
     get_or_from_slice_get (labels_in lasts) r (labels_of old) [] (slice_get-map labels_of lasts r ∙ ap (λ o. option_map labels_of o) (slice_get_read lasts (length lasts) r old refl there is))
 
-now_at : (lasts : List Last) (r : ℕ) (new : Last) → r < length lasts → get_or (labels_in (set lasts r new)) r [] ≡ labels_of new
+now_at : (lasts : List LastUpdates) (r : ℕ) (new : LastUpdates) → r < length lasts → get_or (labels_in (set lasts r new)) r [] ≡ labels_of new
 now_at lasts r new there =
     let within : r < length (labels_in lasts) = omega (arith, length-map lasts labels_of) in
     ap (λ ls. get_or ls r []) (map-set labels_of lasts r new) ∙ get_or-set_same (labels_in lasts) r (labels_of new) [] within
 
-other_at : (lasts : List Last) (r q : ℕ) (new : Last) → q ≢ r → get_or (labels_in (set lasts r new)) q [] ≡ get_or (labels_in lasts) q []
+other_at : (lasts : List LastUpdates) (r q : ℕ) (new : LastUpdates) → q ≢ r → get_or (labels_in (set lasts r new)) q [] ≡ get_or (labels_in lasts) q []
 other_at lasts r q new other =
     ap (λ ls. get_or ls q []) (map-set labels_of lasts r new) ∙ get_or-set_other (labels_in lasts) r q (labels_of new) [] other
 
 -- one more replica, which had nothing
-pub lasts-more : (lasts : List Last) (new : Last) (n : ℕ) → labels_in lasts ≡ replicate n [] → new.labels.items ≡ []
+pub lasts-more : (lasts : List LastUpdates) (new : LastUpdates) (n : ℕ) → labels_in lasts ≡ replicate n [] → new.labels.items ≡ []
     → labels_in (lasts ++ new ∷ []) ≡ replicate (n + 1) []
 lasts-more lasts new n said none =
     map-append labels_of lasts (new ∷ [])
@@ -39,14 +38,14 @@ lasts-more lasts new n said none =
     ∙ replicate_more n []
 
 -- one more replica, which has what this one has
-pub lasts-joined : (lasts : List Last) (r : ℕ) (old new : Last) → r < length lasts → old ≡ get_or lasts r old
+pub lasts-joined : (lasts : List LastUpdates) (r : ℕ) (old new : LastUpdates) → r < length lasts → old ≡ get_or lasts r old
     → new.labels.items ≡ old.labels.items
     → labels_in (lasts ++ new ∷ []) ≡ labels_in lasts ++ get_or (labels_in lasts) r [] ∷ []
 lasts-joined lasts r old new there is same =
     map-append labels_of lasts (new ∷ [])
     ∙ ap (λ (l : List (Option ℕ)). labels_in lasts ++ l ∷ []) (same ∙ sym (read_at lasts r old there is))
 
-pub lasts-same : (lasts : List Last) (r : ℕ) (old new : Last) → r < length lasts → old ≡ get_or lasts r old
+pub lasts-same : (lasts : List LastUpdates) (r : ℕ) (old new : LastUpdates) → r < length lasts → old ≡ get_or lasts r old
     → ((c : ℕ) → label_on new.labels.items c ≡ label_on old.labels.items c)
     → (q c : ℕ) → last_label (labels_in (set lasts r new)) q c ≡ last_label (labels_in lasts) q c
 lasts-same lasts r old new there is same q c = elim (cases_eq q r) [
@@ -66,7 +65,7 @@ with_here lasts r e label c = ap (λ b. cond (b && c == e) (Some label) (last_la
 with_elsewhere : (lasts : List (List (Option ℕ))) (r e label q c : ℕ) → q ≢ r → last_with lasts r e label q c ≡ last_label lasts q c
 with_elsewhere lasts r e label q c other = ap (λ b. cond (b && c == e) (Some label) (last_label lasts q c)) (ne_eqb q r other)
 
-pub lasts-with : (lasts : List Last) (r : ℕ) (old new : Last) (e label : ℕ) → r < length lasts → old ≡ get_or lasts r old
+pub lasts-with : (lasts : List LastUpdates) (r : ℕ) (old new : LastUpdates) (e label : ℕ) → r < length lasts → old ≡ get_or lasts r old
     → ((c : ℕ) → label_on new.labels.items c ≡ cond (c == e) (Some label) (label_on old.labels.items c))
     → (q c : ℕ) → last_label (labels_in (set lasts r new)) q c ≡ last_with (labels_in lasts) r e label q c
 lasts-with lasts r old new e label there is says q c = elim (cases_eq q r) [
@@ -84,7 +83,7 @@ pub write_found : (writes read : List (Option Written)) (n : ℕ) (x : Option Wr
 write_found writes read n x w same there is some =
     get_or_default writes n None x there ∙ sym (is ∙ ap (λ ws. get_or ws n x) same) ∙ some
 
-pub lasts-delivered : (writes read : List (Option Written)) (lasts : List Last) (r n : ℕ) (w : Written) (old new : Last) → read ≡ writes → r < length lasts → old ≡ get_or lasts r old
+pub lasts-delivered : (writes read : List (Option Written)) (lasts : List LastUpdates) (r n : ℕ) (w : Written) (old new : LastUpdates) → read ≡ writes → r < length lasts → old ≡ get_or lasts r old
     → ((c : ℕ) → label_on new.labels.items c ≡ cond (c == w.on) (Some (later_of read (label_on old.labels.items w.on) n w.stamp)) (label_on old.labels.items c))
     → (q c : ℕ) → last_label (labels_in (set lasts r new)) q c ≡ last_with (labels_in lasts) r w.on (counting writes (labels_in lasts) r n w) q c
 lasts-delivered writes read lasts r n w old new same there is says =
@@ -94,7 +93,7 @@ lasts-delivered writes read lasts r n w old new same there is says =
     lasts-with lasts r old new w.on (counting writes (labels_in lasts) r n w) there is
     (λ c. says c ∙ ap (λ k. cond (c == w.on) (Some k) (label_on old.labels.items c)) counts)
 
-pub lasts-taken : (lasts : List Last) (r : ℕ) (old new : Last) (e f label n : ℕ) → r < length lasts → old ≡ get_or lasts r old → e ≡ f → label ≡ n
+pub lasts-taken : (lasts : List LastUpdates) (r : ℕ) (old new : LastUpdates) (e f label n : ℕ) → r < length lasts → old ≡ get_or lasts r old → e ≡ f → label ≡ n
     → ((c : ℕ) → label_on new.labels.items c ≡ cond (c == e) (Some label) (label_on old.labels.items c))
     → (q c : ℕ) → last_label (labels_in (set lasts r new)) q c ≡ last_with (labels_in lasts) r f n q c
 lasts-taken lasts r old new e f label n there is same_e same_n says q c =

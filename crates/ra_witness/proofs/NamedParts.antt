@@ -6,7 +6,7 @@ use Rattle.std.proofs.lemmas.Option.{slice_get-map}
 use Rattle.std.proofs.lemmas.List.{map-append}
 use Rattle.ra_labels.specs.declared.kind.Kind.{Kind}
 use Rattle.ra_labels.specs.declared.operation.Op.{Op}
-use Rattle.ra_labels.specs.declared.operation.Op.TheVariants.{Inc, Dec, Count, Write, Last, LwwAdd, LwwRemove, LwwRead, OrAdd, OrRemove, OrRead, After, RgaRemove, RgaRead}
+use Rattle.ra_labels.specs.declared.operation.Op.TheVariants.{Inc}
 use Rattle.ra_labels.specs.declared.operation.Update.{Update}
 use Rattle.ra_labels.specs.declared.label.Label.{Label}
 use Rattle.ra_labels.specs.Records.{Records, labels_of}
@@ -24,19 +24,7 @@ refs_by found n = cond (has_query_half found) (ref_to n QueryHalf ∷ ref_to n U
 
 refs_of : (label : Label) (op : Op) → refs_by (Some (update_in op)) label.number ≡ map ref_of (map (part_of label) (acts_of op))
 refs_of label Inc = refl
-refs_of label Dec = refl
-refs_of label (Count v) = refl
-refs_of label (Write value) = refl
-refs_of label (Last value) = refl
-refs_of label (LwwAdd x) = refl
-refs_of label (LwwRemove x) = refl
-refs_of label (LwwRead list) = refl
-refs_of label (OrAdd x id) = refl
-refs_of label (OrRemove x ids) = refl
-refs_of label (OrRead list) = refl
-refs_of label (After anchor x) = refl
-refs_of label (RgaRemove x) = refl
-refs_of label (RgaRead list) = refl
+refs_of label _ = refl
 
 abbrev done_by : Label → Option Update
 done_by label = update_in label.op

@@ -1,7 +1,7 @@
 -- The elements' numbers, once one more is known.
 use Rattle.std.proofs.Common.{◌≡◌, ℕ, ◌+◌, cond, Option, Some, None, ap, ◌∙◌}
 use Rattle.std.specs.Prelude.{◌==◌, is_some}
-use Rattle.ra_witness.specs.Numbers.{number_with, count_with}
+use Rattle.ra_witness.specs.ElementNumbers.{number_with, count_with}
 
 -- the numbers now, where those before were these
 pub numbers_kept : (before old now : ℕ → Option ℕ) (e : Option ℕ) (n m : ℕ)

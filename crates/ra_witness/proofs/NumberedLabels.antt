@@ -23,14 +23,14 @@ use Rattle.ra_labels.proofs.Members.{at_head, behind_head}
 use Rattle.ra_labels.proofs.Counted.{labels_counted}
 use Rattle.ra_labels.specs.Situation.{Next, next_of, operate, label_of}
 use Rattle.ra_laws.proofs.TheLaws.{had_updates-there, update_where_a_part_is_one, named_labels_are_sorted-same}
-use Rattle.ra_witness.specs.Labels.{updates_in, first_of, update_in, updates_by_number}
+use Rattle.ra_witness.specs.Labels.{updates_in, head_of, update_in, updates_by_number}
 use Rattle.ra_witness.specs.States.{update_at}
 
 -- the first update of acts is made
 abbrev IsMade : List (Half × Act) → Update → Type 0
 IsMade acts u = (half : Half) × Contains acts (half, Does u)
 
-first_made : (acts : List (Half × Act)) (u : Update) → first_of (updates_in acts) ≡ Some u → IsMade acts u
+first_made : (acts : List (Half × Act)) (u : Update) → head_of (updates_in acts) ≡ Some u → IsMade acts u
 first_made [] u is = absurd (none-some u is)
 first_made ((half, Does v) ∷ acts) u is =
     (half, subst (λ w. Contains ((half, Does v) ∷ acts) (half, Does w)) (same_Some v u is) (at_head (half, Does v) acts (half, Does v) refl))
@@ -40,7 +40,7 @@ first_made ((half, Asks query) ∷ acts) u is =
 pub makes_it : (op : Op) (u : Update) → update_in op ≡ Some u → Makes op u
 makes_it op u is = first_made (acts_of op) u is
 
-none_made : (acts : List (Half × Act)) → first_of (updates_in acts) ≡ None → list_any (λ (act : Half × Act). is_some (update_of act.1)) acts ≡ false
+none_made : (acts : List (Half × Act)) → head_of (updates_in acts) ≡ None → list_any (λ (act : Half × Act). is_some (update_of act.1)) acts ≡ false
 none_made [] is = refl
 none_made ((half, Does v) ∷ acts) is = absurd (none-some v (sym is))
 none_made ((half, Asks query) ∷ acts) is = none_made acts is
@@ -48,7 +48,7 @@ none_made ((half, Asks query) ∷ acts) is = none_made acts is
 pub makes_none : (op : Op) → update_in op ≡ None → is_update op ≡ false
 makes_none op is = update_where_a_part_is_one op ∙ none_made (acts_of op) is
 
-any_made : (acts : List (Half × Act)) (u : Update) → first_of (updates_in acts) ≡ Some u → list_any (λ (act : Half × Act). is_some (update_of act.1)) acts ≡ true
+any_made : (acts : List (Half × Act)) (u : Update) → head_of (updates_in acts) ≡ Some u → list_any (λ (act : Half × Act). is_some (update_of act.1)) acts ≡ true
 any_made [] u is = absurd (none-some u is)
 any_made ((half, Does v) ∷ acts) u is = refl
 any_made ((half, Asks query) ∷ acts) u is = any_made acts u is

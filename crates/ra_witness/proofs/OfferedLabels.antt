@@ -28,7 +28,7 @@ use Rattle.ra_visibility.specs.Seen.{Seen}
 use Rattle.ra_visibility.specs.Order.{IsPlaceOf, numbers_in, ComesNext}
 use Rattle.ra_visibility.proofs.TheLaws.{visibility_is_extended_where_a_label_fits}
 use Rattle.ra_witness.specs.declared.witness.Witness.{Witness}
-use Rattle.ra_witness.specs.Labels.{updates_in, first_of, update_in}
+use Rattle.ra_witness.specs.Labels.{updates_in, head_of, update_in}
 use Rattle.ra_witness.specs.Offered.{IsOffered, IsTold, IsJoinedFrom}
 use Rattle.ra_witness.specs.Effects.{AreEffectsOf}
 use Rattle.ra_witness.specs.Witness.{IsWitnessOf, MayOffer}
@@ -74,13 +74,13 @@ listed_count kind records listed is =
     ∙ length_permutation (labels_of records) named (named_labels_are_sorted-same kind records)
     ∙ labels_counted records
 
-first_listed : {A : Type 0} (o : Option A) → o ≡ first_of (option_to_list o)
+first_listed : {A : Type 0} (o : Option A) → o ≡ head_of (option_to_list o)
 first_listed None = refl
 first_listed (Some x) = refl
 
 -- what the parts do is what the operation does
 pub update_known : (o : Option Update) (acts : List (Half × Act)) (op : Op) → option_to_list o ≡ updates_in acts → acts ≡ acts_of op → o ≡ update_in op
-update_known o acts op listed is = first_listed o ∙ ap first_of listed ∙ ap (λ acts. first_of (updates_in acts)) is
+update_known o acts op listed is = first_listed o ∙ ap head_of listed ∙ ap (λ acts. head_of (updates_in acts)) is
 
 -- where no condition fails with the label, the updates of all labels are admitted
 pub all_admitted : (kind : Kind) (records : Records) → None ≡ cause_of kind records → updates_admitted kind (named_sequence kind records) ≡ true

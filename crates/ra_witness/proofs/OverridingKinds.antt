@@ -15,13 +15,13 @@ use Rattle.ra_labels.specs.Specification.{State}
 use Rattle.ra_labels.specs.Fault.{Holds}
 use Rattle.ra_labels.specs.Situation.{Past, past_of, past_with}
 use Rattle.ra_visibility.specs.Order.{IsByTimestamp}
-use Rattle.ra_witness.specs.declared.written.Written.{Written}
+use Rattle.ra_witness.specs.declared.overriding.written.Written.{Written}
 use Rattle.ra_witness.specs.declared.overriding.Overriding.{Overriding}
 use Rattle.ra_witness.specs.Labels.{update_in}
 use Rattle.ra_witness.specs.States.{state_at, update_at, states_after, CanStep}
 use Rattle.ra_witness.specs.Standing.{AreStatesOf}
-use Rattle.ra_witness.specs.Numbers.{number_in, number_with, count_with}
-use Rattle.ra_witness.specs.Overriding.{updates_of, write_at, labels_in, last_label, counting, last_with}
+use Rattle.ra_witness.specs.ElementNumbers.{number_in, number_with, count_with}
+use Rattle.ra_witness.specs.Overriding.{updates_written, write_at, labels_in, last_label, counting, last_with}
 use Rattle.ra_witness.specs.Overridden.{AreWritesOf, AreLastOf, AreBelow}
 use Rattle.ra_witness.specs.Offered.{IsTold}
 use Rattle.ra_witness.specs.Effects.{IsOverridingOf}
@@ -69,33 +69,33 @@ module _ (kept : Overriding) (past : Past) (stands : IsOverridingOf kept past) (
   lasts = labels_in kept.lasts.items
 
   abbrev next_states : List State
-  next_states = states_after kept.states.items to (update_at (updates_of writes) (counting writes lasts to n write))
+  next_states = states_after kept.states.items to (update_at (updates_written writes) (counting writes lasts to n write))
 
   within : to < length lasts
   within = omega (arith, lasts_counted kept past stands, told.replica)
 
   -- the states with the delivery
-  pub states_brought : AreStatesOf (updates_of writes) next_states (past_with past (Deliver to n))
+  pub states_brought : AreStatesOf (updates_written writes) next_states (past_with past (Deliver to n))
   states_brought = by stands.one
     where
       there : to < length kept.states.items
       there = omega (arith, stands.states.replicas, told.replica)
 
-      by : (past.kind ≡ variant.Register) ⊎ (past.kind ≡ variant.LwwSet) → AreStatesOf (updates_of writes) next_states (past_with past (Deliver to n))
+      by : (past.kind ≡ variant.Register) ⊎ (past.kind ≡ variant.LwwSet) → AreStatesOf (updates_written writes) next_states (past_with past (Deliver to n))
       by (inl is) =
-          subst (λ k. AreStatesOf (updates_of writes) next_states (past_of k past.first (Deliver to n ∷ past.records))) (sym is)
+          subst (λ k. AreStatesOf (updates_written writes) next_states (past_of k past.first (Deliver to n ∷ past.records))) (sym is)
           (kept-register writes lasts (numbers_of kept) kept.states.items past.first past.records to n (λ rs l. refl)
-          (subst (λ k. AreStatesOf (updates_of writes) kept.states.items (past_of k past.first past.records)) is stands.states) stands.writes stands.lasts told.stamps
+          (subst (λ k. AreStatesOf (updates_written writes) kept.states.items (past_of k past.first past.records)) is stands.states) stands.writes stands.lasts told.stamps
           (subst (λ k. Holds k past.records) is told.holds) within there (is_new_write writes past.records to n write told.update told.causal.0 found))
       by (inr is) =
-          subst (λ k. AreStatesOf (updates_of writes) next_states (past_of k past.first (Deliver to n ∷ past.records))) (sym is)
+          subst (λ k. AreStatesOf (updates_written writes) next_states (past_of k past.first (Deliver to n ∷ past.records))) (sym is)
           (kept-lww_set writes lasts (numbers_of kept) kept.states.items past.first past.records to n (λ rs l. refl)
-          (subst (λ k. AreStatesOf (updates_of writes) kept.states.items (past_of k past.first past.records)) is stands.states) stands.writes stands.lasts told.stamps
+          (subst (λ k. AreStatesOf (updates_written writes) kept.states.items (past_of k past.first past.records)) is stands.states) stands.writes stands.lasts told.stamps
           (subst (λ k. Holds k past.records) is told.holds) within there (is_new_write writes past.records to n write told.update told.causal.0 found))
 
-  pub can_bring : label_count past.records ≤ 1048576 → CanStep (state_at kept.states.items to) (update_at (updates_of writes) (counting writes lasts to n write))
+  pub can_bring : label_count past.records ≤ 1048576 → CanStep (state_at kept.states.items to) (update_at (updates_written writes) (counting writes lasts to n write))
   can_bring few =
-      can_step (updates_of writes) kept.states.items (past_with past (Deliver to n)) to (update_at (updates_of writes) (counting writes lasts to n write)) states_brought
+      can_step (updates_written writes) kept.states.items (past_with past (Deliver to n)) to (update_at (updates_written writes) (counting writes lasts to n write)) states_brought
       (omega (arith, stands.states.replicas, told.replica)) few
 
   pub overriding_told : (new : Overriding) → new.writes ≡ kept.writes → new.numbers ≡ kept.numbers → vec_len new.lasts ≡ vec_len kept.lasts → new.states.items ≡ next_states
@@ -111,8 +111,8 @@ module _ (kept : Overriding) (past : Past) (stands : IsOverridingOf kept past) (
       record {
         one = stands.one;
         states =
-            subst (λ ws. AreStatesOf (updates_of ws) new.states.items (past_of past.kind past.first now)) (sym its_writes)
-            (subst (λ ss. AreStatesOf (updates_of writes) ss (past_of past.kind past.first now)) (sym states) states_brought);
+            subst (λ ws. AreStatesOf (updates_written ws) new.states.items (past_of past.kind past.first now)) (sym its_writes)
+            (subst (λ ss. AreStatesOf (updates_written writes) ss (past_of past.kind past.first now)) (sym states) states_brought);
         writes =
             subst (λ ws. AreWritesOf ws (numbers_of new) now) (sym its_writes)
             (subst (λ ns. AreWritesOf writes ns now) (sym its_numbers)
@@ -144,8 +144,8 @@ overriding_same old new past stands its_writes states same_count says pointwise 
     record {
       one = stands.one;
       states =
-          subst (λ ws. AreStatesOf (updates_of ws) new.states.items past) (sym its_writes)
-          (subst (λ ss. AreStatesOf (updates_of old.writes.items) ss past) (sym states) stands.states);
+          subst (λ ws. AreStatesOf (updates_written ws) new.states.items past) (sym its_writes)
+          (subst (λ ss. AreStatesOf (updates_written old.writes.items) ss past) (sym states) stands.states);
       writes =
           subst (λ ws. AreWritesOf ws (numbers_of new) past.records) (sym its_writes)
           (subst (λ ns. AreWritesOf old.writes.items ns past.records) (sym its_numbers) stands.writes);

@@ -1,19 +1,13 @@
 -- How many updates of an RGA a delivery settles.
-use Rattle.std.proofs.Common.{◌≡◌, ℕ, ◌+◌, ◌≤◌, Bool, true, false, List, [], ◌∷◌, ◌++◌, length, Option, Some, None, refl, sym, ap, ◌∙◌, subst, arith}
-use Rattle.std.specs.Prelude.{Result, IfOk, Contains, cond, filter, flat_map}
-use Rattle.std.specs.List.{cons_option}
-use Rattle.std.proofs.lemmas.Bool.{false≢true}
-use Rattle.std.proofs.lemmas.Option.{same_Some}
+use Rattle.std.proofs.Common.{◌≡◌, ℕ, ◌+◌, ◌≤◌, Bool, true, List, ◌∷◌, ◌++◌, length, refl, sym, ap, ◌∙◌, subst, arith}
+use Rattle.std.specs.Prelude.{Result, IfOk, Contains}
 use Rattle.std.proofs.lemmas.Result.{IfOk-weaker}
-use Rattle.std.proofs.lemmas.List.Elements.{All-contains, All-contains_itself, Contains-append_right}
-use Rattle.std.proofs.lemmas.List.Sorted.{All-permutation}
+use Rattle.std.proofs.lemmas.List.Elements.{Contains-append_right}
 use Rattle.ra_labels.specs.declared.kind.Kind.TheVariants.{Rga}
-use Rattle.ra_labels.specs.declared.operation.Update.{Update}
 use Rattle.ra_labels.specs.declared.label.Label.{Label}
 use Rattle.ra_labels.specs.declared.command.Command.TheVariants.{Deliver}
-use Rattle.ra_labels.specs.Records.{Records, label_at, labels_of}
+use Rattle.ra_labels.specs.Records.{Records}
 use Rattle.ra_labels.specs.Visibility.{had}
-use Rattle.ra_labels.specs.Rewriting.{Part, parts_of, update_of, updates_of}
 use Rattle.ra_labels.specs.Specification.{is_admitted}
 use Rattle.ra_labels.specs.Linearization.{updates_admitted}
 use Rattle.ra_labels.specs.NamedOrder.{named_labels, named_sequence}
@@ -21,7 +15,7 @@ use Rattle.ra_labels.specs.Insertion.{updates_among, updates_passing, updates_ha
 use Rattle.ra_labels.specs.Waiting.{is_there, needed_by, IsSettled}
 use Rattle.ra_labels.specs.Situation.{Past, past_of}
 use Rattle.ra_labels.proofs.Members.{at_head}
-use Rattle.ra_laws.proofs.TheLaws.{named_labels_are_sorted-same, each_number_has_its_label-found, an_operation_makes_one_update-exactly, a_replica_had_one_more-delivery, a_later_command_leaves_the_updates_that_pass-delivery}
+use Rattle.ra_laws.proofs.TheLaws.{named_labels_are_sorted-among, each_number_has_its_label-one, more_labels_let_no_fewer_updates_pass, an_operation_makes_one_update-exactly, a_replica_had_one_more-delivery, a_later_command_leaves_the_updates_that_pass-delivery}
 use Rattle.ra_laws.proofs.TheLaws.{tests_that_agree_let_the_same_updates_pass, one_more_label_puts_its_update_in-count, settled_updates_are_admitted-same, one_more_label_settles_none_before_it-count}
 use Rattle.ra_witness.specs.declared.rga.Rga as rga
 use Rattle.ra_witness.specs.declared.effects.Effects.{Effects}
@@ -32,47 +26,6 @@ use Rattle.ra_witness.specs.Offered.{IsTold}
 use Rattle.ra_witness.specs.Settled.{SettlesMore}
 use Rattle.ra_witness.proofs.NumberedLabels.{update_found}
 use Rattle.ra_witness.proofs.CommutingKinds.{is_rga}
-
-both_longer : (o : Option Update) (us vs : List Update) → length us ≤ length vs → length (cons_option o us) ≤ length (cons_option o vs)
-both_longer None us vs fewer = fewer
-both_longer (Some u) us vs fewer = omega (arith, fewer)
-
-one_longer : (o : Option Update) (us vs : List Update) → length us ≤ length vs → length us ≤ length (cons_option o vs)
-one_longer None us vs fewer = fewer
-one_longer (Some u) us vs fewer = omega (arith, fewer)
-
-one_fewer : (b c : Bool) (part : Part) (ps qs : List Part) → (b ≡ true → c ≡ true) → length (updates_of ps) ≤ length (updates_of qs)
-    → length (updates_of (cond b (part ∷ ps) ps)) ≤ length (updates_of (cond c (part ∷ qs) qs))
-one_fewer true true part ps qs more fewer = both_longer (update_of part.act) (updates_of ps) (updates_of qs) fewer
-one_fewer true false part ps qs more fewer = absurd (false≢true (more refl))
-one_fewer false true part ps qs more fewer = one_longer (update_of part.act) (updates_of ps) (updates_of qs) fewer
-one_fewer false false part ps qs more fewer = fewer
-
-parts_fewer : (passes others : ℕ → Bool) (parts : List Part) → ((n : ℕ) → passes n ≡ true → others n ≡ true)
-    → length (updates_of (filter (λ p. passes p.label.number) parts)) ≤ length (updates_of (filter (λ p. others p.label.number) parts))
-parts_fewer passes others [] more = omega arith
-parts_fewer passes others (part ∷ parts) more =
-    one_fewer (passes part.label.number) (others part.label.number) part
-    (filter (λ (p : Part). passes p.label.number) parts) (filter (λ (p : Part). others p.label.number) parts)
-    (more part.label.number) (parts_fewer passes others parts more)
-
-passing_fewer : (records : Records) (passes others : ℕ → Bool) → ((n : ℕ) → passes n ≡ true → others n ≡ true)
-    → length (updates_passing Rga records passes) ≤ length (updates_passing Rga records others)
-passing_fewer records passes others more = parts_fewer passes others (flat_map parts_of (named_labels Rga records)) more
-
-in_records : (records : Records) (label : Label) → Contains (named_labels Rga records) label
-    → Contains (labels_of records) label
-in_records records label found =
-    All-contains (Contains (labels_of records)) (named_labels Rga records) label
-    (All-permutation (Contains (labels_of records)) (labels_of records) (named_labels Rga records)
-    (named_labels_are_sorted-same Rga records) (All-contains_itself (labels_of records))) found
-
--- one number, one label
-one_label : (records : Records) (l m : Label) → Contains (labels_of records) l → Contains (labels_of records) m
-    → l.number ≡ m.number → l ≡ m
-one_label records l m l_in m_in is =
-    same_Some l m (sym (each_number_has_its_label-found records l l_in) ∙ ap (label_at records) is
-    ∙ each_number_has_its_label-found records m m_in)
 
 module _ (past : Past) (to n more : ℕ) (rga : past.kind ≡ Rga) (told : IsTold past to n)
     (settles : SettlesMore past.records (Deliver to n) to more) where
@@ -104,9 +57,9 @@ module _ (past : Past) (to n more : ℕ) (rga : past.kind ≡ Rga) (told : IsTol
   few_more before behind it is number =
       let (label, at) = update_found past.records n told.update in
       let named = subst (λ k. named_labels k past.records ≡ before ++ it ∷ behind) rga is in
-      let it_in = in_records past.records it
+      let it_in = (named_labels_are_sorted-among Rga past.records it).0
       (subst (λ ls. Contains ls it) (sym named) (Contains-append_right before (it ∷ behind) it (at_head it behind it refl))) in
-      let same = one_label past.records label it at.there it_in (at.number ∙ sym number) in
+      let same = each_number_has_its_label-one past.records label it at.there it_in (at.number ∙ sym number) in
       let (u, makes) = (an_operation_makes_one_update-exactly label.op).0 at.update in
       let now = subst (λ k. IsSettled past.records (or_label (had past.records to) k) settles.now) (sym number) settled_with_it in
       let count = one_more_label_settles_none_before_it-count past.records (had past.records to) settles.settled settles.now
@@ -137,7 +90,7 @@ module _ (past : Past) (to n more : ℕ) (rga : past.kind ≡ Rga) (told : IsTol
 
   pub some_more : is_admitted past.kind (updates_had past.kind (Deliver to n ∷ past.records) to) ≡ true → 1 ≤ more
   some_more none_waits =
-      let fewer = passing_fewer past.records settles.settled (had past.records to) settles.before.had_them in
+      let fewer = more_labels_let_no_fewer_updates_pass Rga past.records settles.settled (had past.records to) settles.before.had_them in
       omega (arith, counted, ap length (all_settled none_waits), one_more, fewer)
 
   -- where none waited before either, the label alone is

@@ -18,10 +18,10 @@ use Rattle.ra_labels.proofs.Members.{head_or_behind, at_head, behind_head}
 use Rattle.ra_labels.proofs.StampOrder.{below_else}
 use Rattle.ra_laws.proofs.TheLaws.{each_number_has_its_label-found, each_number_has_its_label-none, visibility_is_extended_where_ranks_say_so, a_timestamp_is_the_greatest_seen-own, had_updates-updates, had_updates-there}
 use Rattle.ra_visibility.specs.Order.{IsByTimestamp}
-use Rattle.ra_witness.specs.declared.written.Written.{Written}
+use Rattle.ra_witness.specs.declared.overriding.written.Written.{Written}
 use Rattle.ra_witness.specs.Labels.{updates_by_number}
-use Rattle.ra_witness.specs.Numbers.{element_of, number_in, number_with}
-use Rattle.ra_witness.specs.Overriding.{updates_of, write_at, last_label, last_with}
+use Rattle.ra_witness.specs.ElementNumbers.{element_of, number_in, number_with}
+use Rattle.ra_witness.specs.Overriding.{updates_written, write_at, last_label, last_with}
 use Rattle.ra_witness.specs.Overridden.{IsNumberOf, AreWritesOf, IsLastOn, NoneIsOn, AreLastOf, AreBelow, IsNextWrite}
 use Rattle.ra_witness.proofs.NumberedLabels.{updates_counted, makes_some}
 
@@ -33,11 +33,11 @@ label_below records label there = elim (cases_lt label.number (label_count recor
 ]
 
 -- as many writes as labels
-writes_counted : (writes : List (Option Written)) (records : Records) → updates_of writes ≡ updates_by_number records → length writes ≡ label_count records
+writes_counted : (writes : List (Option Written)) (records : Records) → updates_written writes ≡ updates_by_number records → length writes ≡ label_count records
 writes_counted writes records kept =
     sym (length-map writes (option_map (λ (w : Written). w.update))) ∙ ap length kept ∙ updates_counted records
 
-module _ (writes : List (Option Written)) (records : Records) (by : ℕ) (op : Op) (clock : Option ℕ) (o : Option Written) (kept : updates_of writes ≡ updates_by_number records) where
+module _ (writes : List (Option Written)) (records : Records) (by : ℕ) (op : Op) (clock : Option ℕ) (o : Option Written) (kept : updates_written writes ≡ updates_by_number records) where
   abbrev now : Records
   now = Operate by op clock ∷ records
 
@@ -119,7 +119,7 @@ module _ (writes : List (Option Written)) (records : Records) (by : ℕ) (op : O
 
 -- a query leaves what is kept
 pub writes-query : (writes : List (Option Written)) (number_of : ℕ → Option ℕ) (records : Records) (by : ℕ) (op : Op) (clock : Option ℕ)
-    → updates_of writes ≡ updates_by_number records → AreWritesOf writes number_of records → AreWritesOf (writes ++ None ∷ []) number_of (Operate by op clock ∷ records)
+    → updates_written writes ≡ updates_by_number records → AreWritesOf writes number_of records → AreWritesOf (writes ++ None ∷ []) number_of (Operate by op clock ∷ records)
 writes-query writes number_of records by op clock kept are = record {
   stamps = λ l w there at. elim (head_or_behind (next_label records by op clock) (labels_of records) l there) [
     | inl newest ↦ absurd (none-some w (sym (at_new writes records by op clock None kept) ∙ ap (write_at (writes ++ None ∷ [])) (ap (λ (m : Label). m.number) newest) ∙ at))
@@ -136,7 +136,7 @@ writes-query writes number_of records by op clock kept are = record {
     pushed_none (x ∷ ws) (suc n) w at = pushed_none ws n w at
 
 pub lasts-query : (writes : List (Option Written)) (lasts : List (List (Option ℕ))) (records : Records) (by : ℕ) (op : Op) (clock : Option ℕ)
-    → updates_of writes ≡ updates_by_number records → AreLastOf writes lasts records → AreLastOf (writes ++ None ∷ []) lasts (Operate by op clock ∷ records)
+    → updates_written writes ≡ updates_by_number records → AreLastOf writes lasts records → AreLastOf (writes ++ None ∷ []) lasts (Operate by op clock ∷ records)
 lasts-query writes lasts records by op clock kept last = record {
   some = λ q c k below is. last_still writes records by op clock None kept q c k (λ w none. absurd (none-some w none)) (last.some q c k below is);
   none = λ q c below is. none_still writes records by op clock None kept q c (λ w none. absurd (none-some w none)) (last.none q c below is);
@@ -221,7 +221,7 @@ module _ (number_of : ℕ → Option ℕ) (next : ℕ) (e : Option ℕ) (one : (
 
 -- an update that fits is above all that its replica had
 module _ (kind : Kind) (writes : List (Option Written)) (lasts : List (List (Option ℕ))) (number_of : ℕ → Option ℕ) (count by : ℕ) (op : Op) (clock : Option ℕ) (records : Records) (w : Written)
-    (sorts : IsByTimestamp kind) (kept : updates_of writes ≡ updates_by_number records) (are : AreWritesOf writes number_of records) (below : AreBelow number_of count)
+    (sorts : IsByTimestamp kind) (kept : updates_written writes ≡ updates_by_number records) (are : AreWritesOf writes number_of records) (below : AreBelow number_of count)
     (it : IsNextWrite w number_of count by op clock) (extended : extends_visibility (Operate by op clock ∷ records) (named_sequence kind (Operate by op clock ∷ records)) ≡ true)
     (once : StampsAreOneLabels (Operate by op clock ∷ records)) where
   abbrev now_t : Records

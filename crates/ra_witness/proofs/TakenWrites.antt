@@ -12,14 +12,13 @@ use Rattle.ra_labels.specs.declared.label.Label.{Label}
 use Rattle.ra_labels.specs.Records.{Records, label_count}
 use Rattle.ra_labels.specs.Specification.{Number, start_of}
 use Rattle.ra_labels.specs.Situation.{Past, past_of, Next, operate}
-use Rattle.ra_witness.specs.declared.written.Written.{Written}
+use Rattle.ra_witness.specs.declared.overriding.written.Written.{Written}
 use Rattle.ra_witness.specs.declared.overriding.Overriding.{Overriding}
 use Rattle.ra_witness.specs.Labels.{update_in}
 use Rattle.ra_witness.specs.States.{states_after}
 use Rattle.ra_witness.specs.Standing.{AreStatesOf}
-use Rattle.ra_witness.specs.Last.{label_on}
-use Rattle.ra_witness.specs.Numbers.{element_of, number_with, count_with}
-use Rattle.ra_witness.specs.Overriding.{updates_of, write_of, labels_in, last_label, last_with}
+use Rattle.ra_witness.specs.Overriding.{label_on, updates_written, write_of, labels_in, last_label, last_with}
+use Rattle.ra_witness.specs.ElementNumbers.{element_of, number_with, count_with}
 use Rattle.ra_witness.specs.Overridden.{AreWritesOf, AreLastOf, AreBelow, IsNextWrite}
 use Rattle.ra_witness.specs.Offered.{IsOffered}
 use Rattle.ra_witness.specs.Effects.{IsOverridingOf}
@@ -31,7 +30,7 @@ use Rattle.ra_witness.proofs.OverridingKinds.{by_timestamp, numbers_of, writes_c
 abbrev done_by : Option Written → Option Update
 done_by = option_map (λ written. written.update)
 
-more_updates : (writes : List (Option Written)) (o : Option Written) → updates_of (writes ++ o ∷ []) ≡ updates_of writes ++ done_by o ∷ []
+more_updates : (writes : List (Option Written)) (o : Option Written) → updates_written (writes ++ o ∷ []) ≡ updates_written writes ++ done_by o ∷ []
 more_updates writes o = map-append done_by writes (o ∷ [])
 
 module _ (old new : Overriding) (past : Past) (next : Next) (label : Label)
@@ -61,9 +60,9 @@ module _ (old new : Overriding) (past : Past) (next : Next) (label : Label)
       } in
       let sorts = by_timestamp past.kind stands.one in
       let kept = stands.states.labels in
-      let later = states_taken (updates_of old.writes.items) old.states.items past stands.states next label (not_rga-overriding past.kind stands.one) offered in
-      let its_updates : updates_of new.writes.items ≡ updates_of old.writes.items ++ update_in next.op ∷ [] =
-      ap updates_of its_writes ∙ more_updates old.writes.items (Some write) ∙ ap (λ o. updates_of old.writes.items ++ o ∷ []) does in
+      let later = states_taken (updates_written old.writes.items) old.states.items past stands.states next label (not_rga-overriding past.kind stands.one) offered in
+      let its_updates : updates_written new.writes.items ≡ updates_written old.writes.items ++ update_in next.op ∷ [] =
+      ap updates_written its_writes ∙ more_updates old.writes.items (Some write) ∙ ap (λ o. updates_written old.writes.items ++ o ∷ []) does in
       let its_states : new.states.items ≡ states_after old.states.items next.by (update_in next.op) =
       states ∙ ap (λ r. states_after old.states.items r (Some update)) replica ∙ ap (states_after old.states.items next.by) does in
       let its_numbers : numbers_of new ≡ number_with number_of (element_of update) write.on = λ i x. pointwise x i in
@@ -76,7 +75,7 @@ module _ (old new : Overriding) (past : Past) (next : Next) (label : Label)
       record {
         one = stands.one;
         states = subst (λ us. AreStatesOf us new.states.items (past_of past.kind past.first now)) (sym its_updates)
-            (subst (λ ss. AreStatesOf (updates_of old.writes.items ++ update_in next.op ∷ []) ss (past_of past.kind past.first now)) (sym its_states) later);
+            (subst (λ ss. AreStatesOf (updates_written old.writes.items ++ update_in next.op ∷ []) ss (past_of past.kind past.first now)) (sym its_states) later);
         writes = subst (λ ws. AreWritesOf ws (numbers_of new) now) (sym its_writes)
             (subst (λ ns. AreWritesOf (old.writes.items ++ Some write ∷ []) ns now) (sym its_numbers)
             (writes-update past.kind old.writes.items [] number_of count next.by next.op next.clock past.records write sorts kept stands.writes stands.numbers it offered.fits offered.stamps));
@@ -92,10 +91,10 @@ module _ (old new : Overriding) (past : Past) (next : Next) (label : Label)
   -- with a label that does nothing
   pub overriding_asked : None ≡ update_in next.op → new.writes.items ≡ old.writes.items ++ None ∷ [] → new ≡ record old { writes = new.writes } → IsOverridingOf new (past_of past.kind past.first now)
   overriding_asked does its_writes same =
-      let later = states_taken (updates_of old.writes.items) old.states.items past stands.states next label (not_rga-overriding past.kind stands.one) offered in
+      let later = states_taken (updates_written old.writes.items) old.states.items past stands.states next label (not_rga-overriding past.kind stands.one) offered in
       let kept = stands.states.labels in
-      let its_updates : updates_of new.writes.items ≡ updates_of old.writes.items ++ update_in next.op ∷ [] =
-      ap updates_of its_writes ∙ more_updates old.writes.items None ∙ ap (λ o. updates_of old.writes.items ++ o ∷ []) does in
+      let its_updates : updates_written new.writes.items ≡ updates_written old.writes.items ++ update_in next.op ∷ [] =
+      ap updates_written its_writes ∙ more_updates old.writes.items None ∙ ap (λ o. updates_written old.writes.items ++ o ∷ []) does in
       let stay : new.states.items ≡ old.states.items = ap (λ (o : Overriding). o.states.items) same in
       let its_states : new.states.items ≡ states_after old.states.items next.by (update_in next.op) =
       stay ∙ sym (set-get_or old.states.items next.by (Number (pos 0))) ∙ ap (states_after old.states.items next.by) does in
@@ -104,7 +103,7 @@ module _ (old new : Overriding) (past : Past) (next : Next) (label : Label)
       record {
         one = stands.one;
         states = subst (λ us. AreStatesOf us new.states.items (past_of past.kind past.first now)) (sym its_updates)
-            (subst (λ ss. AreStatesOf (updates_of old.writes.items ++ update_in next.op ∷ []) ss (past_of past.kind past.first now)) (sym its_states) later);
+            (subst (λ ss. AreStatesOf (updates_written old.writes.items ++ update_in next.op ∷ []) ss (past_of past.kind past.first now)) (sym its_states) later);
         writes = subst (λ ws. AreWritesOf ws (numbers_of new) now) (sym its_writes)
             (subst (λ ns. AreWritesOf (old.writes.items ++ None ∷ []) (get nat_eq ns.numbers) now) (sym its_numbers)
             (writes-query old.writes.items (numbers_of old) past.records next.by next.op next.clock kept stands.writes));
@@ -140,7 +139,7 @@ pub overriding_none : (kept : Overriding) (kind : Kind) (replicas : ℕ) → (ki
     → hash_map_len kept.numbers.numbers ≡ 0 → IsOverridingOf kept (past_of kind replicas [])
 overriding_none kept kind replicas one writes states lasts none size = record {
   one = one;
-  states = subst (λ ws. AreStatesOf (updates_of ws) kept.states.items (past_of kind replicas [])) (sym writes)
+  states = subst (λ ws. AreStatesOf (updates_written ws) kept.states.items (past_of kind replicas [])) (sym writes)
       (subst (λ ss. AreStatesOf [] ss (past_of kind replicas [])) (sym states) (none_kept kind replicas));
   writes = subst (λ ws. AreWritesOf ws (numbers_of kept) []) (sym writes) (record {
     stamps = λ label write there at. absurd (omega (arith, there.1));

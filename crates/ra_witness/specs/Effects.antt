@@ -16,7 +16,7 @@ use Rattle.ra_witness.specs.declared.effects.Effects.{Effects}
 use Rattle.ra_witness.specs.declared.effects.Effects.TheVariants.{Commuting, Overriding, Rga}
 use Rattle.ra_witness.specs.Labels.{update_in}
 use Rattle.ra_witness.specs.Standing.{AreStatesOf}
-use Rattle.ra_witness.specs.Overriding.{updates_of, labels_in}
+use Rattle.ra_witness.specs.Overriding.{updates_written, labels_in}
 use Rattle.ra_witness.specs.Overridden.{AreWritesOf, AreLastOf, AreBelow}
 use Rattle.ra_witness.specs.Rga.{IsRgaOf}
 use Rattle.ra_witness.specs.Offered.{IsOffered, IsTold, IsJoinedFrom}
@@ -29,7 +29,7 @@ pub record IsCommutingOf (kept : commuting.Commuting) (past : Past) : Type 0 whe
 -- of a register or an LWW set
 pub record IsOverridingOf (kept : overriding.Overriding) (past : Past) : Type 0 where
   pub one : (past.kind ≡ variant.Register) ⊎ (past.kind ≡ variant.LwwSet)
-  pub states : AreStatesOf (updates_of kept.writes.items) kept.states.items past
+  pub states : AreStatesOf (updates_written kept.writes.items) kept.states.items past
   pub writes : AreWritesOf kept.writes.items (get nat_eq kept.numbers.numbers) past.records
   pub lasts : AreLastOf kept.writes.items (labels_in kept.lasts.items) past.records
   pub replicas : length kept.lasts.items ≡ replicas_of past
@@ -56,7 +56,7 @@ pub record MayMeet (kept : Effects) (label : Label) (acts : List (Half × Act)) 
 
 -- after some past of which this is kept the label is offered, the updates of all labels are admitted with it, and this
 -- is what it does, if anything
-pub record MayTake (kept : Effects) (label : Label) (update : Option Update) : Type 0 where
+pub record MayAdd (kept : Effects) (label : Label) (update : Option Update) : Type 0 where
   pub past : Past
   pub next : Next
   pub stands : AreEffectsOf kept past

@@ -17,13 +17,13 @@ updates_in acts = filter_map (λ act. update_of act.1) acts
 abbrev pub queries_in : List (Half × Act) → List Query
 queries_in acts = filter_map (λ act. query_of act.1) acts
 
-abbrev pub first_of : {A : Type 0} → List A → Option A
-first_of [] = None
-first_of (x ∷ xs) = Some x
+abbrev pub head_of : {A : Type 0} → List A → Option A
+head_of [] = None
+head_of (x ∷ xs) = Some x
 
 -- what the operation does, if anything
 abbrev pub update_in : Op → Option Update
-update_in op = first_of (updates_in (acts_of op))
+update_in op = head_of (updates_in (acts_of op))
 
 -- what each label does, the oldest first
 abbrev pub updates_by_number : Records → List (Option Update)

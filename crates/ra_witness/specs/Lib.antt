@@ -2,8 +2,7 @@ pub mod Sequence
 pub mod Labels
 pub mod States
 pub mod Standing
-pub mod Numbers
-pub mod Last
+pub mod ElementNumbers
 pub mod Overriding
 pub mod Overridden
 pub mod Rga

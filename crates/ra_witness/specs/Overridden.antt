@@ -5,9 +5,9 @@ use Rattle.ra_labels.specs.declared.label.Label.{Label}
 use Rattle.ra_labels.specs.Records.{Records, labels_of, stamp_at}
 use Rattle.ra_labels.specs.Visibility.{had}
 use Rattle.ra_labels.specs.Laws.{IsStampBelow}
-use Rattle.ra_witness.specs.declared.written.Written.{Written}
+use Rattle.ra_witness.specs.declared.overriding.written.Written.{Written}
 use Rattle.ra_witness.specs.Labels.{update_in}
-use Rattle.ra_witness.specs.Numbers.{element_of, number_in}
+use Rattle.ra_witness.specs.ElementNumbers.{element_of, number_in}
 use Rattle.ra_witness.specs.Overriding.{write_at, last_label}
 
 -- the number is that of the element, or of a register's one value

@@ -5,22 +5,21 @@ use Rattle.std.specs.Ordering.{is_lt}
 use Rattle.ra_labels.specs.declared.label.Stamp.{Stamp}
 use Rattle.ra_labels.specs.declared.operation.Update.{Update}
 use Rattle.ra_labels.specs.NamedOrder.{stamp_cmp}
-use Rattle.ra_witness.specs.declared.written.Written.{Written}
-use Rattle.ra_witness.specs.declared.last.Last.{Last}
-use Rattle.ra_witness.specs.declared.numbers.Numbers.{Numbers}
-use Rattle.ra_witness.specs.Numbers.{element_of, number_in}
-use Rattle.ra_witness.specs.Last.{label_on}
+use Rattle.ra_witness.specs.declared.overriding.written.Written.{Written}
+use Rattle.ra_witness.specs.declared.overriding.last_updates.LastUpdates.{LastUpdates}
+use Rattle.ra_witness.specs.declared.overriding.element_numbers.ElementNumbers.{ElementNumbers}
+use Rattle.ra_witness.specs.ElementNumbers.{element_of, number_in}
 use Rattle.std.specs.HashMap.{get, hash_map_len}
 
 -- what each label does
-abbrev pub updates_of : List (Option Written) → List (Option Update)
-updates_of writes = map (option_map (λ written. written.update)) writes
+abbrev pub updates_written : List (Option Written) → List (Option Update)
+updates_written writes = map (option_map (λ written. written.update)) writes
 
 abbrev pub write_at : List (Option Written) → ℕ → Option Written
 write_at writes n = get_or writes n None
 
 -- what is kept of the next label, which does this with this stamp
-abbrev pub write_of : Numbers → Update → Stamp → Written
+abbrev pub write_of : ElementNumbers → Update → Stamp → Written
 write_of numbers update stamp = record {
   update = update;
   stamp = stamp;
@@ -36,8 +35,12 @@ abbrev pub later_of : List (Option Written) → Option ℕ → ℕ → Stamp →
 later_of writes None label stamp = label
 later_of writes (Some other) label stamp = if is_above writes stamp other then other else label
 
+-- the label of the last update on the element
+abbrev pub label_on : List (Option ℕ) → ℕ → Option ℕ
+label_on labels element = get_or labels element None
+
 -- of each replica, for each element the label of the last update on it
-abbrev pub labels_in : List Last → List (List (Option ℕ))
+abbrev pub labels_in : List LastUpdates → List (List (Option ℕ))
 labels_in lasts = map (λ last. last.labels.items) lasts
 
 abbrev pub last_label : List (List (Option ℕ)) → ℕ → ℕ → Option ℕ

@@ -48,7 +48,7 @@ impl Commuting {
     }
 
     /// Takes the next label in, of this replica, which does this, if anything: answers how many steps that took.
-    pub fn take(&mut self, replica: u8, update: Option<Update>) -> Result<u64, NoMemory>
+    pub fn add(&mut self, replica: u8, update: Option<Update>) -> Result<u64, NoMemory>
         requires replica { replica < vec_len self.old.states }
         requires can { CanStep (state_at self.old.states.items replica) update }
         ensures updates { OnOk result (self.new.updates.items ≡ self.old.updates.items ++ update ∷ []) }

@@ -21,7 +21,7 @@ ghost use Rattle.ra_witness.specs.States.{steps_of};
 ghost use Rattle.ra_witness.specs.Settled.{SettlesMore};
 ghost use Rattle.ra_witness.specs.Sequence.{has_query_half};
 ghost use Rattle.ra_witness.specs.Offered.{IsOffered, IsTold, IsJoinedFrom};
-ghost use Rattle.ra_witness.specs.Effects.{AreEffectsOf, IsOverridingOf, MayMeet, MayTake, MayWrite, MayTell, MayShare};
+ghost use Rattle.ra_witness.specs.Effects.{AreEffectsOf, IsOverridingOf, MayMeet, MayAdd, MayWrite, MayTell, MayShare};
 
 use crate::commuting::Commuting;
 use crate::overriding::Overriding;
@@ -89,8 +89,8 @@ impl Effects {
     }
 
     /// Takes the next label in, which does this, if anything: answers how many steps that took, one at most.
-    pub fn take(&mut self, label: &Label, update: Option<Update>) -> Result<u64, NoMemory>
-        requires { MayTake self.old label.now update }
+    pub fn add(&mut self, label: &Label, update: Option<Update>) -> Result<u64, NoMemory>
+        requires { MayAdd self.old label.now update }
         ensures taken { (past : Past) (next : Next) → AreEffectsOf self.old past → IsOffered past next label.now
             → updates_admitted past.kind (named_sequence past.kind (operate next ∷ past.records)) ≡ true
             → update ≡ update_in next.op → OnOk result (AreEffectsOf self.new (past_with past (operate next))) }
@@ -103,9 +103,9 @@ impl Effects {
         ensures same { (past : Past) → AreEffectsOf self.old past → OnErr result (AreEffectsOf self.new past) }
     {
         match self {
-            Effects::Commuting(kept) => kept.take(label.replica, update),
-            Effects::Overriding(kept) => take_write(kept, label, update),
-            Effects::Rga(kept) => kept.take(label),
+            Effects::Commuting(kept) => kept.add(label.replica, update),
+            Effects::Overriding(kept) => add_write(kept, label, update),
+            Effects::Rga(kept) => kept.add(label),
         }
     }
 
@@ -178,7 +178,7 @@ impl Effects {
 }
 
 // Takes the next label of a register or an LWW set in.
-fn take_write(kept: &mut Overriding, label: &Label, update: Option<Update>) -> Result<u64, NoMemory>
+fn add_write(kept: &mut Overriding, label: &Label, update: Option<Update>) -> Result<u64, NoMemory>
     requires { MayWrite kept.old label.now update }
     ensures taken { (past : Past) (next : Next) → IsOverridingOf kept.old past → IsOffered past next label.now
         → update ≡ update_in next.op → OnOk result (IsOverridingOf kept.new (past_with past (operate next))) }
@@ -186,12 +186,12 @@ fn take_write(kept: &mut Overriding, label: &Label, update: Option<Update>) -> R
     ensures same { (past : Past) → IsOverridingOf kept.old past → OnErr result (IsOverridingOf kept.new past) }
 {
     let Some(update) = update else {
-        kept.take_query()?;
+        kept.add_query()?;
         return Ok(0);
     };
     let Some(stamp) = label.stamp else {
         unreachable!()
     };
-    kept.take(label.replica, update, stamp)?;
+    kept.add(label.replica, update, stamp)?;
     Ok(1)
 }

@@ -21,14 +21,14 @@ ghost use Rattle.ra_labels.specs.Laws.{IdentifiersAreOneLabels, StampsAreOneLabe
 ghost use Rattle.ra_labels.specs.Insertion.{updates_had, Makes};
 ghost use Rattle.ra_labels.specs.Situation.{Past, past_of, replicas_of, past_with, Next, operate};
 ghost use Rattle.ra_visibility.specs.Order.{IsByTimestamp, numbers_in};
-ghost use Rattle.ra_witness.specs.Numbers.{element_of, number_with};
+ghost use Rattle.ra_witness.specs.ElementNumbers.{element_of, number_with};
 ghost use Rattle.ra_witness.specs.Sequence.{ref_of, refs_at};
 ghost use Rattle.ra_witness.specs.Labels.{update_in, updates_by_number, cause_in};
 ghost use Rattle.ra_witness.specs.States.{state_at, update_at, states_after};
 ghost use Rattle.ra_witness.specs.Standing.{AreStatesOf};
 ghost use Rattle.ra_witness.specs.Offered.{IsJoinedFrom};
-ghost use Rattle.ra_witness.specs.declared.written.Written.{Written};
-ghost use Rattle.ra_witness.specs.Overriding.{updates_of, write_at, last_label, counting, last_with};
+ghost use Rattle.ra_witness.specs.declared.overriding.written.Written.{Written};
+ghost use Rattle.ra_witness.specs.Overriding.{updates_written, write_at, last_label, counting, last_with};
 ghost use Rattle.ra_witness.specs.Overridden.{AreWritesOf, AreLastOf, IsLastOn, AreBelow, IsNextWrite};
 
 /// Where a new label fits, its update is the last one of those that its replica had.
@@ -88,22 +88,24 @@ pub fn what_is_kept_with_a_join()
 pub fn what_is_kept_with_a_delivery_that_may_be_overridden()
     ensures register { (writes : List (Option Written)) (lasts : List (List (Option ℕ))) (number_of : ℕ → Option ℕ)
         (states : List State) (first : ℕ) (records : Records) (to n : ℕ) (write : Written)
-        → AreStatesOf (updates_of writes) states (past_of Register first records) → AreWritesOf writes number_of records
-        → AreLastOf writes lasts records → StampsAreOneLabels records → Holds Register records
+        → AreStatesOf (updates_written writes) states (past_of Register first records)
+        → AreWritesOf writes number_of records → AreLastOf writes lasts records → StampsAreOneLabels records
+        → Holds Register records
         → to < length lasts → to < length states → is_update_at records n ≡ true → had records to n ≡ false
         → write_at writes n ≡ Some write
-        → let update = update_at (updates_of writes) (counting writes lasts to n write) in
+        → let update = update_at (updates_written writes) (counting writes lasts to n write) in
         let now = past_of Register first (Deliver to n ∷ records) in
-        AreStatesOf (updates_of writes) (states_after states to update) now }
+        AreStatesOf (updates_written writes) (states_after states to update) now }
     ensures lww_set { (writes : List (Option Written)) (lasts : List (List (Option ℕ))) (number_of : ℕ → Option ℕ)
         (states : List State) (first : ℕ) (records : Records) (to n : ℕ) (write : Written)
-        → AreStatesOf (updates_of writes) states (past_of LwwSet first records) → AreWritesOf writes number_of records
-        → AreLastOf writes lasts records → StampsAreOneLabels records → Holds LwwSet records
+        → AreStatesOf (updates_written writes) states (past_of LwwSet first records)
+        → AreWritesOf writes number_of records → AreLastOf writes lasts records → StampsAreOneLabels records
+        → Holds LwwSet records
         → to < length lasts → to < length states → is_update_at records n ≡ true → had records to n ≡ false
         → write_at writes n ≡ Some write
-        → let update = update_at (updates_of writes) (counting writes lasts to n write) in
+        → let update = update_at (updates_written writes) (counting writes lasts to n write) in
         let now = past_of LwwSet first (Deliver to n ∷ records) in
-        AreStatesOf (updates_of writes) (states_after states to update) now }
+        AreStatesOf (updates_written writes) (states_after states to update) now }
 {}
 
 /// The parts of the labels in the named order are the named sequence.
@@ -117,21 +119,21 @@ pub fn the_parts_are_the_named_sequence()
 /// one on its element that its replica had, whose number is as before, or the next one where the element had none.
 pub fn the_last_labels_with_a_label()
     ensures query_writes { (writes : List (Option Written)) (number_of : ℕ → Option ℕ) (records : Records)
-        (next : Next) → updates_of writes ≡ updates_by_number records
+        (next : Next) → updates_written writes ≡ updates_by_number records
         → AreWritesOf writes number_of records → AreWritesOf (writes ++ None ∷ []) number_of (operate next ∷ records) }
     ensures query_lasts { (writes : List (Option Written)) (lasts : List (List (Option ℕ))) (records : Records)
-        (next : Next) → updates_of writes ≡ updates_by_number records → AreLastOf writes lasts records
+        (next : Next) → updates_written writes ≡ updates_by_number records → AreLastOf writes lasts records
         → AreLastOf (writes ++ None ∷ []) lasts (operate next ∷ records) }
     ensures writes { (kind : Kind) (writes : List (Option Written)) (number_of : ℕ → Option ℕ) (count by : ℕ) (op : Op)
         (clock : Option ℕ) (records : Records) (write : Written) → IsByTimestamp kind
-        → updates_of writes ≡ updates_by_number records → AreWritesOf writes number_of records
+        → updates_written writes ≡ updates_by_number records → AreWritesOf writes number_of records
         → AreBelow number_of count → IsNextWrite write number_of count by op clock
         → let now = Operate by op clock ∷ records in extends_visibility now (named_sequence kind now) ≡ true
         → StampsAreOneLabels now → let numbers = number_with number_of (element_of write.update) write.on in
         AreWritesOf (writes ++ Some write ∷ []) numbers now × AreBelow numbers (count + 1) }
     ensures lasts { (kind : Kind) (writes : List (Option Written)) (lasts next : List (List (Option ℕ)))
         (number_of : ℕ → Option ℕ) (count by : ℕ) (op : Op) (clock : Option ℕ) (records : Records) (write : Written)
-        → IsByTimestamp kind → updates_of writes ≡ updates_by_number records → AreWritesOf writes number_of records
+        → IsByTimestamp kind → updates_written writes ≡ updates_by_number records → AreWritesOf writes number_of records
         → AreBelow number_of count → IsNextWrite write number_of count by op clock
         → let now = Operate by op clock ∷ records in extends_visibility now (named_sequence kind now) ≡ true
         → StampsAreOneLabels now → AreLastOf writes lasts records → length next ≡ length lasts

@@ -15,16 +15,13 @@
 mod asked;
 mod commuting;
 mod effects;
-mod last;
 pub mod laws;
-mod numbers;
 mod overriding;
 mod part_ref;
 mod rga;
 mod sequence;
 mod states;
 mod witness;
-mod written;
 
 pub use part_ref::{Half, PartRef};
 pub use witness::Witness;

@@ -8,16 +8,19 @@ ghost use Rattle.ra_seqspec.specs.Asked.{asks_rising};
 ghost use Rattle.ra_rewrite.specs.Parts.{acts_in};
 ghost use Rattle.ra_witness.specs.Labels.{queries_in, cause_in};
 ghost use Rattle.ra_witness.specs.States.{state_at, update_at, after_step, CanStep, states_after};
-ghost use Rattle.ra_witness.specs.Numbers.{element_of, number_in, number_with, count_with};
-ghost use Rattle.ra_witness.specs.Last.{label_on};
-ghost use Rattle.ra_witness.specs.Overriding.{updates_of, write_of, write_at, later_of, is_above, labels_in, last_label, counting, last_with};
-ghost use Rattle.ra_witness.specs.declared.written.Written.{Written};
+ghost use Rattle.ra_witness.specs.ElementNumbers.{element_of, number_in, number_with, count_with};
+ghost use Rattle.ra_witness.specs.Overriding.{label_on, updates_written, write_of, write_at, later_of, is_above, labels_in, last_label, counting, last_with};
+ghost use Rattle.ra_witness.specs.declared.overriding.written.Written.{Written};
+
+mod element_numbers;
+mod last_updates;
+mod written;
 
 use crate::asked;
-use crate::last::{Last, no_lasts};
-use crate::numbers::Numbers;
+use crate::overriding::element_numbers::ElementNumbers;
+use crate::overriding::last_updates::{LastUpdates, no_lasts};
+use crate::overriding::written::Written;
 use crate::states::{copy_state, first_states};
-use crate::written::Written;
 use ra_labels::{Cause, Kind, NoMemory, Stamp, Update};
 use ra_rewrite::Parts;
 use ra_seqspec::State;
@@ -28,11 +31,11 @@ use std::alloc::Global;
 pub struct Overriding {
     /// Of each label what it does, if anything, the oldest first.
     pub writes: Vec<Option<Written>>,
-    pub numbers: Numbers,
+    pub numbers: ElementNumbers,
     /// Of each replica.
     pub states: Vec<State>,
     /// Of each replica, for each element the label of the last update on it that the replica had.
-    pub lasts: Vec<Last>,
+    pub lasts: Vec<LastUpdates>,
 }
 
 impl Overriding {
@@ -51,7 +54,7 @@ impl Overriding {
         match first_states(alloc, kind, replicas) {
             Ok(states) => Ok(Overriding {
                 writes: Vec::new(alloc),
-                numbers: Numbers::new(alloc),
+                numbers: ElementNumbers::new(alloc),
                 states,
                 lasts,
             }),
@@ -69,7 +72,7 @@ impl Overriding {
     }
 
     /// Takes the next label in, which does nothing.
-    pub fn take_query(&mut self) -> Result<(), NoMemory>
+    pub fn add_query(&mut self) -> Result<(), NoMemory>
         ensures writes { OnOk result (self.new.writes.items ≡ self.old.writes.items ++ None ∷ []) }
         ensures err { OnErr result (self.new.writes.items ≡ self.old.writes.items) }
         ensures same { self.new ≡ record self.old { writes = self.new.writes } }
@@ -79,7 +82,7 @@ impl Overriding {
     }
 
     /// Takes the next label in, of this replica, which does this with this stamp, above all that the replica had.
-    pub fn take(&mut self, replica: u8, update: Update, stamp: Stamp) -> Result<(), NoMemory>
+    pub fn add(&mut self, replica: u8, update: Update, stamp: Stamp) -> Result<(), NoMemory>
         requires state { replica < vec_len self.old.states }
         requires last { replica < vec_len self.old.lasts }
         requires few { vec_len self.old.writes < 2 ^ 32 }
@@ -111,7 +114,7 @@ impl Overriding {
         let label = self.writes.len() as u32;
         let on = self.numbers.of(&update);
         self.writes.reserve(1)?;
-        self.numbers.make_room()?;
+        self.numbers.reserve()?;
         let state = &mut self.states[replica as usize];
         let last = &mut self.lasts[replica as usize];
         make_own(state, last, &update, on, label)?;
@@ -127,13 +130,13 @@ impl Overriding {
         requires last { replica < vec_len self.old.lasts }
         requires label { label < vec_len self.old.writes }
         requires can { IfSome (write_at self.old.writes.items label) (λ written.
-            CanStep (state_at self.old.states.items replica) (update_at (updates_of self.old.writes.items)
+            CanStep (state_at self.old.states.items replica) (update_at (updates_written self.old.writes.items)
             (counting self.old.writes.items (labels_in self.old.lasts.items) replica label written))) }
         ensures writes { self.new.writes ≡ self.old.writes }
         ensures numbers { self.new.numbers ≡ self.old.numbers }
         ensures replicas { vec_len self.new.lasts ≡ vec_len self.old.lasts }
         ensures states { IfSome (write_at self.old.writes.items label) (λ written. OnOk result (self.new.states.items
-            ≡ states_after self.old.states.items replica (update_at (updates_of self.old.writes.items)
+            ≡ states_after self.old.states.items replica (update_at (updates_written self.old.writes.items)
             (counting self.old.writes.items (labels_in self.old.lasts.items) replica label written)))) }
         ensures lasts { IfSome (write_at self.old.writes.items label) (λ written. OnOk result ((q c : ℕ)
             → last_label (labels_in self.new.lasts.items) q c
@@ -183,14 +186,14 @@ impl Overriding {
 // The replica gets the label: its update, or that of the last label on its element, is made, whichever stands later.
 fn bring(
     state: &mut State,
-    last: &mut Last,
+    last: &mut LastUpdates,
     writes: &[Option<Written>],
     label: u32,
     written: &Written,
 ) -> Result<(), NoMemory>
-    requires { CanStep state.old (update_at (updates_of writes.now)
+    requires { CanStep state.old (update_at (updates_written writes.now)
         (later_of writes.now (label_on last.old.labels.items written.now.on) label written.now.stamp)) }
-    ensures state { OnOk result (state.new ≡ after_step state.old (update_at (updates_of writes.now)
+    ensures state { OnOk result (state.new ≡ after_step state.old (update_at (updates_written writes.now)
         (later_of writes.now (label_on last.old.labels.items written.now.on) label written.now.stamp))) }
     ensures last { OnOk result ((c : ℕ) → label_on last.new.labels.items c
         ≡ (if c == written.now.on then
@@ -199,7 +202,7 @@ fn bring(
     ensures same_state { OnErr result (state.new ≡ state.old) }
     ensures same_last { OnErr result ((c : ℕ) → label_on last.new.labels.items c ≡ label_on last.old.labels.items c) }
 {
-    last.make_room(written.on)?;
+    last.reserve(written.on)?;
     let later = later_of(writes, last.on(written.on), label, written.stamp);
     make(state, writes, later)?;
     last.put(written.on, later);
@@ -209,7 +212,7 @@ fn bring(
 // The replica makes this update of its own label on the element, as the last one.
 fn make_own(
     state: &mut State,
-    last: &mut Last,
+    last: &mut LastUpdates,
     update: &Update,
     on: u32,
     label: u32,
@@ -221,7 +224,7 @@ fn make_own(
     ensures same_state { OnErr result (state.new ≡ state.old) }
     ensures same_last { OnErr result ((c : ℕ) → label_on last.new.labels.items c ≡ label_on last.old.labels.items c) }
 {
-    last.make_room(on)?;
+    last.reserve(on)?;
     state.apply(update)?;
     last.put(on, label);
     Ok(())
@@ -249,8 +252,8 @@ fn is_above(writes: &[Option<Written>], stamp: Stamp, label: u32) -> bool
 
 // Makes what the label does, if anything.
 fn make(state: &mut State, writes: &[Option<Written>], label: u32) -> Result<(), NoMemory>
-    requires { CanStep state.old (update_at (updates_of writes.now) label) }
-    ensures made { OnOk result (state.new ≡ after_step state.old (update_at (updates_of writes.now) label)) }
+    requires { CanStep state.old (update_at (updates_written writes.now) label) }
+    ensures made { OnOk result (state.new ≡ after_step state.old (update_at (updates_written writes.now) label)) }
     ensures same { OnErr result (state.new ≡ state.old) }
 {
     if let Some(Some(written)) = writes.get(label as usize) {

@@ -118,7 +118,7 @@ impl Rga {
     }
 
     /// Takes the next label in: answers how many steps that took, one at most.
-    pub fn take(&mut self, label: &Label) -> Result<u64, NoMemory>
+    pub fn add(&mut self, label: &Label) -> Result<u64, NoMemory>
         requires { MayGrow self.old label.now }
         ensures taken { (first : ℕ) (records : Records) (next : Next) → IsRgaOf self.old first records
             → IsOffered (past_of kinds.Rga first records) next label.now

@@ -84,7 +84,7 @@ impl<O: NamedOrder> Witness<O> {
             Err(cause) => return Ok(Some(cause)),
         };
         self.order.spare()?;
-        let steps = self.kept.take(label, update)?;
+        let steps = self.kept.add(label, update)?;
         self.order.put(label, seen, place);
         self.steps = self.steps.saturating_add(steps);
         Ok(None)
@@ -151,9 +151,9 @@ impl<O: NamedOrder> Witness<O> {
         self.kept.join(from)
     }
 
-    /// How many updates were made on a replica's state, by calls that changed the witness: the clauses bound this
-    /// number, and that it counts those updates is seen by reading. It takes no memory, and stays at the greatest
-    /// number once there.
+    /// How many updates were made on a replica's state, by calls that changed the witness: the clauses tell this number
+    /// (`counted`; of an RGA `settled`), and that it counts those updates is seen by reading. It takes no memory, and
+    /// stays at the greatest number once there.
     pub fn steps(&self) -> u64
         ensures { result ≡ self.now.steps }
     {

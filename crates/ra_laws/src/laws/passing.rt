@@ -1,5 +1,5 @@
 //! The updates of the labels that pass a test, in the named order.
-ghost use Rattle.std.specs.Prelude.{◌≡◌, true, false, ◌||◌, ℕ, Bool, ◌+◌, List, ◌∷◌, ◌++◌, length, Contains, Option};
+ghost use Rattle.std.specs.Prelude.{◌≡◌, true, false, ◌||◌, ℕ, Bool, ◌+◌, ◌≤◌, List, ◌∷◌, ◌++◌, length, Contains, Option};
 ghost use Rattle.ra_labels.specs.declared.kind.Kind.{Kind};
 ghost use Rattle.ra_labels.specs.declared.kind.Kind.TheVariants.{Rga};
 ghost use Rattle.ra_labels.specs.declared.operation.Op.{Op};
@@ -27,6 +27,13 @@ pub fn tests_that_agree_let_the_same_updates_pass()
     ensures { (kind : Kind) (records : Records) (passes others : ℕ → Bool) → ((label : Label) (update : Update)
         → Contains (labels_of records) label → Makes label.op update → passes label.number ≡ others label.number)
         → updates_passing kind records passes ≡ updates_passing kind records others }
+{}
+
+/// Where more labels pass, no fewer updates do.
+pub fn more_labels_let_no_fewer_updates_pass()
+    ensures { (kind : Kind) (records : Records) (passes others : ℕ → Bool)
+        → ((n : ℕ) → passes n ≡ true → others n ≡ true)
+        → length (updates_passing kind records passes) ≤ length (updates_passing kind records others) }
 {}
 
 /// Of a kind but an RGA, the updates of labels that pass are admitted where those of all labels are, as they are in

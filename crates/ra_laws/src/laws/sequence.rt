@@ -1,15 +1,16 @@
 //! The labels, the named order and the named sequence.
-ghost use Rattle.std.specs.Prelude.{◌≡◌, ◌↔◌, ◌⊎◌, true, ℕ, ◌<◌, ◌≤◌, List, map, reverse, Contains, flat_map, IsPermutation, IsSorted, Some, None};
+ghost use Rattle.std.specs.Prelude.{◌≡◌, ◌↔◌, ◌⊎◌, true, ℕ, ◌<◌, ◌≤◌, ◌∷◌, List, map, reverse, Contains, flat_map, IsPermutation, IsSorted, Some, None};
 ghost use Rattle.ra_labels.specs.declared.kind.Kind.{Kind};
 ghost use Rattle.ra_labels.specs.declared.kind.Kind.TheVariants as kind;
 ghost use Rattle.std.specs.declared.cmp.Ordering.TheVariants.{Less, Equal};
 ghost use Rattle.ra_labels.specs.declared.label.Stamp.{Stamp};
 ghost use Rattle.ra_labels.specs.declared.label.Label.{Label};
+ghost use Rattle.ra_labels.specs.declared.command.Command.{Command};
 ghost use Rattle.ra_labels.specs.contracts.label.StampOrd.TheImpl as derived;
 ghost use Rattle.ra_labels.specs.Records.{Records, label_count, label_at, labels_of};
 ghost use Rattle.ra_labels.specs.Rewriting.{parts_of};
 ghost use Rattle.ra_labels.specs.Linearization.{parts_in, extends_visibility};
-ghost use Rattle.ra_labels.specs.NamedOrder.{stamp_cmp, label_cmp, named_labels, named_sequence, rank_of, lowest_rank};
+ghost use Rattle.ra_labels.specs.NamedOrder.{stamp_cmp, label_cmp, sort_by, named_labels, named_sequence, rank_of, lowest_rank};
 ghost use Rattle.ra_labels.specs.Laws.{numbers_below, IsStampBelow, MustStandBefore};
 
 /// Labels are numbered in turn: the newest by their number less one, the oldest by 0.
@@ -25,6 +26,8 @@ pub fn each_number_has_its_label()
     ensures none { (records : Records) (n : ℕ) → label_count records ≤ n → label_at records n ≡ None }
     ensures found { (records : Records) (label : Label) → Contains (labels_of records) label
         → label_at records label.number ≡ Some label }
+    ensures one { (records : Records) (label other : Label) → Contains (labels_of records) label
+        → Contains (labels_of records) other → label.number ≡ other.number → label ≡ other }
 {}
 
 /// Stamps are ordered by clock, and at one clock by replica.
@@ -55,6 +58,16 @@ pub fn each_part_once()
 pub fn named_labels_are_sorted()
     ensures same { (kind : Kind) (records : Records) → IsPermutation (labels_of records) (named_labels kind records) }
     ensures sorted { (kind : Kind) (records : Records) → IsSorted (label_cmp kind records) (named_labels kind records) }
+    ensures among { (kind : Kind) (records : Records) (label : Label)
+        → Contains (named_labels kind records) label ↔ Contains (labels_of records) label }
+{}
+
+/// A later command leaves the ranks of the labels before it, and their order.
+pub fn a_later_command_leaves_the_order()
+    ensures rank { (kind : Kind) (command : Command) (records : Records) (label : Label)
+        → Contains (labels_of records) label → rank_of kind (command ∷ records) label ≡ rank_of kind records label }
+    ensures labels { (kind : Kind) (command : Command) (records : Records)
+        → sort_by (label_cmp kind (command ∷ records)) (labels_of records) ≡ named_labels kind records }
 {}
 
 /// The labels, each once, in the named order are the named labels: no other list is.

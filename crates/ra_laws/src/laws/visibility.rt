@@ -1,5 +1,5 @@
 //! What a label sees, and what a replica had.
-ghost use Rattle.std.specs.Prelude.{◌≡◌, ◌↔◌, ◌⊎◌, ℕ, ◌<◌, ◌∷◌, ◌++◌, true, Some, None};
+ghost use Rattle.std.specs.Prelude.{◌≡◌, ◌↔◌, ◌⊎◌, ℕ, ◌<◌, ◌∷◌, ◌++◌, true, false, Some, None};
 ghost use Rattle.ra_labels.specs.declared.command.Command.TheVariants.{Deliver};
 ghost use Rattle.ra_labels.specs.Records.{Records, label_count};
 ghost use Rattle.ra_labels.specs.Visibility.{had, is_update_at, sees, first_missing, IsCausal};
@@ -33,6 +33,7 @@ pub fn is_the_same_later()
 pub fn sees_earlier_updates()
     ensures earlier { (records : Records) (n m : ℕ) → sees records n m ≡ true → m < n }
     ensures updates { (records : Records) (n m : ℕ) → sees records n m ≡ true → is_update_at records m ≡ true }
+    ensures itself { (records : Records) (n : ℕ) → sees records n n ≡ false }
 {}
 
 /// What a replica had are updates that are there.
@@ -40,6 +41,7 @@ pub fn had_updates()
     ensures updates { (records : Records) (replica n : ℕ) → had records replica n ≡ true
         → is_update_at records n ≡ true }
     ensures there { (records : Records) (n : ℕ) → is_update_at records n ≡ true → n < label_count records }
+    ensures next { (records : Records) (replica : ℕ) → had records replica (label_count records) ≡ false }
 {}
 
 /// What a replica had it keeps.

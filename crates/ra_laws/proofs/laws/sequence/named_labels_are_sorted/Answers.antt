@@ -1,4 +1,5 @@
 use Rattle.ra_laws.proofs.TheLaws.{named_labels_are_sorted-same, named_labels_are_sorted-sorted}
+use Rattle.ra_laws.proofs.TheLaws.{named_labels_are_sorted-among}
 use Rattle.ra_laws.proofs.laws.sequence.named_labels_are_sorted.Goals as goal
 
 pub returns-clause-same : goal.returns-clause-same
@@ -6,3 +7,6 @@ returns-clause-same c = named_labels_are_sorted-same
 
 pub returns-clause-sorted : goal.returns-clause-sorted
 returns-clause-sorted c = named_labels_are_sorted-sorted
+
+pub returns-clause-among : goal.returns-clause-among
+returns-clause-among c = named_labels_are_sorted-among

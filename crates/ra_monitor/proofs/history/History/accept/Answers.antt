@@ -11,8 +11,8 @@ use Rattle.ra_monitor.proofs.NewRecords.{newest_stands, stands_same, taken_alike
 use Rattle.ra_monitor.proofs.history.History.accept.Goals as goal
 use Rattle.ra_monitor.specs.History.{before_fault}
 
-pub answer-answer-requires : goal.answer-answer-requires
-answer-answer-requires c =
+pub answer_newest-answer-requires : goal.answer_newest-answer-requires
+answer_newest-answer-requires c =
     let r = c.requires in
     let self = c.args.self.now in
     let with_label : History = record {
@@ -20,19 +20,19 @@ answer-answer-requires c =
       replicas = self.replicas;
       tracker = c.issue.new.self;
       witness = self.witness;
-      taken = c.make_room.new.self;
+      taken = c.reserve.new.self;
       fault = self.fault;
     } in
     record {
       past = r.past;
       next = next_of c.args.replica c.args.op.now c.args.clock;
-      newest = newest_stands self with_label r.past (next_of c.args.replica c.args.op.now c.args.clock) c.label_of-label.result c.by-brought.result r.stands r.none
+      newest = newest_stands self with_label r.past (next_of c.args.replica c.args.op.now c.args.clock) c.label_of-label.result c.args.brought r.stands r.none
           (c.in_ok-issue.ensures.stands r.past c.args.op.now c.args.clock r.stands.tracker (sym c.is_update.ensures))
-          (c.label_of-label.ensures.next r.past.records r.stands.labels ∙ ap (λ (o : Op). next_label r.past.records c.args.replica o c.args.clock) c.replace.ensures.value) c.by-brought.ensures refl refl refl refl
-          (taken_alike r.past.records self.taken c.make_room.new.self c.make_room.ensures.stamps c.make_room.ensures.identifiers (taken_known self r.past r.stands r.none))
-          c.make_room.ensures.replicas r.accepted;
+          (c.label_of-label.ensures.next r.past.records r.stands.labels ∙ ap (λ (o : Op). next_label r.past.records c.args.replica o c.args.clock) c.replace.ensures.value) r.brings refl refl refl refl
+          (taken_alike r.past.records self.taken c.reserve.new.self c.reserve.ensures.stamps c.reserve.ensures.identifiers (taken_known self r.past r.stands r.none))
+          c.reserve.ensures.replicas r.accepted;
       few = r.few;
-      room = c.in_ok-make_room.ensures.room;
+      room = c.in_ok-reserve.ensures.room;
     }
 
 pub returns-in-Ok-clause-taken : goal.returns-in-Ok-clause-taken
@@ -43,15 +43,15 @@ returns-in-Ok-clause-taken c = λ past stands none accepted.
       replicas = self.replicas;
       tracker = c.issue.new.self;
       witness = self.witness;
-      taken = c.make_room.new.self;
+      taken = c.reserve.new.self;
       fault = self.fault;
     } in
     c.in-Ok.ensures.answered past (next_of c.args.replica c.args.op.now c.args.clock)
-    (newest_stands self with_label past (next_of c.args.replica c.args.op.now c.args.clock) c.label_of-label.result c.by-brought.result stands none
+    (newest_stands self with_label past (next_of c.args.replica c.args.op.now c.args.clock) c.label_of-label.result c.args.brought stands none
     (c.in_ok-issue.ensures.stands past c.args.op.now c.args.clock stands.tracker (sym c.is_update.ensures))
-    (c.label_of-label.ensures.next past.records stands.labels ∙ ap (λ (o : Op). next_label past.records c.args.replica o c.args.clock) c.replace.ensures.value) c.by-brought.ensures refl refl refl refl
-    (taken_alike past.records self.taken c.make_room.new.self c.make_room.ensures.stamps c.make_room.ensures.identifiers (taken_known self past stands none))
-    c.make_room.ensures.replicas accepted)
+    (c.label_of-label.ensures.next past.records stands.labels ∙ ap (λ (o : Op). next_label past.records c.args.replica o c.args.clock) c.replace.ensures.value) c.requires.brings refl refl refl refl
+    (taken_alike past.records self.taken c.reserve.new.self c.reserve.ensures.stamps c.reserve.ensures.identifiers (taken_known self past stands none))
+    c.reserve.ensures.replicas accepted)
 
 same_tracked : (t u : Tracked) → Some t ≡ Some u → t ≡ u
 same_tracked t u e = cc
@@ -64,6 +64,6 @@ returns-in-Err-clause-err c = λ past stands.
     same_tracked c.withdraw.new.self.now self.tracker.now (c.withdraw.ensures.now ∙ ap (λ t. t.before) c.in-Err.ensures.tracker ∙ c.in_ok-issue.ensures.before) in
     stands_same self _ past stands tracker c.in-Err.ensures.kept
     (c.in-Err.ensures.witness (before_fault past) stands.witness)
-    (rw c.in-Err.ensures.taken (taken_alike before self.taken c.make_room.new.self c.make_room.ensures.stamps c.make_room.ensures.identifiers stands.taken))
-    (ap (λ (t : Taken). vec_len t.clocks) c.in-Err.ensures.taken ∙ c.make_room.ensures.replicas)
+    (rw c.in-Err.ensures.taken (taken_alike before self.taken c.reserve.new.self c.reserve.ensures.stamps c.reserve.ensures.identifiers stands.taken))
+    (ap (λ (t : Taken). vec_len t.clocks) c.in-Err.ensures.taken ∙ c.reserve.ensures.replicas)
     c.in-Err.ensures.fault c.in-Err.ensures.replicas

@@ -1,49 +1,74 @@
-use Rattle.std.proofs.Common.{◌≡◌, ◌∷◌, Some, None, Ok, refl, sym, ap, ◌∙◌, subst, arith}
-use Rattle.std.specs.Prelude.{◌||◌}
-use Rattle.ra_labels.specs.declared.label.Label.{Label}
-use Rattle.ra_labels.specs.Records.{label_count}
-use Rattle.ra_labels.specs.Fault.{cause_of}
-use Rattle.ra_labels.specs.Situation.{operate}
-use Rattle.ra_monitor.specs.declared.brought.Brought.{Brought}
-use Rattle.ra_monitor.specs.Taken.{CanKeep, is_stamp_in, is_identifier_in, has_brought, gives_brought}
-use Rattle.ra_monitor.proofs.TakenLookups.{can_keep, taken_more}
-use Rattle.ra_monitor.proofs.NewRecords.{comes_next, stands_taken, stands_failed, reply_to}
+use Rattle.std.proofs.Common.{sym, ap, ◌∙◌, subst}
+use Rattle.std.specs.Prelude.{IfOk, OnErr}
+use Rattle.ra_labels.specs.declared.command.Command.{Command}
+use Rattle.ra_labels.specs.Answer.{misfit_of}
+use Rattle.ra_monitor.specs.History.{IsAnswered, JoinsRecords, past_in}
 use Rattle.ra_monitor.proofs.history.History.answer.Goals as goal
-use Rattle.ra_laws.proofs.TheLaws.{operations_are_accepted_where_nothing_is_taken}
 
-pub keep-requires : goal.keep-requires
-keep-requires c =
+pub operate-requires : goal.operate-requires
+operate-requires c =
+    let r = c.requires in record {
+      past = past_in c.args.setup.now r.records;
+      stands = r.stands;
+      few = r.few;
+      none = sym r.stands.fault ∙ c.in_default.is;
+      misfit_is = c.fits-misfit.ensures ∙ ap (misfit_of c.args.setup.now.kind) c.in-Operate.is;
+    }
+
+pub deliver-requires : goal.deliver-requires
+deliver-requires c =
     let r = c.requires in
-    let free = (operations_are_accepted_where_nothing_is_taken r.past.kind r.past.first r.past.records r.next.by r.next.op r.next.clock).0 r.newest.accepted in
-    subst (CanKeep c.args.self.now.taken) (sym r.newest.brings) (can_keep c.args.self.now.taken r.next.by r.next.op r.next.clock r.room (omega (arith, free.0, r.newest.places)))
+    record { past = past_in c.args.setup.now r.records; stands = r.stands; none = sym r.stands.fault ∙ c.in_default.is }
 
-pub returns-in-None-clause-answered : goal.returns-in-None-clause-answered
-returns-in-None-clause-answered c = λ past next newest.
-    let self = c.args.self.now in
-    let label = c.args.label.now in
-    let brought = c.args.brought in
-    let is : label.number ≡ label_count past.records = ap (λ (l : Label). l.number) newest.becomes in
-    let comes = comes_next self past next label brought c.vis-seen.result newest c.vis-seen.ensures.seen in
-    let because : None ≡ cause_of past.kind (operate next ∷ past.records) = sym c.in-None.is ∙ c.in_ok-cause.ensures.cause past next newest.witness comes in
-    let witness = c.in_ok-cause.ensures.taken past next newest.witness comes (ap Ok c.in-None.is) in
-    let free = (operations_are_accepted_where_nothing_is_taken past.kind past.first past.records next.by next.op next.clock).0 newest.accepted in
-    let taken = taken_more past.kind self.taken c.keep.new.self past.records next.by next.op next.clock free.1
-    (λ stamp. c.keep.ensures.stamps stamp ∙ ap (λ (b : Brought). has_brought b stamp || is_stamp_in self.taken stamp) newest.brings)
-    (λ identifier. c.keep.ensures.identifiers identifier ∙ ap (λ (b : Brought). gives_brought b identifier || is_identifier_in self.taken identifier) newest.brings)
-    newest.taken in (
-      reply_to past.kind past.records next None label.number newest.none because is,
-      stands_taken self _ past next label brought newest because witness taken c.keep.ensures.replicas refl refl refl refl,
-    )
+pub join-requires : goal.join-requires
+join-requires c =
+    let r = c.requires in
+    record { past = past_in c.args.setup.now r.records; stands = r.stands; none = sym r.stands.fault ∙ c.in_default.is }
 
-pub returns-in-Some-clause-answered : goal.returns-in-Some-clause-answered
-returns-in-Some-clause-answered c = λ past next newest.
-    let self = c.args.self.now in
-    let label = c.args.label.now in
-    let brought = c.args.brought in
-    let is : label.number ≡ label_count past.records = ap (λ (l : Label). l.number) newest.becomes in
-    let comes = comes_next self past next label brought c.vis-seen.result newest c.vis-seen.ensures.seen in
-    let because : Some c.in-Some.cause ≡ cause_of past.kind (operate next ∷ past.records) = sym c.in-Some.is ∙ c.in_ok-cause.ensures.cause past next newest.witness comes in
-    let witness = c.in_ok-cause.ensures.same past newest.witness (λ none. absurd (cc (none, c.in-Some.is))) in (
-      c.no_at.ensures ∙ reply_to past.kind past.records next (Some c.in-Some.cause) label.number newest.none because is,
-      stands_failed self _ past next label brought c.in-Some.cause newest because witness refl refl refl refl refl,
-    )
+pub returns-in-Operate-clause-taken : goal.returns-in-Operate-clause-taken
+returns-in-Operate-clause-taken c = λ records stands.
+    let past = past_in c.args.setup.now records in
+    subst (λ (command : Command). IfOk c.operate.result (IsAnswered c.operate.new.self past command)) (sym c.in-Operate.is)
+    (c.operate.ensures.taken past stands (sym stands.fault ∙ c.in_default.is)
+    (c.fits-misfit.ensures ∙ ap (misfit_of past.kind) c.in-Operate.is))
+
+pub returns-in-Operate-clause-joins : goal.returns-in-Operate-clause-joins
+returns-in-Operate-clause-joins c = λ records stands.
+    let past = past_in c.args.setup.now records in
+    subst (λ (command : Command). OnErr c.operate.result (JoinsRecords past command)) (sym c.in-Operate.is)
+    (c.operate.ensures.joins past stands (sym stands.fault ∙ c.in_default.is)
+    (c.fits-misfit.ensures ∙ ap (misfit_of past.kind) c.in-Operate.is))
+
+pub returns-in-Deliver-clause-taken : goal.returns-in-Deliver-clause-taken
+returns-in-Deliver-clause-taken c = λ records stands.
+    let past = past_in c.args.setup.now records in
+    subst (λ (command : Command). IfOk c.deliver.result (IsAnswered c.deliver.new.self past command)) (sym c.in-Deliver.is)
+    (c.deliver.ensures.taken past stands (sym stands.fault ∙ c.in_default.is))
+
+pub returns-in-Deliver-clause-joins : goal.returns-in-Deliver-clause-joins
+returns-in-Deliver-clause-joins c = λ records stands.
+    let past = past_in c.args.setup.now records in
+    subst (λ (command : Command). OnErr c.deliver.result (JoinsRecords past command)) (sym c.in-Deliver.is)
+    (c.deliver.ensures.joins past stands (sym stands.fault ∙ c.in_default.is))
+
+pub returns-in-Join-clause-taken : goal.returns-in-Join-clause-taken
+returns-in-Join-clause-taken c = λ records stands.
+    let past = past_in c.args.setup.now records in
+    subst (λ (command : Command). IfOk c.join.result (IsAnswered c.join.new.self past command)) (sym c.in-Join.is)
+    (c.join.ensures.taken past stands (sym stands.fault ∙ c.in_default.is))
+
+pub returns-in-Join-clause-joins : goal.returns-in-Join-clause-joins
+returns-in-Join-clause-joins c = λ records stands.
+    let past = past_in c.args.setup.now records in
+    subst (λ (command : Command). OnErr c.join.result (JoinsRecords past command)) (sym c.in-Join.is)
+    (c.join.ensures.joins past stands (sym stands.fault ∙ c.in_default.is))
+
+-- what gave up is as before
+pub returns-in-Operate-clause-err : goal.returns-in-Operate-clause-err
+returns-in-Operate-clause-err c = λ records stands. c.operate.ensures.err (past_in c.args.setup.now records) stands
+
+pub returns-in-Deliver-clause-err : goal.returns-in-Deliver-clause-err
+returns-in-Deliver-clause-err c = λ records stands. c.deliver.ensures.err (past_in c.args.setup.now records) stands
+
+pub returns-in-Join-clause-err : goal.returns-in-Join-clause-err
+returns-in-Join-clause-err c = λ records stands. c.join.ensures.err (past_in c.args.setup.now records) stands

@@ -1,42 +1,50 @@
-use Rattle.std.proofs.Common.{◌≡◌, ◌+◌, List, refl, ap, ◌∙◌, subst}
-use Rattle.std.specs.Prelude.{nat_eq}
-use Rattle.std.specs.HashSet.{contains}
+use Rattle.std.proofs.Common.{◌≡◌, ℕ, refl, sym, ap, ◌∙◌, subst}
+use Rattle.std.specs.Prelude.{IfOk}
+use Rattle.std.proofs.lemmas.Result.{IfOk-weaker}
+use Rattle.ra_labels.proofs.Results.{on_err_any}
+use Rattle.ra_labels.specs.declared.command.Command.{Command}
 use Rattle.ra_labels.specs.declared.command.Command.TheVariants.{Join}
-use Rattle.ra_labels.specs.declared.reply.Reply.TheVariants.{Joined}
-use Rattle.ra_labels.specs.Situation.{past_with, replicas_of}
-use Rattle.ra_visibility.specs.Tracked.{IsVisibilityOf, replicas_in}
-use Rattle.ra_monitor.specs.declared.history.History.{History}
-use Rattle.ra_monitor.specs.Clocks.{Clocks, is_clock_in}
-use Rattle.ra_monitor.specs.Taken.{clocks_at}
-use Rattle.ra_monitor.proofs.NewRecords.{witness_known, stands_joined}
+use Rattle.ra_labels.specs.Situation.{Past, replicas_of, IsAccepted}
+use Rattle.ra_laws.proofs.TheLaws.{joins_are_accepted_with_the_next_number}
+use Rattle.ra_monitor.specs.History.{IsAnswered}
+use Rattle.ra_monitor.proofs.Answered.{refused, accepted, joins}
 use Rattle.ra_monitor.proofs.history.History.join.Goals as goal
 
-pub join-requires-2-after_bounds : goal.join-requires-2-after_bounds
-join-requires-2-after_bounds c κs =
-    let r = c.requires in
-    record { past = r.past; stands = witness_known c.args.self.now r.past r.stands r.none; accepted = r.accepted }
+-- an accepted join makes the next replica
+next_joined : (past : Past) (replica from : ℕ) → IsAccepted past (Join replica from)
+    → Join replica from ≡ Join (replicas_of past) from
+next_joined past replica from is =
+    ap (λ r. Join r from) ((joins_are_accepted_with_the_next_number past.first past.records replica from).0 is).1
 
-pub returns-in-Ok-clause-taken : goal.returns-in-Ok-clause-taken
-returns-in-Ok-clause-taken c = λ past stands none accepted.
-    let old = c.args.self.now in
-    let from = c.args.from in
-    let new : History = record {
-      labels = old.labels;
-      replicas = old.replicas + 1;
-      tracker = c.join.new.self;
-      witness = c.join-2.new.self;
-      taken = c.add_replica.new.self;
-      fault = old.fault;
-    } in
-    let number : replicas_in old.tracker.now ≡ replicas_of past = stands.tracker.replicas in
-    let tracker : IsVisibilityOf c.join.new.self.now (past_with past (Join (replicas_of past) from)) =
-    subst (λ r. IsVisibilityOf c.join.new.self.now (past_with past (Join r from))) number (c.in_ok-joined.ensures.stands past stands.tracker) in (
-      ap Joined (c.in_ok-joined.ensures.number ∙ number),
-      stands_joined old new past (replicas_of past) from stands none tracker
-          (c.in-Ok.ensures.joined past (witness_known old past stands none) accepted)
-          (λ stamp. c.add_replica.ensures.stamps stamp
-          ∙ ap (λ (all : List Clocks). is_clock_in (clocks_at all stamp.replica) stamp.clock) c.make_place.ensures.clocks)
-          (λ identifier. ap (λ taken. contains nat_eq taken identifier) (c.add_replica.ensures.identifiers ∙ c.make_place.ensures.identifiers))
-          (c.add_replica.ensures.replicas ∙ ap (λ k. k + 1) c.make_place.ensures.replicas)
-          refl refl refl,
-    )
+pub add_replica-requires : goal.add_replica-requires
+add_replica-requires c =
+    let r = c.requires in
+    let is = c.refusal_of_join.ensures.first r.past.first r.past.records r.stands.replicas ∙ c.in-None.is in
+    record {
+      past = r.past;
+      stands = r.stands;
+      none = r.none;
+      accepted = subst (IsAccepted r.past) (next_joined r.past c.args.replica c.args.from is) is;
+    }
+
+pub returns-in-Some-clause-taken : goal.returns-in-Some-clause-taken
+returns-in-Some-clause-taken c = λ past stands none.
+    refused past none (Join c.args.replica c.args.from) c.args.self.now c.in-Some.refusal
+    (c.refusal_of_join.ensures.first past.first past.records stands.replicas ∙ c.in-Some.is) stands
+
+pub returns-in-None-clause-taken : goal.returns-in-None-clause-taken
+returns-in-None-clause-taken c = λ past stands none.
+    let join = Join c.args.replica c.args.from in
+    let is = c.refusal_of_join.ensures.first past.first past.records stands.replicas ∙ c.in-None.is in
+    let next = next_joined past c.args.replica c.args.from is in
+    let now = subst (IsAccepted past) next is in
+    subst (λ (command : Command). IfOk c.add_replica.result (IsAnswered c.add_replica.new.self past command)) (sym next)
+    (IfOk-weaker c.add_replica.result _ _
+    (λ reply answered. accepted past none (Join (replicas_of past) c.args.from) c.add_replica.new.self reply refl now
+    answered.0 answered.1)
+    (c.add_replica.ensures.taken past stands none now))
+
+pub returns-in-None-clause-joins : goal.returns-in-None-clause-joins
+returns-in-None-clause-joins c = λ past stands none.
+    on_err_any c.add_replica.result (joins past none (Join c.args.replica c.args.from) refl
+    (c.refusal_of_join.ensures.first past.first past.records stands.replicas ∙ c.in-None.is))

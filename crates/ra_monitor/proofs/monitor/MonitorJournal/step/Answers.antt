@@ -19,8 +19,8 @@ entry_of c = entry_with c c.args.command
 log_is : (c : goal.After-append) → c.append.new.log.items ≡ c.self.inside.log.items ++ entry_of c ∷ []
 log_is c =
     c.append.ensures.items
-    ∙ ap (λ (l : List MonitorEntry). l ++ entry_with c c.take.new.command ∷ []) c.reserve_one.ensures.items
-    ∙ ap (λ (command : Command). c.self.inside.log.items ++ entry_with c command ∷ []) c.take.ensures.command
+    ∙ ap (λ (l : List MonitorEntry). l ++ entry_with c c.answer.new.command ∷ []) c.reserve_one.ensures.items
+    ∙ ap (λ (command : Command). c.self.inside.log.items ++ entry_with c command ∷ []) c.answer.ensures.command
 
 next_is : (c : goal.After-append) → IsNextTicket (monitor_of c.self.inside) c.args.ticket
 next_is c = subst (λ (l : Monitor). IsNextTicket l c.args.ticket) (sym c.self.view_is) c.requires
@@ -34,7 +34,7 @@ invariant_of-self-in-Ok c =
     let m = c.self.inside in
     let stands = (c.in-Ok.ensures.taken (records_of m.setup m.log.items) c.self.invariant.history).1 in
     let room : length m.log.items < m.setup.limit = omega (arith, c.self.invariant.fits, c.len.ensures, c.if-len-self.false, m.log.ok.0) in
-    kept_after m _ (entry_of c) c.self.invariant (next_is c) room (answered c) refl (log_is c) stands c.in-Ok.ensures.one c.take.ensures.replicas (ap (λ (k : ℕ). m.refused + k) c.refusals.ensures)
+    kept_after m _ (entry_of c) c.self.invariant (next_is c) room (answered c) refl (log_is c) stands c.in-Ok.ensures.one c.answer.ensures.replicas (ap (λ (k : ℕ). m.refused + k) c.refusals.ensures)
 
 pub returns-in-Ok-clause-legal : goal.returns-in-Ok-clause-legal
 returns-in-Ok-clause-legal c = rw (log_is c) (legal_after c.self.inside (entry_of c) c.self.invariant (next_is c) (answered c))
@@ -75,7 +75,7 @@ invariant_of-self-in-Err c =
     let records = records_of m.setup m.log.items in
     record {
       replicas = kept.replicas;
-      joined = c.take.ensures.replicas kept.joined;
+      joined = c.answer.ensures.replicas kept.joined;
       limit = kept.limit;
       fits = rw same kept.fits;
       legal = rw same kept.legal;

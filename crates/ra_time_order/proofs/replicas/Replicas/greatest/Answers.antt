@@ -12,8 +12,7 @@ use Rattle.ra_time_order.proofs.replicas.Replicas.greatest.Goals as goal
 
 pub loop-replica-preserved : goal.loop-replica-preserved
 loop-replica-preserved c =
-    greatest_more c.as_slice.result.now _ c.args.self.now.stamps (count_in c.args.seen.now) c.loop-replica.replica
-    c.loop-replica.greatest c.greater-greatest.result c.member-item.result
+    greatest_more _ _ _ (count_in c.args.seen.now) _ _ _ _
     (ap stamps_of c.as_slice.ensures.value ∙ ap (λ (r : Replicas). r.stamps) c.self.view_is)
     c.loop-replica-test.true c.member-item.is c.loop-replica.invariant
     (c.greater-greatest.ensures ∙ ap (greater_of c.loop-replica.greatest)
@@ -37,6 +36,5 @@ returns c =
       arith,
       c.self.invariant.within,
       ap (λ (ss : List (List Stamp)). length ss) is,
-      length-map
-          c.self.inside.members.items (λ (m : Greatest). m.stamps),
+      length-map c.self.inside.members.items (λ (m : Greatest). m.stamps),
     ))

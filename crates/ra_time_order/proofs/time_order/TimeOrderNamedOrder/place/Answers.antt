@@ -3,14 +3,10 @@ use Rattle.ra_time_order.proofs.time_order.TimeOrderNamedOrder.place.Goals as go
 
 pub returns-then-is_past_all : goal.returns-then-is_past_all
 returns-then-is_past_all c = λ past next stands comes.
-    place_past_all c.self.inside.sorted c.self.inside.replicas c.args.self.now c.self.view_is c.args.label.now
-    c.args.seen.now
-    past next stands comes c.len.result c.len.ensures (c.is_past_all.ensures c.if-is_past_all.true)
+    place_past_all c.self.inside.sorted c.self.inside.replicas _ c.self.view_is _ _ past next stands comes _
+    c.len.ensures (c.is_past_all.ensures c.if-is_past_all.true)
 
 pub returns : goal.returns
 returns c = λ past next stands comes.
-    place_found c.self.inside.sorted c.self.inside.replicas c.args.self.now c.self.view_is c.args.label.now
-    c.args.seen.now
-    c.greatest-greatest.result c.unwrap_or-rank.result c.greatest-greatest.ensures c.unwrap_or-rank.ensures past next
-    stands comes
-    c.position.result c.is_at_most.result c.position.ensures.split c.is_at_most.ensures
+    place_found c.self.inside.sorted c.self.inside.replicas _ c.self.view_is _ _ _ _ c.greatest-greatest.ensures
+    c.unwrap_or-rank.ensures past next stands comes _ _ c.position.ensures.split c.is_at_most.ensures

@@ -1,5 +1,5 @@
 use Rattle.std.proofs.Common.{◌∙◌}
-use Rattle.ra_witness.specs.Overriding.{updates_of}
+use Rattle.ra_witness.specs.Overriding.{updates_written}
 use Rattle.ra_witness.proofs.CommutingKinds.{is_commuting, is_overriding, not_rga-commuting, not_rga-overriding, cause_known}
 use Rattle.ra_witness.proofs.effects.Effects.cause.Goals as goal
 
@@ -15,4 +15,4 @@ returns-in-Overriding c = λ past next stands offered acts.
     let kept = c.in-Overriding.kept in
     let known = is_overriding c.args.self.now past stands kept c.in-Overriding.is in
     c.cause-in-Overriding.ensures
-    ∙ cause_known (updates_of kept.writes.items) kept.states.items past known.states next c.args.label.now _ (not_rga-overriding past.kind known.one) offered acts
+    ∙ cause_known (updates_written kept.writes.items) kept.states.items past known.states next c.args.label.now _ (not_rga-overriding past.kind known.one) offered acts

@@ -31,8 +31,8 @@ returns-in-Err-clause-cause g c = λ past next stands comes.
     c.in-Err.ensures.cause past next stands.kept offered
     (c.in_ok-parts.ensures.acts ∙ same_op c.args.label.now past.records next comes.becomes)
 
-pub take-requires : goal.take-requires
-take-requires g c =
+pub add-requires : goal.add-requires
+add-requires g c =
     let may = c.requires in
     let is = c.place-place.ensures may.past may.next may.stands.order may.comes in
     let acts = c.in_ok-parts.ensures.acts ∙ same_op c.args.label.now may.past.records may.next may.comes.becomes in

@@ -1,0 +1,49 @@
+use Rattle.std.proofs.Common.{◌≡◌, ◌∷◌, Some, None, Ok, refl, sym, ap, ◌∙◌, subst, arith}
+use Rattle.std.specs.Prelude.{◌||◌}
+use Rattle.ra_labels.specs.declared.label.Label.{Label}
+use Rattle.ra_labels.specs.Records.{label_count}
+use Rattle.ra_labels.specs.Fault.{cause_of}
+use Rattle.ra_labels.specs.Situation.{operate}
+use Rattle.ra_monitor.specs.declared.taken.brought.Brought.{Brought}
+use Rattle.ra_monitor.specs.Taken.{CanKeep, is_stamp_in, is_identifier_in, has_brought, gives_brought}
+use Rattle.ra_monitor.proofs.TakenLookups.{can_keep, taken_more}
+use Rattle.ra_monitor.proofs.NewRecords.{comes_next, stands_taken, stands_failed, reply_to}
+use Rattle.ra_monitor.proofs.history.History.answer_newest.Goals as goal
+use Rattle.ra_laws.proofs.TheLaws.{operations_are_accepted_where_nothing_is_taken}
+
+pub keep-requires : goal.keep-requires
+keep-requires c =
+    let r = c.requires in
+    let free = (operations_are_accepted_where_nothing_is_taken r.past.kind r.past.first r.past.records r.next.by r.next.op r.next.clock).0 r.newest.accepted in
+    subst (CanKeep c.args.self.now.taken) (sym r.newest.brings) (can_keep c.args.self.now.taken r.next.by r.next.op r.next.clock r.room (omega (arith, free.0, r.newest.places)))
+
+pub returns-in-None-clause-answered : goal.returns-in-None-clause-answered
+returns-in-None-clause-answered c = λ past next newest.
+    let self = c.args.self.now in
+    let label = c.args.label.now in
+    let brought = c.args.brought in
+    let is : label.number ≡ label_count past.records = ap (λ (l : Label). l.number) newest.becomes in
+    let comes = comes_next self past next label brought c.vis-seen.result newest c.vis-seen.ensures.seen in
+    let because : None ≡ cause_of past.kind (operate next ∷ past.records) = sym c.in-None.is ∙ c.in_ok-cause.ensures.cause past next newest.witness comes in
+    let witness = c.in_ok-cause.ensures.taken past next newest.witness comes (ap Ok c.in-None.is) in
+    let free = (operations_are_accepted_where_nothing_is_taken past.kind past.first past.records next.by next.op next.clock).0 newest.accepted in
+    let taken = taken_more past.kind self.taken c.keep.new.self past.records next.by next.op next.clock free.1
+    (λ stamp. c.keep.ensures.stamps stamp ∙ ap (λ (b : Brought). has_brought b stamp || is_stamp_in self.taken stamp) newest.brings)
+    (λ identifier. c.keep.ensures.identifiers identifier ∙ ap (λ (b : Brought). gives_brought b identifier || is_identifier_in self.taken identifier) newest.brings)
+    newest.taken in (
+      reply_to past.kind past.records next None label.number newest.none because is,
+      stands_taken self _ past next label brought newest because witness taken c.keep.ensures.replicas refl refl refl refl,
+    )
+
+pub returns-in-Some-clause-answered : goal.returns-in-Some-clause-answered
+returns-in-Some-clause-answered c = λ past next newest.
+    let self = c.args.self.now in
+    let label = c.args.label.now in
+    let brought = c.args.brought in
+    let is : label.number ≡ label_count past.records = ap (λ (l : Label). l.number) newest.becomes in
+    let comes = comes_next self past next label brought c.vis-seen.result newest c.vis-seen.ensures.seen in
+    let because : Some c.in-Some.cause ≡ cause_of past.kind (operate next ∷ past.records) = sym c.in-Some.is ∙ c.in_ok-cause.ensures.cause past next newest.witness comes in
+    let witness = c.in_ok-cause.ensures.same past newest.witness (λ none. absurd (cc (none, c.in-Some.is))) in (
+      c.no_at.ensures ∙ reply_to past.kind past.records next (Some c.in-Some.cause) label.number newest.none because is,
+      stands_failed self _ past next label brought c.in-Some.cause newest because witness refl refl refl refl refl,
+    )

@@ -1,7 +1,0 @@
-use Rattle.std.proofs.Common.{◌≡◌, [], replicate}
-use Rattle.ra_witness.specs.Overriding.{labels_in}
-use Rattle.ra_witness.proofs.last.no_lasts.Given as goal
-
--- what there is of the replicas so far
-abbrev pub invariant-loop : goal.invariant-loop
-invariant-loop l = labels_in l.lasts.items ≡ replicate l.counter []
