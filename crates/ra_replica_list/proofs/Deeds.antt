@@ -1,32 +1,24 @@
 -- Deeds, and the labels that do them.
 use Rattle.std.proofs.Common.{◌≡◌, ℕ, ◌<◌, ◌≤◌, Bool, true, false, List, length, Option, Some, None, refl, sym, ap, ◌∙◌, subst, inl, inr, arith}
-use Rattle.std.specs.Prelude.{◌==◌, ◌||◌, Contains}
+use Rattle.std.specs.Prelude.{◌==◌, ◌||◌}
 use Rattle.std.proofs.lemmas.Bool.{eq-eqb, ne_eqb, eqb-true, cases_eq, cases_lt, or_from}
-use Rattle.std.proofs.lemmas.Option.{none-some, same_Some}
+use Rattle.std.proofs.lemmas.Option.{none-some}
 use Rattle.std.proofs.lemmas.List.{get_or_past}
 use Rattle.ra_labels.specs.declared.kind.Kind.TheVariants.{Rga}
-use Rattle.ra_labels.specs.declared.label.Label.{Label}
-use Rattle.ra_labels.specs.Records.{Records, label_at, labels_of}
+use Rattle.ra_labels.specs.Records.{Records}
 use Rattle.ra_labels.specs.Specification.{Listed}
 use Rattle.ra_labels.specs.Linearization.{updates_admitted}
 use Rattle.ra_labels.specs.NamedOrder.{named_sequence}
 use Rattle.ra_labels.specs.Insertion.{updates_passing, or_label}
 use Rattle.ra_labels.specs.Waiting.{puts_in, is_there, needed_by}
 use Rattle.ra_labels.proofs.InLists.{bool_same}
-use Rattle.ra_laws.proofs.TheLaws.{each_number_has_its_label-found, an_element_is_put_in_by_one_label-other, an_element_is_there_where_its_label_passes-label, updates_admitted_where_they_lead_to_a_state, one_more_label_puts_its_update_in-there}
+use Rattle.ra_laws.proofs.TheLaws.{an_element_is_put_in_by_one_label-other, an_element_is_there_where_its_label_passes-label, updates_admitted_where_they_lead_to_a_state, one_more_label_puts_its_update_in-there}
 use Rattle.ra_element_list.specs.ElementList.{Arrival, ElementList, arrival_at, is_marked}
 use Rattle.ra_replica_list.specs.declared.deed.Deed.{Deed}
 use Rattle.ra_replica_list.specs.declared.deed.Deed.TheVariants.{PutsIn, Removes}
 use Rattle.ra_replica_list.specs.Deeds.{deed_at, element_at, number_of, needed_number, update_of, AreElementsOf, AreDeedsOf}
 use Rattle.ra_replica_list.specs.ReplicaList.{AreThere}
 use Rattle.ra_replica_list.specs.Freed.{puts}
-
--- labels with one number are one
-pub same_label : (records : Records) (l m : Label) → Contains (labels_of records) l → Contains (labels_of records) m
-    → l.number ≡ m.number → l ≡ m
-same_label records l m l_in m_in is =
-    same_Some l m (sym (each_number_has_its_label-found records l l_in) ∙ ap (label_at records) is
-    ∙ each_number_has_its_label-found records m m_in)
 
 -- a label that does something is there
 pub deed_there : (deeds : List (Option Deed)) (n : ℕ) (deed : Deed) → deed_at deeds n ≡ Some deed → n < length deeds

@@ -1,18 +1,15 @@
 -- A label that is delivered.
 use Rattle.std.proofs.Common.{◌≡◌, ℕ, ◌+◌, Bool, true, false, List, ◌∷◌, length, Option, Some, sym, ap, ◌∙◌, subst}
-use Rattle.std.specs.Prelude.{Contains}
 use Rattle.std.specs.Option.{option_map_or}
-use Rattle.std.proofs.lemmas.List.Elements.{All-contains, All-contains_itself}
-use Rattle.std.proofs.lemmas.List.Sorted.{All-permutation}
 use Rattle.ra_labels.specs.declared.kind.Kind.TheVariants.{Rga}
 use Rattle.ra_labels.specs.declared.label.Stamp.{Stamp}
 use Rattle.ra_labels.specs.declared.label.Label.{Label}
 use Rattle.ra_labels.specs.declared.command.Command.TheVariants.{Deliver}
-use Rattle.ra_labels.specs.Records.{Records, labels_of}
+use Rattle.ra_labels.specs.Records.{Records}
 use Rattle.ra_labels.specs.Visibility.{is_update, is_update_at, had}
-use Rattle.ra_labels.specs.NamedOrder.{greater_of, named_labels}
+use Rattle.ra_labels.specs.NamedOrder.{greater_of}
 use Rattle.ra_labels.specs.Insertion.{or_label}
-use Rattle.ra_laws.proofs.TheLaws.{named_labels_are_sorted-same, each_number_has_its_label-found, an_operation_makes_one_update-exactly, a_replica_had_one_more-delivery, a_later_command_leaves_the_updates_that_pass-delivery}
+use Rattle.ra_laws.proofs.TheLaws.{each_number_has_its_label-found, an_operation_makes_one_update-exactly, a_replica_had_one_more-delivery, a_later_command_leaves_the_updates_that_pass-delivery}
 use Rattle.ra_element_list.specs.ElementList.{ElementList, arrival_at}
 use Rattle.ra_replica_list.specs.declared.deed.Deed.{Deed}
 use Rattle.ra_replica_list.specs.declared.deed.Deed.TheVariants.{PutsIn, Removes}
@@ -21,13 +18,6 @@ use Rattle.ra_replica_list.specs.ReplicaList.{ReplicaList, IsGreatestOf, IsListO
 use Rattle.ra_replica_list.specs.Freed.{IsListWithAfter}
 use Rattle.ra_replica_list.proofs.AlikeLists.{kept_alike, kept_delivered, greatest_alike, greatest_delivered}
 use Rattle.ra_replica_list.proofs.Greatest.{greatest_with, greatest_without}
-
-pub in_named : (records : Records) (label : Label) → Contains (named_labels Rga records) label
-    → Contains (labels_of records) label
-in_named records label found =
-    All-contains (Contains (labels_of records)) (named_labels Rga records) label
-    (All-permutation (Contains (labels_of records)) (labels_of records) (named_labels Rga records)
-    (named_labels_are_sorted-same Rga records) (All-contains_itself (labels_of records))) found
 
 -- a label that does something is an update
 pub does_update : {all : ElementList} {deeds : List (Option Deed)} {records : Records} → AreElementsOf all deeds records

@@ -11,9 +11,9 @@ use Rattle.ra_labels.specs.NamedOrder.{stamp_cmp, greater_of}
 use Rattle.ra_labels.specs.Laws.{IsStampBelow}
 use Rattle.ra_labels.specs.Insertion.{or_label}
 use Rattle.ra_labels.proofs.StampOrder.{below_tested, not_below_tested, below_below, not_below_itself}
+use Rattle.ra_laws.proofs.TheLaws.{each_number_has_its_label-one}
 use Rattle.ra_replica_list.specs.ReplicaList.{IsGreatestOf}
 use Rattle.ra_replica_list.proofs.NoneTwice.{it_passes, still_passes, passes_or_is}
-use Rattle.ra_replica_list.proofs.Deeds.{same_label}
 
 -- with one more label
 module _ (records : Records) (had : ℕ → Bool) (greatest stamp : Stamp) (label : Label)
@@ -30,7 +30,7 @@ module _ (records : Records) (had : ℕ → Bool) (greatest stamp : Stamp) (labe
                 less)
             | inr it ↦
                 not_below_itself stamp t (same_Some stamp t (sym is
-                ∙ sym (ap (λ (k : Label). k.stamp) (same_label records l label l_in there it)) ∙ t_is))
+                ∙ sym (ap (λ (k : Label). k.stamp) (each_number_has_its_label-one records l label l_in there it)) ∙ t_is))
           ];
           own = inr (label, there, it_passes had label.number label.number refl, is);
         })
@@ -41,7 +41,7 @@ module _ (records : Records) (had : ℕ → Bool) (greatest stamp : Stamp) (labe
             | inl old ↦ top.above l t l_in old t_is
             | inr it ↦
                 let same : stamp ≡ t =
-                same_Some stamp t (sym is ∙ sym (ap (λ (k : Label). k.stamp) (same_label records l label l_in there it))
+                same_Some stamp t (sym is ∙ sym (ap (λ (k : Label). k.stamp) (each_number_has_its_label-one records l label l_in there it))
                 ∙ t_is) in
                 subst (λ (u : Stamp). ¬ IsStampBelow greatest u) same (not_below_tested greatest stamp not)
           ];
@@ -57,7 +57,7 @@ module _ (records : Records) (had : ℕ → Bool) (greatest stamp : Stamp) (labe
     above = λ l t l_in had_it t_is. elim (passes_or_is had label.number l.number had_it) [
       | inl old ↦ top.above l t l_in old t_is
       | inr it ↦
-          absurd (none-some t (sym is ∙ sym (ap (λ (k : Label). k.stamp) (same_label records l label l_in there it))
+          absurd (none-some t (sym is ∙ sym (ap (λ (k : Label). k.stamp) (each_number_has_its_label-one records l label l_in there it))
           ∙ t_is))
     ];
     own = elim top.own [

@@ -11,6 +11,7 @@ use Rattle.ra_labels.specs.NamedOrder.{named_sequence}
 use Rattle.ra_labels.specs.Laws.{NoneHadBeyond}
 use Rattle.ra_labels.specs.Insertion.{Makes}
 use Rattle.ra_laws.proofs.TheLaws.{a_new_replica_had_what_the_other_had-labels, a_later_command_leaves_the_updates_that_pass-operation}
+use Rattle.ra_laws.proofs.TheLaws.{had_updates-next}
 use Rattle.ra_element_list.specs.ElementList.{Arrival, ElementList}
 use Rattle.ra_replica_list.specs.declared.deed.Deed.{Deed}
 use Rattle.ra_replica_list.specs.declared.deed.Deed.TheVariants.{PutsIn, Removes}
@@ -19,7 +20,7 @@ use Rattle.ra_replica_list.specs.ReplicaList.{ReplicaList, IsListOf, IsListBy, s
 use Rattle.ra_replica_list.proofs.Deeds.{deeds_stand}
 use Rattle.ra_replica_list.proofs.AlikeLists.{kept_alike, kept_delivered, kept_joined, greatest_alike, greatest_delivered, greatest_joined}
 use Rattle.ra_replica_list.proofs.HadLabels.{not_settled}
-use Rattle.ra_replica_list.proofs.NewMarks.{not_had, had_by_other, had_no_query, had_to_other, had_by_new, none_longer, kept_known, greatest_known}
+use Rattle.ra_replica_list.proofs.NewMarks.{had_by_other, had_no_query, had_to_other, had_by_new, none_longer, kept_known, greatest_known}
 use Rattle.ra_replica_list.proofs.NewDeeds.{needed_same, first_same, longer_by_one}
 
 -- with a label that was not had: it puts in an element, or does something else
@@ -58,7 +59,7 @@ pub insertion-stays : (list : ReplicaList) (all : ElementList) (new : Arrival) (
     (operate next ∷ records) replica
 insertion-stays list all new deeds records replica next stand held other makes admitted =
     known_insertion next new (Some (PutsIn (length all.arrivals))) (had (operate next ∷ records) replica) stand held
-    (not_had records replica) makes admitted (had_by_other records next replica other)
+    (had_updates-next records replica) makes admitted (had_by_other records next replica other)
 
 pub removal-stays : (list : ReplicaList) (all : ElementList) (deeds : List (Option Deed)) (records : Records)
     (replica number : ℕ) (next : Next) → AreElementsOf all deeds records
@@ -66,7 +67,7 @@ pub removal-stays : (list : ReplicaList) (all : ElementList) (deeds : List (Opti
     → ¬ (next.by ≡ replica) → IsListOf list all.arrivals (deeds ++ Some (Removes number) ∷ []) (operate next ∷ records)
     replica
 removal-stays list all deeds records replica number next stand held other =
-    known_other next (Some (Removes number)) (had (operate next ∷ records) replica) stand held (not_had records replica)
+    known_other next (Some (Removes number)) (had (operate next ∷ records) replica) stand held (had_updates-next records replica)
     (had_by_other records next replica other)
 
 pub query-stays : (list : ReplicaList) (all : ElementList) (deeds : List (Option Deed)) (records : Records)
@@ -76,10 +77,10 @@ pub query-stays : (list : ReplicaList) (all : ElementList) (deeds : List (Option
     × (settled_count is ≡ settled_count was)
 unfolding known_other
 query-stays list all deeds records replica next stand held query = (
-  known_other next None (had (operate next ∷ records) replica) stand held (not_had records replica)
+  known_other next None (had (operate next ∷ records) replica) stand held (had_updates-next records replica)
       (had_no_query records next replica query),
   ap length (a_later_command_leaves_the_updates_that_pass-operation Rga records next.by next.op next.clock held.settled
-      (not_settled held.kept (label_count records) (not_had records replica))),
+      (not_settled held.kept (label_count records) (had_updates-next records replica))),
 )
 
 pub delivery-stays : (list : ReplicaList) (all : ElementList) (deeds : List (Option Deed)) (records : Records)

@@ -1,7 +1,7 @@
 -- One more label that is there, and was not had.
 use Rattle.std.proofs.Common.{◌≡◌, ℕ, ◌<◌, ◌≤◌, Bool, true, false, List, [], ◌∷◌, ◌++◌, length, Option, Some, None, refl, sym, ap, ◌∙◌, subst, inl, inr, arith}
 use Rattle.std.specs.Prelude.{◌==◌, ◌&&◌, ◌||◌, Contains}
-use Rattle.std.proofs.lemmas.Bool.{false≢true, cases_lt, ne_eqb, false_from_ne_true, and_right}
+use Rattle.std.proofs.lemmas.Bool.{false≢true, cases_lt, ne_eqb, and_right}
 use Rattle.std.proofs.lemmas.List.{get_or_append_left, length-append}
 use Rattle.ra_labels.specs.declared.kind.Kind.TheVariants.{Rga}
 use Rattle.ra_labels.specs.declared.label.Stamp.{Stamp}
@@ -14,7 +14,7 @@ use Rattle.ra_labels.specs.Specification.{State, state_after}
 use Rattle.ra_labels.specs.Insertion.{updates_passing}
 use Rattle.ra_labels.specs.Waiting.{is_there}
 use Rattle.ra_labels.proofs.Members.{head_or_behind, behind_head}
-use Rattle.ra_laws.proofs.TheLaws.{had_updates-updates, had_updates-there, settled_labels_stay_settled-operation, a_later_command_leaves_the_updates_that_pass-operation}
+use Rattle.ra_laws.proofs.TheLaws.{settled_labels_stay_settled-operation, a_later_command_leaves_the_updates_that_pass-operation}
 use Rattle.ra_element_list.specs.ElementList.{Arrival}
 use Rattle.ra_replica_list.specs.declared.deed.Deed.{Deed}
 use Rattle.ra_replica_list.specs.Waiting.{labels_under}
@@ -23,15 +23,6 @@ use Rattle.ra_replica_list.specs.ReplicaList.{IsListWith, IsGreatestOf}
 use Rattle.ra_replica_list.proofs.NoneTwice.{not_both}
 use Rattle.ra_replica_list.proofs.Deeds.{deed_there}
 use Rattle.ra_replica_list.proofs.HadLabels.{not_settled}
-
--- no replica had a label that is not there
-pub not_had : (records : Records) (replica : ℕ) → had records replica (label_count records) ≡ false
-not_had records replica = false_from_ne_true (had records replica (label_count records)) (λ it.
-    omega (
-      arith,
-      had_updates-there records (label_count records)
-          (had_updates-updates records replica (label_count records) it),
-    ))
 
 or_same : (a b : Bool) → a ≡ false → (a || b) ≡ b
 or_same false b is = refl

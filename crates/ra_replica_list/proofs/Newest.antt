@@ -19,9 +19,9 @@ use Rattle.ra_labels.specs.Insertion.{Makes}
 use Rattle.ra_labels.proofs.Members.{in_piece, reached}
 use Rattle.ra_labels.proofs.Parts.{extends-behind, is_before}
 use Rattle.ra_laws.proofs.TheLaws.{a_new_label_leaves_the_order_of_the_others, had_updates-updates, each_number_has_its_label-found, an_operation_makes_one_update-exactly}
+use Rattle.ra_laws.proofs.TheLaws.{named_labels_are_sorted-among}
 use Rattle.ra_replica_list.proofs.NoneTwice.{not_both}
 use Rattle.ra_replica_list.proofs.Ranks.{sees_had}
-use Rattle.ra_replica_list.proofs.Deliveries.{in_named}
 
 -- the label is behind all others that the replica had
 pub record IsLastOf (records : Records) (next : Next) : Type 0 where
@@ -50,7 +50,7 @@ newest_is_last records next u makes extended =
       behind = behind;
       named = is;
       none_had = λ other found. false_from_ne_true (had records next.by other.number) (λ it.
-          let old : Contains (labels_of records) other = in_named records other
+          let old : Contains (labels_of records) other = (named_labels_are_sorted-among Rga records other).0
           (subst (λ (ls : List Label). Contains ls other) (sym was)
           (Contains-append_right before behind other found)) in
           let updates : is_update other.op ≡ true =

@@ -15,6 +15,7 @@ use Rattle.ra_labels.specs.NamedOrder.{greater_of, named_sequence}
 use Rattle.ra_labels.specs.Insertion.{updates_passing, or_label, Makes}
 use Rattle.ra_labels.proofs.Members.{at_head}
 use Rattle.ra_laws.proofs.TheLaws.{what_is_settled_does_not_wait, an_operation_makes_one_update-exactly, a_replica_had_one_more-operation, a_label_behind_all_that_pass_is_one_step, a_later_command_leaves_the_updates_that_pass-operation}
+use Rattle.ra_laws.proofs.TheLaws.{had_updates-next}
 use Rattle.ra_element_list.specs.ElementList.{Arrival, ElementList, is_marked}
 use Rattle.ra_replica_list.specs.declared.deed.Deed.{Deed}
 use Rattle.ra_replica_list.specs.declared.deed.Deed.TheVariants.{PutsIn}
@@ -29,7 +30,7 @@ use Rattle.ra_replica_list.proofs.Greatest.{greatest_with, greatest_without}
 use Rattle.ra_replica_list.proofs.SingleSteps.{none_waits_with, leads_with}
 use Rattle.ra_replica_list.proofs.HadLabels.{IsAdded, not_settled, held_back}
 use Rattle.ra_replica_list.proofs.LastFollowers.{goes_in}
-use Rattle.ra_replica_list.proofs.NewMarks.{not_had, kept_known, greatest_known}
+use Rattle.ra_replica_list.proofs.NewMarks.{kept_known, greatest_known}
 use Rattle.ra_replica_list.proofs.NewDeeds.{needed_same, first_same, new_last, longer_by_one, grown_by_one}
 use Rattle.ra_replica_list.proofs.Newest.{newest_is_last}
 use Rattle.std.proofs.lemmas.List.{get_or_at}
@@ -59,7 +60,7 @@ owned {records = records} next u later was steps makes after top =
     ((an_operation_makes_one_update-exactly next.op).1 (u, makes))) in
     let older = a_later_command_leaves_the_updates_that_pass-operation Rga records next.by next.op next.clock
     was.settled
-    (not_settled was.kept (label_count records) (not_had records next.by)) in (
+    (not_settled was.kept (label_count records) (had_updates-next records next.by)) in (
       record {
         settled = after.settled;
         kept = kept_alike (had now next.by) same after.kept;
@@ -75,14 +76,14 @@ pub own_stamp : {records : Records} {greatest : Stamp} (next : Next) (stamp : St
     (greater_of greatest stamp)
 own_stamp {records = records} {greatest = greatest} next stamp top is =
     greatest_with (operate next ∷ records) (had records next.by) greatest stamp (label_of records next)
-    (greatest_known next top (not_had records next.by)) (at_head _ (labels_of records) _ refl) is
+    (greatest_known next top (had_updates-next records next.by)) (at_head _ (labels_of records) _ refl) is
 
 pub own_none : {records : Records} {greatest : Stamp} (next : Next)
     → IsGreatestOf records (had records next.by) greatest → next.clock ≡ None
     → IsGreatestOf (operate next ∷ records) (or_label (had records next.by) (label_count records)) greatest
 own_none {records = records} {greatest = greatest} next top is =
     greatest_without (operate next ∷ records) (had records next.by) greatest greatest (label_of records next)
-    (greatest_known next top (not_had records next.by)) (at_head _ (labels_of records) _ refl)
+    (greatest_known next top (had_updates-next records next.by)) (at_head _ (labels_of records) _ refl)
     (ap (option_map (stamp_at next.by)) is)
 
 -- behind all that is settled it is one step
@@ -96,7 +97,7 @@ own_leads : {records : Records} {state : State} {marks : List Bool} {waiting : L
     ≡ Some (unwrap_or (step_of state u) state)
 own_leads {records = records} {state = state} {settled = settled} next u deed makes extended stand kept is needs =
     let now = operate next ∷ records in
-    let new = not_settled kept (label_count records) (not_had records next.by) in
+    let new = not_settled kept (label_count records) (had_updates-next records next.by) in
     let none = ((what_is_settled_does_not_wait now (had records next.by) settled).0 kept.settles).1 in
     let last = newest_is_last records next u makes extended in
     let step = a_label_behind_all_that_pass_is_one_step Rga now settled last.before last.behind (label_of records next)
@@ -120,10 +121,10 @@ module _ {all : ElementList} {deeds : List (Option Deed)} {records : Records} {s
       → IsListWith state marks waiting (all.arrivals ++ new ∷ []) (deeds ++ Some (PutsIn (length all.arrivals)) ∷ [])
       (operate next ∷ records) (had records next.by) settled
   own_known new stand kept admitted makes =
-      kept_known (all.arrivals ++ new ∷ []) (Some (PutsIn (length all.arrivals))) next kept (not_had records next.by)
+      kept_known (all.arrivals ++ new ∷ []) (Some (PutsIn (length all.arrivals))) next kept (had_updates-next records next.by)
       stand.count
       (longer_by_one all.arrivals new next (element_at all.arrivals new.anchor) admitted makes
-      (not_settled kept (label_count records) (not_had records next.by)))
+      (not_settled kept (label_count records) (had_updates-next records next.by)))
       (needed_same (all.arrivals ++ new ∷ []) (deeds_stand stand) (first_same all.arrivals new))
 
   -- its anchor is there
@@ -145,7 +146,7 @@ module _ {all : ElementList} {deeds : List (Option Deed)} {records : Records} {s
       let needs : is_marked marks (needed_number (all.arrivals ++ new ∷ []) (PutsIn (length all.arrivals))) ≡ true =
       ap (is_marked marks) (own_anchor all.arrivals new) ∙ there in
       goes_in later later_marks (label_count records) (PutsIn (length all.arrivals)) grown now_kept is
-      (not_had records next.by) needs
+      (had_updates-next records next.by) needs
       (own_leads next (After (element_at all.arrivals new.anchor) new.element) (PutsIn (length all.arrivals)) makes
       extended grown now_kept is needs ∙ ap (λ (s : State). Some s) (sym stepped))
       with_it
@@ -165,6 +166,6 @@ module _ {all : ElementList} {deeds : List (Option Deed)} {records : Records} {s
       let grown = grown_by_one new next stand admitted makes known in
       let now_kept = own_known new stand kept admitted makes in
       let is = next_deed deeds (PutsIn (length all.arrivals)) (label_count records) stand.count in
-      held_back later (label_count records) (PutsIn (length all.arrivals)) grown now_kept is (not_had records next.by)
+      held_back later (label_count records) (PutsIn (length all.arrivals)) grown now_kept is (had_updates-next records next.by)
       (ap (is_marked marks) (own_anchor all.arrivals new) ∙ missing)
       (subst (λ (n : ℕ). IsAdded waiting later n (label_count records)) (sym (own_anchor all.arrivals new)) added)

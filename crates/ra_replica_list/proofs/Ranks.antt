@@ -12,11 +12,11 @@ use Rattle.ra_labels.specs.Laws.{IsStampBelow, SeesStamp}
 use Rattle.ra_labels.proofs.Members.{head_or_behind, behind_head}
 use Rattle.ra_labels.proofs.StampOrder.{same_else}
 use Rattle.ra_laws.proofs.TheLaws.{a_timestamp_is_the_greatest_seen-seen, a_timestamp_is_the_greatest_seen-greatest}
+use Rattle.ra_laws.proofs.TheLaws.{had_updates-next}
 use Rattle.ra_element_list.specs.ElementList.{Arrival}
 use Rattle.ra_replica_list.specs.declared.deed.Deed.{Deed}
 use Rattle.ra_replica_list.specs.ReplicaList.{ReplicaList, IsListOf}
 use Rattle.ra_replica_list.proofs.NoneTwice.{not_both}
-use Rattle.ra_replica_list.proofs.NewMarks.{not_had}
 
 -- a new label sees what its replica had
 pub sees_had : (records : Records) (next : Next) (m : ℕ)
@@ -46,7 +46,7 @@ greatest-ranks list arrivals deeds records next held no_clock =
     elim (head_or_behind label (labels_of records) l l_in) [
       | inl here ↦
           absurd (not_both (had records next.by l.number) (ap (λ (k : Label). had records next.by k.number) (sym here)
-          ∙ not_had records next.by) had_it)
+          ∙ had_updates-next records next.by) had_it)
       | inr old ↦ (old, had_it)
     ] in
     let shown : (l : Label) (s : Stamp) → Contains (labels_of records) l → had records next.by l.number ≡ true

@@ -5,12 +5,12 @@ use Rattle.ra_labels.specs.declared.operation.Update.TheVariants.{RgaRemove}
 use Rattle.ra_labels.specs.Visibility.{had}
 use Rattle.ra_labels.specs.Situation.{operate}
 use Rattle.ra_labels.proofs.Results.{on_err}
+use Rattle.ra_laws.proofs.TheLaws.{had_updates-next}
 use Rattle.ra_replica_list.specs.declared.deed.Deed.TheVariants.{Removes}
 use Rattle.ra_replica_list.specs.Deeds.{deed_at, element_at}
 use Rattle.ra_replica_list.specs.ReplicaList.{IsGreatestOf}
 use Rattle.ra_replica_list.specs.Freed.{IsListWithAfter}
 use Rattle.ra_replica_list.proofs.AlikeLists.{list_alike}
-use Rattle.ra_replica_list.proofs.NewMarks.{not_had}
 use Rattle.ra_replica_list.proofs.NewDeeds.{grown_by_removal}
 use Rattle.ra_replica_list.proofs.LaterRecords.{known_other}
 use Rattle.ra_replica_list.proofs.OwnLabels.{next_deed, owned, own_none}
@@ -26,12 +26,12 @@ returns-clause-removed c =
     let more = deeds ++ Some (Removes number) ∷ [] in
     let now = operate next ∷ records in
     let grown = grown_by_removal number next stand admitted makes c.requires.number in
-    let known = known_other next (Some (Removes number)) (had records next.by) stand held (not_had records next.by)
+    let known = known_other next (Some (Removes number)) (had records next.by) stand held (had_updates-next records next.by)
     (λ n. refl) in
     let is : deed_at more c.args.label ≡ Some (Removes number) =
     next_deed deeds (Removes number) c.args.label (stand.count ∙ sym label_is) in
     let after = got more now (had records next.by) grown known is
-    (ap (had records next.by) label_is ∙ not_had records next.by) in
+    (ap (had records next.by) label_is ∙ had_updates-next records next.by) in
     let after_it = subst (λ (n : ℕ). IsListWithAfter c.remove.new.self.state c.remove.new.self.marks
     c.remove.new.self.waiting all.arrivals more now (had records next.by) known.settled n steps) label_is after in
     let top = subst (λ (s : Stamp). IsGreatestOf records (had records next.by) s) (sym c.remove.ensures.greatest)
