@@ -9,7 +9,7 @@ use crate::chunk::Chunk;
 use crate::element::Element;
 use crate::entry::Entry;
 use crate::link::link;
-use crate::room::make_room;
+use crate::room::reserve_place;
 use crate::spot::{number_behind, spot_behind};
 use ra_labels::{NoMemory, Stamp};
 use std::alloc::Global;
@@ -149,14 +149,14 @@ impl ElementList {
 
     /// Room for one more element, and nothing else changes. Costs a constant, or a move of half a chunk and a step for
     /// each chunk where the newest element filled its own.
-    pub fn spare(&mut self) -> Result<(), NoMemory>
+    pub fn reserve(&mut self) -> Result<(), NoMemory>
         ensures elements { self.new.elements ≡ self.old.elements }
         ensures arrivals { self.new.arrivals ≡ self.old.arrivals }
         ensures room { OnOk result (self.new.has_room ≡ true) }
     {
         self.numbers.reserve(1)?;
         self.elements.reserve(1)?;
-        make_room(
+        reserve_place(
             &mut self.chunks,
             &mut self.places,
             self.elements.as_mut_slice(),

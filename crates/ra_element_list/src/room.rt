@@ -10,7 +10,7 @@ use crate::split::{regroup, shift, split};
 use ra_labels::NoMemory;
 
 /// Room for one more element: the chunk with the newest one, at this place, is split if it is full.
-pub fn make_room(
+pub fn reserve_place(
     chunks: &mut Vec<Chunk>,
     places: &mut Vec<usize>,
     elements: &mut [Element],

@@ -17,11 +17,11 @@ use Rattle.ra_journal.specs.Log.{IsAboveLast, unstepped}
 use Rattle.ra_journal.specs.declared.journal.StepFault.{StepFault}
 use Rattle.ra_journal.specs.declared.journal.StepFault.TheVariants as handed
 use Rattle.ra_monitor.specs.Monitor.{Monitor, MonitorEntry, commands_of, records_of}
-use Rattle.ra_history_text.specs.declared.history.History.TheInside.{Inside}
+use Rattle.ra_history_text.specs.declared.recording.Recording.TheInside.{Inside}
 use Rattle.ra_lines.specs.declared.limits.TheConstants.{MOST_COMMANDS}
-use Rattle.ra_history_text.specs.History.{History, StopsAnswering, fault_at}
+use Rattle.ra_history_text.specs.Recording.{Recording, StopsAnswering, fault_at}
 use Rattle.ra_history_text.proofs.ReplyLines.{answers_push}
-use Rattle.ra_history_text.specs.HistoryKept.{HistoryKept, first_names_of, are_tickets_below}
+use Rattle.ra_history_text.specs.RecordingKept.{RecordingKept, first_names_of, are_tickets_below}
 use Rattle.ra_history_text.specs.Output.{answers_in}
 
 -- an entry's ticket is below the number of entries
@@ -68,7 +68,7 @@ counts_grow kind n records (c ∷ commands) = omega (
 )
 
 -- the names at first stay
-first_same : (h : Inside) (m : Monitor) → HistoryKept h → m.setup ≡ h.monitor.setup
+first_same : (h : Inside) (m : Monitor) → RecordingKept h → m.setup ≡ h.monitor.setup
     → m.setup.replicas ≡ length (take m.setup.replicas h.names)
 first_same h m kept setup =
     subst (λ (n : ℕ). n ≡ length (take n h.names)) (sym (ap (λ s. s.replicas) setup)) kept.replicas
@@ -104,8 +104,8 @@ count_grows h m entry log setup =
     )
 
 -- nothing changed
-pub kept_same : (h : Inside) (m : Monitor) → HistoryKept h → m.log ≡ h.monitor.log → m.setup ≡ h.monitor.setup
-    → HistoryKept (record { format = h.format; kind = h.kind; names = h.names; monitor = m })
+pub kept_same : (h : Inside) (m : Monitor) → RecordingKept h → m.log ≡ h.monitor.log → m.setup ≡ h.monitor.setup
+    → RecordingKept (record { format = h.format; kind = h.kind; names = h.names; monitor = m })
 kept_same h m kept log setup = record {
   kind = ap (λ s. s.kind) setup ∙ kept.kind;
   replicas = first_same h m kept setup;
@@ -120,12 +120,12 @@ kept_same h m kept log setup = record {
 }
 
 -- a command was answered and logged
-pub kept_next : (h : Inside) (m : Monitor) (entry : MonitorEntry) → HistoryKept h → m.log ≡ h.monitor.log ++ entry ∷ []
+pub kept_next : (h : Inside) (m : Monitor) (entry : MonitorEntry) → RecordingKept h → m.log ≡ h.monitor.log ++ entry ∷ []
     → m.setup ≡ h.monitor.setup
     → entry.ticket ≡ length h.monitor.log → length h.monitor.log < 1048576
     → entry.reply ≡ answer_of h.monitor.setup.kind h.monitor.setup.replicas
     (records_of h.monitor.setup h.monitor.log) entry.command
-    → HistoryKept (record { format = h.format; kind = h.kind; names = h.names; monitor = m })
+    → RecordingKept (record { format = h.format; kind = h.kind; names = h.names; monitor = m })
 kept_next h m entry kept log setup ticket room reply = record {
   kind = ap (λ s. s.kind) setup ∙ kept.kind;
   replicas = first_same h m kept setup;
@@ -168,7 +168,7 @@ has_room r x e count limit is full fits most =
     ]
 
 -- what the monitor hands back stops the text as its fault says
-pub stops_answering : (old : History) (line : ℕ) (command : Command) (fault : StepFault Command)
+pub stops_answering : (old : Recording) (line : ℕ) (command : Command) (fault : StepFault Command)
     → line ≡ length old.commands + 3
     → (fault ≡ handed.Full command → length old.commands ≡ MOST_COMMANDS) → unstepped fault ≡ command
     → StopsAnswering old (fault_at line fault)

@@ -8,7 +8,7 @@ use Rattle.ra_labels.specs.declared.command.Command.{Command}
 use Rattle.ra_labels.specs.declared.reply.Reply.{Reply}
 use Rattle.ra_lines.specs.declared.format.Format.{Format}
 use Rattle.ra_lines.specs.Grammar.{ListsNames, fields_of, joined_by}
-use Rattle.ra_history_text.specs.History.{History, said_of, TakesCommand}
+use Rattle.ra_history_text.specs.Recording.{Recording, said_of, TakesCommand}
 use Rattle.ra_lines.specs.Replies.{reply_line}
 use Rattle.ra_history_text.specs.Output.{replies_of}
 use Rattle.ra_lines.specs.Reading.{head_read, command_read}
@@ -44,20 +44,20 @@ begun format kind names = OfHistory format kind names [] []
 -- ---- a command
 
 -- its reply line is put behind the others
-pub command_replied : (old new : History) (line : List ℕ) (command : Command) (reply : Reply) (out_old out_new : List ℕ)
+pub command_replied : (old new : Recording) (line : List ℕ) (command : Command) (reply : Reply) (out_old out_new : List ℕ)
     → TakesCommand old new line command reply
     → out_new ≡ out_old ++ reply_line reply → AddsReplies (said_of old) (said_of new) out_old out_new
 command_replied old new line command reply out_old out_new takes put = record {
   more = reply_line reply;
   replies =
-      ap (λ (h : History). replies_of (said_of h)) takes.taken
+      ap (λ (h : Recording). replies_of (said_of h)) takes.taken
       ∙ replies_push old.format old.kind old.first old.joined (joined_by reply old.joined line) old.commands command
       ∙ ap (λ (r : Reply). replies_of (said_of old) ++ reply_line r) (sym takes.answered);
   out = put;
 }
 
 -- and the line is taken
-pub command_taken : (old new : History) (line : List ℕ) (command : Command) (reply : Reply)
+pub command_taken : (old new : Recording) (line : List ℕ) (command : Command) (reply : Reply)
     → command_read old.format old.kind (old.first ++ old.joined) (fields_of line) ≡ Some command
     → TakesCommand old new line command reply → line_taken (said_of old) line ≡ Ok (line_start (said_of new))
 command_taken old new line command reply read takes =
@@ -74,7 +74,7 @@ command_taken old new line command reply read takes =
 
 -- ---- where the history begins
 
-pub history_begins : (format : Format) (kind : Kind) (line : List ℕ) (names : List (List ℕ)) (history : History)
+pub history_begins : (format : Format) (kind : Kind) (line : List ℕ) (names : List (List ℕ)) (history : Recording)
     → ListsNames format line names → history.format ≡ format → history.kind ≡ kind → history.first ≡ names
     → history.joined ≡ [] → history.commands ≡ []
     → line_taken (OfKind format kind) line ≡ Ok (line_start (said_of history))

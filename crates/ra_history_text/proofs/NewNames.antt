@@ -17,7 +17,7 @@ use Rattle.ra_lines.specs.declared.fault.NamesFault.TheVariants.{BadName}
 use Rattle.ra_lines.specs.declared.format.Format.TheVariants.{Rah2}
 use Rattle.ra_lines.specs.Grammar.{fields_of, second_of, new_name, Spells, SpellsJoin}
 use Rattle.ra_lines.specs.Names.{MayJoin, StopsAdding}
-use Rattle.ra_history_text.specs.History.{History, RecordsCommand, HasFewNames, LacksName}
+use Rattle.ra_history_text.specs.Recording.{Recording, RecordsCommand, HasFewNames, LacksName}
 use Rattle.ra_history_text.specs.Text.{records_in}
 
 -- what is answered so is not refused
@@ -32,11 +32,11 @@ not_refused kind n records c replica None (Some why) sound refused e =
 not_refused kind n records c replica None None sound fits e = fits
 
 -- what holds behind a join that is accepted
-pub record IsNamed (old mid : History) (line : List ℕ) : Type 0 where
+pub record IsNamed (old mid : Recording) (line : List ℕ) : Type 0 where
   pub new : MayJoin Rah2 (mid.first ++ mid.joined) (new_name line)
   pub lacks : LacksName mid
 
-named_behind : (old mid : History) (line : List ℕ) (replica from : ℕ) (reply : Reply) → HasFewNames old
+named_behind : (old mid : Recording) (line : List ℕ) (replica from : ℕ) (reply : Reply) → HasFewNames old
     → SpellsJoin old.format (old.first ++ old.joined) (fields_of line) replica from
     → RecordsCommand old mid (Join replica from) reply → reply ≡ Joined replica → IsNamed old mid line
 named_behind old mid line replica from reply few spelled records is =
@@ -58,7 +58,7 @@ named_behind old mid line replica from reply few spelled records is =
     }) in
     let says : ReplySays old.kind n before c (Joined replica) =
     subst (ReplySays old.kind n before c) answer (what_a_reply_says old.kind n before c) in
-    let grown : History = record old { commands = old.commands ++ c ∷ [] } in
+    let grown : Recording = record old { commands = old.commands ++ c ∷ [] } in
     let lacks : LacksName grown =
     omega (
       arith,
@@ -66,10 +66,10 @@ named_behind old mid line replica from reply few spelled records is =
       ap (replica_count n) (answers_in_turn-records old.kind n [] old.commands (c ∷ [])),
       ap (replica_count n) says.1,
     ) in
-    subst (λ (history : History). IsNamed old history line) (sym records.recorded)
+    subst (λ (history : Recording). IsNamed old history line) (sym records.recorded)
     (record { new = new; lacks = lacks })
 
-pub may_name : (old mid : History) (line : List ℕ) (c : Command) (replica : ℕ) (reply : Reply) → HasFewNames old
+pub may_name : (old mid : Recording) (line : List ℕ) (c : Command) (replica : ℕ) (reply : Reply) → HasFewNames old
     → Spells old.format old.kind (old.first ++ old.joined) line c → RecordsCommand old mid c reply
     → reply ≡ Joined replica → IsNamed old mid line
 may_name old mid line c replica reply few spelled records is =

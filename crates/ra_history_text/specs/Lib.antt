@@ -2,8 +2,8 @@ pub mod Text
 pub mod Output
 pub mod Written
 pub mod Faults
-pub mod History
-pub mod HistoryKept
+pub mod Recording
+pub mod RecordingKept
 pub mod Sessions
 pub mod Run
 pub mod Laws

@@ -10,7 +10,7 @@ use Rattle.ra_history_text.specs.Faults.{ending_told}
 use Rattle.ra_lines.specs.declared.format.Format.{Format}
 use Rattle.ra_lines.specs.declared.limits.TheConstants.{LONGEST_LINE}
 use Rattle.ra_lines.specs.Grammar.{fields_of}
-use Rattle.ra_history_text.specs.History.{said_of}
+use Rattle.ra_history_text.specs.Recording.{said_of}
 use Rattle.ra_history_text.specs.Output.{replies_of, last_line_of, Reports}
 use Rattle.ra_lines.specs.Reading.{command_read, may_have_list}
 use Rattle.ra_history_text.specs.Text.{Said, Nothing, OfKind, OfHistory, Progress, Regular, stop_at, line_taken, taken, ending_at}

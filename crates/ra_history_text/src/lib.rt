@@ -13,11 +13,11 @@
 #![tactic(auto)]
 
 mod fault;
-mod history;
 pub mod laws;
 pub mod limits;
 mod line;
 mod outcome;
+mod recording;
 mod run;
 mod session;
 mod write;

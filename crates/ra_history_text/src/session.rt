@@ -1,14 +1,14 @@
 //! A text that is taken in piece by piece.
 ghost use Rattle.std.specs.Prelude.{◌≡◌, ◌≢◌, ◌++◌, ◌∷◌, [], All, Ok, IfErr, IfOk, MatchOption, OnErr, OnOk};
-ghost use Rattle.ra_history_text.specs.History.{said_of};
+ghost use Rattle.ra_history_text.specs.Recording.{said_of};
 ghost use Rattle.ra_history_text.specs.Output.{replies_of};
 ghost use Rattle.ra_history_text.specs.Sessions.{said_at, AddsReplies, StopsLine, StopsExtending, StopsClosing, StopsInside, EndsText, StopsEnding, SaysNoHistory, IsToldBy, format_said, names_said};
 ghost use Rattle.ra_history_text.specs.Text as text;
 ghost use Rattle.ra_history_text.specs.Text.{text_start, line_start, next_line, line_taken, taken};
 
 use crate::fault::CheckFault;
-use crate::history::History;
 use crate::limits::LONGEST_LINE;
+use crate::recording::Recording;
 use ra_labels::Kind;
 use ra_lines::command::command;
 use ra_lines::fields::cut_at;
@@ -27,7 +27,7 @@ enum Stage {
     // The format and the kind: the line of names comes next.
     OfKind(Format, Kind),
     // These, the names and commands, which are answered: a command comes next.
-    OfHistory(History),
+    OfHistory(Recording),
 }
 
 impl Stage {
@@ -112,12 +112,12 @@ fn after_names(alloc: Global, format: Format, kind: Kind, line: &[u8]) -> Result
         Ok(names) => names,
         Err(fault) => return Err(CheckFault::at_line(fault, 2)),
     };
-    let history = History::new(alloc, format, kind, names)?;
+    let history = Recording::new(alloc, format, kind, names)?;
     Ok(Stage::OfHistory(history))
 }
 
 // Takes a line behind the first two.
-fn take_command(history: &mut History, line: &[u8], out: &mut Vec<u8>) -> Result<(), CheckFault>
+fn take_command(history: &mut Recording, line: &[u8], out: &mut Vec<u8>) -> Result<(), CheckFault>
     ensures taken { OnOk result (line_taken (said_of history.old) line.now ≡ Ok (line_start (said_of history.new))) }
     ensures replied { OnOk result (AddsReplies (said_of history.old) (said_of history.new)
         out.old.items out.new.items) }

@@ -20,7 +20,7 @@ use Rattle.ra_labels.specs.Lists.{is_among}
 use Rattle.ra_labels.specs.Specification.{State, Number, Written, Members, Pairs, Listed, answers, state_after}
 use Rattle.ra_labels.specs.Records.{Records, label_count, labels_of, replica_count, stamp_at, records_to}
 use Rattle.ra_labels.specs.Visibility.{is_update, is_update_at, had, sees}
-use Rattle.ra_labels.specs.Places.{issuer_of, updates_of, place_of}
+use Rattle.ra_labels.specs.Places.{issuer_of, updates_issued, place_of}
 use Rattle.ra_labels.specs.Rewriting.{Part, Act, Does, Asks, QueryHalf, UpdateHalf}
 use Rattle.ra_labels.specs.Linearization.{visible_updates}
 use Rattle.ra_labels.specs.Fault.{Holds, cause_of, fault_of, fault_at}
@@ -151,7 +151,7 @@ IsUpdateOf records replica n = (is_update_at records n ≡ true) × (issuer_of r
 -- of the replica's updates, the labels that pass the test are the first, as many as the count says
 abbrev pub AreFirstUpdates : Records → ℕ → ℕ → (ℕ → Bool) → Type 0
 AreFirstUpdates records replica count test =
-    (count ≤ updates_of records replica)
+    (count ≤ updates_issued records replica)
     × ((n : ℕ) → IsUpdateOf records replica n → test n ≡ nat_lt (place_of records n) count)
 
 -- p is an update, and q's label sees p's

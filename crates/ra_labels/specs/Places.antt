@@ -10,15 +10,15 @@ abbrev pub issuer_of : Records → ℕ → ℕ
 issuer_of records n = option_map_or (λ label. label.replica) (label_at records n) 0
 
 -- how many updates the replica issued
-abbrev pub updates_of : Records → ℕ → ℕ
-updates_of [] replica = 0
-updates_of (Operate by op clock ∷ before) replica =
-    if by == replica && is_update op then updates_of before replica + 1 else updates_of before replica
-updates_of (_ ∷ before) replica = updates_of before replica
+abbrev pub updates_issued : Records → ℕ → ℕ
+updates_issued [] replica = 0
+updates_issued (Operate by op clock ∷ before) replica =
+    if by == replica && is_update op then updates_issued before replica + 1 else updates_issued before replica
+updates_issued (_ ∷ before) replica = updates_issued before replica
 
 -- how many updates the label's replica had issued before it
 abbrev pub place_of : Records → ℕ → ℕ
 place_of [] n = 0
 place_of (Operate by op clock ∷ before) n =
-    if n == label_count before then updates_of before by else place_of before n
+    if n == label_count before then updates_issued before by else place_of before n
 place_of (_ ∷ before) n = place_of before n

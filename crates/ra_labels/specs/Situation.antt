@@ -12,27 +12,27 @@ use Rattle.ra_labels.specs.Answer.{refusal_of}
 pub record Past : Type 0 where
   pub kind : Kind
   -- how many replicas there were at first
-  pub first : ℕ
+  pub founders : ℕ
   pub records : Records
 
 abbrev pub past_of : Kind → ℕ → Records → Past
-past_of kind first records = record { kind = kind; first = first; records = records }
+past_of kind founders records = record { kind = kind; founders = founders; records = records }
 
 -- nothing is accepted yet
 abbrev pub nothing_yet : Kind → ℕ → Past
-nothing_yet kind first = past_of kind first []
+nothing_yet kind founders = past_of kind founders []
 
 -- how many replicas there are by now
 abbrev pub replicas_of : Past → ℕ
-replicas_of past = replica_count past.first past.records
+replicas_of past = replica_count past.founders past.records
 
 -- the past with one accepted command more
 abbrev pub past_with : Past → Command → Past
-past_with past command = past_of past.kind past.first (command ∷ past.records)
+past_with past command = past_of past.kind past.founders (command ∷ past.records)
 
 -- no refusal applies to the command
 abbrev pub IsAccepted : Past → Command → Type 0
-IsAccepted past command = refusal_of past.kind past.first past.records command ≡ None
+IsAccepted past command = refusal_of past.kind past.founders past.records command ≡ None
 
 -- an operation that comes next, at a replica, with its clock if it has one
 pub record Next : Type 0 where

@@ -9,7 +9,7 @@ use Rattle.ra_labels.specs.declared.operation.Op.{Op}
 use Rattle.ra_labels.specs.declared.command.Command.TheVariants.{Operate, Deliver, Join, Verdict}
 use Rattle.ra_labels.specs.Records.{Records, label_count}
 use Rattle.ra_labels.specs.Visibility.{is_update, is_update_at, had, sees, IsCausal}
-use Rattle.ra_labels.specs.Places.{issuer_of, updates_of, place_of}
+use Rattle.ra_labels.specs.Places.{issuer_of, updates_issued, place_of}
 use Rattle.ra_labels.specs.Laws.{IsUpdateOf, AreFirstUpdates}
 use Rattle.ra_laws.proofs.SeenLabels.{is_update_at-below, had_update, sees_earlier}
 use Rattle.ra_laws.proofs.Updates.{newest_or_older, updates-more, place-older, place-here, place-below, place-only, place-there, had-own, sees-own}
@@ -41,11 +41,11 @@ later_first before by op clock replica count test fails first = (
 
 -- a replica had its own updates, all of them
 own_first : (records : Records) (replica : ℕ)
-    → AreFirstUpdates records replica (updates_of records replica) (had records replica)
+    → AreFirstUpdates records replica (updates_issued records replica) (had records replica)
 own_first records replica = (
   omega arith,
   (λ n is. had-own records replica n is
-      ∙ sym (lt-ltb (place_of records n) (updates_of records replica) (place-below records replica n is))),
+      ∙ sym (lt-ltb (place_of records n) (updates_issued records replica) (place-below records replica n is))),
 )
 
 -- the next label is not among what a replica had, nor among what a label sees
@@ -190,8 +190,8 @@ any_first : (records : Records) (replica of : ℕ)
     → (count : ℕ) × AreFirstUpdates records of count (had records replica)
 any_first records replica of others = elim (cases_eq replica of) [
   | inl same ↦ (
-    updates_of records of,
-    subst (λ r. AreFirstUpdates records of (updates_of records of) (had records r)) (sym same) (own_first records of),
+    updates_issued records of,
+    subst (λ r. AreFirstUpdates records of (updates_issued records of) (had records r)) (sym same) (own_first records of),
   )
   | inr other ↦ others other
 ]

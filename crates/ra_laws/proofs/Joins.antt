@@ -11,7 +11,7 @@ use Rattle.ra_labels.specs.declared.refusal.Refusal.{Refusal}
 use Rattle.ra_labels.specs.declared.refusal.Refusal.TheVariants.{UnknownReplica, ReplicaThere, TooManyReplicas}
 use Rattle.ra_labels.specs.declared.limits.TheConstants.{MOST_REPLICAS}
 use Rattle.ra_labels.specs.Records.{Records, label_count, replica_count}
-use Rattle.ra_labels.specs.Places.{updates_of}
+use Rattle.ra_labels.specs.Places.{updates_issued}
 use Rattle.ra_labels.specs.Visibility.{is_update, is_update_at, had}
 use Rattle.ra_labels.specs.NamedOrder.{named_labels}
 use Rattle.ra_labels.specs.Answer.{when, first_of, refusal_of, refusal_of_join, with_accepted, records_after, records_after_all}
@@ -213,10 +213,10 @@ joined-labels first records from n none =
 
 -- and it has issued nothing: an update that it had issued it would have had
 pub joined-issued : (first : ℕ) (records : Records) → NoneHadBeyond first records
-    → updates_of records (replica_count first records) ≡ 0
+    → updates_issued records (replica_count first records) ≡ 0
 joined-issued first records none =
     let joined = replica_count first records in
-    elim (cases_lt 0 (updates_of records joined)) [
+    elim (cases_lt 0 (updates_issued records joined)) [
       | inl some ↦
           let own = place-there records joined 0 some in
           absurd (false≢true (sym (none joined own.0 (omega arith)) ∙ had-own records joined own.0 own.1))

@@ -9,7 +9,7 @@ use Rattle.ra_labels.specs.declared.label.Label.{Label}
 use Rattle.ra_labels.specs.declared.command.Command.TheVariants.{Operate, Deliver, Join, Verdict}
 use Rattle.ra_labels.specs.Records.{Records, label_count, labels_of}
 use Rattle.ra_labels.specs.Visibility.{is_update, is_update_at, had, sees}
-use Rattle.ra_labels.specs.Places.{issuer_of, updates_of, place_of}
+use Rattle.ra_labels.specs.Places.{issuer_of, updates_issued, place_of}
 use Rattle.ra_labels.specs.Laws.{IsUpdateOf}
 use Rattle.ra_laws.proofs.LabelNumbers.{label_count-append, label_at-append, label_at-operation}
 use Rattle.ra_laws.proofs.SeenLabels.{is_update_at-append, is_update_at-below, sees-append}
@@ -32,7 +32,7 @@ update-newest before by n op clock here =
     ∙ ap (λ label. option_map_or (λ (l : Label). is_update l.op) label false) (label_at-operation [] before by op clock)
 
 place-newest : (before : Records) (by n : ℕ) (op : Op) (clock : Option ℕ) → n ≡ label_count before
-    → place_of (Operate by op clock ∷ before) n ≡ updates_of before by
+    → place_of (Operate by op clock ∷ before) n ≡ updates_issued before by
 place-newest before by n op clock here = cond-true (eqb n (label_count before)) _ _ (eq-eqb _ _ here)
 
 -- later records leave a label its replica and its place
@@ -51,26 +51,26 @@ place_of-append (Operate by op clock ∷ later) records n below =
 place_of-append (_ ∷ later) records n below = place_of-append later records n below
 
 pub place_of-operation : (later before : Records) (by : ℕ) (op : Op) (clock : Option ℕ)
-    → place_of (later ++ Operate by op clock ∷ before) (label_count before) ≡ updates_of before by
+    → place_of (later ++ Operate by op clock ∷ before) (label_count before) ≡ updates_issued before by
 place_of-operation later before by op clock =
     place_of-append later (Operate by op clock ∷ before) (label_count before) (omega arith)
     ∙ place-newest before by (label_count before) op clock refl
 
 -- how many updates a replica issued, one operation later
 pub updates-more : (before : Records) (by replica : ℕ) (op : Op) (clock : Option ℕ)
-    → updates_of before replica ≤ updates_of (Operate by op clock ∷ before) replica
+    → updates_issued before replica ≤ updates_issued (Operate by op clock ∷ before) replica
 updates-more before by replica op clock =
-    cond_both (by == replica && is_update op) (updates_of before replica + 1) (updates_of before replica)
-    (λ count. updates_of before replica ≤ count) (λ is. omega arith) (λ no. omega arith)
+    cond_both (by == replica && is_update op) (updates_issued before replica + 1) (updates_issued before replica)
+    (λ count. updates_issued before replica ≤ count) (λ is. omega arith) (λ no. omega arith)
 
 updates-one_more : (before : Records) (by replica : ℕ) (op : Op) (clock : Option ℕ) → by ≡ replica → is_update op ≡ true
-    → updates_of (Operate by op clock ∷ before) replica ≡ updates_of before replica + 1
+    → updates_issued (Operate by op clock ∷ before) replica ≡ updates_issued before replica + 1
 updates-one_more before by replica op clock same update =
     cond-true (by == replica && is_update op) _ _
     (and_from (by == replica) (is_update op) (eq-eqb by replica same) update)
 
 -- they are counted among the labels
-pub updates_of-counted : (records : Records) (replica : ℕ) → updates_of records replica
+pub updates_of-counted : (records : Records) (replica : ℕ) → updates_issued records replica
     ≡ length (filter (λ label. label.replica == replica && is_update label.op) (labels_of records))
 updates_of-counted [] replica = refl
 updates_of-counted (Operate by op clock ∷ before) replica = elim (cases_Bool (by == replica && is_update op)) [
@@ -124,12 +124,12 @@ pub place-older : (before : Records) (by : ℕ) (op : Op) (clock : Option ℕ) (
 place-older before by op clock n below = place_of-append (Operate by op clock ∷ []) before n below
 
 pub place-here : (before : Records) (by : ℕ) (op : Op) (clock : Option ℕ) (replica n : ℕ)
-    → IsNewest before by op replica n → place_of (Operate by op clock ∷ before) n ≡ updates_of before replica
-place-here before by op clock replica n new = place-newest before by n op clock new.0 ∙ ap (updates_of before) new.2
+    → IsNewest before by op replica n → place_of (Operate by op clock ∷ before) n ≡ updates_issued before replica
+place-here before by op clock replica n new = place-newest before by n op clock new.0 ∙ ap (updates_issued before) new.2
 
 -- an update's place is below the number of its replica's updates
 pub place-below : (records : Records) (replica n : ℕ) → IsUpdateOf records replica n
-    → place_of records n < updates_of records replica
+    → place_of records n < updates_issued records replica
 place-below [] replica n is = absurd (false≢true is.0)
 place-below (Operate by op clock ∷ before) replica n is = elim (newest_or_older before by op clock replica n is) [
   | inl new ↦ omega
@@ -180,10 +180,10 @@ place-only (Operate by op clock ∷ before) replica n m is also same =
 place-only (_ ∷ before) replica n m is also same = place-only before replica n m is also same
 
 -- each place below that number is an update's
-pub place-there : (records : Records) (replica k : ℕ) → k < updates_of records replica
+pub place-there : (records : Records) (replica k : ℕ) → k < updates_issued records replica
     → (n : ℕ) × IsUpdateOf records replica n × (place_of records n ≡ k)
 place-there [] replica k below = absurd (omega arith)
-place-there (Operate by op clock ∷ before) replica k below = elim (cases_lt k (updates_of before replica)) [
+place-there (Operate by op clock ∷ before) replica k below = elim (cases_lt k (updates_issued before replica)) [
   | inl older ↦
       let known = place-there before replica k older in (
         known.0,
@@ -195,7 +195,7 @@ place-there (Operate by op clock ∷ before) replica k below = elim (cases_lt k 
     | inl is ↦
         let parts = and_parts (by == replica) (is_update op) is in
         let same = eqb-true by replica parts.0 in
-        let here : k ≡ updates_of before replica =
+        let here : k ≡ updates_issued before replica =
         omega (arith, updates-one_more before by replica op clock same parts.1) in
         let n = label_count before in (
           n,
@@ -207,7 +207,7 @@ place-there (Operate by op clock ∷ before) replica k below = elim (cases_lt k 
           place-here before by op clock replica n (refl, parts.1, same) ∙ sym here,
         )
     | inr foreign ↦
-        let kept : updates_of (Operate by op clock ∷ before) replica ≡ updates_of before replica =
+        let kept : updates_issued (Operate by op clock ∷ before) replica ≡ updates_issued before replica =
         cond-false (by == replica && is_update op) _ _ foreign in
         absurd (omega (arith, kept))
   ]

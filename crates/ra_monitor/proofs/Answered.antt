@@ -25,16 +25,16 @@ module _ (past : Past) (none : fault_of past.kind past.records ≡ None) (comman
   to_accepted = answer_to_accepted past.kind past.records command
 
   abbrev refusal : Option Refusal
-  refusal = refusal_of past.kind past.first past.records command
+  refusal = refusal_of past.kind past.founders past.records command
 
   -- a command that is refused leaves the past
   pub refused : (history : History) (why : Refusal) → refusal ≡ Some why → StandsFor history past
       → IsAnswered history past command (Refused why)
   refused history why is stands =
-      let same : past.records ≡ records_after past.kind past.first past.records command = rw (none, is) refl in (
+      let same : past.records ≡ records_after past.kind past.founders past.records command = rw (none, is) refl in (
         sym (ap (λ o. option_map_or no_at o (option_map_or Refused refusal to_accepted)) none
             ∙ ap (λ o. option_map_or Refused o to_accepted) is),
-        subst (λ records. StandsFor history (past_of past.kind past.first records)) same stands,
+        subst (λ records. StandsFor history (past_of past.kind past.founders records)) same stands,
       )
 
   -- one that is not refused joins the records, if it is one that does
@@ -48,7 +48,7 @@ module _ (past : Past) (none : fault_of past.kind past.records ≡ None) (comman
   accepted history reply with_it is replied stands = (
     replied ∙ sym (ap (λ o. option_map_or no_at o (option_map_or Refused refusal to_accepted)) none
         ∙ ap (λ o. option_map_or Refused o to_accepted) is),
-    subst (λ records. StandsFor history (past_of past.kind past.first records)) (sym (joins with_it is)) stands,
+    subst (λ records. StandsFor history (past_of past.kind past.founders records)) (sym (joins with_it is)) stands,
   )
 
 unless_more : (refusal : Option Refusal) → option_or refusal None ≡ refusal
@@ -57,14 +57,14 @@ unless_more None = refl
 
 -- a delivery to a replica that is there is refused as the records say
 pub at_replica : (past : Past) (to label : ℕ) → to < replicas_of past
-    → refusal_of past.kind past.first past.records (Deliver to label) ≡ refusal_at past.records to label
+    → refusal_of past.kind past.founders past.records (Deliver to label) ≡ refusal_at past.records to label
 at_replica past to label there =
     ap (λ b. first_of (when (not b) UnknownReplica ∷ refusal_at past.records to label ∷ []))
     (lt-ltb to (replicas_of past) there)
     ∙ unless_more (refusal_at past.records to label)
 
 pub at_none : (past : Past) (to label : ℕ) → replicas_of past ≤ to
-    → refusal_of past.kind past.first past.records (Deliver to label) ≡ Some UnknownReplica
+    → refusal_of past.kind past.founders past.records (Deliver to label) ≡ Some UnknownReplica
 at_none past to label beyond =
     ap (λ b. first_of (when (not b) UnknownReplica ∷ refusal_at past.records to label ∷ []))
     (le-ltb to (replicas_of past) beyond)
@@ -89,18 +89,18 @@ module _ (past : Past) (by : ℕ) (op : Op) (clock : Option ℕ) where
       ∷ when (gives_taken past.records op) IdTaken ∷ [])
 
   pub by_none : replicas_of past ≤ by
-      → refusal_of past.kind past.first past.records (Operate by op clock) ≡ Some UnknownReplica
+      → refusal_of past.kind past.founders past.records (Operate by op clock) ≡ Some UnknownReplica
   by_none beyond = ap (λ b. option_or (when (not b) UnknownReplica) (option_or misfit of_taken))
       (le-ltb by (replicas_of past) beyond)
 
   pub by_misfit : (why : Refusal) → by < replicas_of past → misfit ≡ Some why
-      → refusal_of past.kind past.first past.records (Operate by op clock) ≡ Some why
+      → refusal_of past.kind past.founders past.records (Operate by op clock) ≡ Some why
   by_misfit why there is = ap (λ b. option_or (when (not b) UnknownReplica) (option_or misfit of_taken))
       (lt-ltb by (replicas_of past) there)
       ∙ ap (λ o. option_or o of_taken) is
 
   pub by_taken : by < replicas_of past → misfit ≡ None
-      → refusal_of past.kind past.first past.records (Operate by op clock)
+      → refusal_of past.kind past.founders past.records (Operate by op clock)
       ≡ refusal_by past.records (brought_by by op clock)
   by_taken there fits = ap (λ b. option_or (when (not b) UnknownReplica) (option_or misfit of_taken))
       (lt-ltb by (replicas_of past) there)

@@ -25,16 +25,16 @@ past_in setup records = past_of setup.kind setup.replicas records
 
 -- the past that a command leaves
 abbrev pub past_after : Past → Command → Past
-past_after past command = past_of past.kind past.first (records_after past.kind past.first past.records command)
+past_after past command = past_of past.kind past.founders (records_after past.kind past.founders past.records command)
 
 -- the command joins the records
 abbrev pub JoinsRecords : Past → Command → Type 0
 JoinsRecords past command =
-    records_after past.kind past.first past.records command ≡ command ∷ past.records
+    records_after past.kind past.founders past.records command ≡ command ∷ past.records
 
 -- the past before its fault
 abbrev pub before_fault : Past → Past
-before_fault past = past_of past.kind past.first (records_before_fault past.kind past.records)
+before_fault past = past_of past.kind past.founders (records_before_fault past.kind past.records)
 
 -- the history is that of the past
 pub record StandsFor (history : History) (past : Past) : Type 0 where
@@ -54,7 +54,7 @@ pub record StandsFor (history : History) (past : Past) : Type 0 where
 -- the reply is the answer to the command after the past, and the history stands for the past that the command leaves
 abbrev pub IsAnswered : History → Past → Command → Reply → Type 0
 IsAnswered history past command reply =
-    (reply ≡ answer_of past.kind past.first past.records command) × StandsFor history (past_after past command)
+    (reply ≡ answer_of past.kind past.founders past.records command) × StandsFor history (past_after past command)
 
 -- after a past without a fault the label comes next and is not refused: the tracker has it already, and the count of
 -- labels, the witness and what is taken do not have it yet

@@ -142,7 +142,7 @@ impl History {
         ensures { (past : Past) (op : Op) (clock : Option ℕ) → IsTakenIn past.records self.now.taken
             → self.now.replicas ≡ replicas_of past → let command = Command.Operate replica op clock in
             misfit ≡ misfit_of past.kind command → brought ≡ brought_by replica op clock
-            → result ≡ refusal_of past.kind past.first past.records command }
+            → result ≡ refusal_of past.kind past.founders past.records command }
     {
         if replica >= self.replicas {
             return Some(Refusal::UnknownReplica);

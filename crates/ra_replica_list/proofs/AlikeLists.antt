@@ -12,24 +12,24 @@ use Rattle.ra_labels.specs.Insertion.{updates_passing}
 use Rattle.ra_labels.specs.Waiting.{is_there, IsSettled}
 use Rattle.ra_laws.proofs.TheLaws.{settled_labels_stay_settled-delivery, settled_labels_stay_settled-join, settled_labels_stay_settled-alike, a_later_command_leaves_the_updates_that_pass-delivery, a_later_command_leaves_the_updates_that_pass-join}
 use Rattle.ra_element_list.specs.ElementList.{Arrival}
-use Rattle.ra_replica_list.specs.declared.deed.Deed.{Deed}
+use Rattle.ra_replica_list.specs.declared.edit.Edit.{Edit}
 use Rattle.ra_replica_list.specs.Waiting.{labels_under}
-use Rattle.ra_replica_list.specs.Deeds.{element_at}
+use Rattle.ra_replica_list.specs.Edits.{element_at}
 use Rattle.ra_replica_list.specs.ReplicaList.{ReplicaList, IsGreatestOf, IsListWith, IsListBy}
 use Rattle.ra_replica_list.specs.Freed.{AreAlike}
 
 -- what is kept of a list is kept of an equal one
-pub kept_in : {arrivals : List Arrival} {deeds : List (Option Deed)} {records : Records} {had settled : ℕ → Bool}
-    (list next : ReplicaList) → next ≡ list → IsListWith list.state list.marks list.waiting arrivals deeds records had
+pub kept_in : {arrivals : List Arrival} {edits : List (Option Edit)} {records : Records} {had settled : ℕ → Bool}
+    (list next : ReplicaList) → next ≡ list → IsListWith list.state list.marks list.waiting arrivals edits records had
     settled
-    → IsListWith next.state next.marks next.waiting arrivals deeds records had settled
-kept_in {arrivals = arrivals} {deeds = deeds} {records = records} {had = had} {settled = settled} list next is kept =
-    subst (λ (l : ReplicaList). IsListWith l.state l.marks l.waiting arrivals deeds records had settled) (sym is) kept
+    → IsListWith next.state next.marks next.waiting arrivals edits records had settled
+kept_in {arrivals = arrivals} {edits = edits} {records = records} {had = had} {settled = settled} list next is kept =
+    subst (λ (l : ReplicaList). IsListWith l.state l.marks l.waiting arrivals edits records had settled) (sym is) kept
 
-module _ {arrivals : List Arrival} {deeds : List (Option Deed)} {records : Records} where
+module _ {arrivals : List Arrival} {edits : List (Option Edit)} {records : Records} where
   -- a list that says the same is that of the same labels
   pub list_alike : {had : ℕ → Bool} (list next : ReplicaList) → AreAlike list next
-      → IsListBy list arrivals deeds records had → IsListBy next arrivals deeds records had
+      → IsListBy list arrivals edits records had → IsListBy next arrivals edits records had
   list_alike {had = had} list next alike held = record {
     settled = held.settled;
     kept = record {
@@ -53,8 +53,8 @@ module _ {arrivals : List Arrival} {deeds : List (Option Deed)} {records : Recor
   module _ {state : State} {marks : List Bool} {waiting : List (ℕ × List ℕ)} {had settled : ℕ → Bool} where
     -- tests that say the same of what was had
     pub kept_alike : (more : ℕ → Bool) → ((n : ℕ) → had n ≡ more n)
-        → IsListWith state marks waiting arrivals deeds records had settled
-        → IsListWith state marks waiting arrivals deeds records more settled
+        → IsListWith state marks waiting arrivals edits records had settled
+        → IsListWith state marks waiting arrivals edits records more settled
     kept_alike more same kept = record {
       settles = settled_labels_stay_settled-alike records had more settled settled same (λ n. refl) kept.settles;
       after = kept.after;
@@ -71,8 +71,8 @@ module _ {arrivals : List Arrival} {deeds : List (Option Deed)} {records : Recor
     -- later records in which the same labels are settled, and make the same updates, leave what is kept of these labels
     kept_left : (now : Records) → IsSettled now had settled
         → updates_passing Rga now settled ≡ updates_passing Rga records settled
-        → IsListWith state marks waiting arrivals deeds records had settled
-        → IsListWith state marks waiting arrivals deeds now had settled
+        → IsListWith state marks waiting arrivals edits records had settled
+        → IsListWith state marks waiting arrivals edits now had settled
     kept_left now settles same kept = record {
       settles = settles;
       after = ap (state_after Rga) same ∙ kept.after;
@@ -88,14 +88,14 @@ module _ {arrivals : List Arrival} {deeds : List (Option Deed)} {records : Recor
     }
 
     -- so does a delivery, and so does a replica that joins
-    pub kept_delivered : (to m : ℕ) → IsListWith state marks waiting arrivals deeds records had settled
-        → IsListWith state marks waiting arrivals deeds (Deliver to m ∷ records) had settled
+    pub kept_delivered : (to m : ℕ) → IsListWith state marks waiting arrivals edits records had settled
+        → IsListWith state marks waiting arrivals edits (Deliver to m ∷ records) had settled
     kept_delivered to m kept =
         kept_left (Deliver to m ∷ records) (settled_labels_stay_settled-delivery records to m had settled kept.settles)
         (a_later_command_leaves_the_updates_that_pass-delivery Rga records to m settled) kept
 
-    pub kept_joined : (joined from : ℕ) → IsListWith state marks waiting arrivals deeds records had settled
-        → IsListWith state marks waiting arrivals deeds (Join joined from ∷ records) had settled
+    pub kept_joined : (joined from : ℕ) → IsListWith state marks waiting arrivals edits records had settled
+        → IsListWith state marks waiting arrivals edits (Join joined from ∷ records) had settled
     kept_joined joined from kept =
         kept_left (Join joined from ∷ records)
         (settled_labels_stay_settled-join records joined from had settled kept.settles)

@@ -11,37 +11,37 @@ use Rattle.ra_labels.specs.NamedOrder.{greater_of}
 use Rattle.ra_labels.specs.Insertion.{or_label}
 use Rattle.ra_laws.proofs.TheLaws.{each_number_has_its_label-found, an_operation_makes_one_update-exactly, a_replica_had_one_more-delivery, a_later_command_leaves_the_updates_that_pass-delivery}
 use Rattle.ra_element_list.specs.ElementList.{ElementList, arrival_at}
-use Rattle.ra_replica_list.specs.declared.deed.Deed.{Deed}
-use Rattle.ra_replica_list.specs.declared.deed.Deed.TheVariants.{PutsIn, Removes}
-use Rattle.ra_replica_list.specs.Deeds.{deed_at, update_of, AreElementsOf}
+use Rattle.ra_replica_list.specs.declared.edit.Edit.{Edit}
+use Rattle.ra_replica_list.specs.declared.edit.Edit.TheVariants.{PutsIn, Removes}
+use Rattle.ra_replica_list.specs.Edits.{edit_at, update_of, AreElementsOf}
 use Rattle.ra_replica_list.specs.ReplicaList.{ReplicaList, IsGreatestOf, IsListOf, settled_count}
 use Rattle.ra_replica_list.specs.Freed.{IsListWithAfter}
 use Rattle.ra_replica_list.proofs.AlikeLists.{kept_alike, kept_delivered, greatest_alike, greatest_delivered}
 use Rattle.ra_replica_list.proofs.Greatest.{greatest_with, greatest_without}
 
 -- a label that does something is an update
-pub does_update : {all : ElementList} {deeds : List (Option Deed)} {records : Records} → AreElementsOf all deeds records
-    → (n : ℕ) (deed : Deed) → deed_at deeds n ≡ Some deed → is_update_at records n ≡ true
-does_update {all = all} {records = records} stand n deed is =
-    let (l, l_in, l_num, l_makes) = stand.makes n deed is in
+pub does_update : {all : ElementList} {edits : List (Option Edit)} {records : Records} → AreElementsOf all edits records
+    → (n : ℕ) (edit : Edit) → edit_at edits n ≡ Some edit → is_update_at records n ≡ true
+does_update {all = all} {records = records} stand n edit is =
+    let (l, l_in, l_num, l_makes) = stand.makes n edit is in
     subst (λ (k : ℕ). is_update_at records k ≡ true) l_num
     (ap (λ (o : Option Label). option_map_or (λ (m : Label). is_update m.op) o false)
     (each_number_has_its_label-found records l l_in)
-    ∙ (an_operation_makes_one_update-exactly l.op).1 (update_of all.arrivals deed, l_makes))
+    ∙ (an_operation_makes_one_update-exactly l.op).1 (update_of all.arrivals edit, l_makes))
 
-module _ {all : ElementList} {deeds : List (Option Deed)} {records : Records} where
+module _ {all : ElementList} {edits : List (Option Edit)} {records : Records} where
   -- the list is that of the receiver, once it is kept with the label, and each step settles one label
-  pub delivered : {list : ReplicaList} {to : ℕ} (next : ReplicaList) (was : IsListOf list all.arrivals deeds records to)
-      (label steps : ℕ) (deed : Deed) → AreElementsOf all deeds records → deed_at deeds label ≡ Some deed
-      → IsListWithAfter next.state next.marks next.waiting all.arrivals deeds records (had records to) was.settled label
+  pub delivered : {list : ReplicaList} {to : ℕ} (next : ReplicaList) (was : IsListOf list all.arrivals edits records to)
+      (label steps : ℕ) (edit : Edit) → AreElementsOf all edits records → edit_at edits label ≡ Some edit
+      → IsListWithAfter next.state next.marks next.waiting all.arrivals edits records (had records to) was.settled label
       steps
       → IsGreatestOf records (or_label (had records to) label) next.greatest
-      → (is : IsListOf next all.arrivals deeds (Deliver to label ∷ records) to)
+      → (is : IsListOf next all.arrivals edits (Deliver to label ∷ records) to)
       × (settled_count is ≡ settled_count was + steps)
-  delivered {to = to} next was label steps deed stand is after top =
+  delivered {to = to} next was label steps edit stand is after top =
       let later = Deliver to label ∷ records in
       let same : (m : ℕ) → or_label (had records to) label m ≡ had later to m = λ m.
-      sym (a_replica_had_one_more-delivery records to label m (does_update stand label deed is)) in (
+      sym (a_replica_had_one_more-delivery records to label m (does_update stand label edit is)) in (
         record {
           settled = after.settled;
           kept = kept_alike (had later to) same (kept_delivered to label after.kept);
@@ -53,21 +53,21 @@ module _ {all : ElementList} {deeds : List (Option Deed)} {records : Records} wh
 
   -- the greatest stamp with the label
   pub with_stamp : {test : ℕ → Bool} {greatest : Stamp} (label number : ℕ) (stamp : Stamp)
-      → AreElementsOf all deeds records → IsGreatestOf records test greatest
-      → deed_at deeds label ≡ Some (PutsIn number)
+      → AreElementsOf all edits records → IsGreatestOf records test greatest
+      → edit_at edits label ≡ Some (PutsIn number)
       → stamp ≡ (arrival_at all.arrivals number).stamp → IsGreatestOf records (or_label test label)
       (greater_of greatest stamp)
   with_stamp {test = test} {greatest = greatest} label number stamp stand top is stamp_is =
       let (l, l_in, l_num, l_makes) = stand.makes label (PutsIn number) is in
       subst (λ (k : ℕ). IsGreatestOf records (or_label test k) (greater_of greatest stamp)) l_num
       (greatest_with records test greatest stamp l top l_in
-      (stand.stamp l number l_in (ap (deed_at deeds) l_num ∙ is) ∙ ap (λ (s : Stamp). Some s) (sym stamp_is)))
+      (stand.stamp l number l_in (ap (edit_at edits) l_num ∙ is) ∙ ap (λ (s : Stamp). Some s) (sym stamp_is)))
 
-  pub with_none : {test : ℕ → Bool} {greatest : Stamp} (label number : ℕ) → AreElementsOf all deeds records
-      → IsGreatestOf records test greatest → deed_at deeds label ≡ Some (Removes number)
+  pub with_none : {test : ℕ → Bool} {greatest : Stamp} (label number : ℕ) → AreElementsOf all edits records
+      → IsGreatestOf records test greatest → edit_at edits label ≡ Some (Removes number)
       → IsGreatestOf records (or_label test label) greatest
   with_none {test = test} {greatest = greatest} label number stand top is =
       let (l, l_in, l_num, l_makes) = stand.makes label (Removes number) is in
       subst (λ (k : ℕ). IsGreatestOf records (or_label test k) greatest) l_num
       (greatest_without records test greatest greatest l top l_in
-      (stand.unstamped l number l_in (ap (deed_at deeds) l_num ∙ is)))
+      (stand.unstamped l number l_in (ap (edit_at edits) l_num ∙ is)))

@@ -12,13 +12,13 @@ use Rattle.ra_labels.specs.Waiting.{IsSettled}
 use Rattle.ra_labels.proofs.Members.{head_or_behind, at_head, none_there}
 use Rattle.ra_laws.proofs.TheLaws.{settled_labels_stay_settled-waiting}
 use Rattle.ra_element_list.specs.ElementList.{Arrival, is_marked}
-use Rattle.ra_replica_list.specs.declared.deed.Deed.{Deed}
+use Rattle.ra_replica_list.specs.declared.edit.Edit.{Edit}
 use Rattle.ra_replica_list.specs.Waiting.{labels_under}
-use Rattle.ra_replica_list.specs.Deeds.{deed_at, needed_number, update_of, AreDeedsOf}
+use Rattle.ra_replica_list.specs.Edits.{edit_at, needed_number, update_of, AreEditsOf}
 use Rattle.ra_replica_list.specs.ReplicaList.{IsListWith}
 use Rattle.ra_replica_list.specs.Freed.{IsListWithAfter}
 use Rattle.ra_replica_list.proofs.NoneTwice.{none_twice-append, none_twice-one, not_both, it_passes, still_passes, passes_or_is}
-use Rattle.ra_replica_list.proofs.Deeds.{needed_marked}
+use Rattle.ra_replica_list.proofs.Edits.{needed_marked}
 
 -- the label waits under this number from now on
 pub record IsAdded (waiting next : List (ℕ × List ℕ)) (number label : ℕ) : Type 0 where
@@ -49,27 +49,27 @@ from_added {waiting = waiting} next needed label number n added there = elim (ca
   | inr other ↦ inl (subst (λ ls. Contains ls n) (added.others number other) there)
 ]
 
-module _ {arrivals : List Arrival} {deeds : List (Option Deed)} {records : Records} {state : State} {marks : List Bool}
+module _ {arrivals : List Arrival} {edits : List (Option Edit)} {records : Records} {state : State} {marks : List Bool}
     {waiting : List (ℕ × List ℕ)} {had settled : ℕ → Bool} where
   -- it is not settled
-  pub not_settled : IsListWith state marks waiting arrivals deeds records had settled → (label : ℕ) → had label ≡ false
+  pub not_settled : IsListWith state marks waiting arrivals edits records had settled → (label : ℕ) → had label ≡ false
       → settled label ≡ false
   not_settled kept label new =
       false_from_ne_true (settled label) (λ it. not_both (had label) new (kept.settles.had_them label it))
 
   -- it waits
-  pub held_back : (next : List (ℕ × List ℕ)) (label : ℕ) (deed : Deed) → AreDeedsOf arrivals deeds records
-      → IsListWith state marks waiting arrivals deeds records had settled → deed_at deeds label ≡ Some deed
+  pub held_back : (next : List (ℕ × List ℕ)) (label : ℕ) (edit : Edit) → AreEditsOf arrivals edits records
+      → IsListWith state marks waiting arrivals edits records had settled → edit_at edits label ≡ Some edit
       → had label ≡ false
-      → is_marked marks (needed_number arrivals deed) ≡ false → IsAdded waiting next (needed_number arrivals deed) label
-      → IsListWithAfter state marks next arrivals deeds records had settled label 0
-  held_back next label deed stand kept is new missing added =
-      let (l, l_in, l_num, l_makes) = stand.makes label deed is in
-      let needed = needed_number arrivals deed in
+      → is_marked marks (needed_number arrivals edit) ≡ false → IsAdded waiting next (needed_number arrivals edit) label
+      → IsListWithAfter state marks next arrivals edits records had settled label 0
+  held_back next label edit stand kept is new missing added =
+      let (l, l_in, l_num, l_makes) = stand.makes label edit is in
+      let needed = needed_number arrivals edit in
       let settles : IsSettled records (or_label had l.number) settled =
-      settled_labels_stay_settled-waiting records had settled l (update_of arrivals deed) l_in l_makes
+      settled_labels_stay_settled-waiting records had settled l (update_of arrivals edit) l_in l_makes
       (ap had l_num ∙ new) kept.settles
-      (needed_marked stand kept.there label deed is ∙ missing) in
+      (needed_marked stand kept.there label edit is ∙ missing) in
       record {
         settled = settled;
         kept = record {
@@ -82,8 +82,8 @@ module _ {arrivals : List Arrival} {deeds : List (Option Deed)} {records : Recor
                   added_there next needed label (needed_number arrivals d) n added
                   (kept.waiting_labels.waits n d d_is old fails)
               | inr it ↦
-                  let same : deed ≡ d = same_Some deed d (sym is ∙ sym (ap (deed_at deeds) it) ∙ d_is) in
-                  subst (λ (e : Deed). Contains (labels_under next (needed_number arrivals e)) n) same
+                  let same : edit ≡ d = same_Some edit d (sym is ∙ sym (ap (edit_at edits) it) ∙ d_is) in
+                  subst (λ (e : Edit). Contains (labels_under next (needed_number arrivals e)) n) same
                   (subst (λ ls. Contains ls n) (sym added.added)
                   (Contains-append_right (labels_under waiting needed) (label ∷ []) n (at_head label [] n (sym it))))
             ];
@@ -92,8 +92,8 @@ module _ {arrivals : List Arrival} {deeds : List (Option Deed)} {records : Recor
                   let (d, d_is, d_needs, was_had, waits) = kept.waiting_labels.only number n old in
                   (d, d_is, d_needs, still_passes had label n was_had, waits)
               | inr (here, it) ↦ (
-                deed,
-                sym (ap (deed_at deeds) it) ∙ is,
+                edit,
+                sym (ap (edit_at edits) it) ∙ is,
                 sym here,
                 it_passes had label n (sym it),
                 sym (ap settled it) ∙ not_settled kept label new,

@@ -24,14 +24,14 @@ use Rattle.ra_labels.proofs.Members.{head_or_behind, none_there, what_passes}
 use Rattle.ra_labels.proofs.Counted.{labels_counted}
 use Rattle.ra_laws.proofs.TheLaws.{what_is_settled_does_not_wait, named_labels_are_sorted-same}
 use Rattle.ra_element_list.specs.ElementList.{Arrival, ElementList, is_marked}
-use Rattle.ra_replica_list.specs.declared.deed.Deed.{Deed}
-use Rattle.ra_replica_list.specs.declared.deed.Deed.TheVariants.{PutsIn, Removes}
+use Rattle.ra_replica_list.specs.declared.edit.Edit.{Edit}
+use Rattle.ra_replica_list.specs.declared.edit.Edit.TheVariants.{PutsIn, Removes}
 use Rattle.ra_replica_list.specs.Waiting.{labels_under}
-use Rattle.ra_replica_list.specs.Deeds.{deed_at, needed_number, AreElementsOf, AreDeedsOf}
+use Rattle.ra_replica_list.specs.Edits.{edit_at, needed_number, AreElementsOf, AreEditsOf}
 use Rattle.ra_replica_list.specs.ReplicaList.{IsListWith}
 use Rattle.ra_replica_list.specs.Freed.{puts, is_put_by, freed_under, IsFreeing, IsListWithAfter}
 use Rattle.ra_replica_list.proofs.NoneTwice.{not_both, still_passes, others_pass}
-use Rattle.ra_replica_list.proofs.Deeds.{deeds_stand, needed_marked, needed_known, marked_label, root_marked, AreMarksWith}
+use Rattle.ra_replica_list.proofs.Edits.{edits_stand, needed_marked, needed_known, marked_label, root_marked, AreMarksWith}
 use Rattle.ra_replica_list.proofs.FreedLabels.{unmarked, marked, first_freed, follows}
 
 -- one of the labels passes a test
@@ -42,28 +42,28 @@ passes_one p (y ∷ xs) x there is = elim (head_or_behind y xs x there) [
   | inr further ↦ or_right (p y) (list_any p xs) (passes_one p xs x further is)
 ]
 
--- a deed that puts the element in
-puts_at : (o : Option Deed) (number : ℕ) → option_map_or (puts number) o false ≡ true → o ≡ Some (PutsIn number)
+-- an edit that puts the element in
+puts_at : (o : Option Edit) (number : ℕ) → option_map_or (puts number) o false ≡ true → o ≡ Some (PutsIn number)
 puts_at None number is = absurd (false≢true is)
 puts_at (Some (PutsIn k)) number is = ap (λ (n : ℕ). Some (PutsIn n)) (sym (eqb-true number k is))
 puts_at (Some (Removes k)) number is = absurd (false≢true is)
 
-at_puts : (o : Option Deed) (number : ℕ) → o ≡ Some (PutsIn number) → option_map_or (puts number) o false ≡ true
-at_puts o number is = ap (λ (d : Option Deed). option_map_or (puts number) d false) is ∙ eq-eqb number number refl
+at_puts : (o : Option Edit) (number : ℕ) → o ≡ Some (PutsIn number) → option_map_or (puts number) o false ≡ true
+at_puts o number is = ap (λ (d : Option Edit). option_map_or (puts number) d false) is ∙ eq-eqb number number refl
 
-module _ {arrivals : List Arrival} {deeds : List (Option Deed)} {records : Records} {old_state : State}
+module _ {arrivals : List Arrival} {edits : List (Option Edit)} {records : Records} {old_state : State}
     {old_marks : List Bool} {waiting : List (ℕ × List ℕ)} {had settled : ℕ → Bool} {state : State} {marks : List Bool}
     {labels : List ℕ} {first : ℕ} where
   -- all have followed, and of those that waited the ones wait on that are not settled
-  all_settled : (left : List (ℕ × List ℕ)) → AreDeedsOf arrivals deeds records
-      → IsListWith old_state old_marks waiting arrivals deeds records had settled
-      → (free : IsFreeing state marks labels [] arrivals deeds records had settled first)
+  all_settled : (left : List (ℕ × List ℕ)) → AreEditsOf arrivals edits records
+      → IsListWith old_state old_marks waiting arrivals edits records had settled
+      → (free : IsFreeing state marks labels [] arrivals edits records had settled first)
       → ((number n : ℕ) → Contains (labels_under left number) n
       → Contains (labels_under waiting number) n × (free.passes n ≡ false))
       → ((number n : ℕ) → Contains (labels_under waiting number) n → is_marked marks number ≡ false
       → Contains (labels_under left number) n)
       → ((number : ℕ) → NoneTwice (labels_under left number))
-      → IsListWithAfter state marks left arrivals deeds records had settled first (length labels)
+      → IsListWithAfter state marks left arrivals edits records had settled first (length labels)
   all_settled left stand kept free waited waits_on once =
       let passes = free.passes in
       let first_passes : passes first ≡ true = elim free.itself [
@@ -73,7 +73,7 @@ module _ {arrivals : List Arrival} {deeds : List (Option Deed)} {records : Recor
       let was_had : (n : ℕ) → or_label had first n ≡ true → passes n ≡ false → had n ≡ true =
       λ n had_it fails. sym (others_pass had first n (λ it. not_both (passes n) fails (ap passes it ∙ first_passes)))
       ∙ had_it in
-      let missing : (n : ℕ) (d : Deed) → deed_at deeds n ≡ Some d → or_label had first n ≡ true → passes n ≡ false
+      let missing : (n : ℕ) (d : Edit) → edit_at edits n ≡ Some d → or_label had first n ≡ true → passes n ≡ false
       → is_marked marks (needed_number arrivals d) ≡ false =
       λ n d d_is had_it fails. elim (free.others n d d_is (was_had n had_it fails) fails) [
         | inl it ↦ it
@@ -107,21 +107,21 @@ module _ {arrivals : List Arrival} {deeds : List (Option Deed)} {records : Recor
         count = free.count;
       }
 
-module _ {arrivals : List Arrival} {deeds : List (Option Deed)} {records : Records} {state : State} {marks : List Bool}
+module _ {arrivals : List Arrival} {edits : List (Option Edit)} {records : Records} {state : State} {marks : List Bool}
     {waiting : List (ℕ × List ℕ)} {had settled : ℕ → Bool} where
   -- one label alone follows, since none waits for what it puts in
-  pub goes_in : (next_state : State) (next_marks : List Bool) (label : ℕ) (deed : Deed)
-      → AreDeedsOf arrivals deeds records → IsListWith state marks waiting arrivals deeds records had settled
-      → deed_at deeds label ≡ Some deed → had label ≡ false
-      → is_marked marks (needed_number arrivals deed) ≡ true
+  pub goes_in : (next_state : State) (next_marks : List Bool) (label : ℕ) (edit : Edit)
+      → AreEditsOf arrivals edits records → IsListWith state marks waiting arrivals edits records had settled
+      → edit_at edits label ≡ Some edit → had label ≡ false
+      → is_marked marks (needed_number arrivals edit) ≡ true
       → state_after Rga (updates_passing Rga records (or_label settled label)) ≡ Some next_state
-      → AreMarksWith marks next_marks deed
-      → ((number : ℕ) → puts number deed ≡ true → labels_under waiting number ≡ [])
-      → IsListWithAfter next_state next_marks waiting arrivals deeds records had settled label 1
+      → AreMarksWith marks next_marks edit
+      → ((number : ℕ) → puts number edit ≡ true → labels_under waiting number ≡ [])
+      → IsListWithAfter next_state next_marks waiting arrivals edits records had settled label 1
   unfolding first_freed
-  goes_in next_state next_marks label deed stand kept is new needs after with_it none_for =
-      let free = follows [] next_state next_marks [] label deed stand
-      (first_freed label deed stand kept is new needs) is after with_it (record {
+  goes_in next_state next_marks label edit stand kept is new needs after with_it none_for =
+      let free = follows [] next_state next_marks [] label edit stand
+      (first_freed label edit stand kept is new needs) is after with_it (record {
         only = λ n found. absurd (none_there n found);
         all = λ n d d_is was_had waits puts_it. absurd (none_there n
             (subst (λ ls. Contains ls n) (none_for (needed_number arrivals d) puts_it)
@@ -142,23 +142,23 @@ module _ {arrivals : List Arrival} {deeds : List (Option Deed)} {records : Recor
       ))
       (λ number n found missing. found) kept.waiting_labels.once
 
-module _ {all : ElementList} {deeds : List (Option Deed)} {records : Records} {old_state : State}
+module _ {all : ElementList} {edits : List (Option Edit)} {records : Records} {old_state : State}
     {old_marks : List Bool} {waiting : List (ℕ × List ℕ)} {had settled : ℕ → Bool} {state : State} {marks : List Bool}
     {labels : List ℕ} {first : ℕ} where
-  pub all_follow : (left : List (ℕ × List ℕ)) → AreElementsOf all deeds records
-      → IsListWith old_state old_marks waiting all.arrivals deeds records had settled
-      → IsFreeing state marks labels [] all.arrivals deeds records had settled first
-      → ((number : ℕ) → labels_under left number ≡ freed_under deeds labels (labels_under waiting) number)
-      → IsListWithAfter state marks left all.arrivals deeds records had settled first (length labels)
+  pub all_follow : (left : List (ℕ × List ℕ)) → AreElementsOf all edits records
+      → IsListWith old_state old_marks waiting all.arrivals edits records had settled
+      → IsFreeing state marks labels [] all.arrivals edits records had settled first
+      → ((number : ℕ) → labels_under left number ≡ freed_under edits labels (labels_under waiting) number)
+      → IsListWithAfter state marks left all.arrivals edits records had settled first (length labels)
   all_follow left stands kept free says =
-      let stand = deeds_stand stands in
+      let stand = edits_stand stands in
       let passes = free.passes in
-      let put = is_put_by deeds labels in
+      let put = is_put_by edits labels in
       let freed : (number : ℕ) → put number ≡ true → is_marked marks number ≡ true =
       λ number is.
-      let (m, found, puts_it) = what_passes (λ label. option_map_or (puts number) (deed_at deeds label) false) labels
+      let (m, found, puts_it) = what_passes (λ label. option_map_or (puts number) (edit_at edits label) false) labels
       is in
-      marked_label stand free.there m number (puts_at (deed_at deeds m) number puts_it) ∙ free.gone m found in
+      marked_label stand free.there m number (puts_at (edit_at edits m) number puts_it) ∙ free.gone m found in
       let goes : (number : ℕ) → put number ≡ true → labels_under left number ≡ [] =
       λ number is. says number ∙ cond-true (put number) [] (labels_under waiting number) is in
       let stays : (number : ℕ) → put number ≡ false → labels_under left number ≡ labels_under waiting number =
@@ -190,8 +190,8 @@ module _ {all : ElementList} {deeds : List (Option Deed)} {records : Records} {o
                         not_both (is_marked old_marks number) old_missing
                         (marked_label stand kept.there m number m_is ∙ m_settled)
                     | inr m_found ↦ not_both (put number) not
-                        (passes_one (λ label. option_map_or (puts number) (deed_at deeds label) false) labels m m_found
-                        (at_puts (deed_at deeds m) number m_is))
+                        (passes_one (λ label. option_map_or (puts number) (edit_at edits label) false) labels m m_found
+                        (at_puts (edit_at edits m) number m_is))
                   ]),
             )
       ])
@@ -239,9 +239,9 @@ few_updates passes (label ∷ labels) =
     )
 
 -- so no more labels follow than there are
-pub not_many : {all : ElementList} {deeds : List (Option Deed)} {records : Records} {state : State} {marks : List Bool}
-    {labels ready : List ℕ} {had settled : ℕ → Bool} {first : ℕ} → AreElementsOf all deeds records
-    → IsFreeing state marks labels ready all.arrivals deeds records had settled first → length labels ≤ length deeds
+pub not_many : {all : ElementList} {edits : List (Option Edit)} {records : Records} {state : State} {marks : List Bool}
+    {labels ready : List ℕ} {had settled : ℕ → Bool} {first : ℕ} → AreElementsOf all edits records
+    → IsFreeing state marks labels ready all.arrivals edits records had settled first → length labels ≤ length edits
 not_many {records = records} stand free = omega (
   arith,
   free.count,

@@ -13,81 +13,81 @@ use Rattle.ra_labels.specs.Insertion.{Makes}
 use Rattle.ra_laws.proofs.TheLaws.{a_new_replica_had_what_the_other_had-labels, a_later_command_leaves_the_updates_that_pass-operation}
 use Rattle.ra_laws.proofs.TheLaws.{had_updates-next}
 use Rattle.ra_element_list.specs.ElementList.{Arrival, ElementList}
-use Rattle.ra_replica_list.specs.declared.deed.Deed.{Deed}
-use Rattle.ra_replica_list.specs.declared.deed.Deed.TheVariants.{PutsIn, Removes}
-use Rattle.ra_replica_list.specs.Deeds.{element_at, AreElementsOf}
+use Rattle.ra_replica_list.specs.declared.edit.Edit.{Edit}
+use Rattle.ra_replica_list.specs.declared.edit.Edit.TheVariants.{PutsIn, Removes}
+use Rattle.ra_replica_list.specs.Edits.{element_at, AreElementsOf}
 use Rattle.ra_replica_list.specs.ReplicaList.{ReplicaList, IsListOf, IsListBy, settled_count}
-use Rattle.ra_replica_list.proofs.Deeds.{deeds_stand}
+use Rattle.ra_replica_list.proofs.Edits.{edits_stand}
 use Rattle.ra_replica_list.proofs.AlikeLists.{kept_alike, kept_delivered, kept_joined, greatest_alike, greatest_delivered, greatest_joined}
 use Rattle.ra_replica_list.proofs.HadLabels.{not_settled}
 use Rattle.ra_replica_list.proofs.NewMarks.{had_by_other, had_no_query, had_to_other, had_by_new, none_longer, kept_known, greatest_known}
-use Rattle.ra_replica_list.proofs.NewDeeds.{needed_same, first_same, longer_by_one}
+use Rattle.ra_replica_list.proofs.NewEdits.{needed_same, first_same, longer_by_one}
 
 -- with a label that was not had: it puts in an element, or does something else
-module _ {list : ReplicaList} {all : ElementList} {deeds : List (Option Deed)} {records : Records} (next : Next)
+module _ {list : ReplicaList} {all : ElementList} {edits : List (Option Edit)} {records : Records} (next : Next)
     {test : ℕ → Bool} where
-  pub known_insertion : (new : Arrival) (d : Option Deed) (more : ℕ → Bool) → AreElementsOf all deeds records
-      → IsListBy list all.arrivals deeds records test → test (label_count records) ≡ false
+  pub known_insertion : (new : Arrival) (d : Option Edit) (more : ℕ → Bool) → AreElementsOf all edits records
+      → IsListBy list all.arrivals edits records test → test (label_count records) ≡ false
       → Makes next.op (After (element_at all.arrivals new.anchor) new.element)
       → updates_admitted Rga (named_sequence Rga (operate next ∷ records)) ≡ true → ((n : ℕ) → test n ≡ more n)
-      → IsListBy list (all.arrivals ++ new ∷ []) (deeds ++ d ∷ []) (operate next ∷ records) more
+      → IsListBy list (all.arrivals ++ new ∷ []) (edits ++ d ∷ []) (operate next ∷ records) more
   known_insertion new d more stand held fresh makes admitted same = record {
     settled = held.settled;
     kept = kept_alike more same (kept_known (all.arrivals ++ new ∷ []) d next held.kept fresh stand.count
         (longer_by_one all.arrivals new next (element_at all.arrivals new.anchor) admitted makes
         (not_settled held.kept (label_count records) fresh))
-        (needed_same (all.arrivals ++ new ∷ []) (deeds_stand stand) (first_same all.arrivals new)));
+        (needed_same (all.arrivals ++ new ∷ []) (edits_stand stand) (first_same all.arrivals new)));
     greatest = greatest_alike more same (greatest_known next held.greatest fresh);
   }
 
-  unfoldable pub known_other : (d : Option Deed) (more : ℕ → Bool) → AreElementsOf all deeds records
-      → IsListBy list all.arrivals deeds records test → test (label_count records) ≡ false → ((n : ℕ) → test n ≡ more n)
-      → IsListBy list all.arrivals (deeds ++ d ∷ []) (operate next ∷ records) more
+  unfoldable pub known_other : (d : Option Edit) (more : ℕ → Bool) → AreElementsOf all edits records
+      → IsListBy list all.arrivals edits records test → test (label_count records) ≡ false → ((n : ℕ) → test n ≡ more n)
+      → IsListBy list all.arrivals (edits ++ d ∷ []) (operate next ∷ records) more
   known_other d more stand held fresh same = record {
     settled = held.settled;
     kept = kept_alike more same (kept_known all.arrivals d next held.kept fresh stand.count
-        (none_longer all.arrivals (operate next ∷ records) held.settled) (λ n deed is. refl));
+        (none_longer all.arrivals (operate next ∷ records) held.settled) (λ n edit is. refl));
     greatest = greatest_alike more same (greatest_known next held.greatest fresh);
   }
 
-pub insertion-stays : (list : ReplicaList) (all : ElementList) (new : Arrival) (deeds : List (Option Deed))
-    (records : Records) (replica : ℕ) (next : Next) → AreElementsOf all deeds records
-    → IsListOf list all.arrivals deeds records replica
+pub insertion-stays : (list : ReplicaList) (all : ElementList) (new : Arrival) (edits : List (Option Edit))
+    (records : Records) (replica : ℕ) (next : Next) → AreElementsOf all edits records
+    → IsListOf list all.arrivals edits records replica
     → ¬ (next.by ≡ replica) → Makes next.op (After (element_at all.arrivals new.anchor) new.element)
     → updates_admitted Rga (named_sequence Rga (operate next ∷ records)) ≡ true
-    → IsListOf list (all.arrivals ++ new ∷ []) (deeds ++ Some (PutsIn (length all.arrivals)) ∷ [])
+    → IsListOf list (all.arrivals ++ new ∷ []) (edits ++ Some (PutsIn (length all.arrivals)) ∷ [])
     (operate next ∷ records) replica
-insertion-stays list all new deeds records replica next stand held other makes admitted =
+insertion-stays list all new edits records replica next stand held other makes admitted =
     known_insertion next new (Some (PutsIn (length all.arrivals))) (had (operate next ∷ records) replica) stand held
     (had_updates-next records replica) makes admitted (had_by_other records next replica other)
 
-pub removal-stays : (list : ReplicaList) (all : ElementList) (deeds : List (Option Deed)) (records : Records)
-    (replica number : ℕ) (next : Next) → AreElementsOf all deeds records
-    → IsListOf list all.arrivals deeds records replica
-    → ¬ (next.by ≡ replica) → IsListOf list all.arrivals (deeds ++ Some (Removes number) ∷ []) (operate next ∷ records)
+pub removal-stays : (list : ReplicaList) (all : ElementList) (edits : List (Option Edit)) (records : Records)
+    (replica number : ℕ) (next : Next) → AreElementsOf all edits records
+    → IsListOf list all.arrivals edits records replica
+    → ¬ (next.by ≡ replica) → IsListOf list all.arrivals (edits ++ Some (Removes number) ∷ []) (operate next ∷ records)
     replica
-removal-stays list all deeds records replica number next stand held other =
+removal-stays list all edits records replica number next stand held other =
     known_other next (Some (Removes number)) (had (operate next ∷ records) replica) stand held (had_updates-next records replica)
     (had_by_other records next replica other)
 
-pub query-stays : (list : ReplicaList) (all : ElementList) (deeds : List (Option Deed)) (records : Records)
-    (replica : ℕ) (next : Next) → AreElementsOf all deeds records
-    → (was : IsListOf list all.arrivals deeds records replica) → is_update next.op ≡ false
-    → (is : IsListOf list all.arrivals (deeds ++ None ∷ []) (operate next ∷ records) replica)
+pub query-stays : (list : ReplicaList) (all : ElementList) (edits : List (Option Edit)) (records : Records)
+    (replica : ℕ) (next : Next) → AreElementsOf all edits records
+    → (was : IsListOf list all.arrivals edits records replica) → is_update next.op ≡ false
+    → (is : IsListOf list all.arrivals (edits ++ None ∷ []) (operate next ∷ records) replica)
     × (settled_count is ≡ settled_count was)
 unfolding known_other
-query-stays list all deeds records replica next stand held query = (
+query-stays list all edits records replica next stand held query = (
   known_other next None (had (operate next ∷ records) replica) stand held (had_updates-next records replica)
       (had_no_query records next replica query),
   ap length (a_later_command_leaves_the_updates_that_pass-operation Rga records next.by next.op next.clock held.settled
       (not_settled held.kept (label_count records) (had_updates-next records replica))),
 )
 
-pub delivery-stays : (list : ReplicaList) (all : ElementList) (deeds : List (Option Deed)) (records : Records)
-    (replica to n : ℕ) → AreElementsOf all deeds records → IsListOf list all.arrivals deeds records replica
+pub delivery-stays : (list : ReplicaList) (all : ElementList) (edits : List (Option Edit)) (records : Records)
+    (replica to n : ℕ) → AreElementsOf all edits records → IsListOf list all.arrivals edits records replica
     → ¬ (to ≡ replica)
-    → IsListOf list all.arrivals deeds (Deliver to n ∷ records) replica
-delivery-stays list all deeds records replica to n stand held other =
+    → IsListOf list all.arrivals edits (Deliver to n ∷ records) replica
+delivery-stays list all edits records replica to n stand held other =
     let same = had_to_other records to n replica other in
     record {
       settled = held.settled;
@@ -96,27 +96,27 @@ delivery-stays list all deeds records replica to n stand held other =
     }
 
 -- a replica that joins leaves the list of what the same labels were had
-joined_alike : (list : ReplicaList) (arrivals : List Arrival) (deeds : List (Option Deed)) (records : Records)
-    (joined from : ℕ) (was now : ℕ → Bool) → ((n : ℕ) → was n ≡ now n) → IsListBy list arrivals deeds records was
-    → IsListBy list arrivals deeds (Join joined from ∷ records) now
-joined_alike list arrivals deeds records joined from was now same held = record {
+joined_alike : (list : ReplicaList) (arrivals : List Arrival) (edits : List (Option Edit)) (records : Records)
+    (joined from : ℕ) (was now : ℕ → Bool) → ((n : ℕ) → was n ≡ now n) → IsListBy list arrivals edits records was
+    → IsListBy list arrivals edits (Join joined from ∷ records) now
+joined_alike list arrivals edits records joined from was now same held = record {
   settled = held.settled;
   kept = kept_alike now same (kept_joined joined from held.kept);
   greatest = greatest_alike now same (greatest_joined joined from held.greatest);
 }
 
-pub join-stays : (list : ReplicaList) (arrivals : List Arrival) (deeds : List (Option Deed)) (records : Records)
-    (replica joined from : ℕ) → IsListOf list arrivals deeds records replica → ¬ (joined ≡ replica)
-    → IsListOf list arrivals deeds (Join joined from ∷ records) replica
-join-stays list arrivals deeds records replica joined from held other =
-    joined_alike list arrivals deeds records joined from (had records replica)
+pub join-stays : (list : ReplicaList) (arrivals : List Arrival) (edits : List (Option Edit)) (records : Records)
+    (replica joined from : ℕ) → IsListOf list arrivals edits records replica → ¬ (joined ≡ replica)
+    → IsListOf list arrivals edits (Join joined from ∷ records) replica
+join-stays list arrivals edits records replica joined from held other =
+    joined_alike list arrivals edits records joined from (had records replica)
     (had (Join joined from ∷ records) replica) (had_by_new records joined from replica other) held
 
 -- and it has the list of the other one
-pub join-copied : (list : ReplicaList) (arrivals : List Arrival) (deeds : List (Option Deed)) (first : ℕ)
-    (records : Records) (from : ℕ) → NoneHadBeyond first records → IsListOf list arrivals deeds records from
-    → let joined = replica_count first records in IsListOf list arrivals deeds (Join joined from ∷ records) joined
-join-copied list arrivals deeds first records from beyond held =
+pub join-copied : (list : ReplicaList) (arrivals : List Arrival) (edits : List (Option Edit)) (first : ℕ)
+    (records : Records) (from : ℕ) → NoneHadBeyond first records → IsListOf list arrivals edits records from
+    → let joined = replica_count first records in IsListOf list arrivals edits (Join joined from ∷ records) joined
+join-copied list arrivals edits first records from beyond held =
     let joined = replica_count first records in
-    joined_alike list arrivals deeds records joined from (had records from) (had (Join joined from ∷ records) joined)
+    joined_alike list arrivals edits records joined from (had records from) (had (Join joined from ∷ records) joined)
     (λ n. sym (a_new_replica_had_what_the_other_had-labels first records from n beyond)) held

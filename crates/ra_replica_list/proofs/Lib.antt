@@ -1,5 +1,5 @@
 pub mod NoneTwice
-pub mod Deeds
+pub mod Edits
 pub mod HadLabels
 pub mod AlikeLists
 pub mod Greatest
@@ -14,7 +14,7 @@ pub mod LastFollowers
 pub mod Nearness
 pub mod Deliveries
 pub mod NewMarks
-pub mod NewDeeds
+pub mod NewEdits
 pub mod LaterRecords
 pub mod Ranks
 pub mod Newest

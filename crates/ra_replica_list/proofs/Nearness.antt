@@ -21,11 +21,11 @@ use Rattle.ra_labels.proofs.Members.{behind_head, reached}
 use Rattle.ra_labels.proofs.StampOrder.{below_below}
 use Rattle.ra_laws.proofs.TheLaws.{a_list_has_what_was_put_in-root, a_list_has_what_was_put_in-once, between_an_anchor_and_its_element_stand_later_ones, labels_with_stamps_stand_in_their_order, stamps_by_clock_and_then_by_replica-less, an_element_is_there_where_its_label_passes-label, what_is_there_a_label_put_in-passing, named_labels_are_sorted-same}
 use Rattle.ra_element_list.specs.ElementList.{ElementList, arrival_at, is_marked, IsSomewhereBehind, IsNearestBefore}
-use Rattle.ra_replica_list.specs.declared.deed.Deed.{Deed}
-use Rattle.ra_replica_list.specs.declared.deed.Deed.TheVariants.{PutsIn, Removes}
-use Rattle.ra_replica_list.specs.Deeds.{deed_at, element_at, update_of, AreElementsOf}
+use Rattle.ra_replica_list.specs.declared.edit.Edit.{Edit}
+use Rattle.ra_replica_list.specs.declared.edit.Edit.TheVariants.{PutsIn, Removes}
+use Rattle.ra_replica_list.specs.Edits.{edit_at, element_at, update_of, AreElementsOf}
 use Rattle.ra_replica_list.specs.ReplicaList.{AreThere, IsGreatestOf}
-use Rattle.ra_replica_list.proofs.Deeds.{all_admitted, deeds_stand, needed_marked}
+use Rattle.ra_replica_list.proofs.Edits.{all_admitted, edits_stand, needed_marked}
 
 -- the root stands before all others
 first_is_once : (e : ℕ) (es rest : List ℕ) → NoneTwice (e ∷ es) → e ∷ es ≡ 0 ∷ rest → ¬ Contains es 0
@@ -47,18 +47,18 @@ elements_round before between behind p x =
     map-append (λ (e : ℕ × Bool). e.0) (before ++ p ∷ between) (x ∷ behind)
     ∙ ap (λ es. es ++ x.0 ∷ elements_in behind) (map-append (λ (e : ℕ × Bool). e.0) before (p ∷ between))
 
--- the deed of a label that puts an element in
-puts_a_deed : (d : Deed) → (all : ElementList) (anchor y : ℕ) → update_of all.arrivals d ≡ After anchor y
+-- the edit of a label that puts an element in
+puts_a_edit : (d : Edit) → (all : ElementList) (anchor y : ℕ) → update_of all.arrivals d ≡ After anchor y
     → (k : ℕ) × (d ≡ PutsIn k)
-puts_a_deed (PutsIn k) all anchor y is = (k, refl)
-puts_a_deed (Removes k) all anchor y is = absurd (cc (is))
+puts_a_edit (PutsIn k) all anchor y is = (k, refl)
+puts_a_edit (Removes k) all anchor y is = absurd (cc (is))
 
-module _ {all : ElementList} {deeds : List (Option Deed)} {records : Records} {marks : List Bool}
+module _ {all : ElementList} {edits : List (Option Edit)} {records : Records} {marks : List Bool}
     {settled had : ℕ → Bool} {greatest : Stamp} where
   -- where the element's stamp is above all that were had, nothing that is there stands between its anchor and it
-  pub newest_is_nearest : AreElementsOf all deeds records → AreThere marks all.arrivals records settled
+  pub newest_is_nearest : AreElementsOf all edits records → AreThere marks all.arrivals records settled
       → ((n : ℕ) → settled n ≡ true → had n ≡ true) → IsGreatestOf records had greatest
-      → (label number : ℕ) (list : List (ℕ × Bool)) → deed_at deeds label ≡ Some (PutsIn number)
+      → (label number : ℕ) (list : List (ℕ × Bool)) → edit_at edits label ≡ Some (PutsIn number)
       → is_marked marks (arrival_at all.arrivals number).anchor ≡ true
       → IsStampBelow greatest (arrival_at all.arrivals number).stamp
       → state_after Rga (updates_of (named_sequence Rga records)) ≡ Some (Listed list)
@@ -67,7 +67,7 @@ module _ {all : ElementList} {deeds : List (Option Deed)} {records : Records} {m
       → IsNearestBefore (λ x. is_there x (updates_passing Rga records settled)) list (element_at all.arrivals number)
       (element_at all.arrivals (arrival_at all.arrivals number).anchor)
   newest_is_nearest stands there had_them top label number list is needs above led somewhere =
-      let stand = deeds_stand stands in
+      let stand = edits_stand stands in
       let (l, l_in, l_num, l_makes) = stand.makes label (PutsIn number) is in
       let x = element_at all.arrivals number in
       let anchor = element_at all.arrivals (arrival_at all.arrivals number).anchor in
@@ -75,7 +75,7 @@ module _ {all : ElementList} {deeds : List (Option Deed)} {records : Records} {m
       let updates = updates_passing Rga records settled in
       let (before, between, behind, is_shown, was_shown, pieces) = somewhere in
       let all_led = led ∙ ap (λ ls. Some (Listed ls)) pieces in
-      let l_stamp : l.stamp ≡ Some stamp = stands.stamp l number l_in (ap (deed_at deeds) l_num ∙ is) in
+      let l_stamp : l.stamp ≡ Some stamp = stands.stamp l number l_in (ap (edit_at edits) l_num ∙ is) in
       let none_between : (entry : ℕ × Bool) → Contains between entry → is_there entry.0 updates ≡ false =
       λ entry found. false_from_ne_true (is_there entry.0 updates) (λ it.
       let y_found = reached (λ (e : ℕ × Bool). e.0) between entry found in
@@ -91,8 +91,8 @@ module _ {all : ElementList} {deeds : List (Option Deed)} {records : Records} {m
             (subst (Contains (elements_in between)) root y_found)
         | inr (m, b, m_in, m_makes, m_had) ↦
             let (d, d_is, d_does) = stand.made m (After b entry.0) m_in m_makes in
-            let (k, d_puts) = puts_a_deed d all b entry.0 d_does in
-            let m_stamp = stands.stamp m k m_in (d_is ∙ ap (λ (e : Deed). Some e) d_puts) in
+            let (k, d_puts) = puts_a_edit d all b entry.0 d_does in
+            let m_stamp = stands.stamp m k m_in (d_is ∙ ap (λ (e : Edit). Some e) d_puts) in
             let t = (arrival_at all.arrivals k).stamp in
             let not_above = top.above m t m_in m_had m_stamp in
             let other_stamp : ¬ (stamp ≡ t) = λ same. not_above (subst (IsStampBelow greatest) same above) in

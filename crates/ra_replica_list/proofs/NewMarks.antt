@@ -16,12 +16,12 @@ use Rattle.ra_labels.specs.Waiting.{is_there}
 use Rattle.ra_labels.proofs.Members.{head_or_behind, behind_head}
 use Rattle.ra_laws.proofs.TheLaws.{settled_labels_stay_settled-operation, a_later_command_leaves_the_updates_that_pass-operation}
 use Rattle.ra_element_list.specs.ElementList.{Arrival}
-use Rattle.ra_replica_list.specs.declared.deed.Deed.{Deed}
+use Rattle.ra_replica_list.specs.declared.edit.Edit.{Edit}
 use Rattle.ra_replica_list.specs.Waiting.{labels_under}
-use Rattle.ra_replica_list.specs.Deeds.{deed_at, element_at, needed_number}
+use Rattle.ra_replica_list.specs.Edits.{edit_at, element_at, needed_number}
 use Rattle.ra_replica_list.specs.ReplicaList.{IsListWith, IsGreatestOf}
 use Rattle.ra_replica_list.proofs.NoneTwice.{not_both}
-use Rattle.ra_replica_list.proofs.Deeds.{deed_there}
+use Rattle.ra_replica_list.proofs.Edits.{edit_there}
 use Rattle.ra_replica_list.proofs.HadLabels.{not_settled}
 
 or_same : (a b : Bool) → a ≡ false → (a || b) ≡ b
@@ -54,16 +54,16 @@ had_by_new records joined from replica other n =
     (ap (λ b. b && had records from n) (ne_eqb joined replica other)))
 
 -- what each label but the next one does
-pub older_deed : (deeds : List (Option Deed)) (d : Option Deed) (count n : ℕ) (deed : Deed) → length deeds ≡ count
-    → ¬ (n ≡ count) → deed_at (deeds ++ d ∷ []) n ≡ Some deed → deed_at deeds n ≡ Some deed
-older_deed deeds d count n deed counted other is =
-    let within = deed_there (deeds ++ d ∷ []) n deed is in
-    sym (get_or_append_left deeds (d ∷ []) None n (omega (arith, within, length-append deeds (d ∷ []), counted, other)))
+pub older_edit : (edits : List (Option Edit)) (d : Option Edit) (count n : ℕ) (edit : Edit) → length edits ≡ count
+    → ¬ (n ≡ count) → edit_at (edits ++ d ∷ []) n ≡ Some edit → edit_at edits n ≡ Some edit
+older_edit edits d count n edit counted other is =
+    let within = edit_there (edits ++ d ∷ []) n edit is in
+    sym (get_or_append_left edits (d ∷ []) None n (omega (arith, within, length-append edits (d ∷ []), counted, other)))
     ∙ is
 
-pub still_deed : (deeds : List (Option Deed)) (d : Option Deed) (n : ℕ) (deed : Deed) → deed_at deeds n ≡ Some deed
-    → deed_at (deeds ++ d ∷ []) n ≡ Some deed
-still_deed deeds d n deed is = get_or_append_left deeds (d ∷ []) None n (deed_there deeds n deed is) ∙ is
+pub still_edit : (edits : List (Option Edit)) (d : Option Edit) (n : ℕ) (edit : Edit) → edit_at edits n ≡ Some edit
+    → edit_at (edits ++ d ∷ []) n ≡ Some edit
+still_edit edits d n edit is = get_or_append_left edits (d ∷ []) None n (edit_there edits n edit is) ∙ is
 
 -- elements that came later: none of them is there
 pub record AreLonger (arrivals later : List Arrival) (records : Records) (settled : ℕ → Bool) : Type 0 where
@@ -81,13 +81,13 @@ none_longer arrivals records settled = record {
 }
 
 module _ {state : State} {marks : List Bool} {waiting : List (ℕ × List ℕ)} {arrivals : List Arrival}
-    {deeds : List (Option Deed)} {records : Records} {test settled : ℕ → Bool} where
-  pub kept_known : (later : List Arrival) (d : Option Deed) (next : Next)
-      → IsListWith state marks waiting arrivals deeds records test settled → test (label_count records) ≡ false
-      → length deeds ≡ label_count records
+    {edits : List (Option Edit)} {records : Records} {test settled : ℕ → Bool} where
+  pub kept_known : (later : List Arrival) (d : Option Edit) (next : Next)
+      → IsListWith state marks waiting arrivals edits records test settled → test (label_count records) ≡ false
+      → length edits ≡ label_count records
       → AreLonger arrivals later (operate next ∷ records) settled
-      → ((n : ℕ) (deed : Deed) → deed_at deeds n ≡ Some deed → needed_number later deed ≡ needed_number arrivals deed)
-      → IsListWith state marks waiting later (deeds ++ d ∷ []) (operate next ∷ records) test settled
+      → ((n : ℕ) (edit : Edit) → edit_at edits n ≡ Some edit → needed_number later edit ≡ needed_number arrivals edit)
+      → IsListWith state marks waiting later (edits ++ d ∷ []) (operate next ∷ records) test settled
   kept_known later d next kept new counted longer needs =
       let now = operate next ∷ records in
       let same = a_later_command_leaves_the_updates_that_pass-operation Rga records next.by next.op next.clock settled
@@ -106,14 +106,14 @@ module _ {state : State} {marks : List Bool} {waiting : List (ℕ × List ℕ)} 
           others = λ number beyond. kept.there.others number (omega (arith, beyond, longer.more));
         };
         waiting_labels = record {
-          waits = λ n deed is was_had fails.
-              let old = older_deed deeds d (label_count records) n deed counted
+          waits = λ n edit is was_had fails.
+              let old = older_edit edits d (label_count records) n edit counted
               (λ it. not_both (test n) (ap test it ∙ new) was_had) is in
-              subst (λ (k : ℕ). Contains (labels_under waiting k) n) (sym (needs n deed old))
-              (kept.waiting_labels.waits n deed old was_had fails);
+              subst (λ (k : ℕ). Contains (labels_under waiting k) n) (sym (needs n edit old))
+              (kept.waiting_labels.waits n edit old was_had fails);
           only = λ number n found.
-              let (deed, is, is_needed, was_had, waits) = kept.waiting_labels.only number n found in
-              (deed, still_deed deeds d n deed is, needs n deed is ∙ is_needed, was_had, waits);
+              let (edit, is, is_needed, was_had, waits) = kept.waiting_labels.only number n found in
+              (edit, still_edit edits d n edit is, needs n edit is ∙ is_needed, was_had, waits);
           once = kept.waiting_labels.once;
         };
       }

@@ -17,21 +17,21 @@ use Rattle.ra_labels.proofs.Members.{at_head}
 use Rattle.ra_laws.proofs.TheLaws.{what_is_settled_does_not_wait, an_operation_makes_one_update-exactly, a_replica_had_one_more-operation, a_label_behind_all_that_pass_is_one_step, a_later_command_leaves_the_updates_that_pass-operation}
 use Rattle.ra_laws.proofs.TheLaws.{had_updates-next}
 use Rattle.ra_element_list.specs.ElementList.{Arrival, ElementList, is_marked}
-use Rattle.ra_replica_list.specs.declared.deed.Deed.{Deed}
-use Rattle.ra_replica_list.specs.declared.deed.Deed.TheVariants.{PutsIn}
+use Rattle.ra_replica_list.specs.declared.edit.Edit.{Edit}
+use Rattle.ra_replica_list.specs.declared.edit.Edit.TheVariants.{PutsIn}
 use Rattle.ra_replica_list.specs.Waiting.{labels_under}
-use Rattle.ra_replica_list.specs.Deeds.{deed_at, element_at, needed_number, AreElementsOf, AreDeedsOf}
+use Rattle.ra_replica_list.specs.Edits.{edit_at, element_at, needed_number, AreElementsOf, AreEditsOf}
 use Rattle.ra_replica_list.specs.ReplicaList.{ReplicaList, IsListWith, IsGreatestOf, IsListOf, settled_count}
 use Rattle.ra_replica_list.specs.Freed.{IsListWithAfter}
 use Rattle.ra_replica_list.proofs.NoneTwice.{not_both}
-use Rattle.ra_replica_list.proofs.Deeds.{deeds_stand, needed_known, AreMarksWith}
+use Rattle.ra_replica_list.proofs.Edits.{edits_stand, needed_known, AreMarksWith}
 use Rattle.ra_replica_list.proofs.AlikeLists.{kept_alike, greatest_alike}
 use Rattle.ra_replica_list.proofs.Greatest.{greatest_with, greatest_without}
 use Rattle.ra_replica_list.proofs.SingleSteps.{none_waits_with, leads_with}
 use Rattle.ra_replica_list.proofs.HadLabels.{IsAdded, not_settled, held_back}
 use Rattle.ra_replica_list.proofs.LastFollowers.{goes_in}
 use Rattle.ra_replica_list.proofs.NewMarks.{kept_known, greatest_known}
-use Rattle.ra_replica_list.proofs.NewDeeds.{needed_same, first_same, new_last, longer_by_one, grown_by_one}
+use Rattle.ra_replica_list.proofs.NewEdits.{needed_same, first_same, new_last, longer_by_one, grown_by_one}
 use Rattle.ra_replica_list.proofs.Newest.{newest_is_last}
 use Rattle.std.proofs.lemmas.List.{get_or_at}
 
@@ -39,20 +39,20 @@ none_in : (xs : List ℕ) → ((n : ℕ) → ¬ Contains xs n) → xs ≡ []
 none_in [] none = refl
 none_in (x ∷ xs) none = absurd (none x (at_head x xs x refl))
 
--- the next label stands where the last deed says
-pub next_deed : (deeds : List (Option Deed)) (deed : Deed) (count : ℕ) → length deeds ≡ count
-    → deed_at (deeds ++ Some deed ∷ []) count ≡ Some deed
-next_deed deeds deed count counted = get_or_at deeds (Some deed) [] None count counted
+-- the next label stands where the last edit says
+pub next_edit : (edits : List (Option Edit)) (edit : Edit) (count : ℕ) → length edits ≡ count
+    → edit_at (edits ++ Some edit ∷ []) count ≡ Some edit
+next_edit edits edit count counted = get_or_at edits (Some edit) [] None count counted
 
 -- the list is that of the issuer, once it is kept with the label, and each step settles one label
-pub owned : {list : ReplicaList} {old_arrivals arrivals : List Arrival} {old_deeds deeds : List (Option Deed)}
+pub owned : {list : ReplicaList} {old_arrivals arrivals : List Arrival} {old_edits edits : List (Option Edit)}
     {records : Records} (next : Next) (u : Update) (later : ReplicaList)
-    (was : IsListOf list old_arrivals old_deeds records next.by) (steps : ℕ) → Makes next.op u
+    (was : IsListOf list old_arrivals old_edits records next.by) (steps : ℕ) → Makes next.op u
     → let now = operate next ∷ records in
-    IsListWithAfter later.state later.marks later.waiting arrivals deeds now (had records next.by) was.settled
+    IsListWithAfter later.state later.marks later.waiting arrivals edits now (had records next.by) was.settled
     (label_count records) steps
     → IsGreatestOf now (or_label (had records next.by) (label_count records)) later.greatest
-    → (is : IsListOf later arrivals deeds now next.by) × (settled_count is ≡ settled_count was + steps)
+    → (is : IsListOf later arrivals edits now next.by) × (settled_count is ≡ settled_count was + steps)
 owned {records = records} next u later was steps makes after top =
     let now = operate next ∷ records in
     let same : (m : ℕ) → or_label (had records next.by) (label_count records) m ≡ had now next.by m = λ m.
@@ -88,14 +88,14 @@ own_none {records = records} {greatest = greatest} next top is =
 
 -- behind all that is settled it is one step
 own_leads : {records : Records} {state : State} {marks : List Bool} {waiting : List (ℕ × List ℕ)} {settled : ℕ → Bool}
-    (next : Next) {arrivals : List Arrival} {more : List (Option Deed)} (u : Update) (deed : Deed) → Makes next.op u
+    (next : Next) {arrivals : List Arrival} {more : List (Option Edit)} (u : Update) (edit : Edit) → Makes next.op u
     → extends_visibility (operate next ∷ records) (named_sequence Rga (operate next ∷ records)) ≡ true
-    → AreDeedsOf arrivals more (operate next ∷ records) → IsListWith state marks waiting arrivals more
+    → AreEditsOf arrivals more (operate next ∷ records) → IsListWith state marks waiting arrivals more
     (operate next ∷ records) (had records next.by) settled
-    → deed_at more (label_count records) ≡ Some deed → is_marked marks (needed_number arrivals deed) ≡ true
+    → edit_at more (label_count records) ≡ Some edit → is_marked marks (needed_number arrivals edit) ≡ true
     → state_after Rga (updates_passing Rga (operate next ∷ records) (or_label settled (label_count records)))
     ≡ Some (unwrap_or (step_of state u) state)
-own_leads {records = records} {state = state} {settled = settled} next u deed makes extended stand kept is needs =
+own_leads {records = records} {state = state} {settled = settled} next u edit makes extended stand kept is needs =
     let now = operate next ∷ records in
     let new = not_settled kept (label_count records) (had_updates-next records next.by) in
     let none = ((what_is_settled_does_not_wait now (had records next.by) settled).0 kept.settles).1 in
@@ -105,31 +105,31 @@ own_leads {records = records} {state = state} {settled = settled} next u deed ma
     (λ other found. false_from_ne_true (settled other.number)
     (λ it. not_both (had records next.by other.number) (last.none_had other found)
     (kept.settles.had_them other.number it))) in
-    leads_with settled stand (label_count records) (none_waits_with stand none kept.there (label_count records) deed is
+    leads_with settled stand (label_count records) (none_waits_with stand none kept.there (label_count records) edit is
     new needs) state u kept.after step
 
 own_anchor : (arrivals : List Arrival) (new : Arrival)
     → needed_number (arrivals ++ new ∷ []) (PutsIn (length arrivals)) ≡ new.anchor
 own_anchor arrivals new = ap (λ (a : Arrival). a.anchor) (new_last arrivals new)
 
-module _ {all : ElementList} {deeds : List (Option Deed)} {records : Records} {state : State} {marks : List Bool}
+module _ {all : ElementList} {edits : List (Option Edit)} {records : Records} {state : State} {marks : List Bool}
     {waiting : List (ℕ × List ℕ)} {settled : ℕ → Bool} (next : Next) where
-  pub own_known : (new : Arrival) → AreElementsOf all deeds records
-      → IsListWith state marks waiting all.arrivals deeds records (had records next.by) settled
+  pub own_known : (new : Arrival) → AreElementsOf all edits records
+      → IsListWith state marks waiting all.arrivals edits records (had records next.by) settled
       → updates_admitted Rga (named_sequence Rga (operate next ∷ records)) ≡ true
       → Makes next.op (After (element_at all.arrivals new.anchor) new.element)
-      → IsListWith state marks waiting (all.arrivals ++ new ∷ []) (deeds ++ Some (PutsIn (length all.arrivals)) ∷ [])
+      → IsListWith state marks waiting (all.arrivals ++ new ∷ []) (edits ++ Some (PutsIn (length all.arrivals)) ∷ [])
       (operate next ∷ records) (had records next.by) settled
   own_known new stand kept admitted makes =
       kept_known (all.arrivals ++ new ∷ []) (Some (PutsIn (length all.arrivals))) next kept (had_updates-next records next.by)
       stand.count
       (longer_by_one all.arrivals new next (element_at all.arrivals new.anchor) admitted makes
       (not_settled kept (label_count records) (had_updates-next records next.by)))
-      (needed_same (all.arrivals ++ new ∷ []) (deeds_stand stand) (first_same all.arrivals new))
+      (needed_same (all.arrivals ++ new ∷ []) (edits_stand stand) (first_same all.arrivals new))
 
   -- its anchor is there
-  pub own_put : (new : Arrival) (later : State) (later_marks : List Bool) → AreElementsOf all deeds records
-      → IsListWith state marks waiting all.arrivals deeds records (had records next.by) settled
+  pub own_put : (new : Arrival) (later : State) (later_marks : List Bool) → AreElementsOf all edits records
+      → IsListWith state marks waiting all.arrivals edits records (had records next.by) settled
       → Makes next.op (After (element_at all.arrivals new.anchor) new.element) → new.anchor < length all.arrivals
       → extends_visibility (operate next ∷ records) (named_sequence Rga (operate next ∷ records)) ≡ true
       → updates_admitted Rga (named_sequence Rga (operate next ∷ records)) ≡ true
@@ -137,12 +137,12 @@ module _ {all : ElementList} {deeds : List (Option Deed)} {records : Records} {s
       (step_of state (After (element_at all.arrivals new.anchor) new.element)) state
       → AreMarksWith marks later_marks (PutsIn (length all.arrivals))
       → IsListWithAfter later later_marks waiting (all.arrivals ++ new ∷ [])
-      (deeds ++ Some (PutsIn (length all.arrivals)) ∷ []) (operate next ∷ records) (had records next.by) settled
+      (edits ++ Some (PutsIn (length all.arrivals)) ∷ []) (operate next ∷ records) (had records next.by) settled
       (label_count records) 1
   own_put new later later_marks stand kept makes known extended admitted there stepped with_it =
       let grown = grown_by_one new next stand admitted makes known in
       let now_kept = own_known new stand kept admitted makes in
-      let is = next_deed deeds (PutsIn (length all.arrivals)) (label_count records) stand.count in
+      let is = next_edit edits (PutsIn (length all.arrivals)) (label_count records) stand.count in
       let needs : is_marked marks (needed_number (all.arrivals ++ new ∷ []) (PutsIn (length all.arrivals))) ≡ true =
       ap (is_marked marks) (own_anchor all.arrivals new) ∙ there in
       goes_in later later_marks (label_count records) (PutsIn (length all.arrivals)) grown now_kept is
@@ -152,20 +152,20 @@ module _ {all : ElementList} {deeds : List (Option Deed)} {records : Records} {s
       with_it
       (λ number puts_it. none_in (labels_under waiting number) (λ n found.
       let (d, d_is, d_needs, was_had, waits) = kept.waiting_labels.only number n found in
-      omega (arith, needed_known (deeds_stand stand) n d d_is, d_needs, eqb-true number (length all.arrivals) puts_it)))
+      omega (arith, needed_known (edits_stand stand) n d d_is, d_needs, eqb-true number (length all.arrivals) puts_it)))
 
   -- it is not, and so the label waits
-  pub own_waits : (new : Arrival) (later : List (ℕ × List ℕ)) → AreElementsOf all deeds records
-      → IsListWith state marks waiting all.arrivals deeds records (had records next.by) settled
+  pub own_waits : (new : Arrival) (later : List (ℕ × List ℕ)) → AreElementsOf all edits records
+      → IsListWith state marks waiting all.arrivals edits records (had records next.by) settled
       → Makes next.op (After (element_at all.arrivals new.anchor) new.element) → new.anchor < length all.arrivals
       → updates_admitted Rga (named_sequence Rga (operate next ∷ records)) ≡ true → is_marked marks new.anchor ≡ false
       → IsAdded waiting later new.anchor (label_count records)
-      → IsListWithAfter state marks later (all.arrivals ++ new ∷ []) (deeds ++ Some (PutsIn (length all.arrivals)) ∷ [])
+      → IsListWithAfter state marks later (all.arrivals ++ new ∷ []) (edits ++ Some (PutsIn (length all.arrivals)) ∷ [])
       (operate next ∷ records) (had records next.by) settled (label_count records) 0
   own_waits new later stand kept makes known admitted missing added =
       let grown = grown_by_one new next stand admitted makes known in
       let now_kept = own_known new stand kept admitted makes in
-      let is = next_deed deeds (PutsIn (length all.arrivals)) (label_count records) stand.count in
+      let is = next_edit edits (PutsIn (length all.arrivals)) (label_count records) stand.count in
       held_back later (label_count records) (PutsIn (length all.arrivals)) grown now_kept is (had_updates-next records next.by)
       (ap (is_marked marks) (own_anchor all.arrivals new) ∙ missing)
       (subst (λ (n : ℕ). IsAdded waiting later n (label_count records)) (sym (own_anchor all.arrivals new)) added)

@@ -14,7 +14,7 @@ use Rattle.ra_labels.proofs.StampOrder.{same_else}
 use Rattle.ra_laws.proofs.TheLaws.{a_timestamp_is_the_greatest_seen-seen, a_timestamp_is_the_greatest_seen-greatest}
 use Rattle.ra_laws.proofs.TheLaws.{had_updates-next}
 use Rattle.ra_element_list.specs.ElementList.{Arrival}
-use Rattle.ra_replica_list.specs.declared.deed.Deed.{Deed}
+use Rattle.ra_replica_list.specs.declared.edit.Edit.{Edit}
 use Rattle.ra_replica_list.specs.ReplicaList.{ReplicaList, IsListOf}
 use Rattle.ra_replica_list.proofs.NoneTwice.{not_both}
 
@@ -30,10 +30,10 @@ none_below_lowest : (s : Stamp) → ¬ IsStampBelow s lowest_rank
 none_below_lowest s (inl below) = omega arith
 none_below_lowest s (inr (same, below)) = omega (arith, below)
 
-pub greatest-ranks : (list : ReplicaList) (arrivals : List Arrival) (deeds : List (Option Deed)) (records : Records)
-    (next : Next) → IsListOf list arrivals deeds records next.by → next.clock ≡ None
+pub greatest-ranks : (list : ReplicaList) (arrivals : List Arrival) (edits : List (Option Edit)) (records : Records)
+    (next : Next) → IsListOf list arrivals edits records next.by → next.clock ≡ None
     → timestamp_of (operate next ∷ records) (label_of records next) ≡ list.greatest
-greatest-ranks list arrivals deeds records next held no_clock =
+greatest-ranks list arrivals edits records next held no_clock =
     let now = operate next ∷ records in
     let label = label_of records next in
     let rank = timestamp_of now label in

@@ -10,21 +10,21 @@ use Rattle.ra_labels.specs.Waiting.{AllSettled}
 use Rattle.ra_labels.proofs.Members.{none_there}
 use Rattle.ra_laws.proofs.TheLaws.{settled_updates_are_admitted-all, settled_updates_are_admitted-same}
 use Rattle.ra_element_list.specs.ElementList.{ElementList}
-use Rattle.ra_replica_list.specs.declared.deed.Deed.{Deed}
+use Rattle.ra_replica_list.specs.declared.edit.Edit.{Edit}
 use Rattle.ra_replica_list.specs.Waiting.{labels_under}
-use Rattle.ra_replica_list.specs.Deeds.{needed_number, AreElementsOf}
+use Rattle.ra_replica_list.specs.Edits.{needed_number, AreElementsOf}
 use Rattle.ra_replica_list.specs.ReplicaList.{IsListWith}
 use Rattle.ra_replica_list.proofs.NoneTwice.{not_both}
-use Rattle.ra_replica_list.proofs.Deeds.{all_admitted}
+use Rattle.ra_replica_list.proofs.Edits.{all_admitted}
 
 not_some : {A : Type 0} (o : Option A) → is_some o ≡ false → None ≡ o
 not_some None is = refl
 not_some (Some x) is = absurd (true≢false is)
 
-module _ {all : ElementList} {deeds : List (Option Deed)} {records : Records} {state : State} {marks : List Bool}
+module _ {all : ElementList} {edits : List (Option Edit)} {records : Records} {state : State} {marks : List Bool}
     {waiting : List (ℕ × List ℕ)} {had settled : ℕ → Bool} where
   -- where none waits, it is that after all
-  pub told : AreElementsOf all deeds records → IsListWith state marks waiting all.arrivals deeds records had settled
+  pub told : AreElementsOf all edits records → IsListWith state marks waiting all.arrivals edits records had settled
       → ((number : ℕ) → labels_under waiting number ≡ []) → Some state
       ≡ state_after Rga (updates_passing Rga records had)
   told stand kept none =
@@ -42,7 +42,7 @@ module _ {all : ElementList} {deeds : List (Option Deed)} {records : Records} {s
       kept.settles admitted)
 
   -- where one waits, all are not admitted
-  pub untold : AreElementsOf all deeds records → IsListWith state marks waiting all.arrivals deeds records had settled
+  pub untold : AreElementsOf all edits records → IsListWith state marks waiting all.arrivals edits records had settled
       → (number n : ℕ) → Contains (labels_under waiting number) n
       → None ≡ state_after Rga (updates_passing Rga records had)
   untold stand kept number n found =

@@ -16,11 +16,11 @@ use Rattle.ra_labels.specs.Waiting.{is_there, NoneWaits}
 use Rattle.ra_laws.proofs.TheLaws.{updates_are_admitted_where_none_waits-exactly, one_more_update_is_one_step-none_waits, one_more_update_is_one_step-insertion, one_more_update_is_one_step-removal}
 use Rattle.ra_seqspec.specs.Range.{IsInRange}
 use Rattle.ra_element_list.specs.ElementList.{Arrival, ElementList, arrival_at, is_marked, IsNearestBefore}
-use Rattle.ra_replica_list.specs.declared.deed.Deed.{Deed}
-use Rattle.ra_replica_list.specs.declared.deed.Deed.TheVariants.{PutsIn, Removes}
-use Rattle.ra_replica_list.specs.Deeds.{deed_at, element_at, needed_number, update_of, AreElementsOf, AreDeedsOf}
+use Rattle.ra_replica_list.specs.declared.edit.Edit.{Edit}
+use Rattle.ra_replica_list.specs.declared.edit.Edit.TheVariants.{PutsIn, Removes}
+use Rattle.ra_replica_list.specs.Edits.{edit_at, element_at, needed_number, update_of, AreElementsOf, AreEditsOf}
 use Rattle.ra_replica_list.specs.ReplicaList.{AreThere}
-use Rattle.ra_replica_list.proofs.Deeds.{deeds_stand, needed_marked}
+use Rattle.ra_replica_list.proofs.Edits.{edits_stand, needed_marked}
 
 -- an update of an RGA may be made in any state
 in_range_if : (b : Bool) (next : List (ℕ × Bool)) → IfSome (cond b (Some (Listed next)) None) IsInRange
@@ -40,8 +40,8 @@ one_on : (next step : Option State) (old : State) → next ≡ step → is_some 
 one_on next (Some s) old is some = is
 one_on next None old is some = absurd (false≢true (sym (ap is_some is) ∙ some))
 
-pub leads_with : {arrivals : List Arrival} {deeds : List (Option Deed)} {records : Records} (passes : ℕ → Bool)
-    → AreDeedsOf arrivals deeds records → (label : ℕ) → NoneWaits records (or_label passes label)
+pub leads_with : {arrivals : List Arrival} {edits : List (Option Edit)} {records : Records} (passes : ℕ → Bool)
+    → AreEditsOf arrivals edits records → (label : ℕ) → NoneWaits records (or_label passes label)
     → (state : State) (u : Update) → state_after Rga (updates_passing Rga records passes) ≡ Some state
     → state_after Rga (updates_passing Rga records (or_label passes label))
     ≡ then_step (state_after Rga (updates_passing Rga records passes)) u
@@ -51,24 +51,24 @@ leads_with {records = records} passes stand label none state u after is =
     (is ∙ ap (λ (s : Option State). then_step s u) after)
     ((updates_are_admitted_where_none_waits-exactly records (or_label passes label) stand.admitted).1 none)
 
-module _ {arrivals : List Arrival} {deeds : List (Option Deed)} {records : Records} {marks : List Bool}
+module _ {arrivals : List Arrival} {edits : List (Option Edit)} {records : Records} {marks : List Bool}
     {passes : ℕ → Bool} where
   -- with the label none waits
-  pub none_waits_with : AreDeedsOf arrivals deeds records → NoneWaits records passes
-      → AreThere marks arrivals records passes → (label : ℕ) (deed : Deed) → deed_at deeds label ≡ Some deed
+  pub none_waits_with : AreEditsOf arrivals edits records → NoneWaits records passes
+      → AreThere marks arrivals records passes → (label : ℕ) (edit : Edit) → edit_at edits label ≡ Some edit
       → passes label ≡ false
-      → is_marked marks (needed_number arrivals deed) ≡ true → NoneWaits records (or_label passes label)
-  none_waits_with stand none there label deed is new needs =
-      let (l, l_in, l_num, l_makes) = stand.makes label deed is in
+      → is_marked marks (needed_number arrivals edit) ≡ true → NoneWaits records (or_label passes label)
+  none_waits_with stand none there label edit is new needs =
+      let (l, l_in, l_num, l_makes) = stand.makes label edit is in
       subst (λ (k : ℕ). NoneWaits records (or_label passes k)) l_num
-      (one_more_update_is_one_step-none_waits records passes l (update_of arrivals deed) l_in l_makes
-      (ap passes l_num ∙ new) none (needed_marked stand there label deed is ∙ needs))
+      (one_more_update_is_one_step-none_waits records passes l (update_of arrivals edit) l_in l_makes
+      (ap passes l_num ∙ new) none (needed_marked stand there label edit is ∙ needs))
 
   -- a removal
-  pub removal_leads : AreDeedsOf arrivals deeds records → NoneWaits records passes
+  pub removal_leads : AreEditsOf arrivals edits records → NoneWaits records passes
       → AreThere marks arrivals records passes → (state : State)
       → state_after Rga (updates_passing Rga records passes) ≡ Some state
-      → (label number : ℕ) → deed_at deeds label ≡ Some (Removes number) → passes label ≡ false
+      → (label number : ℕ) → edit_at edits label ≡ Some (Removes number) → passes label ≡ false
       → is_marked marks number ≡ true
       → state_after Rga (updates_passing Rga records (or_label passes label))
       ≡ Some (unwrap_or (step_of state (RgaRemove (element_at arrivals number))) state)
@@ -85,11 +85,11 @@ module _ {arrivals : List Arrival} {deeds : List (Option Deed)} {records : Recor
       ≡ then_step (state_after Rga (updates_passing Rga records passes)) (RgaRemove x)) l_num step)
 
 -- an insertion behind the nearest before it
-pub insertion_leads : {all : ElementList} {deeds : List (Option Deed)} {records : Records} {marks : List Bool}
-    {passes : ℕ → Bool} → AreElementsOf all deeds records → NoneWaits records passes
+pub insertion_leads : {all : ElementList} {edits : List (Option Edit)} {records : Records} {marks : List Bool}
+    {passes : ℕ → Bool} → AreElementsOf all edits records → NoneWaits records passes
     → AreThere marks all.arrivals records passes
     → (state : State) → state_after Rga (updates_passing Rga records passes) ≡ Some state
-    → (label number p : ℕ) (list : List (ℕ × Bool)) → deed_at deeds label ≡ Some (PutsIn number) → passes label ≡ false
+    → (label number p : ℕ) (list : List (ℕ × Bool)) → edit_at edits label ≡ Some (PutsIn number) → passes label ≡ false
     → is_marked marks (arrival_at all.arrivals number).anchor ≡ true
     → state_after Rga (updates_of (named_sequence Rga records)) ≡ Some (Listed list)
     → IsNearestBefore (λ x. is_there x (updates_passing Rga records passes)) list (element_at all.arrivals number) p
@@ -97,7 +97,7 @@ pub insertion_leads : {all : ElementList} {deeds : List (Option Deed)} {records 
     ≡ Some (unwrap_or (step_of state (After p (element_at all.arrivals number))) state)
 insertion_leads {all = all} {records = records} {passes = passes} stands none there state after label number p list is
     new needs led near =
-    let stand = deeds_stand stands in
+    let stand = edits_stand stands in
     let (l, l_in, l_num, l_makes) = stand.makes label (PutsIn number) is in
     let x = element_at all.arrivals number in
     let with_it = none_waits_with stand none there label (PutsIn number) is new needs in

@@ -12,13 +12,13 @@ use Rattle.ra_labels.specs.Insertion.{updates_passing}
 use Rattle.ra_labels.specs.Waiting.{is_there}
 use Rattle.ra_laws.proofs.TheLaws.{what_is_settled_does_not_wait}
 use Rattle.ra_element_list.specs.ElementList.{Arrival, ElementList, arrival_at, is_marked, IsNearestBefore}
-use Rattle.ra_replica_list.specs.declared.deed.Deed.{Deed}
-use Rattle.ra_replica_list.specs.declared.deed.Deed.TheVariants.{PutsIn, Removes}
+use Rattle.ra_replica_list.specs.declared.edit.Edit.{Edit}
+use Rattle.ra_replica_list.specs.declared.edit.Edit.TheVariants.{PutsIn, Removes}
 use Rattle.ra_replica_list.specs.Waiting.{labels_under}
-use Rattle.ra_replica_list.specs.Deeds.{deed_at, element_at, AreElementsOf, AreDeedsOf}
+use Rattle.ra_replica_list.specs.Edits.{edit_at, element_at, AreElementsOf, AreEditsOf}
 use Rattle.ra_replica_list.specs.ReplicaList.{IsListWith}
 use Rattle.ra_replica_list.specs.Freed.{IsListWithAfter}
-use Rattle.ra_replica_list.proofs.Deeds.{AreMarksWith, deeds_stand}
+use Rattle.ra_replica_list.proofs.Edits.{AreMarksWith, edits_stand}
 use Rattle.ra_replica_list.proofs.SingleSteps.{removal_leads, insertion_leads}
 use Rattle.ra_replica_list.proofs.HadLabels.{not_settled}
 use Rattle.ra_replica_list.proofs.LastFollowers.{goes_in}
@@ -27,14 +27,14 @@ pub or_nothing : (b : Bool) → b ≡ (b || false)
 or_nothing true = refl
 or_nothing false = refl
 
-module _ {arrivals : List Arrival} {deeds : List (Option Deed)} {records : Records} {state : State} {marks : List Bool}
+module _ {arrivals : List Arrival} {edits : List (Option Edit)} {records : Records} {state : State} {marks : List Bool}
     {waiting : List (ℕ × List ℕ)} {had settled : ℕ → Bool} where
   -- it removes an element that is there
-  pub removal_goes : AreDeedsOf arrivals deeds records → IsListWith state marks waiting arrivals deeds records had
-      settled → (label number : ℕ) → deed_at deeds label ≡ Some (Removes number) → had label ≡ false
+  pub removal_goes : AreEditsOf arrivals edits records → IsListWith state marks waiting arrivals edits records had
+      settled → (label number : ℕ) → edit_at edits label ≡ Some (Removes number) → had label ≡ false
       → is_marked marks number ≡ true → (next : State) → next
       ≡ unwrap_or (step_of state (RgaRemove (element_at arrivals number))) state
-      → IsListWithAfter next marks waiting arrivals deeds records had settled label 1
+      → IsListWithAfter next marks waiting arrivals edits records had settled label 1
   removal_goes stand kept label number is new needs next stepped =
       let none = ((what_is_settled_does_not_wait records had settled).0 kept.settles).1 in
       goes_in next marks label (Removes number) stand kept is new needs
@@ -44,20 +44,20 @@ module _ {arrivals : List Arrival} {deeds : List (Option Deed)} {records : Recor
       (λ n puts_it. absurd (false≢true puts_it))
 
 -- it puts in an element behind the nearest before it that is there, and none waits for it
-pub insertion_goes : {all : ElementList} {deeds : List (Option Deed)} {records : Records} {state : State}
+pub insertion_goes : {all : ElementList} {edits : List (Option Edit)} {records : Records} {state : State}
     {marks : List Bool} {waiting : List (ℕ × List ℕ)} {had settled : ℕ → Bool}
-    → AreElementsOf all deeds records → IsListWith state marks waiting all.arrivals deeds records had settled
-    → (label number p : ℕ) (list : List (ℕ × Bool)) → deed_at deeds label ≡ Some (PutsIn number) → had label ≡ false
+    → AreElementsOf all edits records → IsListWith state marks waiting all.arrivals edits records had settled
+    → (label number p : ℕ) (list : List (ℕ × Bool)) → edit_at edits label ≡ Some (PutsIn number) → had label ≡ false
     → is_marked marks (arrival_at all.arrivals number).anchor ≡ true
     → state_after Rga (updates_of (named_sequence Rga records)) ≡ Some (Listed list)
     → IsNearestBefore (λ x. is_there x (updates_passing Rga records settled)) list (element_at all.arrivals number) p
     → (next : State) → next ≡ unwrap_or (step_of state (After p (element_at all.arrivals number))) state
     → (next_marks : List Bool) → AreMarksWith marks next_marks (PutsIn number) → labels_under waiting number ≡ []
-    → IsListWithAfter next next_marks waiting all.arrivals deeds records had settled label 1
+    → IsListWithAfter next next_marks waiting all.arrivals edits records had settled label 1
 insertion_goes {records = records} {state = state} {waiting = waiting} {had = had} {settled = settled} stands kept label
     number p list is new needs led near next stepped next_marks with_it none_for =
     let none = ((what_is_settled_does_not_wait records had settled).0 kept.settles).1 in
-    goes_in next next_marks label (PutsIn number) (deeds_stand stands) kept is new needs
+    goes_in next next_marks label (PutsIn number) (edits_stand stands) kept is new needs
     (insertion_leads stands none kept.there state kept.after label number p list is (not_settled kept label new) needs
     led near ∙ ap (λ (s : State). Some s) (sym stepped))
     with_it

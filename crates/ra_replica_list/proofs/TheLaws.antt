@@ -6,18 +6,18 @@ use Rattle.ra_labels.specs.Records.{Records}
 use Rattle.ra_labels.specs.Situation.{Next, operate}
 use Rattle.ra_labels.specs.Insertion.{Makes}
 use Rattle.ra_element_list.specs.ElementList.{ElementList}
-use Rattle.ra_replica_list.specs.declared.deed.Deed.{Deed}
-use Rattle.ra_replica_list.specs.declared.deed.Deed.TheVariants.{Removes}
-use Rattle.ra_replica_list.specs.Deeds.{element_at, AreElementsOf}
+use Rattle.ra_replica_list.specs.declared.edit.Edit.{Edit}
+use Rattle.ra_replica_list.specs.declared.edit.Edit.TheVariants.{Removes}
+use Rattle.ra_replica_list.specs.Edits.{element_at, AreElementsOf}
 use Rattle.ra_replica_list.specs.ReplicaList.{ReplicaList, IsListOf}
 use Rattle.ra_replica_list.proofs.LaterRecords.{removal-stays}
 pub use Rattle.ra_replica_list.proofs.LaterRecords.{insertion-stays as a_list_stays_with_what_others_do-insertion, query-stays as a_list_stays_with_what_others_do-query, delivery-stays as a_list_stays_with_what_others_do-delivery, join-stays as a_list_stays_with_what_others_do-join, join-copied as a_new_replica_has_the_list_of_the_other}
 pub use Rattle.ra_replica_list.proofs.Ranks.{greatest-ranks as the_greatest_stamp_ranks_the_next_label}
 
-pub a_list_stays_with_what_others_do-removal : (list : ReplicaList) (all : ElementList) (deeds : List (Option Deed))
-    (records : Records) (replica number : ℕ) (next : Next) → AreElementsOf all deeds records
-    → IsListOf list all.arrivals deeds records replica → ¬ (next.by ≡ replica)
+pub a_list_stays_with_what_others_do-removal : (list : ReplicaList) (all : ElementList) (edits : List (Option Edit))
+    (records : Records) (replica number : ℕ) (next : Next) → AreElementsOf all edits records
+    → IsListOf list all.arrivals edits records replica → ¬ (next.by ≡ replica)
     → Makes next.op (RgaRemove (element_at all.arrivals number))
-    → IsListOf list all.arrivals (deeds ++ Some (Removes number) ∷ []) (operate next ∷ records) replica
-a_list_stays_with_what_others_do-removal list all deeds records replica number next stand held other makes =
-    removal-stays list all deeds records replica number next stand held other
+    → IsListOf list all.arrivals (edits ++ Some (Removes number) ∷ []) (operate next ∷ records) replica
+a_list_stays_with_what_others_do-removal list all edits records replica number next stand held other makes =
+    removal-stays list all edits records replica number next stand held other

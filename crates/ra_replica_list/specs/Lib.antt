@@ -1,5 +1,5 @@
 pub mod Waiting
-pub mod Deeds
+pub mod Edits
 pub mod ReplicaList
-pub mod Marks
+pub mod NumberSet
 pub mod Freed

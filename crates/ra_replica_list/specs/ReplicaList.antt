@@ -11,9 +11,9 @@ use Rattle.ra_labels.specs.Laws.{IsStampBelow, NoneTwice}
 use Rattle.ra_labels.specs.Insertion.{updates_passing}
 use Rattle.ra_labels.specs.Waiting.{is_there, IsSettled}
 use Rattle.ra_element_list.specs.ElementList.{Arrival, ElementList, is_marked}
-use Rattle.ra_replica_list.specs.declared.deed.Deed.{Deed}
+use Rattle.ra_replica_list.specs.declared.edit.Edit.{Edit}
 use Rattle.ra_replica_list.specs.Waiting.{labels_under}
-use Rattle.ra_replica_list.specs.Deeds.{deed_at, element_at, needed_number, AreElementsOf}
+use Rattle.ra_replica_list.specs.Edits.{edit_at, element_at, needed_number, AreElementsOf}
 
 pub record ReplicaList : Type 0 where
   -- after those of the updates that the replica had which do not wait
@@ -40,45 +40,45 @@ pub record IsGreatestOf (records : Records) (had : ℕ → Bool) (greatest : Sta
       × (had label.number ≡ true) × (label.stamp ≡ Some greatest))
 
 -- each label that was had and is not settled waits under what it needs, and no other label does
-pub record AreWaiting (waiting : ℕ → List ℕ) (arrivals : List Arrival) (deeds : List (Option Deed)) (records : Records)
+pub record AreWaiting (waiting : ℕ → List ℕ) (arrivals : List Arrival) (edits : List (Option Edit)) (records : Records)
     (had settled : ℕ → Bool) : Type 0 where
-  pub waits : (n : ℕ) (deed : Deed) → deed_at deeds n ≡ Some deed → had n ≡ true → settled n ≡ false
-      → Contains (waiting (needed_number arrivals deed)) n
-  pub only : (number n : ℕ) → Contains (waiting number) n → (deed : Deed) × (deed_at deeds n ≡ Some deed)
-      × (needed_number arrivals deed ≡ number) × (had n ≡ true) × (settled n ≡ false)
+  pub waits : (n : ℕ) (edit : Edit) → edit_at edits n ≡ Some edit → had n ≡ true → settled n ≡ false
+      → Contains (waiting (needed_number arrivals edit)) n
+  pub only : (number n : ℕ) → Contains (waiting number) n → (edit : Edit) × (edit_at edits n ≡ Some edit)
+      × (needed_number arrivals edit ≡ number) × (had n ≡ true) × (settled n ≡ false)
   pub once : (number : ℕ) → NoneTwice (waiting number)
 
 -- the state and the marks are those after the settled ones of the labels that were had, and the others wait
 pub record IsListWith (state : State) (marks : List Bool) (waiting : List (ℕ × List ℕ)) (arrivals : List Arrival)
-    (deeds : List (Option Deed)) (records : Records) (had settled : ℕ → Bool) : Type 0 where
+    (edits : List (Option Edit)) (records : Records) (had settled : ℕ → Bool) : Type 0 where
   pub settles : IsSettled records had settled
   pub after : state_after Rga (updates_passing Rga records settled) ≡ Some state
   pub there : AreThere marks arrivals records settled
-  pub waiting_labels : AreWaiting (labels_under waiting) arrivals deeds records had settled
+  pub waiting_labels : AreWaiting (labels_under waiting) arrivals edits records had settled
 
 -- the list is that of the labels that were had
-pub record IsListBy (list : ReplicaList) (arrivals : List Arrival) (deeds : List (Option Deed)) (records : Records)
+pub record IsListBy (list : ReplicaList) (arrivals : List Arrival) (edits : List (Option Edit)) (records : Records)
     (had : ℕ → Bool) : Type 0 where
   -- which labels do not wait
   pub settled : ℕ → Bool
-  pub kept : IsListWith list.state list.marks list.waiting arrivals deeds records had settled
+  pub kept : IsListWith list.state list.marks list.waiting arrivals edits records had settled
   pub greatest : IsGreatestOf records had list.greatest
 
 -- the list is that of the replica
-abbrev pub IsListOf : ReplicaList → List Arrival → List (Option Deed) → Records → ℕ → Type 0
-IsListOf list arrivals deeds records replica = IsListBy list arrivals deeds records (had records replica)
+abbrev pub IsListOf : ReplicaList → List Arrival → List (Option Edit) → Records → ℕ → Type 0
+IsListOf list arrivals edits records replica = IsListBy list arrivals edits records (had records replica)
 
 -- how many of these labels' updates do not wait
-abbrev pub settled_count : {list : ReplicaList} {arrivals : List Arrival} {deeds : List (Option Deed)}
-    {records : Records} {had : ℕ → Bool} → IsListBy list arrivals deeds records had → ℕ
+abbrev pub settled_count : {list : ReplicaList} {arrivals : List Arrival} {edits : List (Option Edit)}
+    {records : Records} {had : ℕ → Bool} → IsListBy list arrivals edits records had → ℕ
 settled_count {records = records} held = length (updates_passing Rga records held.settled)
 
--- the label's deed is this one, and in some records for which list and elements stand it was not had
-pub record MayReceive (list : ReplicaList) (all : ElementList) (deeds : List (Option Deed)) (label : ℕ)
-    (deed : Deed) : Type 0 where
+-- the label's edit is this one, and in some records for which list and elements stand it was not had
+pub record MayReceive (list : ReplicaList) (all : ElementList) (edits : List (Option Edit)) (label : ℕ)
+    (edit : Edit) : Type 0 where
   pub records : Records
   pub replica : ℕ
-  pub elements : AreElementsOf all deeds records
-  pub list_of : IsListOf list all.arrivals deeds records replica
-  pub deed_of : deed_at deeds label ≡ Some deed
+  pub elements : AreElementsOf all edits records
+  pub list_of : IsListOf list all.arrivals edits records replica
+  pub edit_of : edit_at edits label ≡ Some edit
   pub new : had records replica label ≡ false

@@ -6,12 +6,12 @@ ghost use Rattle.ra_labels.specs.Specification.{State};
 ghost use Rattle.ra_labels.specs.Laws.{kind_of_state};
 ghost use Rattle.ra_seqspec.specs.Updates.{after_all};
 ghost use Rattle.ra_element_list.specs.ElementList.{is_marked};
-ghost use Rattle.ra_replica_list.specs.Marks.{was_marked};
+ghost use Rattle.ra_replica_list.specs.NumberSet.{was_marked};
 ghost use Rattle.ra_replica_list.specs.Waiting.{labels_under};
 ghost use Rattle.ra_replica_list.specs.Freed.{freed_under, IsAmidst, MayFree, MayGoOn, AreFreedTo};
 
-use crate::deed::{Deed, deed_of};
-use crate::marks::Marks;
+use crate::edit::{Edit, edit_of};
+use crate::number_set::NumberSet;
 use crate::waiting::Waiting;
 use ra_element_list::ElementList;
 use ra_labels::{NoMemory, Update};
@@ -24,21 +24,21 @@ use std::alloc::Global;
 pub fn free(
     alloc: Global,
     state: &mut State,
-    there: &mut Marks,
+    there: &mut NumberSet,
     waiting: &Waiting,
     all: &ElementList,
-    deeds: &[Option<Deed>],
+    edits: &[Option<Edit>],
     first: u32,
 ) -> Result<Vec<u32>, NoMemory>
-    requires { MayFree state.old there.old.marks.items waiting.now all.now deeds.now first }
+    requires { MayFree state.old there.old.marks.items waiting.now all.now edits.now first }
     ensures freed { IfOk result (λ labels. AreFreedTo state.new there.new.marks.items labels.items [] waiting.now
-        state.old there.old.marks.items all.now deeds.now first) }
+        state.old there.old.marks.items all.now edits.now first) }
     ensures err_state { OnErr result (state.new ≡ state.old) }
     ensures err_marks { OnErr result ((number : ℕ)
         → is_marked there.new.marks.items number ≡ is_marked there.old.marks.items number) }
 {
     let mut followers = Followers::starting_with(alloc, first)?;
-    match followers.follow(state, there, waiting, all, deeds) {
+    match followers.follow(state, there, waiting, all, edits) {
         Ok(()) => Ok(followers.labels),
         Err(lack) => {
             there.take_out(followers.put.as_slice());
@@ -82,25 +82,25 @@ impl Followers {
     fn follow(
         &mut self,
         state: &mut State,
-        there: &mut Marks,
+        there: &mut NumberSet,
         waiting: &Waiting,
         all: &ElementList,
-        deeds: &[Option<Deed>],
+        edits: &[Option<Edit>],
     ) -> Result<(), NoMemory>
         requires amidst { MayGoOn state.old self.old.updates.items there.old.marks.items self.old.labels.items
-            self.old.ready.items waiting.now all.now deeds.now }
+            self.old.ready.items waiting.now all.now edits.now }
         requires list { kind_of_state state.old ≡ Rga }
         ensures followed { OnOk result ((records : Records) (had settled : ℕ → Bool) (first : ℕ)
             → IsAmidst (after_all state.old self.old.updates.items) there.old.marks.items self.old.labels.items
-            self.old.ready.items waiting.now all.now deeds.now records had settled first
-            → IsAmidst state.new there.new.marks.items self.new.labels.items [] waiting.now all.now deeds.now records
+            self.old.ready.items waiting.now all.now edits.now records had settled first
+            → IsAmidst state.new there.new.marks.items self.new.labels.items [] waiting.now all.now edits.now records
             had settled first) }
         ensures err { OnErr result (state.new ≡ state.old) }
         ensures put { (number : ℕ) → was_marked there.new.marks.items self.new.put.items number
             ≡ was_marked there.old.marks.items self.old.put.items number }
     {
         while let Some(label) = self.ready.pop() {
-            self.follow_one(there, waiting, all, deeds, label)?;
+            self.follow_one(there, waiting, all, edits, label)?;
         }
         state.apply_all(self.updates.as_slice())?;
         Ok(())
@@ -109,26 +109,26 @@ impl Followers {
     // The next label does what it does, and frees others.
     fn follow_one(
         &mut self,
-        there: &mut Marks,
+        there: &mut NumberSet,
         waiting: &Waiting,
         all: &ElementList,
-        deeds: &[Option<Deed>],
+        edits: &[Option<Edit>],
         label: u32,
     ) -> Result<(), NoMemory>
         requires { (state : State) × MayGoOn state self.old.updates.items there.old.marks.items self.old.labels.items
-            (self.old.ready.items ++ label ∷ []) waiting.now all.now deeds.now }
+            (self.old.ready.items ++ label ∷ []) waiting.now all.now edits.now }
         ensures followed { OnOk result ((state : State) (records : Records) (had settled : ℕ → Bool) (first : ℕ)
             → IsAmidst (after_all state self.old.updates.items) there.old.marks.items self.old.labels.items
-            (self.old.ready.items ++ label ∷ []) waiting.now all.now deeds.now records had settled first
+            (self.old.ready.items ++ label ∷ []) waiting.now all.now edits.now records had settled first
             → IsAmidst (after_all state self.new.updates.items) there.new.marks.items self.new.labels.items
-            self.new.ready.items waiting.now all.now deeds.now records had settled first) }
+            self.new.ready.items waiting.now all.now edits.now records had settled first) }
         ensures labels { OnOk result (self.new.labels.items ≡ self.old.labels.items ++ label ∷ []) }
         ensures put { (number : ℕ) → was_marked there.new.marks.items self.new.put.items number
             ≡ was_marked there.old.marks.items self.old.put.items number }
     {
         self.labels.push(label)?;
-        match deed_of(deeds, label) {
-            Some(Deed::PutsIn(number)) => {
+        match edit_of(edits, label) {
+            Some(Edit::PutsIn(number)) => {
                 let behind = all.nearest_before(number, there.marks.as_slice());
                 self.updates.push(Update::After {
                     anchor: all.element(behind),
@@ -138,7 +138,7 @@ impl Followers {
                 add_sorted(self.alloc, &mut self.ready, waiting.under(number))?;
                 Ok(())
             }
-            Some(Deed::Removes(number)) => {
+            Some(Edit::Removes(number)) => {
                 self.updates.push(Update::RgaRemove(all.element(number)))?;
                 Ok(())
             }
@@ -160,12 +160,12 @@ fn add_sorted(alloc: Global, ready: &mut Vec<u32>, labels: &[u32]) -> Result<(),
 }
 
 /// For the elements that these labels put in none waits any more.
-pub fn free_all(waiting: &mut Waiting, deeds: &[Option<Deed>], labels: &[u32])
+pub fn free_all(waiting: &mut Waiting, edits: &[Option<Edit>], labels: &[u32])
     ensures { (number : ℕ) → labels_under waiting.new number
-        ≡ freed_under deeds.now labels.now (labels_under waiting.old) number }
+        ≡ freed_under edits.now labels.now (labels_under waiting.old) number }
 {
     for label in labels {
-        if let Some(Deed::PutsIn(number)) = deed_of(deeds, *label) {
+        if let Some(Edit::PutsIn(number)) = edit_of(edits, *label) {
             waiting.free(number);
         }
     }

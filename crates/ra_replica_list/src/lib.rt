@@ -8,13 +8,13 @@
 //! list of all elements (`ra_element_list`), that is there.
 #![tactic(auto)]
 
-mod deed;
+mod edit;
 mod freed;
 pub mod laws;
-mod marks;
+mod number_set;
 mod put;
 mod replica_list;
 mod waiting;
 
-pub use deed::Deed;
+pub use edit::Edit;
 pub use replica_list::ReplicaList;

@@ -4,14 +4,14 @@ ghost use Rattle.ra_labels.specs.declared.operation.Update.TheVariants.{After};
 ghost use Rattle.ra_labels.specs.Specification.{step_of};
 ghost use Rattle.ra_element_list.specs.ElementList.{is_marked};
 
-use crate::marks::Marks;
+use crate::number_set::NumberSet;
 use ra_labels::{NoMemory, Update};
 use ra_seqspec::State;
 
 /// Puts the element of this number in behind another one, in one step, or changes nothing.
 pub fn put_in(
     state: &mut State,
-    there: &mut Marks,
+    there: &mut NumberSet,
     number: u32,
     behind: u32,
     element: u32,
@@ -23,7 +23,7 @@ pub fn put_in(
     ensures err_marks { OnErr result ((k : ℕ)
         → is_marked there.new.marks.items k ≡ is_marked there.old.marks.items k) }
 {
-    there.make_room(number)?;
+    there.reserve(number)?;
     state.apply(&Update::After {
         anchor: behind,
         element,

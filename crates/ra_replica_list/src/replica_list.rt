@@ -16,15 +16,15 @@ ghost use Rattle.ra_labels.specs.Insertion.{updates_passing, updates_had, update
 ghost use Rattle.ra_labels.specs.Situation.{Next, operate, label_of};
 ghost use Rattle.ra_labels.specs.Waiting.{is_there};
 ghost use Rattle.ra_element_list.specs.ElementList.{Arrival, ElementList, root, arrival_at, is_marked, IsNearestBefore};
-ghost use Rattle.ra_replica_list.specs.declared.deed.Deed.{Deed};
-ghost use Rattle.ra_replica_list.specs.declared.deed.Deed.TheVariants.{PutsIn, Removes};
-ghost use Rattle.ra_replica_list.specs.Deeds.{deed_at, element_at, AreElementsOf, AreDeedsOf};
+ghost use Rattle.ra_replica_list.specs.declared.edit.Edit.{Edit};
+ghost use Rattle.ra_replica_list.specs.declared.edit.Edit.TheVariants.{PutsIn, Removes};
+ghost use Rattle.ra_replica_list.specs.Edits.{edit_at, element_at, AreElementsOf, AreEditsOf};
 ghost use Rattle.ra_replica_list.specs.ReplicaList.{IsListBy, IsListOf, MayReceive, settled_count};
 ghost use Rattle.ra_replica_list.specs.Freed.{IsListWithAfter, LeadsTo, AreAlike};
 
-use crate::deed::Deed;
+use crate::edit::Edit;
 use crate::freed::{free, free_all};
-use crate::marks::Marks;
+use crate::number_set::NumberSet;
 use crate::put::put_in;
 use crate::waiting::Waiting;
 use ra_element_list::{ElementList, LOWEST, ROOT};
@@ -39,7 +39,7 @@ pub struct ReplicaList {
     alloc: Global,
     state: State,
     /// The elements that are in the list, by their numbers.
-    there: Marks,
+    there: NumberSet,
     /// The greatest stamp of the labels that it had.
     greatest: Stamp,
     waiting: Waiting,
@@ -63,8 +63,8 @@ impl ReplicaList {
     pub fn new(alloc: Global) -> Result<ReplicaList, NoMemory>
         ensures { (replica : ℕ) → IfOk result (λ list. IsListOf list (root ∷ []) [] [] replica) }
     {
-        let mut there = Marks::new(alloc);
-        there.make_room(ROOT)?;
+        let mut there = NumberSet::new(alloc);
+        there.reserve(ROOT)?;
         there.put(ROOT);
         Ok(ReplicaList {
             alloc,
@@ -92,8 +92,8 @@ impl ReplicaList {
 
     /// The state after all updates that the replica had; none where these are not admitted, since one waits.
     pub fn state(&self) -> Option<&State>
-        ensures { (all : ElementList) (deeds : List (Option Deed)) (records : Records) (replica : ℕ)
-            → AreElementsOf all deeds records → IsListOf self.now all.arrivals deeds records replica
+        ensures { (all : ElementList) (edits : List (Option Edit)) (records : Records) (replica : ℕ)
+            → AreElementsOf all edits records → IsListOf self.now all.arrivals edits records replica
             → option_copied result ≡ state_after Rga (updates_had Rga records replica) }
     {
         if self.waiting.is_empty() {
@@ -122,9 +122,9 @@ impl ReplicaList {
     ) -> Result<u64, NoMemory>
         requires few { length all.now.arrivals < 2 ^ 32 }
         requires anchor { anchor < length all.now.arrivals }
-        ensures put { IfOk result (λ steps. (deeds : List (Option Deed)) (records : Records) (next : Next)
-            → AreElementsOf all.now deeds records
-            → (was : IsListOf self.old all.now.arrivals deeds records next.by)
+        ensures put { IfOk result (λ steps. (edits : List (Option Edit)) (records : Records) (next : Next)
+            → AreElementsOf all.now edits records
+            → (was : IsListOf self.old all.now.arrivals edits records next.by)
             → label ≡ label_count records → Makes next.op (After (element_at all.now.arrivals anchor) element)
             → (label_of records next).stamp ≡ Some stamp
             → let now = operate next ∷ records in
@@ -132,12 +132,12 @@ impl ReplicaList {
             → updates_admitted Rga (named_sequence Rga now) ≡ true
             → (is : IsListOf self.new
             (all.now.arrivals ++ record { element = element; stamp = stamp; anchor = anchor } ∷ [])
-            (deeds ++ Some (PutsIn (length all.now.arrivals)) ∷ []) now next.by)
+            (edits ++ Some (PutsIn (length all.now.arrivals)) ∷ []) now next.by)
             × (settled_count is ≡ settled_count was + steps)) }
         ensures steps { IfOk result (λ steps. steps ≤ 1) }
-        ensures err { OnErr result ((arrivals : List Arrival) (deeds : List (Option Deed)) (records : Records)
-            (replica : ℕ) → IsListOf self.old arrivals deeds records replica
-            → IsListOf self.new arrivals deeds records replica) }
+        ensures err { OnErr result ((arrivals : List Arrival) (edits : List (Option Edit)) (records : Records)
+            (replica : ℕ) → IsListOf self.old arrivals edits records replica
+            → IsListOf self.new arrivals edits records replica) }
     {
         if !self.there.has(anchor) {
             self.waiting.add(anchor, label)?;
@@ -165,20 +165,20 @@ impl ReplicaList {
         number: u32,
     ) -> Result<u64, NoMemory>
         requires number { number < length all.now.arrivals }
-        ensures removed { IfOk result (λ steps. (deeds : List (Option Deed)) (records : Records) (next : Next)
-            → AreElementsOf all.now deeds records
-            → (was : IsListOf self.old all.now.arrivals deeds records next.by)
+        ensures removed { IfOk result (λ steps. (edits : List (Option Edit)) (records : Records) (next : Next)
+            → AreElementsOf all.now edits records
+            → (was : IsListOf self.old all.now.arrivals edits records next.by)
             → label ≡ label_count records → Makes next.op (RgaRemove (element_at all.now.arrivals number))
             → next.clock ≡ None
             → let now = operate next ∷ records in
             extends_visibility now (named_sequence Rga now) ≡ true
             → updates_admitted Rga (named_sequence Rga now) ≡ true
-            → (is : IsListOf self.new all.now.arrivals (deeds ++ Some (Removes number) ∷ []) now next.by)
+            → (is : IsListOf self.new all.now.arrivals (edits ++ Some (Removes number) ∷ []) now next.by)
             × (settled_count is ≡ settled_count was + steps)) }
         ensures steps { IfOk result (λ steps. steps ≤ 1) }
-        ensures err { OnErr result ((arrivals : List Arrival) (deeds : List (Option Deed)) (records : Records)
-            (replica : ℕ) → IsListOf self.old arrivals deeds records replica
-            → IsListOf self.new arrivals deeds records replica) }
+        ensures err { OnErr result ((arrivals : List Arrival) (edits : List (Option Edit)) (records : Records)
+            (replica : ℕ) → IsListOf self.old arrivals edits records replica
+            → IsListOf self.new arrivals edits records replica) }
     {
         self.remove(all, label, number)
     }
@@ -190,27 +190,27 @@ impl ReplicaList {
     pub fn deliver(
         &mut self,
         all: &ElementList,
-        deeds: &[Option<Deed>],
+        edits: &[Option<Edit>],
         label: u32,
-        deed: Deed,
+        edit: Edit,
     ) -> Result<u64, NoMemory>
-        requires { MayReceive self.old all.now deeds.now label deed }
-        ensures got { IfOk result (λ steps. (records : Records) (to : ℕ) → AreElementsOf all.now deeds.now records
-            → (was : IsListOf self.old all.now.arrivals deeds.now records to)
-            → deed_at deeds.now label ≡ Some deed → had records to label ≡ false → StampsAreOneLabels records
-            → (is : IsListOf self.new all.now.arrivals deeds.now (Deliver to label ∷ records) to)
+        requires { MayReceive self.old all.now edits.now label edit }
+        ensures got { IfOk result (λ steps. (records : Records) (to : ℕ) → AreElementsOf all.now edits.now records
+            → (was : IsListOf self.old all.now.arrivals edits.now records to)
+            → edit_at edits.now label ≡ Some edit → had records to label ≡ false → StampsAreOneLabels records
+            → (is : IsListOf self.new all.now.arrivals edits.now (Deliver to label ∷ records) to)
             × (settled_count is ≡ settled_count was + steps)) }
-        ensures err { OnErr result ((arrivals : List Arrival) (deeds : List (Option Deed)) (records : Records)
-            (replica : ℕ) → IsListOf self.old arrivals deeds records replica
-            → IsListOf self.new arrivals deeds records replica) }
+        ensures err { OnErr result ((arrivals : List Arrival) (edits : List (Option Edit)) (records : Records)
+            (replica : ℕ) → IsListOf self.old arrivals edits records replica
+            → IsListOf self.new arrivals edits records replica) }
     {
-        match deed {
-            Deed::PutsIn(number) => {
-                let steps = self.put_in(all, deeds, label, number)?;
+        match edit {
+            Edit::PutsIn(number) => {
+                let steps = self.put_in(all, edits, label, number)?;
                 self.saw(all.stamp(number));
                 Ok(steps)
             }
-            Deed::Removes(number) => self.remove(all, label, number),
+            Edit::Removes(number) => self.remove(all, label, number),
         }
     }
 
@@ -218,13 +218,13 @@ impl ReplicaList {
     fn put_in(
         &mut self,
         all: &ElementList,
-        deeds: &[Option<Deed>],
+        edits: &[Option<Edit>],
         label: u32,
         number: u32,
     ) -> Result<u64, NoMemory>
-        requires { MayReceive self.old all.now deeds.now label (PutsIn number) }
+        requires { MayReceive self.old all.now edits.now label (PutsIn number) }
         ensures got { IfOk result (λ steps.
-            LeadsTo self.old self.new all.now deeds.now label (PutsIn number) steps) }
+            LeadsTo self.old self.new all.now edits.now label (PutsIn number) steps) }
         ensures greatest { self.new.greatest ≡ self.old.greatest }
         ensures err { OnErr result (AreAlike self.old self.new) }
     {
@@ -234,7 +234,7 @@ impl ReplicaList {
             return Ok(0);
         }
         if !self.waiting.under(number).is_empty() {
-            return self.put_in_with_waiting(all, deeds, label, number);
+            return self.put_in_with_waiting(all, edits, label, number);
         }
         let behind = self.nearest(all, number);
         put_in(
@@ -250,11 +250,11 @@ impl ReplicaList {
     // It gets the label that removes the element, or issues it.
     fn remove(&mut self, all: &ElementList, label: u32, number: u32) -> Result<u64, NoMemory>
         requires { number < length all.now.arrivals }
-        ensures got { IfOk result (λ steps. (deeds : List (Option Deed)) (records : Records) (had : ℕ → Bool)
-            → AreDeedsOf all.now.arrivals deeds records
-            → (held : IsListBy self.old all.now.arrivals deeds records had)
-            → deed_at deeds label ≡ Some (Removes number) → had label ≡ false
-            → IsListWithAfter self.new.state self.new.marks self.new.waiting all.now.arrivals deeds records had
+        ensures got { IfOk result (λ steps. (edits : List (Option Edit)) (records : Records) (had : ℕ → Bool)
+            → AreEditsOf all.now.arrivals edits records
+            → (held : IsListBy self.old all.now.arrivals edits records had)
+            → edit_at edits label ≡ Some (Removes number) → had label ≡ false
+            → IsListWithAfter self.new.state self.new.marks self.new.waiting all.now.arrivals edits records had
             held.settled label steps) }
         ensures steps { IfOk result (λ steps. steps ≤ 1) }
         ensures counted { IfOk result (λ steps. steps ≡ (if is_marked self.old.marks number then 1 else 0)) }
@@ -275,10 +275,10 @@ impl ReplicaList {
         requires known { number < length all.now.arrivals }
         requires root { is_marked self.now.marks 0 ≡ true }
         ensures among { result < length all.now.arrivals }
-        ensures nearest { (deeds : List (Option Deed)) (records : Records) (had : ℕ → Bool) (label : ℕ)
-            (list : List (ℕ × Bool)) → AreElementsOf all.now deeds records
-            → (held : IsListBy self.now all.now.arrivals deeds records had)
-            → deed_at deeds label ≡ Some (PutsIn number)
+        ensures nearest { (edits : List (Option Edit)) (records : Records) (had : ℕ → Bool) (label : ℕ)
+            (list : List (ℕ × Bool)) → AreElementsOf all.now edits records
+            → (held : IsListBy self.now all.now.arrivals edits records had)
+            → edit_at edits label ≡ Some (PutsIn number)
             → is_marked self.now.marks (arrival_at all.now.arrivals number).anchor ≡ true
             → state_after Rga (updates_of (named_sequence Rga records)) ≡ Some (Listed list)
             → elements_in list ≡ all.now.elements
@@ -298,14 +298,14 @@ impl ReplicaList {
     fn put_in_with_waiting(
         &mut self,
         all: &ElementList,
-        deeds: &[Option<Deed>],
+        edits: &[Option<Edit>],
         label: u32,
         number: u32,
     ) -> Result<u64, NoMemory>
-        requires may { MayReceive self.old all.now deeds.now label (PutsIn number) }
+        requires may { MayReceive self.old all.now edits.now label (PutsIn number) }
         requires anchor { is_marked self.old.marks (arrival_at all.now.arrivals number).anchor ≡ true }
         ensures got { IfOk result (λ steps.
-            LeadsTo self.old self.new all.now deeds.now label (PutsIn number) steps) }
+            LeadsTo self.old self.new all.now edits.now label (PutsIn number) steps) }
         ensures greatest { self.new.greatest ≡ self.old.greatest }
         ensures err { OnErr result (AreAlike self.old self.new) }
     {
@@ -315,10 +315,10 @@ impl ReplicaList {
             &mut self.there,
             &self.waiting,
             all,
-            deeds,
+            edits,
             label,
         )?;
-        free_all(&mut self.waiting, deeds, freed.as_slice());
+        free_all(&mut self.waiting, edits, freed.as_slice());
         Ok(freed.len() as u64)
     }
 

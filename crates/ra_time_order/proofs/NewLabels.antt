@@ -20,7 +20,7 @@ use Rattle.ra_laws.proofs.TheLaws.{forms_that_deserve_no_refusal, operations_are
 use Rattle.ra_visibility.specs.Seen.{Seen, count_in}
 use Rattle.ra_visibility.specs.Order.{ComesNext}
 use Rattle.ra_time_order.specs.declared.entry.Entry.{Entry}
-use Rattle.ra_time_order.specs.Replicas.{Replicas}
+use Rattle.ra_time_order.specs.RunningMaxima.{RunningMaxima}
 use Rattle.ra_time_order.specs.Sorted.{Sorted}
 use Rattle.ra_time_order.specs.Positions.{not_above, IsPositionOf}
 use Rattle.ra_time_order.specs.Stamps.{AreGreatestOf, greatest_in, stamps_with}
@@ -83,7 +83,7 @@ put_stands order after past next seen p stands comes is entries stamps =
     let named = named_labels past.kind past.records in
     let new_entry : Label → Entry = entry_of past.kind now in
     let rank = its_rank order past next seen stands comes in
-    let free = (operations_are_accepted_where_nothing_is_taken past.kind past.first past.records next.by next.op
+    let free = (operations_are_accepted_where_nothing_is_taken past.kind past.founders past.records next.by next.op
     next.clock).0 comes.accepted in
     let kept : map (entry_of past.kind past.records) named ≡ map new_entry named =
     map_same (entry_of past.kind past.records) new_entry named
@@ -103,8 +103,8 @@ put_stands order after past next seen p stands comes is entries stamps =
           ∙ ap (insert (map new_entry named) p) (sym its)
           ∙ sym (map_insert new_entry named p x)
           ∙ ap (map new_entry) (sym (inserted order past next seen stands comes p is));
-      stamps = subst (λ ss. AreGreatestOf ss past.first now) (sym stamps)
-          (greatest_with_label past.records next order.stamps past.first stands.stamps
+      stamps = subst (λ ss. AreGreatestOf ss past.founders now) (sym stamps)
+          (greatest_with_label past.records next order.stamps past.founders stands.stamps
           (omega (arith, free.0, stands.stamps.replicas)));
       stamped = λ l stamp found has. elim (head_or_behind x (labels_of past.records) l found) [
         | inl newest ↦
@@ -117,7 +117,7 @@ put_stands order after past next seen p stands comes is entries stamps =
     }
 
 -- what the order's parts made, said of the order
-pub put_made : (sorted made : Sorted) (replicas grown : Replicas) (order : TimeOrder)
+pub put_made : (sorted made : Sorted) (replicas grown : RunningMaxima) (order : TimeOrder)
     (view : time_order_of sorted replicas ≡ order)
     (label : Label) (seen : Seen) (found rank : Stamp) (update : Bool)
     (found_is : found ≡ greatest_in replicas.stamps (count_in seen) (length replicas.stamps))

@@ -35,7 +35,7 @@ use Rattle.ra_time_order.specs.Sorted.{Sorted}
 use Rattle.ra_time_order.specs.Positions.{not_above, IsPositionOf, IsPastAll}
 use Rattle.ra_time_order.specs.Stamps.{AtMost, greatest_in}
 use Rattle.ra_time_order.specs.declared.entry.Entry.{Entry}
-use Rattle.ra_time_order.specs.Replicas.{Replicas}
+use Rattle.ra_time_order.specs.RunningMaxima.{RunningMaxima}
 use Rattle.ra_time_order.specs.Standing.{TimeOrder, time_order_of, entry_of, IsTimeOrderOf}
 use Rattle.ra_time_order.proofs.Ranks.{at_most_from, at_most_through, not_below, lowest_at_most, IsGreatestOf}
 use Rattle.ra_time_order.proofs.SeenStamps.{seen_before, greatest_seen, greatest_is}
@@ -126,12 +126,12 @@ module _ (order : TimeOrder) (past : Past) (next : Next) (seen : Seen)
   its_rank = unwrap_or x.stamp greatest
 
   its_greatest : IsGreatestOf (all_seen past.records next) greatest
-  its_greatest = greatest_seen past.records next seen comes.sees order.stamps past.first stands.stamps
+  its_greatest = greatest_seen past.records next seen comes.sees order.stamps past.founders stands.stamps
 
   -- the rank of the new label, and of those before
   pub rank_is : rank_of past.kind now x ≡ its_rank
   rank_is =
-      stands.sorts now x ∙ ap (unwrap_or x.stamp) (greatest_is past.records next seen comes.sees order.stamps past.first
+      stands.sorts now x ∙ ap (unwrap_or x.stamp) (greatest_is past.records next seen comes.sees order.stamps past.founders
       stands.stamps)
 
   pub rank_before : (m : Label) → Contains (labels_of past.records) m
@@ -251,7 +251,7 @@ module _ (order : TimeOrder) (past : Past) (next : Next) (seen : Seen)
     }
 
 -- what the order's parts found, said of the order
-module _ (sorted : Sorted) (replicas : Replicas) (order : TimeOrder) (view : time_order_of sorted replicas ≡ order)
+module _ (sorted : Sorted) (replicas : RunningMaxima) (order : TimeOrder) (view : time_order_of sorted replicas ≡ order)
     (label : Label) (seen : Seen) (found rank : Stamp)
     (found_is : found ≡ greatest_in replicas.stamps (count_in seen) (length replicas.stamps))
     (rank_made : rank ≡ unwrap_or label.stamp found)
@@ -315,7 +315,7 @@ own_past_all entries (Some stamp) is = (stamp, refl, is)
 own_past_all entries None is = absurd is
 
 -- the place of a label whose own stamp is past all
-pub place_past_all : (sorted : Sorted) (replicas : Replicas) (order : TimeOrder)
+pub place_past_all : (sorted : Sorted) (replicas : RunningMaxima) (order : TimeOrder)
     (view : time_order_of sorted replicas ≡ order) (label : Label) (seen : Seen)
     (past : Past) (next : Next)
     (stands : IsTimeOrderOf order past) (comes : ComesNext past next label seen) (at : ℕ)

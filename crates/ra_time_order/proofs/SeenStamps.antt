@@ -16,7 +16,7 @@ use Rattle.ra_labels.proofs.Members.{head_or_behind, behind_head, kept-there, th
 use Rattle.ra_laws.proofs.TheLaws.{each_number_has_its_label-found, sees_earlier_updates-earlier}
 use Rattle.ra_visibility.specs.Seen.{Seen, count_in}
 use Rattle.ra_visibility.specs.Order.{IsSeenBy}
-use Rattle.ra_time_order.specs.Greatest.{greatest_among}
+use Rattle.ra_time_order.specs.RunningMaximum.{greatest_among}
 use Rattle.ra_time_order.specs.Stamps.{AtMost, stamps_at, IsAmong, AreGreatestOf, greatest_in}
 use Rattle.ra_time_order.proofs.Ranks.{at_most_through, greater_above, greater_is_one, IsGreatestOf, one_greatest, greatest_of}
 use Rattle.ra_time_order.proofs.Table.{place_before}

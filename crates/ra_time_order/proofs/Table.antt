@@ -8,13 +8,13 @@ use Rattle.std.proofs.lemmas.List.Elements.{All-contains}
 use Rattle.ra_labels.specs.declared.label.Stamp.{Stamp}
 use Rattle.ra_labels.specs.declared.label.Label.{Label}
 use Rattle.ra_labels.specs.NamedOrder.{lowest_rank, greater_of}
-use Rattle.ra_labels.specs.Places.{updates_of, place_of}
+use Rattle.ra_labels.specs.Places.{updates_issued, place_of}
 use Rattle.ra_labels.specs.Records.{Records, label_count, labels_of}
 use Rattle.ra_labels.specs.Visibility.{is_update}
 use Rattle.ra_labels.proofs.Counted.{numbers_below_count}
 use Rattle.ra_labels.specs.Situation.{Next, operate, label_of}
 use Rattle.ra_labels.proofs.Members.{head_or_behind, behind_head}
-use Rattle.ra_time_order.specs.Greatest.{last_of, greatest_among, with_stamp}
+use Rattle.ra_time_order.specs.RunningMaximum.{last_of, greatest_among, with_stamp}
 use Rattle.ra_time_order.specs.Stamps.{AtMost, stamps_at, IsAmong, AreGreatestOf, stamps_with}
 use Rattle.ra_time_order.proofs.Ranks.{at_most_itself, at_most_through, greater_above, greater_is_one}
 
@@ -90,12 +90,12 @@ module _ (records : Records) (next : Next) where
   place_before l found =
       let below = All-contains (λ m. m.number < label_count records) (labels_of records) l (numbers_below_count records)
       found in
-      cond-false (l.number == label_count records) (updates_of records next.by) (place_of records l.number)
+      cond-false (l.number == label_count records) (updates_issued records next.by) (place_of records l.number)
       (ne_eqb l.number (label_count records) (λ e. omega (arith, e, below)))
 
-  place_new : place_of now (label_count records) ≡ updates_of records next.by
+  place_new : place_of now (label_count records) ≡ updates_issued records next.by
   place_new =
-      cond-true (label_count records == label_count records) (updates_of records next.by)
+      cond-true (label_count records == label_count records) (updates_issued records next.by)
       (place_of records (label_count records)) (eq-eqb (label_count records) (label_count records) refl)
 
   -- who is among the first updates now
@@ -107,7 +107,7 @@ module _ (records : Records) (next : Next) where
       (behind_head x (labels_of records) l among.0, among.1, among.2, omega (arith, among.3, place_before l among.0))
 
   among_newest : (q k : ℕ) (l : Label) → x ≡ l → IsAmong now q k l
-      → (is_update next.op ≡ true) × (next.by ≡ q) × (updates_of records next.by < k)
+      → (is_update next.op ≡ true) × (next.by ≡ q) × (updates_issued records next.by < k)
   among_newest q k l is among =
       let number : l.number ≡ label_count records = sym (ap (λ (m : Label). m.number) is) in (
         ap (λ (m : Label). is_update m.op) is ∙ among.1,
@@ -116,14 +116,14 @@ module _ (records : Records) (next : Next) where
       )
 
   -- whether the label is an update of the replica
-  updates_now : (q : ℕ) → next.by ≡ q → is_update next.op ≡ true → updates_of now q ≡ updates_of records q + 1
+  updates_now : (q : ℕ) → next.by ≡ q → is_update next.op ≡ true → updates_issued now q ≡ updates_issued records q + 1
   updates_now q same is =
-      cond-true (next.by == q && is_update next.op) (updates_of records q + 1) (updates_of records q)
+      cond-true (next.by == q && is_update next.op) (updates_issued records q + 1) (updates_issued records q)
       (and_from (next.by == q) (is_update next.op) (eq-eqb next.by q same) is)
 
-  updates_same : (q : ℕ) → (next.by ≡ q → is_update next.op ≡ true → ⊥) → updates_of now q ≡ updates_of records q
+  updates_same : (q : ℕ) → (next.by ≡ q → is_update next.op ≡ true → ⊥) → updates_issued now q ≡ updates_issued records q
   updates_same q not_own =
-      cond-false (next.by == q && is_update next.op) (updates_of records q + 1) (updates_of records q)
+      cond-false (next.by == q && is_update next.op) (updates_issued records q + 1) (updates_issued records q)
       (false_from_ne_true (next.by == q && is_update next.op)
       (λ both. let parts = and_parts (next.by == q) (is_update next.op) both in
       not_own (eqb-true next.by q parts.0) parts.1))
@@ -162,7 +162,7 @@ module _ (records : Records) (next : Next) where
       | inr other ↦ inr (λ same _. other same)
     ]
 
-    updates_with : (q : ℕ) → q < length with_it → length (stamps_at with_it q) ≡ updates_of now q
+    updates_with : (q : ℕ) → q < length with_it → length (stamps_at with_it q) ≡ updates_issued now q
     updates_with q there =
         let old : q < length stamps = omega (arith, there, length_with (is_update next.op)) in
         elim (own_or_not q) [
@@ -186,7 +186,7 @@ module _ (records : Records) (next : Next) where
               let is = among_newest q k label newest among in
               subst (λ r. AtMost stamp (greatest_among r k)) (sym (own_with q (is_update next.op) is.1 is.0))
               (row_own row x.stamp k stamp (ap (λ (m : Label). m.stamp) newest ∙ stamped)
-              (omega (arith, is.2, are.updates q old, ap (updates_of records) is.1)))
+              (omega (arith, is.2, are.updates q old, ap (updates_issued records) is.1)))
           | inr older ↦
               let before = are.above q k label stamp old (among_older q k label older among) stamped in
               elim (own_or_not q) [
@@ -224,7 +224,7 @@ module _ (records : Records) (next : Next) where
                         own.1,
                         own.0,
                         omega
-                            (arith, new.0, are.updates q old, place_new, ap (updates_of records) own.0),
+                            (arith, new.0, are.updates q old, place_new, ap (updates_issued records) own.0),
                       ),
                       new.1,
                     )

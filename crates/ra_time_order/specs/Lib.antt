@@ -1,6 +1,6 @@
-pub mod Greatest
+pub mod RunningMaximum
 pub mod Stamps
-pub mod Replicas
+pub mod RunningMaxima
 pub mod Positions
 pub mod Chunk
 pub mod Sorted

@@ -4,10 +4,10 @@ use Rattle.ra_labels.specs.declared.label.Stamp.{Stamp}
 use Rattle.ra_labels.specs.declared.label.Label.{Label}
 use Rattle.ra_labels.specs.declared.limits.TheConstants.{MOST_REPLICAS}
 use Rattle.ra_labels.specs.NamedOrder.{lowest_rank, greater_of}
-use Rattle.ra_labels.specs.Places.{updates_of, place_of}
+use Rattle.ra_labels.specs.Places.{updates_issued, place_of}
 use Rattle.ra_labels.specs.Records.{Records, labels_of, replica_count}
 use Rattle.ra_labels.specs.Visibility.{is_update}
-use Rattle.ra_time_order.specs.Greatest.{greatest_among, with_stamp}
+use Rattle.ra_time_order.specs.RunningMaximum.{greatest_among, with_stamp}
 
 -- s is no greater than t
 pub record AtMost (s t : Stamp) : Type 0 where
@@ -28,7 +28,7 @@ pub record AreGreatestOf (stamps : List (List Stamp)) (first : ℕ) (records : R
   pub replicas : replica_count first records ≤ length stamps
   pub places : MOST_REPLICAS ≤ length stamps
   pub known : (label : Label) → Contains (labels_of records) label → label.replica < length stamps
-  pub updates : (q : ℕ) → q < length stamps → length (stamps_at stamps q) ≡ updates_of records q
+  pub updates : (q : ℕ) → q < length stamps → length (stamps_at stamps q) ≡ updates_issued records q
   pub above : (q count : ℕ) (label : Label) (stamp : Stamp) → q < length stamps → IsAmong records q count label
       → label.stamp ≡ Some stamp → AtMost stamp (greatest_among (stamps_at stamps q) count)
   pub own : (q count : ℕ) → q < length stamps → (greatest_among (stamps_at stamps q) count ≡ lowest_rank)

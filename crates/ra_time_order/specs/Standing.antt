@@ -9,7 +9,7 @@ use Rattle.ra_labels.specs.Visibility.{is_update}
 use Rattle.ra_labels.specs.Situation.{Past}
 use Rattle.ra_visibility.specs.Order.{IsByTimestamp}
 use Rattle.ra_time_order.specs.declared.entry.Entry.{Entry}
-use Rattle.ra_time_order.specs.Replicas.{Replicas}
+use Rattle.ra_time_order.specs.RunningMaxima.{RunningMaxima}
 use Rattle.ra_time_order.specs.Sorted.{Sorted}
 use Rattle.ra_time_order.specs.Stamps.{AreGreatestOf}
 
@@ -22,7 +22,7 @@ pub record TimeOrder : Type 0 where
   pub room : ℕ
 
 -- there is room for one more label where each part has it
-abbrev pub time_order_of : Sorted → Replicas → TimeOrder
+abbrev pub time_order_of : Sorted → RunningMaxima → TimeOrder
 time_order_of sorted replicas = record {
   entries = sorted.entries;
   stamps = replicas.stamps;
@@ -37,7 +37,7 @@ entry_of kind records label = record { rank = rank_of kind records label; label 
 pub record IsTimeOrderOf (order : TimeOrder) (past : Past) : Type 0 where
   pub sorts : IsByTimestamp past.kind
   pub entries : order.entries ≡ map (entry_of past.kind past.records) (named_labels past.kind past.records)
-  pub stamps : AreGreatestOf order.stamps past.first past.records
+  pub stamps : AreGreatestOf order.stamps past.founders past.records
   -- only updates have a stamp of their own
   pub stamped : (label : Label) (stamp : Stamp) → Contains (labels_of past.records) label → label.stamp ≡ Some stamp
       → is_update label.op ≡ true

@@ -10,10 +10,10 @@
 
 mod chunk;
 mod entry;
-mod greatest;
 pub mod laws;
-mod replicas;
 mod run;
+mod running_maxima;
+mod running_maximum;
 mod sorted;
 mod time_order;
 

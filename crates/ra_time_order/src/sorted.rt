@@ -9,8 +9,8 @@ ghost use Rattle.ra_time_order.specs.Sorted.{joined, IsRunOf, IsSplit};
 
 use crate::chunk::Chunk;
 use crate::entry::Entry;
-use crate::greatest::{LOWEST, greater, is_at_most};
 use crate::run::Run;
+use crate::running_maximum::{LOWEST, greater, is_at_most};
 use ra_labels::{NoMemory, Stamp};
 use std::alloc::Global;
 use std::marker::Model;
@@ -52,7 +52,7 @@ impl Sorted {
     }
 
     /// Room for one more label: a run that is full is split.
-    pub fn spare(&mut self) -> Result<(), NoMemory>
+    pub fn reserve(&mut self) -> Result<(), NoMemory>
         ensures entries { self.new.entries ≡ self.old.entries }
         ensures room { OnOk result (0 < self.new.room) }
     {

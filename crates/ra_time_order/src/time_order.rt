@@ -6,8 +6,8 @@ ghost use Rattle.ra_visibility.specs.Order.{IsByTimestamp};
 ghost use Rattle.ra_time_order.specs.Positions.{IsPastAll};
 
 use crate::entry::Entry;
-use crate::greatest::is_at_most;
-use crate::replicas::Replicas;
+use crate::running_maxima::RunningMaxima;
+use crate::running_maximum::is_at_most;
 use crate::sorted::Sorted;
 use ra_labels::{Label, MOST_REPLICAS, NoMemory};
 use ra_visibility::{NamedOrder, Place, Seen};
@@ -18,7 +18,7 @@ use std::marker::Model;
 #[derive(Drop)]
 pub struct TimeOrder {
     sorted: Sorted,
-    replicas: Replicas,
+    replicas: RunningMaxima,
 }
 
 impl Model for TimeOrder {
@@ -39,7 +39,7 @@ impl TimeOrder {
         ensures stands { IfOk result (λ order. (kind : Kind) → IsByTimestamp kind
             → ⟦<TimeOrder as NamedOrder>⟧.stands_for order (nothing_yet kind replicas)) }
     {
-        let replicas = Replicas::new(alloc, replicas.max(MOST_REPLICAS))?;
+        let replicas = RunningMaxima::new(alloc, replicas.max(MOST_REPLICAS))?;
         Ok(TimeOrder {
             sorted: Sorted::new(alloc)?,
             replicas,
@@ -78,8 +78,8 @@ impl NamedOrder for TimeOrder {
     /// Costs a look at the replica that issued the newest update, and a move of half a run where the newest label
     /// filled it.
     fn spare(&mut self) -> Result<(), NoMemory> {
-        self.replicas.spare()?;
-        self.sorted.spare()
+        self.replicas.reserve()?;
+        self.sorted.reserve()
     }
 
     /// Costs a step for each run behind the place and a move within one, and where the label has no stamp of its own a

@@ -225,7 +225,7 @@ stands_delivered t past to label kept next stands =
       issuer = stands.issuer;
       place = stands.place;
       issued = λ q below. ap length (issued_same t to from q next.receiver) ∙ stands.issued q (omega (arith, same, below));
-      beyond = none_had_before_it_joined-delivery past.first past.records to label (omega (arith, stands.replicas, next.receiver)) stands.beyond;
+      beyond = none_had_before_it_joined-delivery past.founders past.records to label (omega (arith, stands.replicas, next.receiver)) stands.beyond;
     }
 
 -- what is kept, with the delivery

@@ -10,7 +10,7 @@ use Rattle.ra_labels.specs.declared.label.Label.{Label}
 use Rattle.ra_labels.specs.declared.command.Command.TheVariants.{Operate}
 use Rattle.ra_labels.specs.Records.{label_count, label_at, next_label}
 use Rattle.ra_labels.specs.Visibility.{had, sees, is_update, is_update_at}
-use Rattle.ra_labels.specs.Places.{issuer_of, place_of, updates_of}
+use Rattle.ra_labels.specs.Places.{issuer_of, place_of, updates_issued}
 use Rattle.ra_labels.specs.Situation.{Past, past_with}
 use Rattle.ra_laws.proofs.TheLaws.{none_had_before_it_joined-operation}
 use Rattle.ra_visibility.specs.declared.row.Row.{Row}
@@ -146,7 +146,7 @@ issuer_issued t by n past op clock update stands known =
 place_issued : (t : Tracked) (by n : ℕ) (past : Past) (op : Op) (clock : Option ℕ) (update : Bool) → by < replicas_in t → IsVisibilityOf t past
     → n < labels_in (with_label t by update) → (row_at (with_label t by update) n).place ≡ place_of (Operate by op clock ∷ past.records) n
 place_issued t by n past op clock update below stands known =
-    let at : Bool → ℕ = λ b. if b then updates_of past.records by else place_of past.records n in
+    let at : Bool → ℕ = λ b. if b then updates_issued past.records by else place_of past.records n in
     at_or_else n (labels_in t)
     (λ last. ap (λ (r : Row). r.place) (row_new t by n update last) ∙ stands.issued by below ∙ sym (ap at (eq-eqb n (label_count past.records) (last ∙ stands.labels))))
     (λ before.
@@ -158,13 +158,13 @@ one_more true k = refl
 one_more false k = omega arith
 
 updates_issued : (t : Tracked) (by q : ℕ) (past : Past) (op : Op) (clock : Option ℕ) (update : Bool) → by < replicas_in t → IsVisibilityOf t past
-    → is_update op ≡ update → q < replicas_in t → issued_count (with_label t by update) q ≡ updates_of (Operate by op clock ∷ past.records) q
+    → is_update op ≡ update → q < replicas_in t → issued_count (with_label t by update) q ≡ updates_issued (Operate by op clock ∷ past.records) q
 updates_issued t by q past op clock update below stands kind known =
-    let at : Bool → ℕ = λ b. if b then updates_of past.records q + 1 else updates_of past.records q in
+    let at : Bool → ℕ = λ b. if b then updates_issued past.records q + 1 else updates_issued past.records q in
     at_or_else q by
     (λ same.
     let this : (by == q && is_update op) ≡ update = ap (λ b. b && is_update op) (eq-eqb by q (sym same)) ∙ kind in
-    issued_there t by q update below same ∙ ap (λ k. k + ones update) (stands.issued q known) ∙ one_more update (updates_of past.records q) ∙ sym (ap at this))
+    issued_there t by q update below same ∙ ap (λ k. k + ones update) (stands.issued q known) ∙ one_more update (updates_issued past.records q) ∙ sym (ap at this))
     (λ other.
     let none : (by == q && is_update op) ≡ false = ap (λ b. b && is_update op) (ne_eqb by q (λ e. other (sym e))) in
     issued_else t by q update other ∙ stands.issued q known ∙ sym (ap at none))
@@ -184,5 +184,5 @@ stands_issued t by past op clock update kept below stands is =
       issuer = λ n known. issuer_issued t by n past op clock update stands known;
       place = λ n known. place_issued t by n past op clock update below stands known;
       issued = λ q known. updates_issued t by q past op clock update below stands is (omega (arith, count, known));
-      beyond = none_had_before_it_joined-operation past.first past.records by op clock (omega (arith, stands.replicas, below)) stands.beyond;
+      beyond = none_had_before_it_joined-operation past.founders past.records by op clock (omega (arith, stands.replicas, below)) stands.beyond;
     }

@@ -8,7 +8,7 @@ use Rattle.ra_labels.specs.declared.limits.TheConstants.{MOST_REPLICAS}
 use Rattle.ra_labels.specs.declared.command.Command.TheVariants.{Join}
 use Rattle.ra_labels.specs.Situation.{Past, past_with, replicas_of}
 use Rattle.ra_labels.specs.Visibility.{had}
-use Rattle.ra_labels.specs.Places.{updates_of}
+use Rattle.ra_labels.specs.Places.{updates_issued}
 use Rattle.ra_laws.proofs.TheLaws.{none_had_before_it_joined-join, a_new_replica_had_what_the_other_had-labels, a_new_replica_had_what_the_other_had-issued}
 use Rattle.ra_visibility.specs.declared.stored.Stored.{Stored}
 use Rattle.ra_visibility.specs.Replica.{Replica, new_replica, joined_from}
@@ -163,7 +163,7 @@ module _ (t : Tracked) (from : ℕ) where
           (λ this.
           ap (λ (r : Replica). is_in (record { rows = t.rows; counts = r.counts }) n) (joined_there q this)
           ∙ stands.had from n there
-          ∙ sym (a_new_replica_had_what_the_other_had-labels past.first past.records from n stands.beyond)
+          ∙ sym (a_new_replica_had_what_the_other_had-labels past.founders past.records from n stands.beyond)
           ∙ ap (λ k. had (Join (replicas_of past) from ∷ past.records) k n) (sym (this ∙ stands.replicas)))
           (λ before.
           ap (λ (r : Replica). is_in (record { rows = t.rows; counts = r.counts }) n) (joined_else q before)
@@ -175,8 +175,8 @@ module _ (t : Tracked) (from : ℕ) where
       place = stands.place;
       issued = λ q lq. new_or_before q lq
           (λ this. ap (λ (r : Replica). length r.issued) (joined_there q this)
-          ∙ sym (ap (updates_of past.records) (this ∙ stands.replicas)
-          ∙ a_new_replica_had_what_the_other_had-issued past.first past.records stands.beyond))
+          ∙ sym (ap (updates_issued past.records) (this ∙ stands.replicas)
+          ∙ a_new_replica_had_what_the_other_had-issued past.founders past.records stands.beyond))
           (λ before. ap length (issued_same q) ∙ stands.issued q before);
-      beyond = none_had_before_it_joined-join past.first past.records from stands.beyond;
+      beyond = none_had_before_it_joined-join past.founders past.records from stands.beyond;
     })

@@ -6,7 +6,7 @@ use Rattle.ra_labels.specs.declared.refusal.Refusal.TheVariants.{UnknownLabel, N
 use Rattle.ra_labels.specs.Records.{label_count}
 use Rattle.ra_labels.specs.Visibility.{had, sees, is_update_at}
 use Rattle.ra_labels.specs.Answer.{when, first_of}
-use Rattle.ra_labels.specs.Places.{issuer_of, place_of, updates_of}
+use Rattle.ra_labels.specs.Places.{issuer_of, place_of, updates_issued}
 use Rattle.ra_labels.specs.Laws.{NoneHadBeyond}
 use Rattle.ra_labels.specs.Situation.{Past, replicas_of}
 use Rattle.ra_visibility.specs.declared.row.Row.{Row}
@@ -93,6 +93,6 @@ pub record IsVisibilityOf (tracked : Tracked) (past : Past) : Type 0 where
   pub issuer : (n : ℕ) → n < labels_in tracked → (row_at tracked n).replica ≡ issuer_of past.records n
   pub place : (n : ℕ) → n < labels_in tracked → (row_at tracked n).place ≡ place_of past.records n
   pub issued : (replica : ℕ) → replica < replicas_in tracked
-      → length (replica_at tracked replica).issued ≡ updates_of past.records replica
+      → length (replica_at tracked replica).issued ≡ updates_issued past.records replica
   -- what is kept says nothing of those that are not there yet
-  pub beyond : NoneHadBeyond past.first past.records
+  pub beyond : NoneHadBeyond past.founders past.records

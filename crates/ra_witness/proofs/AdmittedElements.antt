@@ -24,8 +24,8 @@ use Rattle.ra_labels.proofs.Comparisons.{less_cmp}
 use Rattle.ra_labels.specs.Situation.{past_of, next_of}
 use Rattle.ra_laws.proofs.TheLaws.{a_new_update_is_admitted_where_a_label_below_it_put_in_what_it_needs-insertion, a_new_update_is_admitted_where_a_label_below_it_put_in_what_it_needs-removal, labels_with_stamps_stand_in_their_order, stamps_by_clock_and_then_by_replica-less, a_timestamp_is_the_greatest_seen-own}
 use Rattle.ra_element_list.specs.ElementList.{Arrival, ElementList, arrival_at}
-use Rattle.ra_replica_list.specs.declared.deed.Deed.{Deed}
-use Rattle.ra_replica_list.specs.Deeds.{element_at, AreElementsOf}
+use Rattle.ra_replica_list.specs.declared.edit.Edit.{Edit}
+use Rattle.ra_replica_list.specs.Edits.{element_at, AreElementsOf}
 use Rattle.ra_witness.specs.Offered.{IsOffered}
 use Rattle.ra_witness.proofs.TakenLabels.{label_below}
 use Rattle.ra_witness.proofs.Forms.{has_stamp, its_clock}
@@ -72,7 +72,7 @@ makes_after anchor x = (Whole, at_head (Whole, Does (After anchor x)) [] (Whole,
 pub makes_removal : (x : ℕ) → Makes (ops.RgaRemove x) (RgaRemove x)
 makes_removal x = (Whole, at_head (Whole, Does (RgaRemove x)) [] (Whole, Does (RgaRemove x)) refl)
 
-module _ (all : ElementList) (deeds : List (Option Deed)) (records : Records) (are : AreElementsOf all deeds records) (first by : ℕ) (clock : Option ℕ) (label : Label) where
+module _ (all : ElementList) (edits : List (Option Edit)) (records : Records) (are : AreElementsOf all edits records) (first by : ℕ) (clock : Option ℕ) (label : Label) where
   -- it is not among the elements
   abbrev pub IsNew : ℕ → Type 0
   IsNew x = (n : ℕ) → n < length all.arrivals → ¬ (element_at all.arrivals n ≡ x)
@@ -82,7 +82,7 @@ module _ (all : ElementList) (deeds : List (Option Deed)) (records : Records) (a
     where
       by_test : (b : Bool) → is_there x (updates_of (named_sequence variant.Rga records)) ≡ b → is_there x (updates_of (named_sequence variant.Rga records)) ≡ false
       by_test false is = is
-      by_test true is = let (n, within, same) = there_numbered all deeds records are x is in absurd (new n within same)
+      by_test true is = let (n, within, same) = there_numbered all edits records are x is in absurd (new n within same)
 
   module _ (anchor x : ℕ) (offered : IsOffered (past_of variant.Rga first records) (next_of by (ops.After anchor x) clock) label) (stamp : Stamp) (stamped : label.stamp ≡ Some stamp) where
     abbrev now : Records
@@ -120,7 +120,7 @@ module _ (all : ElementList) (deeds : List (Option Deed)) (records : Records) (a
           elim (cases_eq m 0) [
             | inl root_is ↦ inl (sym is ∙ ap (element_at all.arrivals) root_is ∙ ap (λ (a : Arrival). a.element) are.first)
             | inr other ↦
-                let (it, there, makes, at) = its_label all deeds records are m (omega (arith, other)) within in
+                let (it, there, makes, at) = its_label all edits records are m (omega (arith, other)) within in
                 inr (
                   it,
                   element_at all.arrivals (arrival_at all.arrivals m).anchor,
@@ -138,7 +138,7 @@ module _ (all : ElementList) (deeds : List (Option Deed)) (records : Records) (a
     pub insertion_new : updates_admitted variant.Rga (named_sequence variant.Rga now) ≡ true → IsNew x
     insertion_new admitted n within is =
         let decides = a_new_update_is_admitted_where_a_label_below_it_put_in_what_it_needs-insertion records by (ops.After anchor x) clock anchor x (makes_after anchor x) offered.holds.updates in
-        true≢false (sym (numbered_there all deeds records are x n within is) ∙ (decides.0 admitted).0)
+        true≢false (sym (numbered_there all edits records are x n within is) ∙ (decides.0 admitted).0)
 
     root_below : is_lt (stamp_cmp lowest_rank stamp) ≡ true
     root_below = less_to (stamp_cmp lowest_rank stamp) ((stamps_by_clock_and_then_by_replica-less lowest_rank stamp).1 (inl (omega (arith, some_clock))))
@@ -157,7 +157,7 @@ module _ (all : ElementList) (deeds : List (Option Deed)) (records : Records) (a
             | inl newest ↦
                 absurd (not_below_own now own (ap (λ l. label_cmp variant.Rga now l own) newest ∙ less))
             | inr old ↦
-                let (m, as_number) = its_number all deeds records are other a anchor old makes in (
+                let (m, as_number) = its_number all edits records are other a anchor old makes in (
                   m,
                   as_number.within,
                   as_number.is,
@@ -192,7 +192,7 @@ module _ (all : ElementList) (deeds : List (Option Deed)) (records : Records) (a
         → is_le (stamp_cmp (arrival_at all.arrivals n).stamp greatest) ≡ true → updates_admitted variant.Rga (named_sequence variant.Rga then_now) ≡ true
     removal_admitted n some within is ranked_below =
         let decides = a_new_update_is_admitted_where_a_label_below_it_put_in_what_it_needs-removal records by (ops.RgaRemove x) clock x (makes_removal x) offered.holds.updates in
-        let (it, there, makes, at) = its_label all deeds records are n some within in
+        let (it, there, makes, at) = its_label all edits records are n some within in
         decides.1 (
           (λ root_is. let zero_is = are.once n 0 within are.some (is ∙ root_is ∙ sym (ap (λ (a : Arrival). a.element) are.first)) in omega (arith, some, zero_is)),
           (
@@ -218,7 +218,7 @@ module _ (all : ElementList) (deeds : List (Option Deed)) (records : Records) (a
         elim (head_or_behind its_own (labels_of records) other there) [
           | inl newest ↦ absurd (not_below_own then_now its_own (ap (λ l. label_cmp variant.Rga then_now l its_own) newest ∙ less))
           | inr old ↦
-              let (m, as_number) = its_number all deeds records are other a x old makes in
+              let (m, as_number) = its_number all edits records are other a x old makes in
               record {
                 number = m;
                 some = some;

@@ -14,18 +14,18 @@ use Rattle.ra_labels.specs.Insertion.{Makes}
 use Rattle.ra_labels.specs.Waiting.{is_there}
 use Rattle.ra_laws.proofs.TheLaws.{named_labels_are_sorted-same, what_is_there_a_label_put_in-all}
 use Rattle.ra_element_list.specs.ElementList.{Arrival, ElementList, root, arrival_at}
-use Rattle.ra_replica_list.specs.declared.deed.Deed.{Deed}
-use Rattle.ra_replica_list.specs.declared.deed.Deed.TheVariants.{PutsIn, Removes}
-use Rattle.ra_replica_list.specs.Deeds.{deed_at, element_at, update_of, AreElementsOf}
+use Rattle.ra_replica_list.specs.declared.edit.Edit.{Edit}
+use Rattle.ra_replica_list.specs.declared.edit.Edit.TheVariants.{PutsIn, Removes}
+use Rattle.ra_replica_list.specs.Edits.{edit_at, element_at, update_of, AreElementsOf}
 use Rattle.ra_witness.specs.declared.rga.Rga.{Rga}
 use Rattle.ra_witness.specs.Rga.{IsRgaOf}
 use Rattle.ra_witness.proofs.ReplicaLists.{AreListsOf}
 
 -- room for more does not matter
-pub elements_like : (a b : ElementList) (deeds : List (Option Deed)) (records : Records) → a.elements ≡ b.elements → a.arrivals ≡ b.arrivals
-    → AreElementsOf a deeds records → AreElementsOf b deeds records
-elements_like a b deeds records same_elements same_arrivals are =
-    let roomy : AreElementsOf (record { elements = a.elements; arrivals = a.arrivals; has_room = b.has_room }) deeds records = record {
+pub elements_like : (a b : ElementList) (edits : List (Option Edit)) (records : Records) → a.elements ≡ b.elements → a.arrivals ≡ b.arrivals
+    → AreElementsOf a edits records → AreElementsOf b edits records
+elements_like a b edits records same_elements same_arrivals are =
+    let roomy : AreElementsOf (record { elements = a.elements; arrivals = a.arrivals; has_room = b.has_room }) edits records = record {
       count = are.count;
       made = are.made;
       makes = are.makes;
@@ -39,21 +39,21 @@ elements_like a b deeds records same_elements same_arrivals are =
       once = are.once;
       listed = are.listed;
     } in
-    subst (λ es. AreElementsOf (record { elements = es; arrivals = b.arrivals; has_room = b.has_room }) deeds records) same_elements
-    (subst (λ rs. AreElementsOf (record { elements = a.elements; arrivals = rs; has_room = b.has_room }) deeds records) same_arrivals roomy)
+    subst (λ es. AreElementsOf (record { elements = es; arrivals = b.arrivals; has_room = b.has_room }) edits records) same_elements
+    (subst (λ rs. AreElementsOf (record { elements = a.elements; arrivals = rs; has_room = b.has_room }) edits records) same_arrivals roomy)
 
-pub rga_like : (a b : Rga) (first : ℕ) (records : Records) → a.all.elements ≡ b.all.elements → a.all.arrivals ≡ b.all.arrivals → a.deeds.items ≡ b.deeds.items → a.lists.items ≡ b.lists.items
+pub rga_like : (a b : Rga) (first : ℕ) (records : Records) → a.all.elements ≡ b.all.elements → a.all.arrivals ≡ b.all.arrivals → a.edits.items ≡ b.edits.items → a.lists.items ≡ b.lists.items
     → IsRgaOf a first records → IsRgaOf b first records
-rga_like a b first records same_elements same_arrivals same_deeds same_lists stands = record {
-  elements = subst (λ ds. AreElementsOf b.all ds records) same_deeds (elements_like a.all b.all a.deeds.items records same_elements same_arrivals stands.elements);
+rga_like a b first records same_elements same_arrivals same_edits same_lists stands = record {
+  elements = subst (λ ds. AreElementsOf b.all ds records) same_edits (elements_like a.all b.all a.edits.items records same_elements same_arrivals stands.elements);
   replicas = ap length (sym same_lists) ∙ stands.replicas;
   lists =
-      subst (λ ls. AreListsOf ls b.all.arrivals b.deeds.items records) same_lists
-      (subst (λ ds. AreListsOf a.lists.items b.all.arrivals ds records) same_deeds (subst (λ rs. AreListsOf a.lists.items rs a.deeds.items records) same_arrivals stands.lists));
+      subst (λ ls. AreListsOf ls b.all.arrivals b.edits.items records) same_lists
+      (subst (λ ds. AreListsOf a.lists.items b.all.arrivals ds records) same_edits (subst (λ rs. AreListsOf a.lists.items rs a.edits.items records) same_arrivals stands.lists));
   few = omega (arith, stands.few, ap length same_arrivals);
 }
 
-none_there : (n : ℕ) (x : Deed) → deed_at [] n ≡ Some x → ⊥
+none_there : (n : ℕ) (x : Edit) → edit_at [] n ≡ Some x → ⊥
 none_there n x is = none-some x is
 
 -- no labels: the root alone
@@ -63,8 +63,8 @@ no_elements all elements arrivals =
     elements_like one all [] [] (sym elements) (sym arrivals) (record {
       count = refl;
       made = λ label update there makes. absurd (omega (arith, there.1));
-      makes = λ n deed at. absurd (none_there n deed at);
-      known = λ n deed at. absurd (none_there n deed at);
+      makes = λ n edit at. absurd (none_there n edit at);
+      known = λ n edit at. absurd (none_there n edit at);
       stamp = λ label number there at. absurd (omega (arith, there.1));
       unstamped = λ label number there at. absurd (omega (arith, there.1));
       some = omega arith;
@@ -79,14 +79,14 @@ no_elements all elements arrivals =
     anchored zero within = omega arith
     anchored (suc n) within = absurd (omega (arith, within))
 
-module _ (all : ElementList) (deeds : List (Option Deed)) (records : Records) (are : AreElementsOf all deeds records) where
+module _ (all : ElementList) (edits : List (Option Edit)) (records : Records) (are : AreElementsOf all edits records) where
   -- a label put each element in but the root
   pub its_label : (n : ℕ) → 0 < n → n < length all.arrivals → (label : Label) × Contains (labels_of records) label
       × Makes label.op (After (element_at all.arrivals (arrival_at all.arrivals n).anchor) (element_at all.arrivals n)) × (label.stamp ≡ Some (arrival_at all.arrivals n).stamp)
   its_label n some within =
       let (m, at) = are.came n some within in
       let (label, there, number, makes) = are.makes m (PutsIn n) at in
-      (label, there, makes, are.stamp label n there (ap (deed_at deeds) number ∙ at))
+      (label, there, makes, are.stamp label n there (ap (edit_at edits) number ∙ at))
 
   -- the number of the element that a label put in
   pub record IsPutInAs (label : Label) (x n : ℕ) : Type 0 where
@@ -96,10 +96,10 @@ module _ (all : ElementList) (deeds : List (Option Deed)) (records : Records) (a
 
   pub its_number : (label : Label) (anchor x : ℕ) → Contains (labels_of records) label → Makes label.op (After anchor x) → (n : ℕ) × IsPutInAs label x n
   its_number label anchor x there makes =
-      let (deed, at, is) = are.made label (After anchor x) there makes in
-      by deed at is
+      let (edit, at, is) = are.made label (After anchor x) there makes in
+      by edit at is
     where
-      by : (deed : Deed) → deed_at deeds label.number ≡ Some deed → update_of all.arrivals deed ≡ After anchor x → (n : ℕ) × IsPutInAs label x n
+      by : (edit : Edit) → edit_at edits label.number ≡ Some edit → update_of all.arrivals edit ≡ After anchor x → (n : ℕ) × IsPutInAs label x n
       by (PutsIn n) at is = let same : element_at all.arrivals n ≡ x = cc (is) in (n, record { within = are.known label.number (PutsIn n) at; is = same; stamp = are.stamp label n there at })
       by (Removes n) at is = absurd (cc (is))
 

@@ -1,6 +1,6 @@
 -- What is kept, kind by kind, with one label or delivery more: of a counter and an OR-Set, and what all kinds share.
 use Rattle.std.proofs.Common.{◌≡◌, ℕ, ◌<◌, ◌≤◌, true, List, [], ◌∷◌, ◌++◌, length, Option, Some, None, sym, ap, ◌∙◌, subst, inl, inr, arith}
-use Rattle.std.specs.Prelude.{◌⊎◌, Result, IfOk, OnOk, Ok, Err, IfSome}
+use Rattle.std.specs.Prelude.{◌⊎◌, Result, OnOk, Ok, Err, IfSome}
 use Rattle.std.proofs.lemmas.Option.{none-some}
 use Rattle.ra_labels.specs.declared.kind.Kind.{Kind}
 use Rattle.ra_labels.specs.declared.kind.Kind.TheVariants as variant
@@ -34,10 +34,6 @@ pub on_ok_two : {T E : Type 0} {P Q R : Type 0} (r : Result T E) → OnOk r P �
 on_ok_two (Ok x) p q f = f p q
 on_ok_two (Err e) p q f = tt
 
-pub if_ok_on : {T E : Type 0} {P : T → Type 0} {Q : Type 0} (r : Result T E) → IfOk r P → ((x : T) → P x → Q) → OnOk r Q
-if_ok_on (Ok x) p f = f x p
-if_ok_on (Err e) p f = tt
-
 pub if_some_use : {A : Type 0} (o : Option A) (x : A) (P : A → Type 0) → o ≡ Some x → IfSome o P → P x
 if_some_use o x P is p = subst (λ a. IfSome a P) is p
 
@@ -48,7 +44,7 @@ module _ (k : Effects) (past : Past) (stands : AreEffectsOf k past) where
   pub is_overriding : (kept : overriding.Overriding) → k ≡ Overriding kept → IsOverridingOf kept past
   is_overriding kept is = subst (λ x. AreEffectsOfForm x past) is stands.form
 
-  pub is_rga : (kept : rga.Rga) → k ≡ Rga kept → (past.kind ≡ variant.Rga) × IsRgaOf kept past.first past.records
+  pub is_rga : (kept : rga.Rga) → k ≡ Rga kept → (past.kind ≡ variant.Rga) × IsRgaOf kept past.founders past.records
   is_rga kept is = subst (λ x. AreEffectsOfForm x past) is stands.form
 
 pub not_rga-commuting : (kind : Kind) → (kind ≡ variant.Counter) ⊎ (kind ≡ variant.OrSet) → ¬ (kind ≡ variant.Rga)
@@ -103,12 +99,12 @@ module _ (updates : List (Option Update)) (states : List State) (past : Past) (k
   pub states_told : (to n : ℕ) → (past.kind ≡ variant.Counter) ⊎ (past.kind ≡ variant.OrSet) → IsTold past to n
       → AreStatesOf updates (states_after states to (update_at updates n)) (past_with past (Deliver to n))
   states_told to n (inl is) told =
-      subst (λ k. AreStatesOf updates (states_after states to (update_at updates n)) (past_of k past.first (Deliver to n ∷ past.records))) (sym is)
-      (kept-counter updates states past.first past.records to n (subst (λ k. AreStatesOf updates states (past_of k past.first past.records)) is kept) (omega (arith, kept.replicas, told.replica))
+      subst (λ k. AreStatesOf updates (states_after states to (update_at updates n)) (past_of k past.founders (Deliver to n ∷ past.records))) (sym is)
+      (kept-counter updates states past.founders past.records to n (subst (λ k. AreStatesOf updates states (past_of k past.founders past.records)) is kept) (omega (arith, kept.replicas, told.replica))
       told.update told.causal.0 (subst (λ k. Holds k past.records) is told.holds))
   states_told to n (inr is) told =
-      subst (λ k. AreStatesOf updates (states_after states to (update_at updates n)) (past_of k past.first (Deliver to n ∷ past.records))) (sym is)
-      (kept-or_set updates states past.first past.records to n (subst (λ k. AreStatesOf updates states (past_of k past.first past.records)) is kept) (omega (arith, kept.replicas, told.replica))
+      subst (λ k. AreStatesOf updates (states_after states to (update_at updates n)) (past_of k past.founders (Deliver to n ∷ past.records))) (sym is)
+      (kept-or_set updates states past.founders past.records to n (subst (λ k. AreStatesOf updates states (past_of k past.founders past.records)) is kept) (omega (arith, kept.replicas, told.replica))
       told.update (subst (λ k. Holds k past.records) is told.holds) told.identifiers told.causal)
 
 -- a counter or an OR-Set with the label
@@ -129,8 +125,8 @@ commuting_taken old new past next label update kept offered same updates states 
       form = record {
         one = kept.one;
         states =
-            subst (λ us. AreStatesOf us new.states.items (past_of past.kind past.first now)) (sym its_updates)
-            (subst (λ ss. AreStatesOf (old.updates.items ++ update_in next.op ∷ []) ss (past_of past.kind past.first now)) (sym its_states) later);
+            subst (λ us. AreStatesOf us new.states.items (past_of past.kind past.founders now)) (sym its_updates)
+            (subst (λ ss. AreStatesOf (old.updates.items ++ update_in next.op ∷ []) ss (past_of past.kind past.founders now)) (sym its_states) later);
       };
     }
 
@@ -146,8 +142,8 @@ commuting_told old new past to n few kept told updates states =
       form = record {
         one = kept.one;
         states =
-            subst (λ us. AreStatesOf us new.states.items (past_of past.kind past.first now)) (sym (ap (λ us. us.items) updates))
-            (subst (λ ss. AreStatesOf old.updates.items ss (past_of past.kind past.first now)) (sym states) later);
+            subst (λ us. AreStatesOf us new.states.items (past_of past.kind past.founders now)) (sym (ap (λ us. us.items) updates))
+            (subst (λ ss. AreStatesOf old.updates.items ss (past_of past.kind past.founders now)) (sym states) later);
       };
     }
 

@@ -179,7 +179,7 @@ module _ (writes : List (Option Written)) (lasts : List (List (Option ℕ))) (nu
       ∙ ap (λ o. Some (after_step (state_at states to) o)) (sym (update_of_write writes counts last.write last.found))
 
   pub kept-made : state_after past.kind (updates_had past.kind (Deliver to it.label.number ∷ past.records) to) ≡ then_step (state_after past.kind (updates_had past.kind past.records to)) last.write.update
-      → AreStatesOf (updates_written writes) (states_after states to (update_at (updates_written writes) counts)) (past_of past.kind past.first now)
+      → AreStatesOf (updates_written writes) (states_after states to (update_at (updates_written writes) counts)) (past_of past.kind past.founders now)
   kept-made step = kept-delivery (updates_written writes) states past kept to n (update_at (updates_written writes) counts) there (led_by step)
 
   -- none behind the last label that counts is on its element

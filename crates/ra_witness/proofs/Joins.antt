@@ -25,7 +25,7 @@ use Rattle.ra_witness.specs.Effects.{IsCommutingOf, IsOverridingOf}
 use Rattle.ra_witness.proofs.OverridingKinds.{lasts_counted}
 
 -- of each replica the state, that of the new one a copy
-pub states_joined : (updates : List (Option Update)) (states : List State) (past : Past) (from : ℕ) → AreStatesOf updates states past → from < replicas_of past → NoneHadBeyond past.first past.records
+pub states_joined : (updates : List (Option Update)) (states : List State) (past : Past) (from : ℕ) → AreStatesOf updates states past → from < replicas_of past → NoneHadBeyond past.founders past.records
     → AreStatesOf updates (states ++ state_at states from ∷ []) (past_with past (Join (replicas_of past) from))
 states_joined updates states past from kept there beyond =
     let joined = replicas_of past in
@@ -36,7 +36,7 @@ states_joined updates states past from kept there beyond =
       replicas = omega (arith, length-append states (state ∷ []), kept.replicas);
       folded = λ q there_q. elim (cases_eq q joined) [
         | inl same ↦ subst (λ r. state_after past.kind (updates_had past.kind now r) ≡ Some (state_at (states ++ state ∷ []) r)) (sym same)
-            (ap (state_after past.kind) (a_new_replica_had_what_the_other_had-own past.kind past.first past.records from beyond)
+            (ap (state_after past.kind) (a_new_replica_had_what_the_other_had-own past.kind past.founders past.records from beyond)
             ∙ kept.folded from (omega (arith, kept.replicas, there))
             ∙ ap Some (sym (get_or_at states state [] (Number (pos 0)) joined kept.replicas)))
         | inr other ↦
@@ -128,8 +128,8 @@ overriding_joined old new past from stands joins writes numbers states says =
     record {
       one = stands.one;
       states =
-          subst (λ ws. AreStatesOf (updates_written ws) new.states.items (past_of past.kind past.first now)) its_writes
-          (subst (λ ss. AreStatesOf (updates_written old.writes.items) ss (past_of past.kind past.first now)) (sym states)
+          subst (λ ws. AreStatesOf (updates_written ws) new.states.items (past_of past.kind past.founders now)) its_writes
+          (subst (λ ss. AreStatesOf (updates_written old.writes.items) ss (past_of past.kind past.founders now)) (sym states)
           (states_joined (updates_written old.writes.items) old.states.items past from stands.states joins.there joins.beyond));
       writes =
           subst (λ ws. AreWritesOf ws (get nat_eq new.numbers.numbers) now) its_writes
@@ -138,7 +138,7 @@ overriding_joined old new past from stands joins writes numbers states says =
       lasts =
           subst (λ ws. AreLastOf ws (labels_in new.lasts.items) now) its_writes
           (subst (λ ls. AreLastOf old.writes.items ls now) (sym says)
-          (lasts_joined old.writes.items lasts past.first past.records from stands.lasts counted (omega (arith, counted, joins.there)) joins.beyond));
+          (lasts_joined old.writes.items lasts past.founders past.records from stands.lasts counted (omega (arith, counted, joins.there)) joins.beyond));
       replicas = omega (arith, length-map new.lasts.items (λ last. last.labels.items), ap length says, length-append lasts (get_or lasts from [] ∷ []), counted);
       numbers = subst (λ ns. AreBelow (get nat_eq ns.numbers) (hash_map_len ns.numbers)) (sym numbers) stands.numbers;
       few = subst (λ ns. hash_map_len ns.numbers ≤ label_count past.records) (sym numbers) stands.few;

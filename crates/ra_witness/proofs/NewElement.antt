@@ -21,9 +21,9 @@ use Rattle.ra_labels.proofs.Members.{at_head, behind_head}
 use Rattle.ra_labels.proofs.StampOrder.{below_tested}
 use Rattle.ra_laws.proofs.TheLaws.{an_operation_makes_one_update-one, a_new_label_in_the_list_of_all-insertion, labels_with_stamps_stand_in_their_order}
 use Rattle.ra_element_list.specs.ElementList.{Arrival, ElementList, root, arrival_at, IsBelowByStamp}
-use Rattle.ra_replica_list.specs.declared.deed.Deed.{Deed}
-use Rattle.ra_replica_list.specs.declared.deed.Deed.TheVariants.{PutsIn}
-use Rattle.ra_replica_list.specs.Deeds.{element_at, number_of, update_of, AreElementsOf}
+use Rattle.ra_replica_list.specs.declared.edit.Edit.{Edit}
+use Rattle.ra_replica_list.specs.declared.edit.Edit.TheVariants.{PutsIn}
+use Rattle.ra_replica_list.specs.Edits.{element_at, number_of, update_of, AreElementsOf}
 use Rattle.ra_witness.proofs.TakenLabels.{label_below}
 use Rattle.ra_witness.proofs.AllElements.{its_number}
 use Rattle.ra_witness.proofs.NewLabel.{Adds, list_after}
@@ -49,8 +49,8 @@ not_less : (b : Bool) → ¬ (b ≡ true) → b ≡ false
 not_less true other = absurd (other refl)
 not_less false other = refl
 
-module _ (all next : ElementList) (deeds : List (Option Deed)) (records : Records) (by : ℕ) (op : Op) (clock : Option ℕ) (m x : ℕ) (stamp : Stamp)
-    (are : AreElementsOf all deeds records) (makes : Makes op (After (element_at all.arrivals m) x)) (within : m < length all.arrivals)
+module _ (all next : ElementList) (edits : List (Option Edit)) (records : Records) (by : ℕ) (op : Op) (clock : Option ℕ) (m x : ℕ) (stamp : Stamp)
+    (are : AreElementsOf all edits records) (makes : Makes op (After (element_at all.arrivals m) x)) (within : m < length all.arrivals)
     (new : (n : ℕ) → n < length all.arrivals → ¬ (element_at all.arrivals n ≡ x)) (stamped : (next_label records by op clock).stamp ≡ Some stamp)
     (clocked : 1 ≤ stamp.clock) (stamps : StampsAreOneLabels (Operate by op clock ∷ records))
     (admitted : updates_admitted variant.Rga (named_sequence variant.Rga (Operate by op clock ∷ records)) ≡ true)
@@ -83,8 +83,8 @@ module _ (all next : ElementList) (deeds : List (Option Deed)) (records : Record
       ap (λ (a : Arrival). After (element_at next.arrivals a.anchor) a.element) is_newest
       ∙ ap (λ (a : Arrival). After a.element x) (kept m within)
 
-  its_deed : (deed : Deed) → Some (PutsIn number) ≡ Some deed → PutsIn number ≡ deed
-  its_deed deed is = same_Some (PutsIn number) deed is
+  its_edit : (edit : Edit) → Some (PutsIn number) ≡ Some edit → PutsIn number ≡ edit
+  its_edit edit is = same_Some (PutsIn number) edit is
 
   its_own_number : (n : ℕ) → Some (PutsIn number) ≡ Some (PutsIn n) → number ≡ n
   its_own_number n is = cc (is)
@@ -130,7 +130,7 @@ module _ (all next : ElementList) (deeds : List (Option Deed)) (records : Record
   others_stand : (other : Label) (behind y : ℕ) → Contains (labels_of records) other → Makes other.op (After behind y)
       → below x y ≡ is_lt (label_cmp variant.Rga now own other)
   others_stand other behind y there does =
-      let (n, as_number) = its_number all deeds records are other behind y there does in
+      let (n, as_number) = its_number all edits records are other behind y there does in
       let t = (arrival_at all.arrivals n).stamp in
       let stands : label_cmp variant.Rga now own other ≡ stamp_cmp stamp t =
       labels_with_stamps_stand_in_their_order variant.Rga now own other stamp t (λ e. cc (e)) (λ e. cc (e)) stamped as_number.stamp (λ same.
@@ -140,13 +140,13 @@ module _ (all next : ElementList) (deeds : List (Option Deed)) (records : Record
       omega (arith, its, lower)) in
       ap (below x) (sym as_number.is) ∙ below_by_stamp n as_number.within ∙ ap is_lt (sym stands)
 
-  pub adds_insertion : Adds all next deeds records by op clock (Some (PutsIn number))
+  pub adds_insertion : Adds all next edits records by op clock (Some (PutsIn number))
   adds_insertion = record {
     kept = kept;
     longer = omega (arith, count);
     made = λ update does. (PutsIn number, refl, its_update ∙ an_operation_makes_one_update-one op (After (element_at all.arrivals m) x) update makes does);
-    makes = λ deed is. subst (λ d. Makes op (update_of next.arrivals d)) (its_deed deed is) (subst (λ u. Makes op u) (sym its_update) makes);
-    known = λ deed is. subst (λ d. number_of d < length next.arrivals) (its_deed deed is) (omega (arith, count));
+    makes = λ edit is. subst (λ d. Makes op (update_of next.arrivals d)) (its_edit edit is) (subst (λ u. Makes op u) (sym its_update) makes);
+    known = λ edit is. subst (λ d. number_of d < length next.arrivals) (its_edit edit is) (omega (arith, count));
     stamp = λ n is. stamped ∙ ap (λ (a : Arrival). Some a.stamp) (sym is_newest) ∙ ap (λ k. Some (arrival_at next.arrivals k).stamp) (its_own_number n is);
     unstamped = λ n is. absurd (cc (is));
     came = λ n after there. let at : number ≡ n = omega (arith, after, there, count) in ap (λ k. Some (PutsIn k)) at;

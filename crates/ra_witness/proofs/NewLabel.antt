@@ -22,34 +22,34 @@ use Rattle.ra_labels.specs.Insertion.{Makes}
 use Rattle.ra_labels.proofs.Members.{head_or_behind, at_head, behind_head}
 use Rattle.ra_laws.proofs.TheLaws.{an_operation_makes_one_update-exactly, an_operation_makes_one_update-one, an_operation_puts_its_update_among_all-query, updates_admitted_where_they_lead_to_a_state, states_are_of_their_kind, a_new_label_in_the_list_of_all-removal}
 use Rattle.ra_element_list.specs.ElementList.{Arrival, ElementList, arrival_at}
-use Rattle.ra_replica_list.specs.declared.deed.Deed.{Deed}
-use Rattle.ra_replica_list.specs.declared.deed.Deed.TheVariants.{PutsIn, Removes}
-use Rattle.ra_replica_list.specs.Deeds.{deed_at, element_at, number_of, update_of, AreElementsOf}
+use Rattle.ra_replica_list.specs.declared.edit.Edit.{Edit}
+use Rattle.ra_replica_list.specs.declared.edit.Edit.TheVariants.{PutsIn, Removes}
+use Rattle.ra_replica_list.specs.Edits.{edit_at, element_at, number_of, update_of, AreElementsOf}
 use Rattle.ra_witness.proofs.TakenLabels.{label_below}
 
--- the deeds with one more
-deed_within : (deeds : List (Option Deed)) (n : ℕ) (deed : Deed) → deed_at deeds n ≡ Some deed → n < length deeds
-deed_within [] n deed is = absurd (none-some deed is)
-deed_within (d ∷ ds) zero deed is = omega arith
-deed_within (d ∷ ds) (suc n) deed is = omega (arith, deed_within ds n deed is)
+-- the edits with one more
+edit_within : (edits : List (Option Edit)) (n : ℕ) (edit : Edit) → edit_at edits n ≡ Some edit → n < length edits
+edit_within [] n edit is = absurd (none-some edit is)
+edit_within (d ∷ ds) zero edit is = omega arith
+edit_within (d ∷ ds) (suc n) edit is = omega (arith, edit_within ds n edit is)
 
-deed_more : (deeds : List (Option Deed)) (o : Option Deed) (n : ℕ) (deed : Deed) → deed_at (deeds ++ o ∷ []) n ≡ Some deed
-    → (deed_at deeds n ≡ Some deed) ⊎ ((n ≡ length deeds) × (o ≡ Some deed))
-deed_more [] o zero deed is = inr (refl, is)
-deed_more [] o (suc n) deed is = absurd (none-some deed is)
-deed_more (d ∷ ds) o zero deed is = inl is
-deed_more (d ∷ ds) o (suc n) deed is = elim (deed_more ds o n deed is) [
+edit_more : (edits : List (Option Edit)) (o : Option Edit) (n : ℕ) (edit : Edit) → edit_at (edits ++ o ∷ []) n ≡ Some edit
+    → (edit_at edits n ≡ Some edit) ⊎ ((n ≡ length edits) × (o ≡ Some edit))
+edit_more [] o zero edit is = inr (refl, is)
+edit_more [] o (suc n) edit is = absurd (none-some edit is)
+edit_more (d ∷ ds) o zero edit is = inl is
+edit_more (d ∷ ds) o (suc n) edit is = elim (edit_more ds o n edit is) [
   | inl was ↦ inl was
   | inr (at, new) ↦ inr (omega (arith, at), new)
 ]
 
--- what one label more adds: its deed, and the element that it puts in, if any
-pub record Adds (all next : ElementList) (deeds : List (Option Deed)) (records : Records) (by : ℕ) (op : Op) (clock : Option ℕ) (o : Option Deed) : Type 0 where
+-- what one label more adds: its edit, and the element that it puts in, if any
+pub record Adds (all next : ElementList) (edits : List (Option Edit)) (records : Records) (by : ℕ) (op : Op) (clock : Option ℕ) (o : Option Edit) : Type 0 where
   pub kept : (n : ℕ) → n < length all.arrivals → arrival_at next.arrivals n ≡ arrival_at all.arrivals n
   pub longer : length all.arrivals ≤ length next.arrivals
-  pub made : (update : Update) → Makes op update → (deed : Deed) × (o ≡ Some deed) × (update_of next.arrivals deed ≡ update)
-  pub makes : (deed : Deed) → o ≡ Some deed → Makes op (update_of next.arrivals deed)
-  pub known : (deed : Deed) → o ≡ Some deed → number_of deed < length next.arrivals
+  pub made : (update : Update) → Makes op update → (edit : Edit) × (o ≡ Some edit) × (update_of next.arrivals edit ≡ update)
+  pub makes : (edit : Edit) → o ≡ Some edit → Makes op (update_of next.arrivals edit)
+  pub known : (edit : Edit) → o ≡ Some edit → number_of edit < length next.arrivals
   pub stamp : (number : ℕ) → o ≡ Some (PutsIn number) → (next_label records by op clock).stamp ≡ Some (arrival_at next.arrivals number).stamp
   pub unstamped : (number : ℕ) → o ≡ Some (Removes number) → (next_label records by op clock).stamp ≡ None
   pub came : (number : ℕ) → length all.arrivals ≤ number → number < length next.arrivals → o ≡ Some (PutsIn number)
@@ -58,71 +58,71 @@ pub record Adds (all next : ElementList) (deeds : List (Option Deed)) (records :
   pub listed : (list : List (ℕ × Bool)) × (state_after variant.Rga (updates_of (named_sequence variant.Rga (Operate by op clock ∷ records))) ≡ Some (Listed list))
       × (elements_in list ≡ next.elements)
 
-module _ (all next : ElementList) (deeds : List (Option Deed)) (records : Records) (by : ℕ) (op : Op) (clock : Option ℕ) (o : Option Deed)
-    (are : AreElementsOf all deeds records) (adds : Adds all next deeds records by op clock o) where
+module _ (all next : ElementList) (edits : List (Option Edit)) (records : Records) (by : ℕ) (op : Op) (clock : Option ℕ) (o : Option Edit)
+    (are : AreElementsOf all edits records) (adds : Adds all next edits records by op clock o) where
   abbrev now : Records
   now = Operate by op clock ∷ records
 
   abbrev own : Label
   own = next_label records by op clock
 
-  abbrev with_it : List (Option Deed)
-  with_it = deeds ++ o ∷ []
+  abbrev with_it : List (Option Edit)
+  with_it = edits ++ o ∷ []
 
-  deed_old : (n : ℕ) → n < label_count records → deed_at with_it n ≡ deed_at deeds n
-  deed_old n within = get_or_append_left deeds (o ∷ []) None n (omega (arith, within, are.count))
+  edit_old : (n : ℕ) → n < label_count records → edit_at with_it n ≡ edit_at edits n
+  edit_old n within = get_or_append_left edits (o ∷ []) None n (omega (arith, within, are.count))
 
-  deed_own : deed_at with_it (label_count records) ≡ o
-  deed_own = get_or_at deeds o [] None (label_count records) are.count
+  edit_own : edit_at with_it (label_count records) ≡ o
+  edit_own = get_or_at edits o [] None (label_count records) are.count
 
-  kept_deed : (n : ℕ) (deed : Deed) → deed_at deeds n ≡ Some deed → deed_at with_it n ≡ Some deed
-  kept_deed n deed at = deed_old n (omega (arith, deed_within deeds n deed at, are.count)) ∙ at
+  kept_edit : (n : ℕ) (edit : Edit) → edit_at edits n ≡ Some edit → edit_at with_it n ≡ Some edit
+  kept_edit n edit at = edit_old n (omega (arith, edit_within edits n edit at, are.count)) ∙ at
 
-  same_update : (deed : Deed) → number_of deed < length all.arrivals → update_of next.arrivals deed ≡ update_of all.arrivals deed
+  same_update : (edit : Edit) → number_of edit < length all.arrivals → update_of next.arrivals edit ≡ update_of all.arrivals edit
   same_update (PutsIn n) within =
       ap (λ (a : Arrival). After (element_at next.arrivals a.anchor) a.element) (adds.kept n within)
       ∙ ap (λ (a : Arrival). After a.element (element_at all.arrivals n)) (adds.kept (arrival_at all.arrivals n).anchor (are.anchored n within))
   same_update (Removes n) within = ap (λ (a : Arrival). RgaRemove a.element) (adds.kept n within)
 
-  newest_deed : (label : Label) (deed : Deed) → own ≡ label → deed_at with_it label.number ≡ Some deed → o ≡ Some deed
-  newest_deed label deed newest at = sym deed_own ∙ ap (λ (l : Label). deed_at with_it l.number) newest ∙ at
+  newest_edit : (label : Label) (edit : Edit) → own ≡ label → edit_at with_it label.number ≡ Some edit → o ≡ Some edit
+  newest_edit label edit newest at = sym edit_own ∙ ap (λ (l : Label). edit_at with_it l.number) newest ∙ at
 
   pub elements_more : AreElementsOf next with_it now
   elements_more = record {
-    count = omega (arith, length-append deeds (o ∷ []), are.count);
+    count = omega (arith, length-append edits (o ∷ []), are.count);
     made = λ label update there makes. elim (head_or_behind own (labels_of records) label there) [
       | inl newest ↦
-          let (deed, is, same) = adds.made update (subst (λ (l : Label). Makes l.op update) (sym newest) makes) in
-          (deed, ap (λ (l : Label). deed_at with_it l.number) (sym newest) ∙ deed_own ∙ is, same)
+          let (edit, is, same) = adds.made update (subst (λ (l : Label). Makes l.op update) (sym newest) makes) in
+          (edit, ap (λ (l : Label). edit_at with_it l.number) (sym newest) ∙ edit_own ∙ is, same)
       | inr old ↦
-          let (deed, at, same) = are.made label update old makes in
-          (deed, kept_deed label.number deed at, same_update deed (are.known label.number deed at) ∙ same)
+          let (edit, at, same) = are.made label update old makes in
+          (edit, kept_edit label.number edit at, same_update edit (are.known label.number edit at) ∙ same)
     ];
-    makes = λ n deed at. elim (deed_more deeds o n deed at) [
+    makes = λ n edit at. elim (edit_more edits o n edit at) [
       | inl was ↦
-          let (label, there, number, makes) = are.makes n deed was in
-          (label, behind_head own (labels_of records) label there, number, subst (λ u. Makes label.op u) (sym (same_update deed (are.known n deed was))) makes)
-      | inr (here, is) ↦ (own, at_head own (labels_of records) own refl, omega (arith, here, are.count), adds.makes deed is)
+          let (label, there, number, makes) = are.makes n edit was in
+          (label, behind_head own (labels_of records) label there, number, subst (λ u. Makes label.op u) (sym (same_update edit (are.known n edit was))) makes)
+      | inr (here, is) ↦ (own, at_head own (labels_of records) own refl, omega (arith, here, are.count), adds.makes edit is)
     ];
-    known = λ n deed at. elim (deed_more deeds o n deed at) [
-      | inl was ↦ omega (arith, are.known n deed was, adds.longer)
-      | inr (here, is) ↦ adds.known deed is
+    known = λ n edit at. elim (edit_more edits o n edit at) [
+      | inl was ↦ omega (arith, are.known n edit was, adds.longer)
+      | inr (here, is) ↦ adds.known edit is
     ];
     stamp = λ label number there at. elim (head_or_behind own (labels_of records) label there) [
-      | inl newest ↦ ap (λ (l : Label). l.stamp) (sym newest) ∙ adds.stamp number (newest_deed label (PutsIn number) newest at)
+      | inl newest ↦ ap (λ (l : Label). l.stamp) (sym newest) ∙ adds.stamp number (newest_edit label (PutsIn number) newest at)
       | inr old ↦
-          let was = sym (deed_old label.number (label_below records label old)) ∙ at in
+          let was = sym (edit_old label.number (label_below records label old)) ∙ at in
           are.stamp label number old was ∙ ap (λ (a : Arrival). Some a.stamp) (sym (adds.kept number (are.known label.number (PutsIn number) was)))
     ];
     unstamped = λ label number there at. elim (head_or_behind own (labels_of records) label there) [
-      | inl newest ↦ ap (λ (l : Label). l.stamp) (sym newest) ∙ adds.unstamped number (newest_deed label (Removes number) newest at)
-      | inr old ↦ are.unstamped label number old (sym (deed_old label.number (label_below records label old)) ∙ at)
+      | inl newest ↦ ap (λ (l : Label). l.stamp) (sym newest) ∙ adds.unstamped number (newest_edit label (Removes number) newest at)
+      | inr old ↦ are.unstamped label number old (sym (edit_old label.number (label_below records label old)) ∙ at)
     ];
     some = omega (arith, are.some, adds.longer);
     first = adds.kept 0 are.some ∙ are.first;
     came = λ number some within. elim (cases_lt number (length all.arrivals)) [
-      | inl old ↦ let (n, at) = are.came number some old in (n, kept_deed n (PutsIn number) at)
-      | inr new ↦ (label_count records, deed_own ∙ adds.came number new within)
+      | inl old ↦ let (n, at) = are.came number some old in (n, kept_edit n (PutsIn number) at)
+      | inr new ↦ (label_count records, edit_own ∙ adds.came number new within)
     ];
     anchored = λ number within. elim (cases_lt number (length all.arrivals)) [
       | inl old ↦ let anchor = ap (λ (a : Arrival). a.anchor) (adds.kept number old) in omega (arith, anchor, are.anchored number old, adds.longer)
@@ -133,14 +133,14 @@ module _ (all next : ElementList) (deeds : List (Option Deed)) (records : Record
   }
 
 -- a label that does nothing
-pub adds_nothing : (all : ElementList) (deeds : List (Option Deed)) (records : Records) (by : ℕ) (op : Op) (clock : Option ℕ) → AreElementsOf all deeds records → is_update op ≡ false
-    → Adds all all deeds records by op clock None
-adds_nothing all deeds records by op clock are asks = record {
+pub adds_nothing : (all : ElementList) (edits : List (Option Edit)) (records : Records) (by : ℕ) (op : Op) (clock : Option ℕ) → AreElementsOf all edits records → is_update op ≡ false
+    → Adds all all edits records by op clock None
+adds_nothing all edits records by op clock are asks = record {
   kept = λ n within. refl;
   longer = omega arith;
   made = λ update makes. absurd (true≢false (sym ((an_operation_makes_one_update-exactly op).1 (update, makes)) ∙ asks));
-  makes = λ deed is. absurd (none-some deed is);
-  known = λ deed is. absurd (none-some deed is);
+  makes = λ edit is. absurd (none-some edit is);
+  known = λ edit is. absurd (none-some edit is);
   stamp = λ number is. absurd (none-some (PutsIn number) is);
   unstamped = λ number is. absurd (none-some (Removes number) is);
   came = λ number new within. absurd (omega (arith, new, within));
@@ -172,15 +172,15 @@ elements_stay x [] = refl
 elements_stay x (entry ∷ list) = ap (λ xs. entry.0 ∷ xs) (elements_stay x list)
 
 -- a label that removes an element
-pub adds_removal : (all : ElementList) (deeds : List (Option Deed)) (records : Records) (by : ℕ) (op : Op) (clock : Option ℕ) (number : ℕ) → AreElementsOf all deeds records
+pub adds_removal : (all : ElementList) (edits : List (Option Edit)) (records : Records) (by : ℕ) (op : Op) (clock : Option ℕ) (number : ℕ) → AreElementsOf all edits records
     → Makes op (RgaRemove (element_at all.arrivals number)) → number < length all.arrivals → clock ≡ None
-    → updates_admitted variant.Rga (named_sequence variant.Rga (Operate by op clock ∷ records)) ≡ true → Adds all all deeds records by op clock (Some (Removes number))
-adds_removal all deeds records by op clock number are removes within unclocked admitted = record {
+    → updates_admitted variant.Rga (named_sequence variant.Rga (Operate by op clock ∷ records)) ≡ true → Adds all all edits records by op clock (Some (Removes number))
+adds_removal all edits records by op clock number are removes within unclocked admitted = record {
   kept = λ n within. refl;
   longer = omega arith;
   made = λ update makes. (Removes number, refl, an_operation_makes_one_update-one op (RgaRemove (element_at all.arrivals number)) update removes makes);
-  makes = λ deed is. subst (λ d. Makes op (update_of all.arrivals d)) (same_Some (Removes number) deed is) removes;
-  known = λ deed is. subst (λ d. number_of d < length all.arrivals) (same_Some (Removes number) deed is) within;
+  makes = λ edit is. subst (λ d. Makes op (update_of all.arrivals d)) (same_Some (Removes number) edit is) removes;
+  known = λ edit is. subst (λ d. number_of d < length all.arrivals) (same_Some (Removes number) edit is) within;
   stamp = λ other is. absurd (cc (is));
   unstamped = λ other is. ap (λ c. (next_label records by op c).stamp) unclocked;
   came = λ other new there. absurd (omega (arith, new, there));

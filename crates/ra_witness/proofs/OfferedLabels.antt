@@ -60,9 +60,9 @@ order_fails kind records next place none is said =
 
 -- a command that is not refused is kept
 accepted_after : (past : Past) (command : Command) → fault_of past.kind past.records ≡ None → IsAccepted past command
-    → records_after past.kind past.first past.records command ≡ with_accepted past.records command
+    → records_after past.kind past.founders past.records command ≡ with_accepted past.records command
 accepted_after past command none accepted =
-    ap (λ o. cond (is_some o || is_some (refusal_of past.kind past.first past.records command)) past.records (with_accepted past.records command)) none
+    ap (λ o. cond (is_some o || is_some (refusal_of past.kind past.founders past.records command)) past.records (with_accepted past.records command)) none
     ∙ ap (λ (o : Option Refusal). cond (is_some o) past.records (with_accepted past.records command)) accepted
 
 -- as many labels as are listed
@@ -99,7 +99,7 @@ no_fault_more kind records next none because =
 pub may_join : (past : Past) (from : ℕ) → IsAccepted past (Join (replicas_of past) from)
     → (from < replicas_of past) × (replicas_of past < MOST_REPLICAS)
 may_join past from accepted =
-    let known = (joins_are_accepted_with_the_next_number past.first past.records (replicas_of past) from).0 accepted in
+    let known = (joins_are_accepted_with_the_next_number past.founders past.records (replicas_of past) from).0 accepted in
     (known.0, known.2)
 
 module _ {O : Type 0} (stands_for : O → Past → Type 0) where
@@ -108,14 +108,14 @@ module _ {O : Type 0} (stands_for : O → Past → Type 0) where
       → IsWitnessOf stands_for w past → ComesNext past next label seen → IsPlaceOf past.kind past.records next place
       → place.fits ≡ true → label_count past.records < MOST_LABELS → IsOffered past next label
   is_offered w past next label seen place stands comes is fits few =
-      let free = (operations_are_accepted_where_nothing_is_taken past.kind past.first past.records next.by next.op next.clock).0 comes.accepted in
+      let free = (operations_are_accepted_where_nothing_is_taken past.kind past.founders past.records next.by next.op next.clock).0 comes.accepted in
       record {
         holds = no_fault_holds past.kind past.records stands.none;
         replica = free.0;
         form = free.1;
         becomes = comes.becomes;
         fits = extends_where past.kind past.records next place true stands.none is fits;
-        stamps = rw (accepted_after past (operate next) stands.none comes.accepted) at (stamps_are_given_once-one past.kind past.first past.records (operate next) stands.stamps);
+        stamps = rw (accepted_after past (operate next) stands.none comes.accepted) at (stamps_are_given_once-one past.kind past.founders past.records (operate next) stands.stamps);
         few = few;
       }
 
@@ -135,7 +135,7 @@ module _ {O : Type 0} (stands_for : O → Past → Type 0) where
   pub is_told : (w : Witness O) (past : Past) (to n : ℕ) → IsWitnessOf stands_for w past
       → IsAccepted past (Deliver to n) → IsTold past to n
   is_told w past to n stands accepted =
-      let (there, is_update, causal) = (delivered_where_causal past.first past.records to n).0 accepted in
+      let (there, is_update, causal) = (delivered_where_causal past.founders past.records to n).0 accepted in
       record {
         holds = no_fault_holds past.kind past.records stands.none;
         replica = there;
@@ -157,10 +157,10 @@ module _ {O : Type 0} (stands_for : O → Past → Type 0) where
         kept = kept;
         causal = stands.causal;
         none = no_fault_more past.kind past.records next stands.none (sym because);
-        fits = rw after at (accepted_labels_fit-one past.kind past.first past.records (operate next) stands.fits);
-        stamps = rw after at (stamps_are_given_once-one past.kind past.first past.records (operate next) stands.stamps);
-        identifiers = rw after at (identifiers_are_given_once-one past.kind past.first past.records (operate next) stands.identifiers);
-        beyond = rw after at (none_had_before_it_joined-one past.kind past.first past.records (operate next) stands.beyond);
+        fits = rw after at (accepted_labels_fit-one past.kind past.founders past.records (operate next) stands.fits);
+        stamps = rw after at (stamps_are_given_once-one past.kind past.founders past.records (operate next) stands.stamps);
+        identifiers = rw after at (identifiers_are_given_once-one past.kind past.founders past.records (operate next) stands.identifiers);
+        beyond = rw after at (none_had_before_it_joined-one past.kind past.founders past.records (operate next) stands.beyond);
       }
 
   -- the witness with the delivery
@@ -178,7 +178,7 @@ module _ {O : Type 0} (stands_for : O → Past → Type 0) where
         fits = stands.fits;
         stamps = stands.stamps;
         identifiers = stands.identifiers;
-        beyond = rw after at (none_had_before_it_joined-one past.kind past.first past.records (Deliver to n) stands.beyond);
+        beyond = rw after at (none_had_before_it_joined-one past.kind past.founders past.records (Deliver to n) stands.beyond);
       }
 
   -- and a join that is not refused is from a replica that is there
@@ -198,10 +198,10 @@ module _ {O : Type 0} (stands_for : O → Past → Type 0) where
         kept = kept;
         causal = stands.causal;
         none = stands.none;
-        fits = rw after at (accepted_labels_fit-one past.kind past.first past.records join stands.fits);
+        fits = rw after at (accepted_labels_fit-one past.kind past.founders past.records join stands.fits);
         stamps = stands.stamps;
         identifiers = stands.identifiers;
-        beyond = rw after at (none_had_before_it_joined-one past.kind past.first past.records join stands.beyond);
+        beyond = rw after at (none_had_before_it_joined-one past.kind past.founders past.records join stands.beyond);
       }
 
   -- the witness as it was

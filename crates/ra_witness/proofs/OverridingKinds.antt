@@ -44,7 +44,7 @@ pub writes_counted : (kept : Overriding) (past : Past) → IsOverridingOf kept p
 writes_counted kept past stands =
     omega (arith, length-map kept.writes.items (option_map (λ (w : Written). w.update)), ap length stands.states.labels, updates_counted past.records)
 
-pub lasts_counted : (kept : Overriding) (past : Past) → IsOverridingOf kept past → length (labels_in kept.lasts.items) ≡ replica_count past.first past.records
+pub lasts_counted : (kept : Overriding) (past : Past) → IsOverridingOf kept past → length (labels_in kept.lasts.items) ≡ replica_count past.founders past.records
 lasts_counted kept past stands = length-map kept.lasts.items (λ last. last.labels.items) ∙ stands.replicas
 
 -- a label that is told did something
@@ -83,14 +83,14 @@ module _ (kept : Overriding) (past : Past) (stands : IsOverridingOf kept past) (
 
       by : (past.kind ≡ variant.Register) ⊎ (past.kind ≡ variant.LwwSet) → AreStatesOf (updates_written writes) next_states (past_with past (Deliver to n))
       by (inl is) =
-          subst (λ k. AreStatesOf (updates_written writes) next_states (past_of k past.first (Deliver to n ∷ past.records))) (sym is)
-          (kept-register writes lasts (numbers_of kept) kept.states.items past.first past.records to n (λ rs l. refl)
-          (subst (λ k. AreStatesOf (updates_written writes) kept.states.items (past_of k past.first past.records)) is stands.states) stands.writes stands.lasts told.stamps
+          subst (λ k. AreStatesOf (updates_written writes) next_states (past_of k past.founders (Deliver to n ∷ past.records))) (sym is)
+          (kept-register writes lasts (numbers_of kept) kept.states.items past.founders past.records to n (λ rs l. refl)
+          (subst (λ k. AreStatesOf (updates_written writes) kept.states.items (past_of k past.founders past.records)) is stands.states) stands.writes stands.lasts told.stamps
           (subst (λ k. Holds k past.records) is told.holds) within there (is_new_write writes past.records to n write told.update told.causal.0 found))
       by (inr is) =
-          subst (λ k. AreStatesOf (updates_written writes) next_states (past_of k past.first (Deliver to n ∷ past.records))) (sym is)
-          (kept-lww_set writes lasts (numbers_of kept) kept.states.items past.first past.records to n (λ rs l. refl)
-          (subst (λ k. AreStatesOf (updates_written writes) kept.states.items (past_of k past.first past.records)) is stands.states) stands.writes stands.lasts told.stamps
+          subst (λ k. AreStatesOf (updates_written writes) next_states (past_of k past.founders (Deliver to n ∷ past.records))) (sym is)
+          (kept-lww_set writes lasts (numbers_of kept) kept.states.items past.founders past.records to n (λ rs l. refl)
+          (subst (λ k. AreStatesOf (updates_written writes) kept.states.items (past_of k past.founders past.records)) is stands.states) stands.writes stands.lasts told.stamps
           (subst (λ k. Holds k past.records) is told.holds) within there (is_new_write writes past.records to n write told.update told.causal.0 found))
 
   pub can_bring : label_count past.records ≤ 1048576 → CanStep (state_at kept.states.items to) (update_at (updates_written writes) (counting writes lasts to n write))
@@ -111,8 +111,8 @@ module _ (kept : Overriding) (past : Past) (stands : IsOverridingOf kept past) (
       record {
         one = stands.one;
         states =
-            subst (λ ws. AreStatesOf (updates_written ws) new.states.items (past_of past.kind past.first now)) (sym its_writes)
-            (subst (λ ss. AreStatesOf (updates_written writes) ss (past_of past.kind past.first now)) (sym states) states_brought);
+            subst (λ ws. AreStatesOf (updates_written ws) new.states.items (past_of past.kind past.founders now)) (sym its_writes)
+            (subst (λ ss. AreStatesOf (updates_written writes) ss (past_of past.kind past.founders now)) (sym states) states_brought);
         writes =
             subst (λ ws. AreWritesOf ws (numbers_of new) now) (sym its_writes)
             (subst (λ ns. AreWritesOf writes ns now) (sym its_numbers)

@@ -84,7 +84,7 @@ module _ (updates : List (Option Update)) (states : List State) (past : Past)
 
   pub kept-label : (next : Next) → ¬ (past.kind ≡ Rga) → next.by < length states → is_kind past.kind (kind_of next.op) ≡ true
       → let now = operate next ∷ past.records in extends_visibility now (named_sequence past.kind now) ≡ true
-      → AreStatesOf (updates ++ update_in next.op ∷ []) (states_after states next.by (update_in next.op)) (past_of past.kind past.first now)
+      → AreStatesOf (updates ++ update_in next.op ∷ []) (states_after states next.by (update_in next.op)) (past_of past.kind past.founders now)
   kept-label next not_rga there of_kind extended =
       let now = operate next ∷ past.records in
       let o = update_in next.op in

@@ -103,8 +103,8 @@ module _ (past : Past) (to n more : ℕ) (rga : past.kind ≡ Rga) (told : IsTol
 
 -- a delivery that is told, of a past of an RGA
 pub of_rga : (past : Past) → past.kind ≡ Rga → (to n : ℕ) → IsTold past to n
-    → IsTold (past_of Rga past.first past.records) to n
-of_rga past is to n told = subst (λ k. IsTold (past_of k past.first past.records) to n) is told
+    → IsTold (past_of Rga past.founders past.records) to n
+of_rga past is to n told = subst (λ k. IsTold (past_of k past.founders past.records) to n) is told
 
 -- what follows from how many updates a delivery settles, where so many steps were made
 pub settled_in : {E : Type 0} {P : ℕ → Type 0} (Q : ℕ → Records → Type 0) (k : Effects) (past : Past)
@@ -116,4 +116,4 @@ pub settled_in : {E : Type 0} {P : ℕ → Type 0} (Q : ℕ → Records → Type
 settled_in Q k past stands kept is to n told result delivered follows =
     let known = is_rga k past stands kept is in
     IfOk-weaker result _ _ (λ steps after. follows steps after.1)
-    (delivered past.first past.records known.1 (of_rga past known.0 to n told))
+    (delivered past.founders past.records known.1 (of_rga past known.0 to n told))

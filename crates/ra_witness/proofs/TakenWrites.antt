@@ -46,7 +46,7 @@ module _ (old new : Overriding) (past : Past) (next : Next) (label : Label)
       ≡ last_with (labels_in old.lasts.items) label.replica (write_of old.numbers update stamp).on (vec_len old.writes) q c)
       → ((x : ℕ) → get nat_eq new.numbers.numbers x ≡ number_with (get nat_eq old.numbers.numbers) (element_of update) (write_of old.numbers update stamp).on x)
       → hash_map_len new.numbers.numbers ≡ count_with (get nat_eq old.numbers.numbers) (hash_map_len old.numbers.numbers) (element_of update)
-      → vec_len new.lasts ≡ vec_len old.lasts → IsOverridingOf new (past_of past.kind past.first now)
+      → vec_len new.lasts ≡ vec_len old.lasts → IsOverridingOf new (past_of past.kind past.founders now)
   overriding_taken update stamp does stamped its_writes states says pointwise size same_count =
       let write = write_of old.numbers update stamp in
       let number_of = numbers_of old in
@@ -74,8 +74,8 @@ module _ (old new : Overriding) (past : Past) (next : Next) (label : Label)
       λ q c. says q c ∙ ap (λ r. last_with lasts r write.on (vec_len old.writes) q c) replica ∙ ap (λ k. last_with lasts next.by write.on k q c) counted in
       record {
         one = stands.one;
-        states = subst (λ us. AreStatesOf us new.states.items (past_of past.kind past.first now)) (sym its_updates)
-            (subst (λ ss. AreStatesOf (updates_written old.writes.items ++ update_in next.op ∷ []) ss (past_of past.kind past.first now)) (sym its_states) later);
+        states = subst (λ us. AreStatesOf us new.states.items (past_of past.kind past.founders now)) (sym its_updates)
+            (subst (λ ss. AreStatesOf (updates_written old.writes.items ++ update_in next.op ∷ []) ss (past_of past.kind past.founders now)) (sym its_states) later);
         writes = subst (λ ws. AreWritesOf ws (numbers_of new) now) (sym its_writes)
             (subst (λ ns. AreWritesOf (old.writes.items ++ Some write ∷ []) ns now) (sym its_numbers)
             (writes-update past.kind old.writes.items [] number_of count next.by next.op next.clock past.records write sorts kept stands.writes stands.numbers it offered.fits offered.stamps));
@@ -89,7 +89,7 @@ module _ (old new : Overriding) (past : Past) (next : Next) (label : Label)
       }
 
   -- with a label that does nothing
-  pub overriding_asked : None ≡ update_in next.op → new.writes.items ≡ old.writes.items ++ None ∷ [] → new ≡ record old { writes = new.writes } → IsOverridingOf new (past_of past.kind past.first now)
+  pub overriding_asked : None ≡ update_in next.op → new.writes.items ≡ old.writes.items ++ None ∷ [] → new ≡ record old { writes = new.writes } → IsOverridingOf new (past_of past.kind past.founders now)
   overriding_asked does its_writes same =
       let later = states_taken (updates_written old.writes.items) old.states.items past stands.states next label (not_rga-overriding past.kind stands.one) offered in
       let kept = stands.states.labels in
@@ -102,8 +102,8 @@ module _ (old new : Overriding) (past : Past) (next : Next) (label : Label)
       let its_lasts = ap (λ (o : Overriding). o.lasts.items) same in
       record {
         one = stands.one;
-        states = subst (λ us. AreStatesOf us new.states.items (past_of past.kind past.first now)) (sym its_updates)
-            (subst (λ ss. AreStatesOf (updates_written old.writes.items ++ update_in next.op ∷ []) ss (past_of past.kind past.first now)) (sym its_states) later);
+        states = subst (λ us. AreStatesOf us new.states.items (past_of past.kind past.founders now)) (sym its_updates)
+            (subst (λ ss. AreStatesOf (updates_written old.writes.items ++ update_in next.op ∷ []) ss (past_of past.kind past.founders now)) (sym its_states) later);
         writes = subst (λ ws. AreWritesOf ws (numbers_of new) now) (sym its_writes)
             (subst (λ ns. AreWritesOf (old.writes.items ++ None ∷ []) (get nat_eq ns.numbers) now) (sym its_numbers)
             (writes-query old.writes.items (numbers_of old) past.records next.by next.op next.clock kept stands.writes));

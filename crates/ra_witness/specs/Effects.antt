@@ -40,7 +40,7 @@ pub record IsOverridingOf (kept : overriding.Overriding) (past : Past) : Type 0 
 abbrev pub AreEffectsOfForm : Effects → Past → Type 0
 AreEffectsOfForm (Commuting kept) past = IsCommutingOf kept past
 AreEffectsOfForm (Overriding kept) past = IsOverridingOf kept past
-AreEffectsOfForm (Rga kept) past = (past.kind ≡ variant.Rga) × IsRgaOf kept past.first past.records
+AreEffectsOfForm (Rga kept) past = (past.kind ≡ variant.Rga) × IsRgaOf kept past.founders past.records
 
 pub record AreEffectsOf (kept : Effects) (past : Past) : Type 0 where
   pub few : label_count past.records ≤ MOST_LABELS

@@ -34,4 +34,4 @@ pub record IsTold (past : Past) (to n : ℕ) : Type 0 where
 -- the replica is there from which the next one joins, and none had anything that is not there
 pub record IsJoinedFrom (past : Past) (from : ℕ) : Type 0 where
   pub there : from < replicas_of past
-  pub beyond : NoneHadBeyond past.first past.records
+  pub beyond : NoneHadBeyond past.founders past.records

@@ -7,17 +7,17 @@ use Rattle.ra_labels.specs.Records.{Records, label_count, replica_count}
 use Rattle.ra_labels.specs.Linearization.{updates_admitted}
 use Rattle.ra_labels.specs.NamedOrder.{named_sequence}
 use Rattle.ra_labels.specs.Situation.{past_of, Next, operate}
-use Rattle.ra_replica_list.specs.Deeds.{AreElementsOf}
+use Rattle.ra_replica_list.specs.Edits.{AreElementsOf}
 use Rattle.ra_replica_list.specs.ReplicaList.{ReplicaList, IsListOf}
 use Rattle.ra_witness.specs.declared.rga.Rga.{Rga}
 use Rattle.ra_witness.specs.Offered.{IsOffered, IsTold}
 
--- the labels' deeds and the elements of all of them, and of each replica its list
+-- the labels' edits and the elements of all of them, and of each replica its list
 pub record IsRgaOf (rga : Rga) (first : ℕ) (records : Records) : Type 0 where
-  pub elements : AreElementsOf rga.all rga.deeds.items records
+  pub elements : AreElementsOf rga.all rga.edits.items records
   pub replicas : length rga.lists.items ≡ replica_count first records
   pub lists : (replica : ℕ) (list : ReplicaList) → slice_get rga.lists.items replica ≡ Some list
-      → IsListOf list rga.all.arrivals rga.deeds.items records replica
+      → IsListOf list rga.all.arrivals rga.edits.items records replica
   -- an element for each label at most, and the root
   pub few : length rga.all.arrivals ≤ label_count records + 1
 

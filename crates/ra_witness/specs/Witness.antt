@@ -20,11 +20,11 @@ pub record IsWitnessOf {O : Type 0} (stands_for : O → Past → Type 0) (witnes
   pub kept : AreEffectsOf witness.kept past
   pub causal : IsCausal past.records
   pub none : fault_of past.kind past.records ≡ None
-  pub fits : EachLabelFits past.kind past.first past.records
+  pub fits : EachLabelFits past.kind past.founders past.records
   pub stamps : StampsAreOneLabels past.records
   pub identifiers : IdentifiersAreOneLabels past.records
   -- what is kept says nothing of replicas that are not there
-  pub beyond : NoneHadBeyond past.first past.records
+  pub beyond : NoneHadBeyond past.founders past.records
 
 -- the label may be offered: it comes next after some past of few enough labels, of which the witness is that
 pub record MayOffer {O : Type 0} (stands_for : O → Past → Type 0) (witness : Witness O) (label : Label) (seen : Seen)

@@ -158,7 +158,8 @@ impl Effects {
     /// Enough of what labels do to tell which of them are rewritten into two halves: of each label what it does, if
     /// anything, or nothing of any where the kind rewrites none.
     pub fn updates(&self) -> &[Option<Update>]
-        ensures { (past : Past) (n : ℕ) → AreEffectsOf self.now past → EachLabelFits past.kind past.first past.records
+        ensures { (past : Past) (n : ℕ) → AreEffectsOf self.now past
+            → EachLabelFits past.kind past.founders past.records
             → has_query_half (slice_get result.now n) ≡ has_query_half (slice_get (updates_by_number past.records) n) }
     {
         match self {

@@ -18,7 +18,7 @@ ghost use Rattle.ra_labels.specs.Situation.{past_of, Next, next_of, operate};
 ghost use Rattle.ra_rewrite.specs.Parts.{acts_in};
 ghost use Rattle.ra_seqspec.specs.Asked.{asks_rising};
 ghost use Rattle.std.specs.List.{list_all};
-ghost use Rattle.ra_replica_list.specs.Deeds.{element_at};
+ghost use Rattle.ra_replica_list.specs.Edits.{element_at};
 ghost use Rattle.ra_witness.specs.Labels.{queries_in, cause_in};
 ghost use Rattle.ra_witness.specs.Settled.{SettlesMore};
 ghost use Rattle.ra_witness.specs.Rga.{IsRgaOf, MayGrow, MayHear};
@@ -27,7 +27,7 @@ ghost use Rattle.ra_witness.specs.Offered.{IsOffered, IsTold, IsJoinedFrom};
 use crate::asked;
 use ra_element_list::{ElementList, ROOT};
 use ra_labels::{Cause, Label, NoMemory, Op, Stamp};
-use ra_replica_list::{Deed, ReplicaList};
+use ra_replica_list::{Edit, ReplicaList};
 use ra_rewrite::Parts;
 use std::alloc::Global;
 
@@ -35,7 +35,7 @@ use std::alloc::Global;
 #[derive(Drop)]
 pub struct Rga {
     /// Of each label what it does, if anything.
-    pub deeds: Vec<Option<Deed>>,
+    pub edits: Vec<Option<Edit>>,
     /// The elements of all labels.
     pub all: ElementList,
     /// Of each replica.
@@ -52,7 +52,7 @@ impl Rga {
             lists.push(ReplicaList::new(alloc)?)?;
         }
         Ok(Rga {
-            deeds: Vec::new(alloc),
+            edits: Vec::new(alloc),
             all: ElementList::new(alloc)?,
             lists,
         })
@@ -129,12 +129,12 @@ impl Rga {
         ensures same { (first : ℕ) (records : Records) → IsRgaOf self.old first records
             → OnErr result (IsRgaOf self.new first records) }
     {
-        self.deeds.reserve(1)?;
+        self.edits.reserve(1)?;
         match &label.op {
             Op::After { anchor, element } => self.put_in(label, *anchor, *element),
             Op::RgaRemove(element) => self.remove(label, *element),
             _ => {
-                self.deeds.push_reserved(None);
+                self.edits.push_reserved(None);
                 Ok(0)
             }
         }
@@ -142,7 +142,7 @@ impl Rga {
 
     // The next label puts the element in behind the anchor.
     fn put_in(&mut self, label: &Label, anchor: u32, element: u32) -> Result<u64, NoMemory>
-        requires room { vec_len self.old.deeds < vec_capacity self.old.deeds }
+        requires room { vec_len self.old.edits < vec_capacity self.old.edits }
         requires replica { label.now.replica < vec_len self.old.lists }
         requires few { length self.old.all.arrivals < 2 ^ 32 }
         requires stamp { IsSome label.now.stamp }
@@ -163,18 +163,18 @@ impl Rga {
         let Some(stamp) = label.stamp else {
             unreachable!()
         };
-        self.all.spare()?;
+        self.all.reserve()?;
         let number = self.all.len() as u32;
         let list = &mut self.lists[label.replica as usize];
         let steps = list.put_own(&self.all, label.number, element, stamp, behind)?;
         self.all.insert(element, stamp, behind);
-        self.deeds.push_reserved(Some(Deed::PutsIn(number)));
+        self.edits.push_reserved(Some(Edit::PutsIn(number)));
         Ok(steps)
     }
 
     // The next label removes the element.
     fn remove(&mut self, label: &Label, element: u32) -> Result<u64, NoMemory>
-        requires room { vec_len self.old.deeds < vec_capacity self.old.deeds }
+        requires room { vec_len self.old.edits < vec_capacity self.old.edits }
         requires replica { label.now.replica < vec_len self.old.lists }
         requires known { (n : ℕ) × (n < length self.old.all.arrivals) × (element_at self.old.all.arrivals n ≡ element) }
         ensures taken { (first : ℕ) (records : Records) (next : Next) → IsRgaOf self.old first records
@@ -191,7 +191,7 @@ impl Rga {
         };
         let list = &mut self.lists[label.replica as usize];
         let steps = list.remove_own(&self.all, label.number, number)?;
-        self.deeds.push_reserved(Some(Deed::Removes(number)));
+        self.edits.push_reserved(Some(Edit::Removes(number)));
         Ok(steps)
     }
 
@@ -205,11 +205,11 @@ impl Rga {
         ensures same { (first : ℕ) (records : Records) → IsRgaOf self.old first records
             → OnErr result (IsRgaOf self.new first records) }
     {
-        let deeds = self.deeds.as_slice();
-        let Some(deed) = deeds[label as usize] else {
+        let edits = self.edits.as_slice();
+        let Some(edit) = edits[label as usize] else {
             unreachable!()
         };
-        self.lists[replica as usize].deliver(&self.all, deeds, label, deed)
+        self.lists[replica as usize].deliver(&self.all, edits, label, edit)
     }
 
     /// The next replica joins from this one: it has an equal list. Costs a copy of the list.
@@ -228,7 +228,7 @@ impl Rga {
 
     /// Where the collections live.
     pub fn allocator(&self) -> Global {
-        *self.deeds.allocator()
+        *self.edits.allocator()
     }
 }
 

@@ -4,7 +4,7 @@ ghost use Rattle.ra_labels.specs.declared.operation.Op.{Op};
 ghost use Rattle.ra_labels.specs.declared.command.Command.TheVariants.{Operate};
 ghost use Rattle.ra_labels.specs.Records.{Records, label_count, labels_of};
 ghost use Rattle.ra_labels.specs.Visibility.{had, sees, is_update, IsCausal};
-ghost use Rattle.ra_labels.specs.Places.{issuer_of, updates_of, place_of};
+ghost use Rattle.ra_labels.specs.Places.{issuer_of, updates_issued, place_of};
 ghost use Rattle.ra_labels.specs.Laws.{IsUpdateOf, AreFirstUpdates};
 
 /// A label keeps the replica that issued it, and its place is how many updates that one had issued before it.
@@ -12,16 +12,16 @@ pub fn an_operation_has_its_place()
     ensures issuer { (later before : Records) (by : ℕ) (op : Op) (clock : Option ℕ)
         → issuer_of (later ++ Operate by op clock ∷ before) (label_count before) ≡ by }
     ensures place { (later before : Records) (by : ℕ) (op : Op) (clock : Option ℕ)
-        → place_of (later ++ Operate by op clock ∷ before) (label_count before) ≡ updates_of before by }
-    ensures count { (records : Records) (replica : ℕ) → updates_of records replica
+        → place_of (later ++ Operate by op clock ∷ before) (label_count before) ≡ updates_issued before by }
+    ensures count { (records : Records) (replica : ℕ) → updates_issued records replica
         ≡ length (filter (λ label. label.replica == replica && is_update label.op) (labels_of records)) }
 {}
 
 /// A replica's updates have the places from 0 on, each its own.
 pub fn each_place_has_its_update()
     ensures below { (records : Records) (replica n : ℕ) → IsUpdateOf records replica n
-        → place_of records n < updates_of records replica }
-    ensures there { (records : Records) (replica place : ℕ) → place < updates_of records replica
+        → place_of records n < updates_issued records replica }
+    ensures there { (records : Records) (replica place : ℕ) → place < updates_issued records replica
         → (n : ℕ) × IsUpdateOf records replica n × (place_of records n ≡ place) }
     ensures only { (records : Records) (replica n m : ℕ) → IsUpdateOf records replica n → IsUpdateOf records replica m
         → place_of records n ≡ place_of records m → n ≡ m }

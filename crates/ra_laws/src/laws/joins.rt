@@ -6,7 +6,7 @@ ghost use Rattle.ra_labels.specs.declared.command.Command.{Command};
 ghost use Rattle.ra_labels.specs.declared.command.Command.TheVariants.{Operate, Deliver, Join};
 ghost use Rattle.ra_labels.specs.Records.{Records, replica_count};
 ghost use Rattle.ra_labels.specs.Visibility.{had};
-ghost use Rattle.ra_labels.specs.Places.{updates_of};
+ghost use Rattle.ra_labels.specs.Places.{updates_issued};
 ghost use Rattle.ra_labels.specs.NamedOrder.{named_labels};
 ghost use Rattle.ra_labels.specs.Answer.{records_after, records_after_all};
 ghost use Rattle.ra_labels.specs.Laws.{NoneHadBeyond};
@@ -35,7 +35,7 @@ pub fn a_new_replica_had_what_the_other_had()
         → let joined = replica_count first records in
         had (Join joined from ∷ records) joined n ≡ had records from n }
     ensures issued { (first : ℕ) (records : Records) → NoneHadBeyond first records
-        → updates_of records (replica_count first records) ≡ 0 }
+        → updates_issued records (replica_count first records) ≡ 0 }
     ensures own { (kind : Kind) (first : ℕ) (records : Records) (from : ℕ) → NoneHadBeyond first records
         → let joined = replica_count first records in
         updates_had kind (Join joined from ∷ records) joined ≡ updates_had kind records from }

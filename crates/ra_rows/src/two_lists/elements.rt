@@ -51,7 +51,7 @@ pub fn insert(
     {
         return Ok(false);
     }
-    list.spare()?;
+    list.reserve()?;
     list.insert(element, stamp, anchor);
     Ok(true)
 }

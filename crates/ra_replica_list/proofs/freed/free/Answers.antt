@@ -14,7 +14,7 @@ follow-requires-clause-amidst c =
       settled = asked.settled;
       first = c.args.first;
       amidst = none_followed start.followers.updates.items start.followers.labels.items start.followers.ready.items
-          c.args.first asked.deed asked.elements asked.kept asked.deed_of asked.new asked.needed
+          c.args.first asked.edit asked.elements asked.kept asked.edit_of asked.new asked.needed
           start.ensures.updates start.ensures.labels start.ensures.ready;
     }
 
@@ -24,9 +24,9 @@ follow-requires-clause-list c =
     c.requires.kept.after
 
 pub returns-in-Ok-clause-freed : goal.returns-in-Ok-clause-freed
-returns-in-Ok-clause-freed c = λ records had settled deed stand kept is new needs.
+returns-in-Ok-clause-freed c = λ records had settled edit stand kept is new needs.
     let start = c.in_ok-followers in
     c.in-Ok.ensures.followed records had settled c.args.first
     (none_followed start.followers.updates.items start.followers.labels.items start.followers.ready.items c.args.first
-    deed stand kept is new needs
+    edit stand kept is new needs
     start.ensures.updates start.ensures.labels start.ensures.ready)

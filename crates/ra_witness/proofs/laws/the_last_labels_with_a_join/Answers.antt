@@ -4,4 +4,4 @@ use Rattle.ra_witness.proofs.laws.the_last_labels_with_a_join.Goals as goal
 
 pub returns : goal.returns
 returns c = λ writes lasts past from last counted joins.
-    lasts_joined writes lasts past.first past.records from last counted (omega (arith, counted, joins.there)) joins.beyond
+    lasts_joined writes lasts past.founders past.records from last counted (omega (arith, counted, joins.there)) joins.beyond

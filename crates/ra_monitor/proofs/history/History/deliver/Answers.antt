@@ -19,7 +19,7 @@ same_refusal why other e = cc
 
 -- what the tracker says of a delivery to a replica that is there is what is to be said
 tracker_says : (history : History) (past : Past) (to label : ℕ) → StandsFor history past → to < history.replicas
-    → refusal_of past.kind past.first past.records (Deliver to label) ≡ refusal_in history.tracker.now to label
+    → refusal_of past.kind past.founders past.records (Deliver to label) ≡ refusal_in history.tracker.now to label
 tracker_says history past to label stands there =
     at_replica past to label (omega (arith, there, stands.replicas))
     ∙ sym (refused_as_the_records_say history.tracker.now past to label stands.tracker

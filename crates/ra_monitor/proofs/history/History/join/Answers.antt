@@ -14,12 +14,12 @@ use Rattle.ra_monitor.proofs.history.History.join.Goals as goal
 next_joined : (past : Past) (replica from : ℕ) → IsAccepted past (Join replica from)
     → Join replica from ≡ Join (replicas_of past) from
 next_joined past replica from is =
-    ap (λ r. Join r from) ((joins_are_accepted_with_the_next_number past.first past.records replica from).0 is).1
+    ap (λ r. Join r from) ((joins_are_accepted_with_the_next_number past.founders past.records replica from).0 is).1
 
 pub add_replica-requires : goal.add_replica-requires
 add_replica-requires c =
     let r = c.requires in
-    let is = c.refusal_of_join.ensures.first r.past.first r.past.records r.stands.replicas ∙ c.in-None.is in
+    let is = c.refusal_of_join.ensures.first r.past.founders r.past.records r.stands.replicas ∙ c.in-None.is in
     record {
       past = r.past;
       stands = r.stands;
@@ -30,12 +30,12 @@ add_replica-requires c =
 pub returns-in-Some-clause-taken : goal.returns-in-Some-clause-taken
 returns-in-Some-clause-taken c = λ past stands none.
     refused past none (Join c.args.replica c.args.from) c.args.self.now c.in-Some.refusal
-    (c.refusal_of_join.ensures.first past.first past.records stands.replicas ∙ c.in-Some.is) stands
+    (c.refusal_of_join.ensures.first past.founders past.records stands.replicas ∙ c.in-Some.is) stands
 
 pub returns-in-None-clause-taken : goal.returns-in-None-clause-taken
 returns-in-None-clause-taken c = λ past stands none.
     let join = Join c.args.replica c.args.from in
-    let is = c.refusal_of_join.ensures.first past.first past.records stands.replicas ∙ c.in-None.is in
+    let is = c.refusal_of_join.ensures.first past.founders past.records stands.replicas ∙ c.in-None.is in
     let next = next_joined past c.args.replica c.args.from is in
     let now = subst (IsAccepted past) next is in
     subst (λ (command : Command). IfOk c.add_replica.result (IsAnswered c.add_replica.new.self past command)) (sym next)
@@ -47,4 +47,4 @@ returns-in-None-clause-taken c = λ past stands none.
 pub returns-in-None-clause-joins : goal.returns-in-None-clause-joins
 returns-in-None-clause-joins c = λ past stands none.
     on_err_any c.add_replica.result (joins past none (Join c.args.replica c.args.from) refl
-    (c.refusal_of_join.ensures.first past.first past.records stands.replicas ∙ c.in-None.is))
+    (c.refusal_of_join.ensures.first past.founders past.records stands.replicas ∙ c.in-None.is))

@@ -18,7 +18,7 @@ follow_one-requires c =
         first = asked.first;
         amidst =
             subst (λ (ls : List ℕ). IsAmidst (after_all c.args.state.now now.updates.items)
-            c.loop-label.there.marks.items now.labels.items ls c.args.waiting.now c.args.all.now c.args.deeds.now
+            c.loop-label.there.marks.items now.labels.items ls c.args.waiting.now c.args.all.now c.args.edits.now
             asked.records asked.had asked.settled asked.first)
             popped (c.loop-label.invariant.followed asked.records asked.had asked.settled asked.first asked.amidst);
       },
@@ -30,7 +30,7 @@ loop-label-smaller c =
     let now = c.loop-label.self in
     let popped : now.ready.items ≡ c.pop.new.self.items ++ c.in-Some.label ∷ [] = search rules in
     let amidst = subst (λ (ls : List ℕ). IsAmidst (after_all c.args.state.now now.updates.items)
-    c.loop-label.there.marks.items now.labels.items ls c.args.waiting.now c.args.all.now c.args.deeds.now asked.records
+    c.loop-label.there.marks.items now.labels.items ls c.args.waiting.now c.args.all.now c.args.edits.now asked.records
     asked.had asked.settled asked.first)
     popped (c.loop-label.invariant.followed asked.records asked.had asked.settled asked.first asked.amidst) in
     let after = c.in_ok-follow_one.ensures.followed c.args.state.now asked.records asked.had asked.settled asked.first

@@ -3,23 +3,23 @@ use Rattle.std.specs.Prelude.{IsPermutation}
 use Rattle.ra_labels.specs.declared.operation.Update.TheVariants.{After, RgaRemove}
 use Rattle.ra_seqspec.specs.Updates.{after_all}
 use Rattle.ra_element_list.specs.ElementList.{is_marked}
-use Rattle.ra_replica_list.specs.declared.deed.Deed.TheVariants.{PutsIn, Removes}
-use Rattle.ra_replica_list.specs.Deeds.{element_at}
-use Rattle.ra_replica_list.proofs.Deeds.{put_in_later}
-use Rattle.ra_replica_list.proofs.Followers.{FindsNearest, insertion_follows, removal_follows, some_follows, root_amidst, deed_found, one_more_update}
+use Rattle.ra_replica_list.specs.declared.edit.Edit.TheVariants.{PutsIn, Removes}
+use Rattle.ra_replica_list.specs.Edits.{element_at}
+use Rattle.ra_replica_list.proofs.Edits.{put_in_later}
+use Rattle.ra_replica_list.proofs.Followers.{FindsNearest, insertion_follows, removal_follows, some_follows, root_amidst, edit_found, one_more_update}
 use Rattle.ra_replica_list.proofs.freed.Followers.follow_one.Goals as goal
 
 pub nearest_before-behind-requires-clause-some : goal.nearest_before-behind-requires-clause-some
 nearest_before-behind-requires-clause-some c =
     put_in_later c.requires.1.amidst.elements c.args.label c.in-Some-PutsIn.number
-    (deed_found c.args.deeds.now c.args.label c.deed_of.result c.in-Some-PutsIn.field-0 (PutsIn c.in-Some-PutsIn.number)
-    c.deed_of.ensures c.in-Some-PutsIn.is c.in-Some-PutsIn.field-0-is)
+    (edit_found c.args.edits.now c.args.label c.edit_of.result c.in-Some-PutsIn.field-0 (PutsIn c.in-Some-PutsIn.number)
+    c.edit_of.ensures c.in-Some-PutsIn.is c.in-Some-PutsIn.field-0-is)
 
 pub nearest_before-behind-requires-clause-there : goal.nearest_before-behind-requires-clause-there
 nearest_before-behind-requires-clause-there c =
     c.requires.1.amidst.elements.known c.args.label (PutsIn c.in-Some-PutsIn.number)
-    (deed_found c.args.deeds.now c.args.label c.deed_of.result c.in-Some-PutsIn.field-0 (PutsIn c.in-Some-PutsIn.number)
-    c.deed_of.ensures c.in-Some-PutsIn.is c.in-Some-PutsIn.field-0-is)
+    (edit_found c.args.edits.now c.args.label c.edit_of.result c.in-Some-PutsIn.field-0 (PutsIn c.in-Some-PutsIn.number)
+    c.edit_of.ensures c.in-Some-PutsIn.is c.in-Some-PutsIn.field-0-is)
 
 pub nearest_before-behind-requires-clause-root : goal.nearest_before-behind-requires-clause-root
 nearest_before-behind-requires-clause-root c =
@@ -28,14 +28,14 @@ nearest_before-behind-requires-clause-root c =
 pub element-requires-in-Some-PutsIn : goal.element-requires-in-Some-PutsIn
 element-requires-in-Some-PutsIn c =
     c.requires.1.amidst.elements.known c.args.label (PutsIn c.in-Some-PutsIn.number)
-    (deed_found c.args.deeds.now c.args.label c.deed_of.result c.in-Some-PutsIn.field-0 (PutsIn c.in-Some-PutsIn.number)
-    c.deed_of.ensures c.in-Some-PutsIn.is c.in-Some-PutsIn.field-0-is)
+    (edit_found c.args.edits.now c.args.label c.edit_of.result c.in-Some-PutsIn.field-0 (PutsIn c.in-Some-PutsIn.number)
+    c.edit_of.ensures c.in-Some-PutsIn.is c.in-Some-PutsIn.field-0-is)
 
 pub element-requires-in-Some-Removes : goal.element-requires-in-Some-Removes
 element-requires-in-Some-Removes c =
     c.requires.1.amidst.elements.known c.args.label (Removes c.in-Some-Removes.number)
-    (deed_found c.args.deeds.now c.args.label c.deed_of.result c.in-Some-Removes.field-0
-    (Removes c.in-Some-Removes.number) c.deed_of.ensures c.in-Some-Removes.is c.in-Some-Removes.field-0-is)
+    (edit_found c.args.edits.now c.args.label c.edit_of.result c.in-Some-Removes.field-0
+    (Removes c.in-Some-Removes.number) c.edit_of.ensures c.in-Some-Removes.is c.in-Some-Removes.field-0-is)
 
 pub returns-in_ok-add_sorted-in-Some-PutsIn-clause-followed : goal.returns-in_ok-add_sorted-in-Some-PutsIn-clause-followed
 returns-in_ok-add_sorted-in-Some-PutsIn-clause-followed c = λ state records had settled first amidst.
@@ -53,8 +53,8 @@ returns-in_ok-add_sorted-in-Some-PutsIn-clause-followed c = λ state records had
     insertion_follows c.args.self.now.ready.items c.args.label (after_all state c.push-in-Some-PutsIn.new.self.items)
     c.put_new.new.self.marks.items c.push.new.self.items c.add_sorted.new.ready.items more number
     (element_at all.arrivals c.nearest_before-behind.result) c.element.result c.element-in-Some-PutsIn.result amidst
-    (deed_found c.args.deeds.now c.args.label c.deed_of.result c.in-Some-PutsIn.field-0 (PutsIn c.in-Some-PutsIn.number)
-    c.deed_of.ensures c.in-Some-PutsIn.is c.in-Some-PutsIn.field-0-is)
+    (edit_found c.args.edits.now c.args.label c.edit_of.result c.in-Some-PutsIn.field-0 (PutsIn c.in-Some-PutsIn.number)
+    c.edit_of.ensures c.in-Some-PutsIn.is c.in-Some-PutsIn.field-0-is)
     (one_more_update state updates c.push-in-Some-PutsIn.new.self.items
     (After c.element.result c.element-in-Some-PutsIn.result) pushed)
     c.element.ensures c.element-in-Some-PutsIn.ensures c.in_ok-put_new-in-Some-PutsIn.ensures.marks near (search rules)
@@ -67,12 +67,12 @@ returns-in_ok-push-in-Some-Removes-clause-followed c = λ state records had sett
     search rules in
     removal_follows c.args.self.now.ready.items c.args.label (after_all state c.push-in-Some-Removes.new.self.items)
     c.push.new.self.items c.in-Some-Removes.number c.element-in-Some-Removes.result amidst
-    (deed_found c.args.deeds.now c.args.label c.deed_of.result c.in-Some-Removes.field-0
-    (Removes c.in-Some-Removes.number) c.deed_of.ensures c.in-Some-Removes.is c.in-Some-Removes.field-0-is)
+    (edit_found c.args.edits.now c.args.label c.edit_of.result c.in-Some-Removes.field-0
+    (Removes c.in-Some-Removes.number) c.edit_of.ensures c.in-Some-Removes.is c.in-Some-Removes.field-0-is)
     (one_more_update state updates c.push-in-Some-Removes.new.self.items (RgaRemove c.element-in-Some-Removes.result)
     pushed)
     c.element-in-Some-Removes.ensures (search rules)
 
 pub returns-in-None-clause-followed : goal.returns-in-None-clause-followed
 returns-in-None-clause-followed c = λ state records had settled first amidst.
-    absurd (some_follows c.args.self.now.ready.items c.args.label amidst (sym c.in-None.is ∙ c.deed_of.ensures))
+    absurd (some_follows c.args.self.now.ready.items c.args.label amidst (sym c.in-None.is ∙ c.edit_of.ensures))

@@ -8,15 +8,15 @@ use Rattle.ra_labels.specs.Waiting.{is_there}
 use Rattle.ra_labels.specs.declared.kind.Kind.TheVariants.{Rga}
 use Rattle.ra_labels.proofs.StampOrder.{below_tested}
 use Rattle.ra_element_list.specs.ElementList.{arrival_at, is_marked, IsNearestBefore}
-use Rattle.ra_replica_list.specs.declared.deed.Deed.TheVariants.{PutsIn}
+use Rattle.ra_replica_list.specs.declared.edit.Edit.TheVariants.{PutsIn}
 use Rattle.ra_replica_list.specs.ReplicaList.{ReplicaList}
-use Rattle.ra_replica_list.specs.Deeds.{element_at}
-use Rattle.ra_replica_list.proofs.Deeds.{deeds_stand, needed_marked}
+use Rattle.ra_replica_list.specs.Edits.{element_at}
+use Rattle.ra_replica_list.proofs.Edits.{edits_stand, needed_marked}
 use Rattle.ra_replica_list.proofs.Nearness.{newest_is_nearest}
 use Rattle.ra_replica_list.proofs.replica_list.ReplicaList.nearest.Goals as goal
 
 pub returns-then-lt-clause-nearest : goal.returns-then-lt-clause-nearest
-returns-then-lt-clause-nearest c = λ deeds records had label list stand held is needs led same.
+returns-then-lt-clause-nearest c = λ edits records had label list stand held is needs led same.
     let all = c.args.all.now in
     let tested : is_lt (stamp_cmp c.self.inside.greatest c.stamp.result) ≡ true = search rules in
     let below = below_tested c.self.inside.greatest c.stamp.result tested in
@@ -30,16 +30,16 @@ returns-then-lt-clause-nearest c = λ deeds records had label list stand held is
     above led (c.anchor.ensures.behind c.requires.some list same))
 
 pub returns-then-is_youngest-clause-nearest : goal.returns-then-is_youngest-clause-nearest
-returns-then-is_youngest-clause-nearest c = λ deeds records had label list stand held is needs led same.
+returns-then-is_youngest-clause-nearest c = λ edits records had label list stand held is needs led same.
     let all = c.args.all.now in
     let keep = λ (x : ℕ). is_there x (updates_passing Rga records held.settled) in
     subst (λ (n : ℕ). IsNearestBefore keep list (element_at all.arrivals c.args.number) (element_at all.arrivals n))
     (sym c.anchor-then-is_youngest.ensures.anchor)
     (c.is_youngest.ensures.nearest keep list c.if-is_youngest.true same
-    (needed_marked (deeds_stand stand) held.kept.there label (PutsIn c.args.number) is ∙ needs))
+    (needed_marked (edits_stand stand) held.kept.there label (PutsIn c.args.number) is ∙ needs))
 
 pub returns-clause-nearest : goal.returns-clause-nearest
-returns-clause-nearest c = λ deeds records had label list stand held is needs led same.
+returns-clause-nearest c = λ edits records had label list stand held is needs led same.
     let all = c.args.all.now in
     let keep = λ (x : ℕ). is_there x (updates_passing Rga records held.settled) in
     let read : c.as_slice.result.now ≡ c.args.self.now.marks =

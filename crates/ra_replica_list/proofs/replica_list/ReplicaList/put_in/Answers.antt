@@ -3,10 +3,10 @@ use Rattle.std.specs.Prelude.{unwrap_or}
 use Rattle.ra_labels.specs.declared.operation.Update.TheVariants.{After}
 use Rattle.ra_labels.specs.Specification.{step_of}
 use Rattle.ra_element_list.specs.ElementList.{arrival_at, is_marked}
-use Rattle.ra_replica_list.specs.declared.deed.Deed.TheVariants.{PutsIn}
+use Rattle.ra_replica_list.specs.declared.edit.Edit.TheVariants.{PutsIn}
 use Rattle.ra_replica_list.specs.ReplicaList.{ReplicaList}
-use Rattle.ra_replica_list.specs.Deeds.{element_at}
-use Rattle.ra_replica_list.proofs.Deeds.{deeds_stand, put_in_later, root_marked}
+use Rattle.ra_replica_list.specs.Edits.{element_at}
+use Rattle.ra_replica_list.proofs.Edits.{edits_stand, put_in_later, root_marked}
 use Rattle.ra_replica_list.proofs.AlikeLists.{kept_in}
 use Rattle.ra_replica_list.proofs.HadLabels.{IsAdded, held_back}
 use Rattle.ra_replica_list.proofs.NoneTwice.{empty_if}
@@ -14,20 +14,20 @@ use Rattle.ra_replica_list.proofs.TakenLabels.{insertion_goes}
 use Rattle.ra_replica_list.proofs.replica_list.ReplicaList.put_in.Goals as goal
 
 pub anchor-anchor-requires : goal.anchor-anchor-requires
-anchor-anchor-requires c = c.requires.elements.known c.args.label (PutsIn c.args.number) c.requires.deed_of
+anchor-anchor-requires c = c.requires.elements.known c.args.label (PutsIn c.args.number) c.requires.edit_of
 
 pub nearest-behind-requires-clause-some : goal.nearest-behind-requires-clause-some
-nearest-behind-requires-clause-some c = put_in_later c.requires.elements c.args.label c.args.number c.requires.deed_of
+nearest-behind-requires-clause-some c = put_in_later c.requires.elements c.args.label c.args.number c.requires.edit_of
 
 pub nearest-behind-requires-clause-known : goal.nearest-behind-requires-clause-known
 nearest-behind-requires-clause-known c =
-    c.requires.elements.known c.args.label (PutsIn c.args.number) c.requires.deed_of
+    c.requires.elements.known c.args.label (PutsIn c.args.number) c.requires.edit_of
 
 pub nearest-behind-requires-clause-root : goal.nearest-behind-requires-clause-root
 nearest-behind-requires-clause-root c = root_marked c.requires.elements c.requires.list_of.kept.there
 
 pub element-requires-2 : goal.element-requires-2
-element-requires-2 c = c.requires.elements.known c.args.label (PutsIn c.args.number) c.requires.deed_of
+element-requires-2 c = c.requires.elements.known c.args.label (PutsIn c.args.number) c.requires.edit_of
 
 pub returns-then-not-has-clause-got : goal.returns-then-not-has-clause-got
 returns-then-not-has-clause-got c = λ records had stand held is new.
@@ -36,7 +36,7 @@ returns-then-not-has-clause-got c = λ records had stand held is new.
     let missing : is_marked c.self.inside.there.marks.items (arrival_at all.arrivals c.args.number).anchor ≡ false =
     ap (λ (n : ℕ). is_marked c.self.inside.there.marks.items n) (sym c.anchor-anchor.ensures.anchor) ∙ sym c.has.ensures
     ∙ c.if-not-has.true in
-    held_back c.add.new.self c.args.label (PutsIn c.args.number) (deeds_stand stand) kept is new missing
+    held_back c.add.new.self c.args.label (PutsIn c.args.number) (edits_stand stand) kept is new missing
     (subst (λ (n : ℕ). IsAdded c.self.inside.waiting c.add.new.self n c.args.label) c.anchor-anchor.ensures.anchor
     (record { added = c.in_ok-add.ensures.added; others = c.in_ok-add.ensures.others }))
 
@@ -51,7 +51,7 @@ returns-clause-got c = λ records had stand held is new.
     let needs : is_marked c.args.self.now.marks (arrival_at all.arrivals c.args.number).anchor ≡ true =
     ap (λ (l : ReplicaList). is_marked l.marks (arrival_at all.arrivals c.args.number).anchor) (sym c.self.view_is)
     ∙ marked in
-    let near = c.nearest-behind.ensures.nearest c.args.deeds.now records had c.args.label list stand held is needs led
+    let near = c.nearest-behind.ensures.nearest c.args.edits.now records had c.args.label list stand held is needs led
     same in
     let state = c.self.inside.state in
     insertion_goes stand kept c.args.label c.args.number (element_at all.arrivals c.nearest-behind.result) list is new

@@ -1,6 +1,6 @@
 use Rattle.std.proofs.Common.{◌≡◌, ℕ, List, ap, ◌∙◌, subst, arith, true}
 use Rattle.ra_element_list.specs.ElementList.{arrival_at, is_marked}
-use Rattle.ra_replica_list.specs.declared.deed.Deed.TheVariants.{PutsIn}
+use Rattle.ra_replica_list.specs.declared.edit.Edit.TheVariants.{PutsIn}
 use Rattle.ra_replica_list.specs.ReplicaList.{ReplicaList}
 use Rattle.ra_replica_list.specs.Waiting.{labels_under}
 use Rattle.ra_replica_list.specs.Freed.{freed_under, IsListWithAfter}
@@ -18,9 +18,9 @@ returns-clause-got c = λ records had stand held is new.
     ∙ c.requires.anchor in
     let amidst = c.in_ok-freed.ensures.freed records had held.settled (PutsIn c.args.number) stand kept is new needs in
     let says : (number : ℕ) → labels_under c.free_all.new.waiting number
-    ≡ freed_under c.args.deeds.now freed (labels_under c.self.inside.waiting) number =
+    ≡ freed_under c.args.edits.now freed (labels_under c.self.inside.waiting) number =
     λ number. c.free_all.ensures number ∙ ap (λ (ls : List ℕ).
-    freed_under c.args.deeds.now ls (labels_under c.self.inside.waiting) number) c.as_slice.ensures.value in
+    freed_under c.args.edits.now ls (labels_under c.self.inside.waiting) number) c.as_slice.ensures.value in
     subst (λ (n : ℕ). IsListWithAfter c.free.new.state c.free.new.there.marks.items c.free_all.new.waiting all.arrivals
-    c.args.deeds.now records had held.settled c.args.label n) (omega (arith, c.len.ensures, c.in_ok-freed.freed.ok.0))
+    c.args.edits.now records had held.settled c.args.label n) (omega (arith, c.len.ensures, c.in_ok-freed.freed.ok.0))
     (all_follow c.free_all.new.waiting stand kept amidst.freeing says)

@@ -7,13 +7,13 @@ use Rattle.ra_labels.specs.NamedOrder.{greater_of}
 use Rattle.ra_labels.specs.Situation.{operate}
 use Rattle.ra_labels.proofs.Results.{on_err_any}
 use Rattle.ra_element_list.specs.ElementList.{Arrival, is_marked}
-use Rattle.ra_replica_list.specs.declared.deed.Deed.TheVariants.{PutsIn}
+use Rattle.ra_replica_list.specs.declared.edit.Edit.TheVariants.{PutsIn}
 use Rattle.ra_replica_list.specs.Waiting.{labels_under}
-use Rattle.ra_replica_list.specs.Deeds.{element_at}
+use Rattle.ra_replica_list.specs.Edits.{element_at}
 use Rattle.ra_replica_list.specs.ReplicaList.{ReplicaList, IsGreatestOf, IsListOf, settled_count}
 use Rattle.ra_replica_list.specs.Freed.{AreAlike}
 use Rattle.ra_replica_list.proofs.AlikeLists.{kept_in, list_alike, unadded}
-use Rattle.ra_replica_list.proofs.Deeds.{AreMarksWith}
+use Rattle.ra_replica_list.proofs.Edits.{AreMarksWith}
 use Rattle.ra_replica_list.proofs.HadLabels.{IsAdded}
 use Rattle.ra_replica_list.proofs.OwnLabels.{owned, own_stamp, own_put, own_waits}
 use Rattle.ra_replica_list.proofs.replica_list.ReplicaList.put_own.Goals as goal
@@ -35,11 +35,11 @@ returns-in_err-add-clause-err c =
       waiting = λ number. unadded inside.waiting c.add.new.self c.args.anchor c.in_err-add.ensures.err
           c.in_err-add.ensures.others number ∙ ap (λ (l : ReplicaList). labels_under l.waiting number) c.self.view_is;
     } in
-    on_err_any c.from_residual.result (λ arrivals deeds records replica held.
+    on_err_any c.from_residual.result (λ arrivals edits records replica held.
     list_alike c.args.self.now later alike held)
 
 pub returns-then-not-has-clause-put : goal.returns-then-not-has-clause-put
-returns-then-not-has-clause-put c = λ deeds records next stand held label_is makes stamped extended admitted.
+returns-then-not-has-clause-put c = λ edits records next stand held label_is makes stamped extended admitted.
     let all = c.args.all.now in
     let inside = c.self.inside in
     let new : Arrival = record { element = c.args.element; stamp = c.args.stamp; anchor = c.args.anchor } in
@@ -59,14 +59,14 @@ returns-then-not-has-clause-put c = λ deeds records next stand held label_is ma
     held.greatest in
     subst
     (λ (l : ReplicaList). (is : IsListOf l (all.arrivals ++ new ∷ [])
-    (deeds ++ Some (PutsIn (length all.arrivals)) ∷ [])
+    (edits ++ Some (PutsIn (length all.arrivals)) ∷ [])
     (operate next ∷ records) next.by) × (settled_count is ≡ settled_count held + 0))
     (sym c.saw.ensures)
     (owned next (After (element_at all.arrivals c.args.anchor) c.args.element) later held 0 makes after
     (own_stamp next c.args.stamp top stamped))
 
 pub returns-clause-put : goal.returns-clause-put
-returns-clause-put c = λ deeds records next stand held label_is makes stamped extended admitted.
+returns-clause-put c = λ edits records next stand held label_is makes stamped extended admitted.
     let all = c.args.all.now in
     let inside = c.self.inside in
     let state = inside.state in
@@ -91,7 +91,7 @@ returns-clause-put c = λ deeds records next stand held label_is makes stamped e
     held.greatest in
     subst
     (λ (l : ReplicaList). (is : IsListOf l (all.arrivals ++ new ∷ [])
-    (deeds ++ Some (PutsIn (length all.arrivals)) ∷ [])
+    (edits ++ Some (PutsIn (length all.arrivals)) ∷ [])
     (operate next ∷ records) next.by) × (settled_count is ≡ settled_count held + 1))
     (sym c.saw-2.ensures)
     (owned next (After (element_at all.arrivals c.args.anchor) c.args.element) later held 1 makes after

@@ -6,30 +6,30 @@ use Rattle.ra_labels.specs.Visibility.{had}
 use Rattle.ra_labels.specs.Situation.{operate}
 use Rattle.ra_labels.proofs.Results.{on_err}
 use Rattle.ra_laws.proofs.TheLaws.{had_updates-next}
-use Rattle.ra_replica_list.specs.declared.deed.Deed.TheVariants.{Removes}
-use Rattle.ra_replica_list.specs.Deeds.{deed_at, element_at}
+use Rattle.ra_replica_list.specs.declared.edit.Edit.TheVariants.{Removes}
+use Rattle.ra_replica_list.specs.Edits.{edit_at, element_at}
 use Rattle.ra_replica_list.specs.ReplicaList.{IsGreatestOf}
 use Rattle.ra_replica_list.specs.Freed.{IsListWithAfter}
 use Rattle.ra_replica_list.proofs.AlikeLists.{list_alike}
-use Rattle.ra_replica_list.proofs.NewDeeds.{grown_by_removal}
+use Rattle.ra_replica_list.proofs.NewEdits.{grown_by_removal}
 use Rattle.ra_replica_list.proofs.LaterRecords.{known_other}
-use Rattle.ra_replica_list.proofs.OwnLabels.{next_deed, owned, own_none}
+use Rattle.ra_replica_list.proofs.OwnLabels.{next_edit, owned, own_none}
 use Rattle.ra_replica_list.proofs.replica_list.ReplicaList.remove_own.Goals as goal
 
 pub returns-clause-removed : goal.returns-clause-removed
 unfolding known_other
 returns-clause-removed c =
     IfOk-weaker c.remove.result _ _
-    (λ steps got deeds records next stand held label_is makes unstamped extended admitted.
+    (λ steps got edits records next stand held label_is makes unstamped extended admitted.
     let all = c.args.all.now in
     let number = c.args.number in
-    let more = deeds ++ Some (Removes number) ∷ [] in
+    let more = edits ++ Some (Removes number) ∷ [] in
     let now = operate next ∷ records in
     let grown = grown_by_removal number next stand admitted makes c.requires.number in
     let known = known_other next (Some (Removes number)) (had records next.by) stand held (had_updates-next records next.by)
     (λ n. refl) in
-    let is : deed_at more c.args.label ≡ Some (Removes number) =
-    next_deed deeds (Removes number) c.args.label (stand.count ∙ sym label_is) in
+    let is : edit_at more c.args.label ≡ Some (Removes number) =
+    next_edit edits (Removes number) c.args.label (stand.count ∙ sym label_is) in
     let after = got more now (had records next.by) grown known is
     (ap (had records next.by) label_is ∙ had_updates-next records next.by) in
     let after_it = subst (λ (n : ℕ). IsListWithAfter c.remove.new.self.state c.remove.new.self.marks
@@ -42,4 +42,4 @@ returns-clause-removed c =
 
 pub returns-clause-err : goal.returns-clause-err
 returns-clause-err c = on_err c.remove.result c.remove.ensures.err
-    (λ alike arrivals deeds records replica held. list_alike c.args.self.now c.remove.new.self alike held)
+    (λ alike arrivals edits records replica held. list_alike c.args.self.now c.remove.new.self alike held)

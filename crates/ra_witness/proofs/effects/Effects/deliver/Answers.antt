@@ -2,10 +2,10 @@ use Rattle.std.proofs.Common.{ap, arith}
 use Rattle.std.proofs.lemmas.Result.{IfOk-weaker}
 use Rattle.std.specs.Prelude.{nat_eq}
 use Rattle.std.specs.HashMap.{get, hash_map_len}
-use Rattle.ra_labels.proofs.Results.{on_ok, on_err, on_err_any}
+use Rattle.ra_labels.proofs.Results.{on_ok, if_ok_on, on_err, on_err_any}
 use Rattle.ra_witness.specs.Overriding.{write_at}
 use Rattle.ra_witness.proofs.Lasts.{if_some_at}
-use Rattle.ra_witness.proofs.CommutingKinds.{if_ok_on, is_commuting, is_overriding, is_rga, not_rga-commuting, not_rga-overriding, told_there, can_tell, commuting_told, if_some_use}
+use Rattle.ra_witness.proofs.CommutingKinds.{is_commuting, is_overriding, is_rga, not_rga-commuting, not_rga-overriding, told_there, can_tell, commuting_told, if_some_use}
 use Rattle.ra_witness.proofs.DoneUpdates.{told_step}
 use Rattle.ra_witness.proofs.SettledUpdates.{of_rga, settled_in, few_more, some_more, one_settled}
 use Rattle.ra_witness.proofs.OverridingKinds.{writes_counted, told_write, can_bring, overriding_told, overriding_same}
@@ -76,7 +76,7 @@ returns-in_err-deliver-in-Overriding-clause-same c = λ past stands.
 pub returns-in-Rga-clause-delivered : goal.returns-in-Rga-clause-delivered
 returns-in-Rga-clause-delivered c = λ past stands told.
     let known = is_rga c.args.self.now past stands c.in-Rga.kept c.in-Rga.is in
-    if_ok_on c.deliver-in-Rga.result (c.deliver-in-Rga.ensures.delivered past.first past.records known.1
+    if_ok_on c.deliver-in-Rga.result (c.deliver-in-Rga.ensures.delivered past.founders past.records known.1
     (of_rga past known.0 c.args.replica c.args.label told))
     (λ steps after. record { few = stands.few; form = (known.0, after.0) })
 
@@ -105,7 +105,7 @@ returns-in-Rga-clause-few_steps c = λ past before behind it stands told is numb
 pub returns-in-Rga-clause-same : goal.returns-in-Rga-clause-same
 returns-in-Rga-clause-same c = λ past stands.
     let known = is_rga c.args.self.now past stands c.in-Rga.kept c.in-Rga.is in
-    on_err c.deliver-in-Rga.result (c.deliver-in-Rga.ensures.same past.first past.records known.1)
+    on_err c.deliver-in-Rga.result (c.deliver-in-Rga.ensures.same past.founders past.records known.1)
     (λ form. record { few = stands.few; form = (known.0, form) })
 
 pub returns-in-Commuting-clause-some_step : goal.returns-in-Commuting-clause-some_step

@@ -18,7 +18,7 @@ pub returns-in_default-clause-taken : goal.returns-in_default-clause-taken
 returns-in_default-clause-taken c = λ first records next stands offered admitted.
     let self = c.args.self.now in
     let label = c.args.label.now in
-    let grown : Rga = record { deeds = c.push_reserved.new.self; all = self.all; lists = self.lists } in
+    let grown : Rga = record { edits = c.push_reserved.new.self; all = self.all; lists = self.lists } in
     let same = its_op (past_of variant.Rga first records) next label offered in
     let asks = asks_only next.op (λ a x is. c.in_default.not-After a x (same ∙ is)) (λ x is. c.in_default.not-RgaRemove x (same ∙ is)) (of_its_kind (past_of variant.Rga first records) next label offered) in
     rga_asked self grown first records next.by next.clock label stands next.op offered asks
@@ -33,7 +33,7 @@ put_in-requires-clause-known c =
     let after = subst (λ o. IsOffered (past_of variant.Rga may.first may.records) (next_of may.next.by o may.next.clock) label) is may.offered in
     let admitted = subst (λ o. updates_admitted variant.Rga (named_sequence variant.Rga (Operate may.next.by o may.next.clock ∷ may.records)) ≡ true) is may.admitted in
     let (at, same, least, known) = has_stamp (past_of variant.Rga may.first may.records) (next_of may.next.by (ops.After c.in-After.anchor c.in-After.element) may.next.clock) label after refl in
-    let (m, within, is_anchor, less) = insertion_needs self.all self.deeds.items may.records may.stands.elements may.first may.next.by may.next.clock label c.in-After.anchor c.in-After.element after _ known admitted in
+    let (m, within, is_anchor, less) = insertion_needs self.all self.edits.items may.records may.stands.elements may.first may.next.by may.next.clock label c.in-After.anchor c.in-After.element after _ known admitted in
     (m, within, is_anchor)
 
 pub put_in-requires-clause-new : goal.put_in-requires-clause-new
@@ -45,7 +45,7 @@ put_in-requires-clause-new c =
     let after = subst (λ o. IsOffered (past_of variant.Rga may.first may.records) (next_of may.next.by o may.next.clock) label) is may.offered in
     let admitted = subst (λ o. updates_admitted variant.Rga (named_sequence variant.Rga (Operate may.next.by o may.next.clock ∷ may.records)) ≡ true) is may.admitted in
     let (at, same, least, known) = has_stamp (past_of variant.Rga may.first may.records) (next_of may.next.by (ops.After c.in-After.anchor c.in-After.element) may.next.clock) label after refl in
-    insertion_new self.all self.deeds.items may.records may.stands.elements may.first may.next.by may.next.clock label c.in-After.anchor c.in-After.element after _ known admitted
+    insertion_new self.all self.edits.items may.records may.stands.elements may.first may.next.by may.next.clock label c.in-After.anchor c.in-After.element after _ known admitted
 
 pub remove-requires-clause-known : goal.remove-requires-clause-known
 remove-requires-clause-known c =
@@ -55,31 +55,31 @@ remove-requires-clause-known c =
     let is = sym (its_op (past_of variant.Rga may.first may.records) may.next label may.offered) ∙ c.in-RgaRemove.is in
     let after = subst (λ o. IsOffered (past_of variant.Rga may.first may.records) (next_of may.next.by o may.next.clock) label) is may.offered in
     let admitted = subst (λ o. updates_admitted variant.Rga (named_sequence variant.Rga (Operate may.next.by o may.next.clock ∷ may.records)) ≡ true) is may.admitted in
-    let needs = removal_needs self.all self.deeds.items may.records may.stands.elements may.first may.next.by may.next.clock label c.in-RgaRemove.element after _ refl admitted in
+    let needs = removal_needs self.all self.edits.items may.records may.stands.elements may.first may.next.by may.next.clock label c.in-RgaRemove.element after _ refl admitted in
     (needs.number, needs.within, needs.is)
 
 pub returns-in-After-clause-taken : goal.returns-in-After-clause-taken
 returns-in-After-clause-taken c = λ first records next stands offered admitted.
     let self = c.args.self.now in
-    let reserved : Rga = record { deeds = c.reserve.new.self; all = self.all; lists = self.lists } in
+    let reserved : Rga = record { edits = c.reserve.new.self; all = self.all; lists = self.lists } in
     c.put_in.ensures.taken first records next (rga_same_kept self reserved first records stands c.in_ok-reserve.ensures.items refl refl) offered admitted
     (sym (its_op (past_of variant.Rga first records) next c.args.label.now offered) ∙ c.in-After.is)
 
 pub returns-in-After-clause-same : goal.returns-in-After-clause-same
 returns-in-After-clause-same c = λ first records stands.
     let self = c.args.self.now in
-    let reserved : Rga = record { deeds = c.reserve.new.self; all = self.all; lists = self.lists } in
+    let reserved : Rga = record { edits = c.reserve.new.self; all = self.all; lists = self.lists } in
     c.put_in.ensures.same first records (rga_same_kept self reserved first records stands c.in_ok-reserve.ensures.items refl refl)
 
 pub returns-in-RgaRemove-clause-taken : goal.returns-in-RgaRemove-clause-taken
 returns-in-RgaRemove-clause-taken c = λ first records next stands offered admitted.
     let self = c.args.self.now in
-    let reserved : Rga = record { deeds = c.reserve.new.self; all = self.all; lists = self.lists } in
+    let reserved : Rga = record { edits = c.reserve.new.self; all = self.all; lists = self.lists } in
     c.remove.ensures.taken first records next (rga_same_kept self reserved first records stands c.in_ok-reserve.ensures.items refl refl) offered admitted
     (sym (its_op (past_of variant.Rga first records) next c.args.label.now offered) ∙ c.in-RgaRemove.is)
 
 pub returns-in-RgaRemove-clause-same : goal.returns-in-RgaRemove-clause-same
 returns-in-RgaRemove-clause-same c = λ first records stands.
     let self = c.args.self.now in
-    let reserved : Rga = record { deeds = c.reserve.new.self; all = self.all; lists = self.lists } in
+    let reserved : Rga = record { edits = c.reserve.new.self; all = self.all; lists = self.lists } in
     c.remove.ensures.same first records (rga_same_kept self reserved first records stands c.in_ok-reserve.ensures.items refl refl)

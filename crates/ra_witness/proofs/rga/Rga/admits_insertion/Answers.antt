@@ -24,7 +24,7 @@ returns-in_default c = λ first records next label stands offered is stamped.
       (λ passes. absurd (false≢true passes)),
       λ admitted.
           let now_admitted = subst (λ o. updates_admitted variant.Rga (named_sequence variant.Rga (Operate next.by o next.clock ∷ records)) ≡ true) is admitted in
-          let (m, within, is_anchor, less) = insertion_needs self.all self.deeds.items records stands.elements first next.by next.clock label c.args.anchor c.args.element after _ known now_admitted in
+          let (m, within, is_anchor, less) = insertion_needs self.all self.edits.items records stands.elements first next.by next.clock label c.args.anchor c.args.element after _ known now_admitted in
           absurd (c.in_default.not-Some m ((c.number_of.ensures m).1 (within, is_anchor))),
     )
 
@@ -41,13 +41,13 @@ returns-then-is_below c = λ first records next label stands offered is stamped.
     let less : is_lt (stamp_cmp (arrival_at self.all.arrivals m).stamp stamp) ≡ true = ap (λ s. is_lt (stamp_cmp s stamp)) (sym c.stamp.ensures) ∙ sym c.is_below.ensures ∙ c.if-is_below.true in (
       (λ none.
           subst (λ o. updates_admitted variant.Rga (named_sequence variant.Rga (Operate next.by o next.clock ∷ records)) ≡ true) (sym is)
-          (insertion_admitted self.all self.deeds.items records stands.elements first next.by next.clock label c.args.anchor c.args.element after stamp its_stamp m known.0 known.1 less
+          (insertion_admitted self.all self.edits.items records stands.elements first next.by next.clock label c.args.anchor c.args.element after stamp its_stamp m known.0 known.1 less
           (λ n within same. none_found found c.is_none.result c.is_none.ensures none n ((finds n).1 (within, same))))),
       λ admitted.
           let now_admitted = subst (λ o. updates_admitted variant.Rga (named_sequence variant.Rga (Operate next.by o next.clock ∷ records)) ≡ true) is admitted in
           none_from found c.is_none.result c.is_none.ensures (λ n at.
           let there = (finds n).0 at in
-          insertion_new self.all self.deeds.items records stands.elements first next.by next.clock label c.args.anchor c.args.element after stamp its_stamp now_admitted n there.0 there.1),
+          insertion_new self.all self.edits.items records stands.elements first next.by next.clock label c.args.anchor c.args.element after stamp its_stamp now_admitted n there.0 there.1),
     )
 
 pub returns-else-is_below : goal.returns-else-is_below
@@ -61,7 +61,7 @@ returns-else-is_below c = λ first records next label stands offered is stamped.
       (λ passes. absurd (true≢false (sym passes ∙ c.if-is_below.false))),
       λ admitted.
           let now_admitted = subst (λ o. updates_admitted variant.Rga (named_sequence variant.Rga (Operate next.by o next.clock ∷ records)) ≡ true) is admitted in
-          let (k, within, is_anchor, less) = insertion_needs self.all self.deeds.items records stands.elements first next.by next.clock label c.args.anchor c.args.element after stamp its_stamp now_admitted in
+          let (k, within, is_anchor, less) = insertion_needs self.all self.edits.items records stands.elements first next.by next.clock label c.args.anchor c.args.element after stamp its_stamp now_admitted in
           let same = stands.elements.once k m within known.0 (is_anchor ∙ sym known.1) in
           let here : is_lt (stamp_cmp c.stamp.result stamp) ≡ true =
           ap (λ s. is_lt (stamp_cmp s stamp)) (c.stamp.ensures ∙ ap (λ j. (arrival_at self.all.arrivals j).stamp) (sym same)) ∙ less in

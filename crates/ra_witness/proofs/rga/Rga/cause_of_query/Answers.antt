@@ -12,4 +12,4 @@ returns c = λ first records stands.
     let within : c.args.replica < length lists = omega (arith, c.requires.replica, self.lists.ok.0) in
     let own = stands.lists c.args.replica list (slice_get_read lists (length lists) c.args.replica list refl within c.index.ensures) in
     c.cause_if_any.ensures
-    ∙ ap (λ o. cause_in o (acts_in c.args.parts.now)) (c.state.ensures self.all self.deeds.items records c.args.replica stands.elements own)
+    ∙ ap (λ o. cause_in o (acts_in c.args.parts.now)) (c.state.ensures self.all self.edits.items records c.args.replica stands.elements own)

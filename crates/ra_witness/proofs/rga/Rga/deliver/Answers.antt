@@ -4,36 +4,36 @@ use Rattle.std.proofs.lemmas.Result.{IfOk-weaker}
 use Rattle.ra_labels.specs.declared.command.Command.TheVariants.{Deliver}
 use Rattle.ra_labels.proofs.Results.{on_err}
 use Rattle.ra_laws.proofs.TheLaws.{had_updates-there}
-use Rattle.ra_replica_list.specs.Deeds.{deed_at, AreElementsOf}
+use Rattle.ra_replica_list.specs.Edits.{edit_at, AreElementsOf}
 use Rattle.ra_replica_list.specs.ReplicaList.{IsListOf}
-use Rattle.ra_witness.proofs.ReplicaLists.{told_deed, rga_told, rga_same}
+use Rattle.ra_witness.proofs.ReplicaLists.{told_edit, rga_told, rga_same}
 use Rattle.ra_witness.proofs.rga.Rga.deliver.Goals as goal
 
 pub bounds : goal.bounds
 bounds c =
     let may = c.requires in
-    omega (arith, ap length c.as_slice-deeds.ensures.value, may.stands.elements.count, had_updates-there may.records c.args.label may.told.update)
+    omega (arith, ap length c.as_slice-edits.ensures.value, may.stands.elements.count, had_updates-there may.records c.args.label may.told.update)
 
 pub unreachable-requires : goal.unreachable-requires
 unreachable-requires c =
     let may = c.requires in
     let self = c.args.self.now in
-    let (deed, found) = told_deed self.all self.deeds.items may.records c.args.label may.stands.elements may.told.update in
-    c.in_default.not-Some deed (ap (λ ds. deed_at ds c.args.label) c.as_slice-deeds.ensures.value ∙ found)
+    let (edit, found) = told_edit self.all self.edits.items may.records c.args.label may.stands.elements may.told.update in
+    c.in_default.not-Some edit (ap (λ ds. edit_at ds c.args.label) c.as_slice-edits.ensures.value ∙ found)
 
 pub deliver-requires : goal.deliver-requires
 deliver-requires c =
     let may = c.requires in
     let self = c.args.self.now in
     let list = c.index_mut.result.now in
-    let same = sym c.as_slice-deeds.ensures.value in
+    let same = sym c.as_slice-edits.ensures.value in
     let there = slice_get_read self.lists.items (length self.lists.items) c.args.replica list refl (omega (arith, may.stands.replicas, may.told.replica)) c.index_mut.ensures.value in
     record {
       records = may.records;
       replica = c.args.replica;
       elements = subst (λ ds. AreElementsOf self.all ds may.records) same may.stands.elements;
       list_of = subst (λ ds. IsListOf list self.all.arrivals ds may.records c.args.replica) same (may.stands.lists c.args.replica list there);
-      deed_of = c.in-Some.is;
+      edit_of = c.in-Some.is;
       new = may.told.causal.0;
     }
 
@@ -41,7 +41,7 @@ pub returns-clause-delivered : goal.returns-clause-delivered
 returns-clause-delivered c = λ first records stands told.
     let self = c.args.self.now in
     let list = c.index_mut.result.now in
-    let value = c.as_slice-deeds.ensures.value in
+    let value = c.as_slice-edits.ensures.value in
     let there = slice_get_read self.lists.items (length self.lists.items) c.args.replica list refl (omega (arith, stands.replicas, told.replica)) c.index_mut.ensures.value in
     let before = subst (λ ds. IsListOf list self.all.arrivals ds records c.args.replica) (sym value) (stands.lists c.args.replica list there) in
     let elements = subst (λ ds. AreElementsOf self.all ds records) (sym value) stands.elements in
@@ -69,4 +69,4 @@ returns-clause-same c = λ first records stands.
     let there = slice_get_read self.lists.items (length self.lists.items) c.args.replica list refl within c.index_mut.ensures.value in
     on_err c.deliver.result c.deliver.ensures.err (λ same.
     rga_same self first records stands c.args.replica c.deliver.new.self within
-    (same self.all.arrivals self.deeds.items records c.args.replica (stands.lists c.args.replica list there)))
+    (same self.all.arrivals self.edits.items records c.args.replica (stands.lists c.args.replica list there)))

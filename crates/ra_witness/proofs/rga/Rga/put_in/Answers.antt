@@ -12,8 +12,8 @@ use Rattle.ra_labels.specs.Linearization.{updates_admitted}
 use Rattle.ra_labels.specs.Insertion.{Makes}
 use Rattle.ra_labels.proofs.Results.{on_err_any}
 use Rattle.ra_labels.specs.Situation.{past_of, next_of}
-use Rattle.ra_replica_list.specs.declared.deed.Deed.TheVariants.{PutsIn}
-use Rattle.ra_replica_list.specs.Deeds.{element_at}
+use Rattle.ra_replica_list.specs.declared.edit.Edit.TheVariants.{PutsIn}
+use Rattle.ra_replica_list.specs.Edits.{element_at}
 use Rattle.ra_witness.specs.declared.rga.Rga.{Rga}
 use Rattle.ra_witness.specs.Rga.{IsRgaOf}
 use Rattle.ra_witness.specs.Settled.{SettlesMore}
@@ -33,30 +33,30 @@ unreachable-requires c =
 pub unreachable-requires-in_default-stamp : goal.unreachable-requires-in_default-stamp
 unreachable-requires-in_default-stamp c = false≢true (subst (λ o. IsSome o) c.in_default-stamp.is c.requires.stamp)
 
-pub returns-in_err-spare-clause-same : goal.returns-in_err-spare-clause-same
-returns-in_err-spare-clause-same c = λ first records stands.
+pub returns-in_err-reserve-clause-same : goal.returns-in_err-reserve-clause-same
+returns-in_err-reserve-clause-same c = λ first records stands.
     let self = c.args.self.now in
-    let spared : Rga = record { deeds = self.deeds; all = c.spare.new.self; lists = self.lists } in
-    let left = c.in_err-spare.ensures in
+    let spared : Rga = record { edits = self.edits; all = c.reserve.new.self; lists = self.lists } in
+    let left = c.in_err-reserve.ensures in
     on_err_any c.from_residual.result (rga_like self spared first records (sym left.elements) (sym left.arrivals) refl refl stands)
 
 pub put_own-requires-clause-anchor : goal.put_own-requires-clause-anchor
 put_own-requires-clause-anchor c =
     let known = (c.in-Some.ensures c.in-Some.behind).0 refl in
-    let count = ap length c.in_ok-spare.ensures.arrivals in
+    let count = ap length c.in_ok-reserve.ensures.arrivals in
     omega (arith, known.0, count)
 
 pub insert-requires-clause-anchor : goal.insert-requires-clause-anchor
 insert-requires-clause-anchor c =
     let known = (c.in-Some.ensures c.in-Some.behind).0 refl in
-    let count = ap length c.in_ok-spare.ensures.arrivals in
+    let count = ap length c.in_ok-reserve.ensures.arrivals in
     omega (arith, known.0, count)
 
 pub returns-in_err-steps-clause-same : goal.returns-in_err-steps-clause-same
 returns-in_err-steps-clause-same c = λ first records stands.
     let self = c.args.self.now in
-    let spared : Rga = record { deeds = self.deeds; all = c.spare.new.self; lists = self.lists } in
-    let room = c.in_ok-spare.ensures in
+    let spared : Rga = record { edits = self.edits; all = c.reserve.new.self; lists = self.lists } in
+    let room = c.in_ok-reserve.ensures in
     let there_still = rga_like self spared first records (sym room.elements) (sym room.arrivals) refl refl stands in
     let lists = self.lists.items in
     let r = c.args.label.now.replica in
@@ -64,7 +64,7 @@ returns-in_err-steps-clause-same c = λ first records stands.
     let within : r < length lists = omega (arith, c.requires.replica, self.lists.ok.0) in
     let there = slice_get_read lists (length lists) r list refl within c.index_mut-list.ensures.value in
     on_err_any c.from_residual-in_err-steps.result
-    (rga_same spared first records there_still r c.put_own.new.self within (c.in_err-steps.ensures.err spared.all.arrivals self.deeds.items records r (there_still.lists r list there)))
+    (rga_same spared first records there_still r c.put_own.new.self within (c.in_err-steps.ensures.err spared.all.arrivals self.edits.items records r (there_still.lists r list there)))
 
 pub returns-clause-taken : goal.returns-clause-taken
 returns-clause-taken c = λ first records next stands offered admitted is.
@@ -76,9 +76,9 @@ returns-clause-taken c = λ first records next stands offered admitted is.
     let x = c.args.element in
     let m = c.in-Some.behind in
     let stamp = c.in-Some-stamp.stamp in
-    let all = c.spare.new.self in
-    let spared : Rga = record { deeds = self.deeds; all = all; lists = self.lists } in
-    let room = c.in_ok-spare.ensures in
+    let all = c.reserve.new.self in
+    let spared : Rga = record { edits = self.edits; all = all; lists = self.lists } in
+    let room = c.in_ok-reserve.ensures in
     let there_still = rga_like self spared first records (sym room.elements) (sym room.arrivals) refl refl stands in
     let list = c.index_mut-list.result.now in
     let replica = its_replica (past_of variant.Rga first records) next label offered in
@@ -92,11 +92,11 @@ returns-clause-taken c = λ first records next stands offered admitted is.
     let now_admitted = subst (λ b. updates_admitted variant.Rga (named_sequence variant.Rga (Operate b (ops.After anchor x) next.clock ∷ records)) ≡ true) (sym replica)
     (subst (λ o. updates_admitted variant.Rga (named_sequence variant.Rga (Operate next.by o next.clock ∷ records)) ≡ true) is admitted) in
     let makes = subst (λ y. Makes (ops.After anchor x) (After y x)) (sym m_is) (makes_after anchor x) in
-    let own = c.in_ok-steps.ensures.put self.deeds.items records (next_of r (ops.After anchor x) next.clock) there_still.elements (there_still.lists r list there) (ap (λ l. l.number) after.becomes) makes
+    let own = c.in_ok-steps.ensures.put self.edits.items records (next_of r (ops.After anchor x) next.clock) there_still.elements (there_still.lists r list there) (ap (λ l. l.number) after.becomes) makes
     (sym (ap (λ l. l.stamp) after.becomes) ∙ c.in-Some-stamp.is) after.fits now_admitted in
-    let grown : Rga = record { deeds = c.push_reserved.new.self; all = c.insert.new.self; lists = with_item self.lists r c.put_own.new.self } in
-    let pushed : c.push_reserved.new.self.items ≡ self.deeds.items ++ Some (PutsIn (length all.arrivals)) ∷ [] =
-    c.push_reserved.ensures.items ∙ ap (λ n. self.deeds.items ++ Some (PutsIn n) ∷ []) c.len-number.ensures in
+    let grown : Rga = record { edits = c.push_reserved.new.self; all = c.insert.new.self; lists = with_item self.lists r c.put_own.new.self } in
+    let pushed : c.push_reserved.new.self.items ≡ self.edits.items ++ Some (PutsIn (length all.arrivals)) ∷ [] =
+    c.push_reserved.ensures.items ∙ ap (λ n. self.edits.items ++ Some (PutsIn n) ∷ []) c.len-number.ensures in
     let settles : SettlesMore records (Operate r (ops.After anchor x) next.clock) r c.in_ok-steps.steps = record {
       settled = (there_still.lists r list there).settled;
       now = own.0.settled;

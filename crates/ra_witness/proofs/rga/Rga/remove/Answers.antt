@@ -37,7 +37,7 @@ returns-in_err-steps-clause-same c = λ first records stands.
     let within : r < length lists = omega (arith, c.requires.replica, self.lists.ok.0) in
     let there = slice_get_read lists (length lists) r list refl within c.index_mut-list.ensures.value in
     on_err_any c.from_residual.result
-    (rga_same self first records stands r c.remove_own.new.self within (c.in_err-steps.ensures.err self.all.arrivals self.deeds.items records r (stands.lists r list there)))
+    (rga_same self first records stands r c.remove_own.new.self within (c.in_err-steps.ensures.err self.all.arrivals self.edits.items records r (stands.lists r list there)))
 
 pub returns-clause-taken : goal.returns-clause-taken
 returns-clause-taken c = λ first records next stands offered admitted is.
@@ -57,8 +57,8 @@ returns-clause-taken c = λ first records next stands offered admitted is.
     (subst (λ o. updates_admitted variant.Rga (named_sequence variant.Rga (Operate next.by o next.clock ∷ records)) ≡ true) is admitted) in
     let removes = subst (λ y. Makes (ops.RgaRemove x) (RgaRemove y)) (sym known.1) (makes_removal x) in
     let unclocked = (its_clock (past_of variant.Rga first records) (next_of r (ops.RgaRemove x) next.clock) label after).1 refl in
-    let own = c.in_ok-steps.ensures.removed self.deeds.items records (next_of r (ops.RgaRemove x) next.clock) stands.elements (stands.lists r list there) (ap (λ l. l.number) after.becomes) removes unclocked after.fits now_admitted in
-    let grown : Rga = record { deeds = c.push_reserved.new.self; all = self.all; lists = with_item self.lists r c.remove_own.new.self } in
+    let own = c.in_ok-steps.ensures.removed self.edits.items records (next_of r (ops.RgaRemove x) next.clock) stands.elements (stands.lists r list there) (ap (λ l. l.number) after.becomes) removes unclocked after.fits now_admitted in
+    let grown : Rga = record { edits = c.push_reserved.new.self; all = self.all; lists = with_item self.lists r c.remove_own.new.self } in
     let settles : SettlesMore records (Operate r (ops.RgaRemove x) next.clock) r c.in_ok-steps.steps = record {
       settled = (stands.lists r list there).settled;
       now = own.0.settled;

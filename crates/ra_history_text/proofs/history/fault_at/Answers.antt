@@ -1,5 +1,0 @@
-use Rattle.std.proofs.Common.{refl}
-use Rattle.ra_history_text.proofs.history.fault_at.Goals as goal
-
-pub returns-in-Full : goal.returns-in-Full
-returns-in-Full c = rw c.in-Full.is refl

@@ -1,0 +1,94 @@
+//! The greatest own stamp that a label sees, by how many updates of each replica it sees.
+ghost use Rattle.std.specs.Prelude.{◌≡◌, ◌<◌, true, [], length, replicate, unwrap_or, IfOk, OnOk};
+ghost use Rattle.ra_visibility.specs.Seen.{count_in};
+ghost use Rattle.ra_time_order.specs.Stamps.{greatest_in, stamps_with};
+
+use crate::running_maximum::{LOWEST, RunningMaximum, greater};
+use ra_labels::{NoMemory, Stamp};
+use ra_visibility::Seen;
+use std::alloc::Global;
+use std::marker::Model;
+
+/// Of each replica the greatest own stamp among its first updates, for each number of them. There are members for
+/// replicas that come later as well.
+#[derive(Drop)]
+pub struct RunningMaxima {
+    members: Vec<RunningMaximum>,
+    /// The one that was pushed last: all others have room for one more update.
+    newest: usize,
+    /// None with this number or a higher one has updates.
+    used: usize,
+}
+
+impl Model for RunningMaxima {
+    ghost use Rattle.ra_time_order.specs.RunningMaxima.{RunningMaxima, stamps_of, have_room, RunningMaximaKept};
+
+    ghost Value = { RunningMaxima };
+
+    ghost view = { λ a. record { stamps = stamps_of a.members.items; has_room = have_room a.members.items } };
+
+    ghost invariant = { λ a. RunningMaximaKept a.members.items a.newest a.used };
+}
+
+impl RunningMaxima {
+    /// So many replicas without updates, each with room for one.
+    pub fn new(alloc: Global, replicas: u8) -> Result<RunningMaxima, NoMemory>
+        requires { 0 < replicas }
+        ensures { IfOk result (λ made. made.stamps ≡ replicate replicas []) }
+    {
+        let mut members = Vec::with_capacity(alloc, replicas as usize)?;
+        for _ in 0..replicas {
+            members.push(RunningMaximum::new(alloc)?)?;
+        }
+        Ok(RunningMaxima {
+            members,
+            newest: 0,
+            used: 0,
+        })
+    }
+
+    /// Room for one more update, whichever replica issues it. Costs a look at the replica that issued the newest
+    /// one.
+    pub fn reserve(&mut self) -> Result<(), NoMemory>
+        ensures stamps { self.new.stamps ≡ self.old.stamps }
+        ensures room { OnOk result (self.new.has_room ≡ true) }
+    {
+        let newest = self.newest;
+        self.members[newest].reserve()
+    }
+
+    /// The greatest own stamp of the updates in the set, or the lowest rank. Costs a look-up for each replica up to the
+    /// one with the highest number that issued an update.
+    pub fn greatest(&self, seen: &Seen<'_>) -> Stamp
+        ensures { result ≡ greatest_in self.now.stamps (count_in seen.now) (length self.now.stamps) }
+    {
+        let mut greatest = LOWEST;
+        for (replica, member) in self.members.as_slice()[..self.used].iter().enumerate() {
+            greatest = greater(greatest, member.among(seen.count(replica as u8)));
+        }
+        greatest
+    }
+
+    /// The label's own stamp, or the greatest one that it sees, which costs what `greatest` does.
+    pub fn rank(&self, own: Option<Stamp>, seen: &Seen<'_>) -> Stamp
+        ensures { result ≡ unwrap_or own (greatest_in self.now.stamps (count_in seen.now) (length self.now.stamps)) }
+    {
+        match own {
+            Some(stamp) => stamp,
+            None => self.greatest(seen),
+        }
+    }
+
+    /// The next label of the replica, an update or not, with its own stamp or without.
+    pub fn push(&mut self, replica: u8, update: bool, own: Option<Stamp>)
+        requires { self.old.has_room ≡ true }
+        ensures { self.new.stamps ≡ stamps_with self.old.stamps replica update own }
+    {
+        let at = replica as usize;
+        if update && at < self.members.len() {
+            self.members[at].push(own);
+            self.newest = at;
+            self.used = self.used.max(at + 1);
+        }
+    }
+}

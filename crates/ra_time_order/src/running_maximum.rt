@@ -1,0 +1,92 @@
+//! The greatest own stamp among a replica's first updates, for each number of them.
+ghost use Rattle.std.specs.Prelude.{◌≡◌, ◌<◌, [], not, IfOk, OnOk};
+ghost use Rattle.std.specs.Ordering.{is_lt};
+ghost use Rattle.ra_labels.specs.NamedOrder.{stamp_cmp, greater_of};
+ghost use Rattle.ra_time_order.specs.RunningMaximum.{greatest_among, with_stamp};
+
+use ra_labels::{NoMemory, Stamp};
+use std::alloc::Global;
+use std::marker::Model;
+
+/// Of a replica, the greatest own stamp among its first updates, for each number of them.
+#[derive(Drop)]
+pub struct RunningMaximum {
+    stamps: Vec<Stamp>,
+}
+
+impl Model for RunningMaximum {
+    ghost use Rattle.std.specs.Prelude.{◌-◌, vec_len, vec_capacity};
+    ghost use Rattle.ra_time_order.specs.RunningMaximum.{RunningMaximum};
+
+    ghost Value = { RunningMaximum };
+
+    ghost view = { λ a. record { stamps = a.stamps.items; room = vec_capacity a.stamps - vec_len a.stamps } };
+}
+
+impl RunningMaximum {
+    /// No updates, and room for one.
+    pub fn new(alloc: Global) -> Result<RunningMaximum, NoMemory>
+        ensures stamps { IfOk result (λ made. made.stamps ≡ []) }
+        ensures room { IfOk result (λ made. 0 < made.room) }
+    {
+        Ok(RunningMaximum {
+            stamps: Vec::with_capacity(alloc, 1)?,
+        })
+    }
+
+    /// Room for one more update.
+    pub fn reserve(&mut self) -> Result<(), NoMemory>
+        ensures stamps { self.new.stamps ≡ self.old.stamps }
+        ensures room { OnOk result (0 < self.new.room) }
+    {
+        self.stamps.reserve(1)?;
+        Ok(())
+    }
+
+    /// The greatest own stamp among so many first updates, or the lowest rank.
+    pub fn among(&self, count: u32) -> Stamp
+        ensures { result ≡ greatest_among self.now.stamps count }
+    {
+        let count = (count as usize).min(self.stamps.len());
+        if count == 0 {
+            return LOWEST;
+        }
+        self.stamps[count - 1]
+    }
+
+    /// The next update, with its own stamp or without.
+    pub fn push(&mut self, own: Option<Stamp>)
+        requires { 0 < self.old.room }
+        ensures { self.new.stamps ≡ with_stamp self.old.stamps own }
+    {
+        let before = match self.stamps.last() {
+            Some(stamp) => *stamp,
+            None => LOWEST,
+        };
+        let next = match own {
+            Some(stamp) if before < stamp => stamp,
+            _ => before,
+        };
+        self.stamps.push_reserved(next);
+    }
+}
+
+/// Below every stamp.
+pub const LOWEST: Stamp = Stamp {
+    clock: 0,
+    replica: 0,
+};
+
+/// The greater of two stamps.
+pub fn greater(one: Stamp, other: Stamp) -> Stamp
+    ensures { result ≡ greater_of one other }
+{
+    if one < other { other } else { one }
+}
+
+/// Is the first stamp no greater than the other?
+pub fn is_at_most(one: Stamp, other: Stamp) -> bool
+    ensures { result ≡ not (is_lt (stamp_cmp other one)) }
+{
+    one <= other
+}
