@@ -157,9 +157,9 @@ one_more : (update : Bool) (k : ℕ) → k + ones update ≡ (if update then k +
 one_more true k = refl
 one_more false k = omega arith
 
-updates_issued : (t : Tracked) (by q : ℕ) (past : Past) (op : Op) (clock : Option ℕ) (update : Bool) → by < replicas_in t → IsVisibilityOf t past
+updates_with_label : (t : Tracked) (by q : ℕ) (past : Past) (op : Op) (clock : Option ℕ) (update : Bool) → by < replicas_in t → IsVisibilityOf t past
     → is_update op ≡ update → q < replicas_in t → issued_count (with_label t by update) q ≡ updates_issued (Operate by op clock ∷ past.records) q
-updates_issued t by q past op clock update below stands kind known =
+updates_with_label t by q past op clock update below stands kind known =
     let at : Bool → ℕ = λ b. if b then updates_issued past.records q + 1 else updates_issued past.records q in
     at_or_else q by
     (λ same.
@@ -183,6 +183,6 @@ stands_issued t by past op clock update kept below stands is =
       sees = λ n m known. sees_issued t by n m past op clock update kept below stands known;
       issuer = λ n known. issuer_issued t by n past op clock update stands known;
       place = λ n known. place_issued t by n past op clock update below stands known;
-      issued = λ q known. updates_issued t by q past op clock update below stands is (omega (arith, count, known));
+      issued = λ q known. updates_with_label t by q past op clock update below stands is (omega (arith, count, known));
       beyond = none_had_before_it_joined-operation past.founders past.records by op clock (omega (arith, stands.replicas, below)) stands.beyond;
     }
