@@ -1,6 +1,6 @@
 -- What is answered where nothing failed before, and what is refused.
 use Rattle.std.proofs.Common.{◌≡◌, ℕ, ◌<◌, ◌≤◌, false, ◌∷◌, [], Option, Some, None, refl, sym, ap, ◌∙◌, subst}
-use Rattle.std.specs.Prelude.{not}
+use Rattle.std.specs.Prelude.{Result, IfOk, OnErr, not}
 use Rattle.std.specs.Option.{option_or, option_map_or}
 use Rattle.std.proofs.lemmas.Bool.{lt-ltb, le-ltb}
 use Rattle.std.proofs.lemmas.Option.{none-some}
@@ -50,6 +50,15 @@ module _ (past : Past) (none : fault_of past.kind past.records ≡ None) (comman
         ∙ ap (λ o. option_map_or Refused o to_accepted) is),
     subst (λ records. StandsFor history (past_of past.kind past.founders records)) (sym (joins with_it is)) stands,
   )
+
+-- what is answered to a command that is this one
+module _ {E : Type 0} (result : Result Reply E) (past : Past) (command given : Command) (is : given ≡ command) where
+  pub joins_as : OnErr result (JoinsRecords past command) → OnErr result (JoinsRecords past given)
+  joins_as = subst (λ c. OnErr result (JoinsRecords past c)) (sym is)
+
+  pub answered_as : (history : History) → IfOk result (IsAnswered history past command)
+      → IfOk result (IsAnswered history past given)
+  answered_as history = subst (λ c. IfOk result (IsAnswered history past c)) (sym is)
 
 unless_more : (refusal : Option Refusal) → option_or refusal None ≡ refusal
 unless_more (Some why) = refl

@@ -19,46 +19,46 @@ use Rattle.ra_monitor.specs.Taken.{clocks_at}
 both : true ≡ false → ⊥
 both e = absurd (cc e)
 
--- the place that a search finds
-pub place_found : (xs : List ℕ) (clock place : ℕ) → place ≤ length xs
-    → IsPartitionPoint (λ own. nat_lt own clock ≡ true) (λ own. nat_lt own clock ≡ false) xs place → IsIndexFor xs clock place
-place_found xs clock place among point = record {
+-- the index that a search finds
+pub index_found : (xs : List ℕ) (clock index : ℕ) → index ≤ length xs
+    → IsPartitionPoint (λ own. nat_lt own clock ≡ true) (λ own. nat_lt own clock ≡ false) xs index → IsIndexFor xs clock index
+index_found xs clock index among point = record {
   among = among;
   before = λ k below. ltb-true (get_or xs k 0) clock (point.0 k 0 (omega arith) below);
   behind = λ k behind below. ltb-false (get_or xs k 0) clock (point.1 k 0 behind below);
 }
 
--- where another one stands at its place, a clock is none of them
-differs : (xs : List ℕ) (clock place own i : ℕ) (b : Bool) → IsNonDecreasing xs → IsIndexFor xs clock place → place < length xs
-    → get_or xs place 0 ≡ own → ¬ (own ≡ clock) → i < length xs → nat_lt i place ≡ b → ¬ (clock ≡ get_or xs i 0)
-differs xs clock place own i true sorted at there is other below e same = absurd (omega (arith, same, at.before i (ltb-true i place e)))
-differs xs clock place own i false sorted at there is other below e same =
-    let behind : place ≤ i = ltb-false i place e in
-    other (omega (arith, is, same, sorted place i 0 behind below, at.behind place (omega arith) there))
+-- where another one stands at its index, a clock is none of them
+differs : (xs : List ℕ) (clock index own i : ℕ) (b : Bool) → IsNonDecreasing xs → IsIndexFor xs clock index → index < length xs
+    → get_or xs index 0 ≡ own → ¬ (own ≡ clock) → i < length xs → nat_lt i index ≡ b → ¬ (clock ≡ get_or xs i 0)
+differs xs clock index own i true sorted at there is other below e same = absurd (omega (arith, same, at.before i (ltb-true i index e)))
+differs xs clock index own i false sorted at there is other below e same =
+    let behind : index ≤ i = ltb-false i index e in
+    other (omega (arith, is, same, sorted index i 0 behind below, at.behind index (omega arith) there))
 
--- a clock stands at its place where it is one of them
-pub found_at : (xs : List ℕ) (clock place own : ℕ) (b : Bool) → IsNonDecreasing xs → IsIndexFor xs clock place
-    → place < length xs → get_or xs place 0 ≡ own → nat_eq own clock ≡ b → b ≡ list_any (nat_eq clock) xs
-found_at xs clock place own true sorted at there is same =
-    sym (list_any_at (nat_eq clock) xs place 0 there (eq-eqb clock (get_or xs place 0) (sym (is ∙ eqb-true own clock same))))
-found_at xs clock place own false sorted at there is same =
+-- a clock stands at its index where it is one of them
+pub found_at : (xs : List ℕ) (clock index own : ℕ) (b : Bool) → IsNonDecreasing xs → IsIndexFor xs clock index
+    → index < length xs → get_or xs index 0 ≡ own → nat_eq own clock ≡ b → b ≡ list_any (nat_eq clock) xs
+found_at xs clock index own true sorted at there is same =
+    sym (list_any_at (nat_eq clock) xs index 0 there (eq-eqb clock (get_or xs index 0) (sym (is ∙ eqb-true own clock same))))
+found_at xs clock index own false sorted at there is same =
     sym (list_any_none (nat_eq clock) xs (All-from_get_or (λ x. nat_eq clock x ≡ false) xs 0
-    (λ i below. ne_eqb clock (get_or xs i 0) (differs xs clock place own i (nat_lt i place) sorted at there is (λ e. both (sym (eq-eqb own clock e) ∙ same)) below refl))))
+    (λ i below. ne_eqb clock (get_or xs i 0) (differs xs clock index own i (nat_lt i index) sorted at there is (λ e. both (sym (eq-eqb own clock e) ∙ same)) below refl))))
 
--- where its place is behind all, it is none of them
-pub not_found : (xs : List ℕ) (clock place : ℕ) → IsIndexFor xs clock place → length xs ≤ place → false ≡ list_any (nat_eq clock) xs
-not_found xs clock place at past =
+-- where its index is behind all, it is none of them
+pub not_found : (xs : List ℕ) (clock index : ℕ) → IsIndexFor xs clock index → length xs ≤ index → false ≡ list_any (nat_eq clock) xs
+not_found xs clock index at past =
     sym (list_any_none (nat_eq clock) xs (All-from_get_or (λ x. nat_eq clock x ≡ false) xs 0
     (λ i below. ne_eqb clock (get_or xs i 0) (λ same. absurd (omega (arith, same, at.before i (omega (arith, below, past))))))))
 
--- with one more at its place
-pub one_more : (xs : List ℕ) (place clock other : ℕ) → list_any (nat_eq other) (insert xs place clock) ≡ (nat_eq other clock || list_any (nat_eq other) xs)
-one_more xs place clock other =
-    sym (list_any-IsPermutation (nat_eq other) (clock ∷ xs) (insert xs place clock) (IsPermutation-insert xs place clock))
+-- with one more at its index
+pub one_more : (xs : List ℕ) (index clock other : ℕ) → list_any (nat_eq other) (insert xs index clock) ≡ (nat_eq other clock || list_any (nat_eq other) xs)
+one_more xs index clock other =
+    sym (list_any-IsPermutation (nat_eq other) (clock ∷ xs) (insert xs index clock) (IsPermutation-insert xs index clock))
 
-pub sorted_with : (xs : List ℕ) (place clock : ℕ) → IsNonDecreasing xs → IsIndexFor xs clock place → IsNonDecreasing (insert xs place clock)
-sorted_with xs place clock sorted at =
-    IsNonDecreasingBy-insert (λ x. x) xs place clock sorted at.among
+pub sorted_with : (xs : List ℕ) (index clock : ℕ) → IsNonDecreasing xs → IsIndexFor xs clock index → IsNonDecreasing (insert xs index clock)
+sorted_with xs index clock sorted at =
+    IsNonDecreasingBy-insert (λ x. x) xs index clock sorted at.among
     (λ k d below. omega (arith, get_or_default_zero xs k d (omega (arith, below, at.among)), at.before k below))
     (λ k d behind below. omega (arith, get_or_default_zero xs k d below, at.behind k behind below))
 

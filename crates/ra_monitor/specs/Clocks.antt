@@ -10,8 +10,8 @@ pub record Clocks : Type 0 where
 abbrev pub is_clock_in : Clocks → ℕ → Bool
 is_clock_in clocks clock = list_any (nat_eq clock) clocks.clocks
 
--- the clocks before the place are below this one, and no others
-pub record IsIndexFor (clocks : List ℕ) (clock place : ℕ) : Type 0 where
-  pub among : place ≤ length clocks
-  pub before : (k : ℕ) → k < place → get_or clocks k 0 < clock
-  pub behind : (k : ℕ) → place ≤ k → k < length clocks → clock ≤ get_or clocks k 0
+-- the clocks before the index are below this one, and no others
+pub record IsIndexFor (clocks : List ℕ) (clock index : ℕ) : Type 0 where
+  pub among : index ≤ length clocks
+  pub before : (k : ℕ) → k < index → get_or clocks k 0 < clock
+  pub behind : (k : ℕ) → index ≤ k → k < length clocks → clock ≤ get_or clocks k 0

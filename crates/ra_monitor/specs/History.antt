@@ -29,8 +29,7 @@ past_after past command = past_of past.kind past.founders (records_after past.ki
 
 -- the command joins the records
 abbrev pub JoinsRecords : Past → Command → Type 0
-JoinsRecords past command =
-    records_after past.kind past.founders past.records command ≡ command ∷ past.records
+JoinsRecords past command = records_after past.kind past.founders past.records command ≡ command ∷ past.records
 
 -- the past before its fault
 abbrev pub before_fault : Past → Past

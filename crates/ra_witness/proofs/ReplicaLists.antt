@@ -8,6 +8,7 @@ use Rattle.std.proofs.lemmas.Option.{none-some, same_Some}
 use Rattle.std.proofs.lemmas.List.{length-set, length-append}
 use Rattle.ra_labels.specs.declared.kind.Kind.TheVariants as variant
 use Rattle.ra_labels.specs.declared.operation.Update.{Update}
+use Rattle.ra_labels.specs.declared.command.Command.{Command}
 use Rattle.ra_labels.specs.declared.command.Command.TheVariants.{Deliver, Join}
 use Rattle.ra_labels.specs.declared.label.Label.{Label}
 use Rattle.ra_labels.specs.Records.{Records, label_count, labels_of, replica_count}
@@ -21,11 +22,12 @@ use Rattle.ra_laws.proofs.TheLaws.{a_delivery_puts_its_update_in-order, a_new_re
 use Rattle.ra_element_list.specs.ElementList.{Arrival, ElementList}
 use Rattle.ra_replica_list.specs.declared.edit.Edit.{Edit}
 use Rattle.ra_replica_list.specs.Edits.{edit_at, AreElementsOf}
-use Rattle.ra_replica_list.specs.ReplicaList.{ReplicaList, IsListOf}
+use Rattle.ra_replica_list.specs.ReplicaList.{ReplicaList, IsListOf, settled_count}
 use Rattle.ra_replica_list.proofs.TheLaws.{a_list_stays_with_what_others_do-delivery, a_list_stays_with_what_others_do-join, a_new_replica_has_the_list_of_the_other}
 use Rattle.ra_witness.specs.declared.rga.Rga.{Rga}
 use Rattle.ra_witness.specs.Labels.{update_in}
 use Rattle.ra_witness.specs.Rga.{IsRgaOf}
+use Rattle.ra_witness.specs.Settled.{SettlesMore}
 use Rattle.ra_witness.specs.Offered.{IsJoinedFrom}
 use Rattle.ra_witness.proofs.NumberedLabels.{update_found, makes_it, makes_none}
 
@@ -52,6 +54,19 @@ lists_with lists r new arrivals edits records there own others q list at = elim 
   | inl (here, same) ↦ subst (λ x. IsListOf x arrivals edits records q) same (subst (λ k. IsListOf new arrivals edits records k) (sym here) own)
   | inr (other, was) ↦ others q list (λ e. other (sym e)) was
 ]
+
+-- what the command settles, by the lists of its replica before and with it
+pub settles_more : {before after : ReplicaList} {arrivals arrived : List Arrival} {edits edited : List (Option Edit)}
+    {records : Records} {command : Command} {replica more : ℕ} → (was : IsListOf before arrivals edits records replica)
+    → (is : IsListOf after arrived edited (command ∷ records) replica) → settled_count is ≡ settled_count was + more
+    → SettlesMore records command replica more
+settles_more was is count = record {
+  settled = was.settled;
+  now = is.settled;
+  before = was.kept.settles;
+  after = is.kept.settles;
+  count = count;
+}
 
 -- at one more, each is that one or was there before
 pushed_at : {A : Type 0} (xs : List A) (q : ℕ) (y x : A) → slice_get (xs ++ y ∷ []) q ≡ Some x

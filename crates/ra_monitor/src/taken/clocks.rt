@@ -59,8 +59,8 @@ impl Clocks {
         requires room { 0 < self.old.room }
         ensures kept { (other : ℕ) → is_clock_in self.new other ≡ (nat_eq other clock || is_clock_in self.old other) }
     {
-        let place = self.index_of(clock);
-        let _ = self.clocks.insert(place, clock);
+        let index = self.index_of(clock);
+        let _ = self.clocks.insert(index, clock);
     }
 
     // How many clocks are below this one.

@@ -1,8 +1,7 @@
-use Rattle.std.proofs.Common.{sym, ap, ◌∙◌, subst}
-use Rattle.std.specs.Prelude.{IfOk, OnErr}
-use Rattle.ra_labels.specs.declared.command.Command.{Command}
+use Rattle.std.proofs.Common.{sym, ap, ◌∙◌}
 use Rattle.ra_labels.specs.Answer.{misfit_of}
-use Rattle.ra_monitor.specs.History.{IsAnswered, JoinsRecords, past_in}
+use Rattle.ra_monitor.specs.History.{past_in}
+use Rattle.ra_monitor.proofs.Answered.{answered_as, joins_as}
 use Rattle.ra_monitor.proofs.history.History.answer.Goals as goal
 
 pub operate-requires : goal.operate-requires
@@ -28,39 +27,39 @@ join-requires c =
 pub returns-in-Operate-clause-taken : goal.returns-in-Operate-clause-taken
 returns-in-Operate-clause-taken c = λ records stands.
     let past = past_in c.args.setup.now records in
-    subst (λ (command : Command). IfOk c.operate.result (IsAnswered c.operate.new.self past command)) (sym c.in-Operate.is)
+    answered_as c.operate.result past _ _ c.in-Operate.is c.operate.new.self
     (c.operate.ensures.taken past stands (sym stands.fault ∙ c.in_default.is)
     (c.fits-misfit.ensures ∙ ap (misfit_of past.kind) c.in-Operate.is))
 
 pub returns-in-Operate-clause-joins : goal.returns-in-Operate-clause-joins
 returns-in-Operate-clause-joins c = λ records stands.
     let past = past_in c.args.setup.now records in
-    subst (λ (command : Command). OnErr c.operate.result (JoinsRecords past command)) (sym c.in-Operate.is)
+    joins_as c.operate.result past _ _ c.in-Operate.is
     (c.operate.ensures.joins past stands (sym stands.fault ∙ c.in_default.is)
     (c.fits-misfit.ensures ∙ ap (misfit_of past.kind) c.in-Operate.is))
 
 pub returns-in-Deliver-clause-taken : goal.returns-in-Deliver-clause-taken
 returns-in-Deliver-clause-taken c = λ records stands.
     let past = past_in c.args.setup.now records in
-    subst (λ (command : Command). IfOk c.deliver.result (IsAnswered c.deliver.new.self past command)) (sym c.in-Deliver.is)
+    answered_as c.deliver.result past _ _ c.in-Deliver.is c.deliver.new.self
     (c.deliver.ensures.taken past stands (sym stands.fault ∙ c.in_default.is))
 
 pub returns-in-Deliver-clause-joins : goal.returns-in-Deliver-clause-joins
 returns-in-Deliver-clause-joins c = λ records stands.
     let past = past_in c.args.setup.now records in
-    subst (λ (command : Command). OnErr c.deliver.result (JoinsRecords past command)) (sym c.in-Deliver.is)
+    joins_as c.deliver.result past _ _ c.in-Deliver.is
     (c.deliver.ensures.joins past stands (sym stands.fault ∙ c.in_default.is))
 
 pub returns-in-Join-clause-taken : goal.returns-in-Join-clause-taken
 returns-in-Join-clause-taken c = λ records stands.
     let past = past_in c.args.setup.now records in
-    subst (λ (command : Command). IfOk c.join.result (IsAnswered c.join.new.self past command)) (sym c.in-Join.is)
+    answered_as c.join.result past _ _ c.in-Join.is c.join.new.self
     (c.join.ensures.taken past stands (sym stands.fault ∙ c.in_default.is))
 
 pub returns-in-Join-clause-joins : goal.returns-in-Join-clause-joins
 returns-in-Join-clause-joins c = λ records stands.
     let past = past_in c.args.setup.now records in
-    subst (λ (command : Command). OnErr c.join.result (JoinsRecords past command)) (sym c.in-Join.is)
+    joins_as c.join.result past _ _ c.in-Join.is
     (c.join.ensures.joins past stands (sym stands.fault ∙ c.in_default.is))
 
 -- what gave up is as before

@@ -1,14 +1,11 @@
-use Rattle.std.proofs.Common.{◌≡◌, ◌∷◌, ◌∙◌, true, refl, sym, ap, subst}
+use Rattle.std.proofs.Common.{◌≡◌, ◌∙◌, true, refl, sym, ap}
 use Rattle.std.specs.Ordering.{is_lt}
 use Rattle.std.proofs.lemmas.Bool.{true≢false, false≢true}
 use Rattle.ra_labels.specs.declared.kind.Kind.TheVariants as variant
-use Rattle.ra_labels.specs.declared.operation.Op.TheVariants as ops
-use Rattle.ra_labels.specs.declared.command.Command.TheVariants.{Operate}
-use Rattle.ra_labels.specs.NamedOrder.{named_sequence, stamp_cmp}
-use Rattle.ra_labels.specs.Linearization.{updates_admitted}
-use Rattle.ra_labels.specs.Situation.{past_of, next_of}
+use Rattle.ra_labels.specs.NamedOrder.{stamp_cmp}
+use Rattle.ra_labels.specs.Answer.{carries_stamp}
+use Rattle.ra_labels.specs.Situation.{past_of}
 use Rattle.ra_element_list.specs.ElementList.{arrival_at}
-use Rattle.ra_witness.specs.Offered.{IsOffered}
 use Rattle.ra_witness.proofs.Forms.{has_stamp}
 use Rattle.ra_witness.proofs.AdmittedElements.{none_found, none_from, insertion_admitted, insertion_new, insertion_needs}
 use Rattle.ra_witness.proofs.rga.Rga.admits_insertion.Goals as goal
@@ -19,12 +16,11 @@ stamp-requires c = ((c.in-Some.ensures c.in-Some.number).0 refl).0
 pub returns-in_default : goal.returns-in_default
 returns-in_default c = λ first records next label stands offered is stamped.
     let self = c.args.self.now in
-    let after = subst (λ o. IsOffered (past_of variant.Rga first records) (next_of next.by o next.clock) label) is offered in
-    let (at, same, least, known) = has_stamp (past_of variant.Rga first records) (next_of next.by (ops.After c.args.anchor c.args.element) next.clock) label after refl in (
+    let (at, same, least, known) = has_stamp (past_of variant.Rga first records) next label offered (ap carries_stamp is) in (
       (λ passes. absurd (false≢true passes)),
       λ admitted.
-          let now_admitted = subst (λ o. updates_admitted variant.Rga (named_sequence variant.Rga (Operate next.by o next.clock ∷ records)) ≡ true) is admitted in
-          let (m, within, is_anchor, less) = insertion_needs self.all self.edits.items records stands.elements first next.by next.clock label c.args.anchor c.args.element after _ known now_admitted in
+          let (m, within, is_anchor, less) = insertion_needs self.all self.edits.items records stands.elements first next label
+          offered c.args.anchor c.args.element is _ known admitted in
           absurd (c.in_default.not-Some m ((c.number_of.ensures m).1 (within, is_anchor))),
     )
 
@@ -35,19 +31,19 @@ returns-then-is_below c = λ first records next label stands offered is stamped.
     let stamp = c.in-Some-stamp.stamp in
     let found = c.number_of-then-is_below.result in
     let finds = c.number_of-then-is_below.ensures in
-    let after = subst (λ o. IsOffered (past_of variant.Rga first records) (next_of next.by o next.clock) label) is offered in
     let its_stamp = stamped ∙ c.in-Some-stamp.is in
     let known = (c.in-Some.ensures m).0 refl in
-    let less : is_lt (stamp_cmp (arrival_at self.all.arrivals m).stamp stamp) ≡ true = ap (λ s. is_lt (stamp_cmp s stamp)) (sym c.stamp.ensures) ∙ sym c.is_below.ensures ∙ c.if-is_below.true in (
+    let less : is_lt (stamp_cmp (arrival_at self.all.arrivals m).stamp stamp) ≡ true =
+    ap (λ s. is_lt (stamp_cmp s stamp)) (sym c.stamp.ensures) ∙ sym c.is_below.ensures ∙ c.if-is_below.true in (
       (λ none.
-          subst (λ o. updates_admitted variant.Rga (named_sequence variant.Rga (Operate next.by o next.clock ∷ records)) ≡ true) (sym is)
-          (insertion_admitted self.all self.edits.items records stands.elements first next.by next.clock label c.args.anchor c.args.element after stamp its_stamp m known.0 known.1 less
-          (λ n within same. none_found found c.is_none.result c.is_none.ensures none n ((finds n).1 (within, same))))),
+          insertion_admitted self.all self.edits.items records stands.elements first next label offered c.args.anchor
+          c.args.element is stamp its_stamp m known.0 known.1 less
+          (λ n within same. none_found found c.is_none.result c.is_none.ensures none n ((finds n).1 (within, same)))),
       λ admitted.
-          let now_admitted = subst (λ o. updates_admitted variant.Rga (named_sequence variant.Rga (Operate next.by o next.clock ∷ records)) ≡ true) is admitted in
           none_from found c.is_none.result c.is_none.ensures (λ n at.
           let there = (finds n).0 at in
-          insertion_new self.all self.edits.items records stands.elements first next.by next.clock label c.args.anchor c.args.element after stamp its_stamp now_admitted n there.0 there.1),
+          insertion_new self.all self.edits.items records stands.elements first next label offered c.args.anchor
+          c.args.element is stamp its_stamp admitted n there.0 there.1),
     )
 
 pub returns-else-is_below : goal.returns-else-is_below
@@ -55,15 +51,14 @@ returns-else-is_below c = λ first records next label stands offered is stamped.
     let self = c.args.self.now in
     let m = c.in-Some.number in
     let stamp = c.in-Some-stamp.stamp in
-    let after = subst (λ o. IsOffered (past_of variant.Rga first records) (next_of next.by o next.clock) label) is offered in
-    let its_stamp = stamped ∙ c.in-Some-stamp.is in
     let known = (c.in-Some.ensures m).0 refl in (
       (λ passes. absurd (true≢false (sym passes ∙ c.if-is_below.false))),
       λ admitted.
-          let now_admitted = subst (λ o. updates_admitted variant.Rga (named_sequence variant.Rga (Operate next.by o next.clock ∷ records)) ≡ true) is admitted in
-          let (k, within, is_anchor, less) = insertion_needs self.all self.edits.items records stands.elements first next.by next.clock label c.args.anchor c.args.element after stamp its_stamp now_admitted in
+          let (k, within, is_anchor, less) = insertion_needs self.all self.edits.items records stands.elements first next label
+          offered c.args.anchor c.args.element is stamp (stamped ∙ c.in-Some-stamp.is) admitted in
           let same = stands.elements.once k m within known.0 (is_anchor ∙ sym known.1) in
           let here : is_lt (stamp_cmp c.stamp.result stamp) ≡ true =
-          ap (λ s. is_lt (stamp_cmp s stamp)) (c.stamp.ensures ∙ ap (λ j. (arrival_at self.all.arrivals j).stamp) (sym same)) ∙ less in
+          ap (λ s. is_lt (stamp_cmp s stamp)) (c.stamp.ensures ∙ ap (λ j. (arrival_at self.all.arrivals j).stamp) (sym same))
+          ∙ less in
           absurd (true≢false (sym here ∙ sym c.is_below.ensures ∙ c.if-is_below.false)),
     )

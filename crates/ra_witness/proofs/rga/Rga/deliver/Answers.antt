@@ -6,7 +6,7 @@ use Rattle.ra_labels.proofs.Results.{on_err}
 use Rattle.ra_laws.proofs.TheLaws.{had_updates-there}
 use Rattle.ra_replica_list.specs.Edits.{edit_at, AreElementsOf}
 use Rattle.ra_replica_list.specs.ReplicaList.{IsListOf}
-use Rattle.ra_witness.proofs.ReplicaLists.{told_edit, rga_told, rga_same}
+use Rattle.ra_witness.proofs.ReplicaLists.{told_edit, rga_told, rga_same, settles_more}
 use Rattle.ra_witness.proofs.rga.Rga.deliver.Goals as goal
 
 pub bounds : goal.bounds
@@ -51,13 +51,7 @@ returns-clause-delivered c = λ first records stands told.
           c.args.label
           (subst (λ ds. IsListOf c.deliver.new.self self.all.arrivals ds (Deliver c.args.replica c.args.label ∷ records)
           c.args.replica) value own),
-      record {
-        settled = before.settled;
-        now = own.settled;
-        before = before.kept.settles;
-        after = own.kept.settles;
-        count = count;
-      },
+      settles_more before own count,
     ))
     c.deliver.ensures.got
 

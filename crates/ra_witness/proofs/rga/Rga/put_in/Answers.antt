@@ -1,27 +1,21 @@
-use Rattle.std.proofs.Common.{◌≡◌, ◌<◌, ◌∷◌, ◌++◌, [], ◌∙◌, length, true, Some, refl, sym, ap, subst, arith}
+use Rattle.std.proofs.Common.{◌≡◌, ◌<◌, ◌∷◌, ◌++◌, [], ◌∙◌, length, set, Some, refl, sym, ap, subst, arith}
 use Rattle.std.specs.Prelude.{IsSome}
+use Rattle.std.specs.List.{slice_get}
 use Rattle.std.specs.Vec.{with_item}
 use Rattle.std.proofs.lemmas.Bool.{false≢true}
 use Rattle.std.proofs.lemmas.Option.{slice_get_read}
 use Rattle.ra_labels.specs.declared.kind.Kind.TheVariants as variant
-use Rattle.ra_labels.specs.declared.operation.Op.TheVariants as ops
 use Rattle.ra_labels.specs.declared.operation.Update.TheVariants.{After}
-use Rattle.ra_labels.specs.declared.command.Command.TheVariants.{Operate}
-use Rattle.ra_labels.specs.NamedOrder.{named_sequence}
-use Rattle.ra_labels.specs.Linearization.{updates_admitted}
 use Rattle.ra_labels.specs.Insertion.{Makes}
 use Rattle.ra_labels.proofs.Results.{on_err_any}
-use Rattle.ra_labels.specs.Situation.{past_of, next_of}
+use Rattle.ra_labels.specs.Situation.{past_of}
 use Rattle.ra_replica_list.specs.declared.edit.Edit.TheVariants.{PutsIn}
 use Rattle.ra_replica_list.specs.Edits.{element_at}
 use Rattle.ra_witness.specs.declared.rga.Rga.{Rga}
-use Rattle.ra_witness.specs.Rga.{IsRgaOf}
-use Rattle.ra_witness.specs.Settled.{SettlesMore}
-use Rattle.ra_witness.specs.Offered.{IsOffered}
 use Rattle.ra_witness.proofs.Forms.{its_replica}
 use Rattle.ra_witness.proofs.AdmittedElements.{makes_after}
 use Rattle.ra_witness.proofs.AllElements.{rga_like}
-use Rattle.ra_witness.proofs.ReplicaLists.{rga_same}
+use Rattle.ra_witness.proofs.ReplicaLists.{rga_same, settles_more}
 use Rattle.ra_witness.proofs.TakenElements.{rga_put}
 use Rattle.ra_witness.proofs.rga.Rga.put_in.Goals as goal
 
@@ -70,49 +64,39 @@ pub returns-clause-taken : goal.returns-clause-taken
 returns-clause-taken c = λ first records next stands offered admitted is.
     let self = c.args.self.now in
     let label = c.args.label.now in
-    let r = label.replica in
     let lists = self.lists.items in
-    let anchor = c.args.anchor in
     let x = c.args.element in
     let m = c.in-Some.behind in
-    let stamp = c.in-Some-stamp.stamp in
     let all = c.reserve.new.self in
     let spared : Rga = record { edits = self.edits; all = all; lists = self.lists } in
     let room = c.in_ok-reserve.ensures in
     let there_still = rga_like self spared first records (sym room.elements) (sym room.arrivals) refl refl stands in
     let list = c.index_mut-list.result.now in
-    let replica = its_replica (past_of variant.Rga first records) next label offered in
-    let within : r < length lists = omega (arith, c.requires.replica, self.lists.ok.0) in
-    let there = slice_get_read lists (length lists) r list refl within c.index_mut-list.ensures.value in
+    let by = its_replica (past_of variant.Rga first records) next label offered in
+    let within : label.replica < length lists = omega (arith, c.requires.replica, self.lists.ok.0) in
+    let there = sym (ap (slice_get lists) by)
+    ∙ slice_get_read lists (length lists) label.replica list refl within c.index_mut-list.ensures.value in
+    let was = there_still.lists next.by list there in
     let known = (c.in-Some.ensures m).0 refl in
     let count = ap length room.arrivals in
     let m_within : m < length all.arrivals = omega (arith, known.0, count) in
-    let m_is : element_at all.arrivals m ≡ anchor = ap (λ rs. element_at rs m) room.arrivals ∙ known.1 in
-    let after = subst (λ b. IsOffered (past_of variant.Rga first records) (next_of b (ops.After anchor x) next.clock) label) (sym replica) (subst (λ o. IsOffered (past_of variant.Rga first records) (next_of next.by o next.clock) label) is offered) in
-    let now_admitted = subst (λ b. updates_admitted variant.Rga (named_sequence variant.Rga (Operate b (ops.After anchor x) next.clock ∷ records)) ≡ true) (sym replica)
-    (subst (λ o. updates_admitted variant.Rga (named_sequence variant.Rga (Operate next.by o next.clock ∷ records)) ≡ true) is admitted) in
-    let makes = subst (λ y. Makes (ops.After anchor x) (After y x)) (sym m_is) (makes_after anchor x) in
-    let own = c.in_ok-steps.ensures.put self.edits.items records (next_of r (ops.After anchor x) next.clock) there_still.elements (there_still.lists r list there) (ap (λ l. l.number) after.becomes) makes
-    (sym (ap (λ l. l.stamp) after.becomes) ∙ c.in-Some-stamp.is) after.fits now_admitted in
-    let grown : Rga = record { edits = c.push_reserved.new.self; all = c.insert.new.self; lists = with_item self.lists r c.put_own.new.self } in
-    let pushed : c.push_reserved.new.self.items ≡ self.edits.items ++ Some (PutsIn (length all.arrivals)) ∷ [] =
-    c.push_reserved.ensures.items ∙ ap (λ n. self.edits.items ++ Some (PutsIn n) ∷ []) c.len-number.ensures in
-    let settles : SettlesMore records (Operate r (ops.After anchor x) next.clock) r c.in_ok-steps.steps = record {
-      settled = (there_still.lists r list there).settled;
-      now = own.0.settled;
-      before = (there_still.lists r list there).kept.settles;
-      after = own.0.kept.settles;
-      count = own.1;
+    let m_is : element_at all.arrivals m ≡ c.args.anchor = ap (λ rs. element_at rs m) room.arrivals ∙ known.1 in
+    let makes = subst (λ y. Makes next.op (After y x)) (sym m_is) (makes_after next.op c.args.anchor x is) in
+    let stamped = c.in-Some-stamp.is in
+    let own = c.in_ok-steps.ensures.put self.edits.items records next there_still.elements was
+    (ap (λ l. l.number) offered.becomes) makes (sym (ap (λ l. l.stamp) offered.becomes) ∙ stamped) offered.fits admitted in
+    let new_list = c.put_own.new.self in
+    let grown : Rga = record {
+      edits = c.push_reserved.new.self;
+      all = c.insert.new.self;
+      lists = with_item self.lists label.replica new_list;
     } in
-    subst
-    (λ o. IsRgaOf grown first (Operate next.by o next.clock ∷ records)
-    × SettlesMore records (Operate next.by o next.clock) next.by c.in_ok-steps.steps) (sym is)
-    (subst
-    (λ b. IsRgaOf grown first (Operate b (ops.After anchor x) next.clock ∷ records)
-    × SettlesMore records (Operate b (ops.After anchor x) next.clock) b c.in_ok-steps.steps) replica (
-      rga_put spared grown first records r next.clock label there_still anchor x m stamp c.put_own.new.self after
-          c.in-Some-stamp.is m_within m_is
-          (λ n there same. c.requires.new n (omega (arith, there, count)) (ap (λ rs. element_at rs n) (sym room.arrivals) ∙ same))
-          now_admitted pushed c.insert.ensures.arrivals c.insert.ensures.elements refl own.0,
-      settles,
-    ))
+    let pushed : c.push_reserved.new.self.items ≡ self.edits.items ++ Some (PutsIn (length all.arrivals)) ∷ [] =
+    c.push_reserved.ensures.items ∙ ap (λ n. self.edits.items ++ Some (PutsIn n) ∷ []) c.len-number.ensures in (
+      rga_put spared grown first records next label there_still offered c.args.anchor x m c.in-Some-stamp.stamp new_list is
+          stamped m_within m_is
+          (λ n there same.
+          c.requires.new n (omega (arith, there, count)) (ap (λ rs. element_at rs n) (sym room.arrivals) ∙ same))
+          admitted pushed c.insert.ensures.arrivals c.insert.ensures.elements (ap (λ r. set lists r new_list) by) own.0,
+      settles_more was own.0 own.1,
+    )

@@ -3,7 +3,7 @@ use Rattle.std.specs.Prelude.{nat_lt}
 use Rattle.std.specs.List.Sorted.{IsPartitionedBy}
 use Rattle.std.proofs.lemmas.List.Sorted.{IsPartitionPoint-from_clause, IsPartitionedBy-ltb}
 use Rattle.ra_monitor.specs.Clocks.{Clocks, IsIndexFor}
-use Rattle.ra_monitor.proofs.ClockLookups.{place_found}
+use Rattle.ra_monitor.proofs.ClockLookups.{index_found}
 use Rattle.ra_monitor.proofs.taken.clocks.Clocks.index_of.Goals as goal
 
 pub returns-in-Some : goal.returns-in-Some
@@ -16,4 +16,4 @@ returns-in-Some c =
     subst (IsPartitionedBy p) (sym kept) (IsPartitionedBy-ltb (λ x. x) c.self.inside.clocks.items c.args.clock c.self.invariant) in
     let point = IsPartitionPoint-from_clause p xs c.partition_point.result c.partition_point.ensures.partitioned sorted (λ a r f k. search rules) in
     subst (λ (ys : List ℕ). IsIndexFor ys c.args.clock c.partition_point.result) same
-    (place_found xs c.args.clock c.partition_point.result c.partition_point.ensures.bound point)
+    (index_found xs c.args.clock c.partition_point.result c.partition_point.ensures.bound point)

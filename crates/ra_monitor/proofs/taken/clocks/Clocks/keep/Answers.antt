@@ -6,11 +6,11 @@ use Rattle.ra_monitor.specs.Clocks.{Clocks, IsIndexFor}
 use Rattle.ra_monitor.proofs.ClockLookups.{one_more, sorted_with}
 use Rattle.ra_monitor.proofs.taken.clocks.Clocks.keep.Goals as goal
 
-put : (c : goal.After-insert) → c.insert.new.self.items ≡ insert c.self.inside.clocks.items c.index_of-place.result c.args.clock
+put : (c : goal.After-insert) → c.insert.new.self.items ≡ insert c.self.inside.clocks.items c.index_of-index.result c.args.clock
 put c =
     let xs = c.self.inside.clocks.items in
     c.insert.ensures.items
-    ∙ ap (λ b. if b then insert xs c.index_of-place.result c.args.clock else xs)
+    ∙ ap (λ b. if b then insert xs c.index_of-index.result c.args.clock else xs)
     (c.insert.ensures.succeeds (omega (arith, c.requires.room, ap (λ (s : Clocks). s.room) c.self.view_is)))
 
 pub returns : goal.returns
@@ -19,12 +19,12 @@ returns c =
     record {
       kept = λ other.
           ap (list_any (nat_eq other)) (put c)
-          ∙ one_more c.self.inside.clocks.items c.index_of-place.result c.args.clock other
+          ∙ one_more c.self.inside.clocks.items c.index_of-index.result c.args.clock other
           ∙ ap (λ (xs : List ℕ). nat_eq other c.args.clock || list_any (nat_eq other) xs) same;
     }
 
 pub invariant_of-self : goal.invariant_of-self
 invariant_of-self c =
     subst IsNonDecreasing (sym (put c))
-    (sorted_with c.self.inside.clocks.items c.index_of-place.result c.args.clock c.self.invariant
-    (subst (λ (xs : List ℕ). IsIndexFor xs c.args.clock c.index_of-place.result) (sym (ap (λ (s : Clocks). s.clocks) c.self.view_is)) c.index_of-place.ensures))
+    (sorted_with c.self.inside.clocks.items c.index_of-index.result c.args.clock c.self.invariant
+    (subst (λ (xs : List ℕ). IsIndexFor xs c.args.clock c.index_of-index.result) (sym (ap (λ (s : Clocks). s.clocks) c.self.view_is)) c.index_of-index.ensures))
