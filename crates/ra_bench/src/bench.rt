@@ -1,7 +1,7 @@
 //! A run of bench replicas, from the first round to the verdict.
-ghost use Rattle.std.specs.Prelude.{◌≡◌, ◌↔◌, ◌<◌, ℕ, All, Some, IfOk, IfErr, IsErrOf};
+ghost use Rattle.std.specs.Prelude.{◌≡◌, ◌↔◌, ◌<◌, All, Some, IfOk, IfErr, IsErrOf};
 ghost use Rattle.ra_desk.specs.Reports.{setup_of};
-ghost use Rattle.ra_bench.specs.Faults.{TellsUnwanted, IsOfRun};
+ghost use Rattle.ra_bench.specs.Faults.{TellsUnwanted};
 ghost use Rattle.ra_bench.specs.Limits.{AreBenchReplicas, AreRounds};
 ghost use Rattle.ra_bench.specs.Report.{IsReportOfRun};
 

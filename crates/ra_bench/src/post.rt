@@ -1,5 +1,5 @@
 //! What is on its way between replicas.
-ghost use Rattle.std.specs.Prelude.{◌≡◌, ◌++◌, reverse, IfOk, OnOk, IsTrue, ◌==◌, ◌+◌, ◌%◌, not, ◌&&◌};
+ghost use Rattle.std.specs.Prelude.{◌≡◌, ◌++◌, reverse, IfOk, OnOk, ◌==◌, ◌+◌, ◌%◌, ◌&&◌};
 ghost use Rattle.std.specs.List.{filter};
 ghost use Rattle.ra_bench.specs.Post.{arrives, inbox_of};
 

@@ -1,11 +1,12 @@
 -- A chunk that is made two.
-use Rattle.std.proofs.Common.{◌≡◌, ℕ, zero, suc, ◌+◌, ◌-◌, ◌<◌, ◌≤◌, List, [], ◌∷◌, ◌++◌, length, refl, sym, ap, ◌∙◌, subst, inl, inr, arith, append_assoc}
+use Rattle.std.proofs.Common.{◌≡◌, ℕ, zero, suc, ◌+◌, ◌-◌, ◌<◌, ◌≤◌, List, [], ◌∷◌, ◌++◌, length, sym, ap, ◌∙◌, subst, inl, inr, arith, append_assoc}
 use Rattle.std.specs.Prelude.{◌⊎◌, Contains, set, nat_lt}
 use Rattle.std.specs.List.{insert}
 use Rattle.std.proofs.lemmas.Bool.{cases_lt, cases_eq, cond-true, cond-false, lt-ltb, le-ltb}
 use Rattle.std.proofs.lemmas.List.{length-set, map-append, get_or-set_same, get_or-set_other, get_or_append_left, get_or-append-add, length-append}
 use Rattle.std.proofs.lemmas.List.Elements.{Contains-append_left, Contains-append_right, Contains-append_cases}
 use Rattle.std.proofs.lemmas.List.Edits.{length-insert, get_or-insert_below, get_or-insert_at, get_or-insert_above}
+use Rattle.ra_labels.proofs.Halves.{halved, halved_is}
 use Rattle.ra_element_list.specs.declared.entry.Entry.{Entry}
 use Rattle.ra_element_list.specs.declared.element.Element.{Element}
 use Rattle.ra_element_list.specs.Entries.{no_entry, entry_at, numbers_in}
@@ -22,28 +23,9 @@ shifted_low at place low = cond-false (nat_lt at place) (place + 1) place (le-lt
 pub shifted_high : (at place : ℕ) → at < place → shifted at place ≡ place + 1
 shifted_high at place high = cond-true (nat_lt at place) (place + 1) place (lt-ltb at place high)
 
--- the chunks with the two halves in the place of the chunk
-split_chunks : List Chunk → ℕ → Chunk → Chunk → List Chunk
-split_chunks [] at left right = []
-split_chunks (chunk ∷ chunks) zero left right = left ∷ right ∷ chunks
-split_chunks (chunk ∷ chunks) (suc at) left right = chunk ∷ split_chunks chunks at left right
-
-step : (at : ℕ) → suc at + 1 ≡ suc (at + 1)
-step at = omega arith
-
-split_is : (chunks : List Chunk) (at : ℕ) (left right : Chunk) → at < length chunks
-    → insert (set chunks at left) (at + 1) right ≡ split_chunks chunks at left right
-unfolding split_chunks
-split_is [] at left right there = absurd (omega arith)
-split_is (chunk ∷ chunks) zero left right there = refl
-split_is (chunk ∷ chunks) (suc at) left right there =
-    ap (λ k. insert (set (chunk ∷ chunks) (suc at) left) k right) (step at)
-    ∙ ap (λ cs. chunk ∷ cs) (split_is chunks at left right (omega arith))
-
 joined_chunks : (left right : Chunk) (chunks : List Chunk) (at : ℕ) → at < length chunks
     → left.entries ++ right.entries ≡ (chunk_at chunks at).entries
-    → joined (split_chunks chunks at left right) ≡ joined chunks
-unfolding split_chunks
+    → joined (halved chunks at left right) ≡ joined chunks
 joined_chunks left right [] at there same = absurd (omega arith)
 joined_chunks left right (chunk ∷ chunks) zero there same =
     sym (append_assoc left.entries right.entries (joined chunks)) ∙ ap (λ xs. xs ++ joined chunks) same
@@ -108,7 +90,7 @@ module _ (chunks : List Chunk) (at : ℕ) (left right : Chunk) (there : at < len
 
   module _ (halves : left.entries ++ right.entries ≡ (chunk_at chunks at).entries) where
     pub joined_split : joined now ≡ joined chunks
-    joined_split = ap joined (split_is chunks at left right there) ∙ joined_chunks left right chunks at there halves
+    joined_split = ap joined (halved_is chunks at left right there) ∙ joined_chunks left right chunks at there halves
 
     numbers_halves : numbers_in (chunk_at chunks at).entries ≡ numbers_in left.entries ++ numbers_in right.entries
     numbers_halves = ap numbers_in (sym halves) ∙ map-append (λ (e : Entry). e.number) left.entries right.entries

@@ -28,8 +28,8 @@ impl ExecOrder {
     /// The order of no labels.
     pub fn new() -> ExecOrder
         ensures listed { ⟦<ExecOrder as NamedOrder>⟧.listed result ≡ [] }
-        ensures stands { (kind : Kind) (first : ℕ) → IsByExecution kind
-            → ⟦<ExecOrder as NamedOrder>⟧.stands_for result (nothing_yet kind first) }
+        ensures stands { (kind : Kind) (founders : ℕ) → IsByExecution kind
+            → ⟦<ExecOrder as NamedOrder>⟧.stands_for result (nothing_yet kind founders) }
     {
         ExecOrder { labels: 0 }
     }

@@ -1,5 +1,5 @@
 //! Where labels stand in a log.
-ghost use Rattle.std.specs.Prelude.{◌≡◌, ◌≤◌, IfOk, MatchOption, None, Some, length, option_and_then, option_map, option_copied};
+ghost use Rattle.std.specs.Prelude.{◌≡◌, ◌≤◌, IfOk, MatchOption, None, Some, length};
 ghost use Rattle.std.specs.List.{slice_get};
 ghost use Rattle.ra_explain.specs.Places as places;
 ghost use Rattle.ra_explain.specs.Places.{entry_at, places_in};

@@ -3,7 +3,6 @@ ghost use Rattle.std.specs.Prelude.{◌≡◌, ◌∷◌, [], IfOk, IfSome, is_s
 ghost use Rattle.std.specs.Option.{option_to_list};
 ghost use Rattle.ra_labels.specs.Rewriting.{Part};
 ghost use Rattle.ra_monitor.specs.Monitor.{records_before_fault_in};
-ghost use Rattle.ra_witness.specs.Labels.{update_in};
 ghost use Rattle.ra_witness.specs.Sequence.{ref_of};
 ghost use Rattle.ra_explain.specs.Places.{places_in};
 ghost use Rattle.ra_explain.specs.Seen as seen;

@@ -1,5 +1,5 @@
 -- What words ask of a program that explains.
-use Rattle.std.specs.Prelude.{ℕ, not, List, [], ◌∷◌, map, Option, Some, None, Result, Ok, Err, codes, string_bytes, bytes_eq, if◌then◌else◌}
+use Rattle.std.specs.Prelude.{ℕ, not, List, [], ◌∷◌, map, Option, Some, None, Ok, Err, codes, string_bytes, bytes_eq, if◌then◌else◌}
 use Rattle.ra_words.specs.Words.{Words}
 use Rattle.ra_explain_cli.specs.declared.asked.Form.{Form}
 use Rattle.ra_explain_cli.specs.declared.asked.Form.TheVariants.{Page, Json, Svg, Html, Sequence}

@@ -1,7 +1,5 @@
 //! A text on the reader is checked, and what that answers is explained.
 ghost use Rattle.std.specs.Prelude.{◌≡◌, ◌≢◌, IfOk, Ok};
-ghost use Rattle.ra_history_text.specs.Output.{Reports};
-ghost use Rattle.ra_program.specs.Check.{status_of_outcome};
 ghost use Rattle.ra_explain_cli.specs.Explained.{ExplainsText, EndsExplained, EndsStopped, IsPage};
 
 use crate::asked::Form;

@@ -1,5 +1,5 @@
 //! A history that is recorded: its commands, given to the monitor.
-ghost use Rattle.std.specs.Prelude.{◌≡◌, ◌+◌, ◌^◌, ◌∷◌, ◌++◌, [], length, IfOk, IfErr, OnOk};
+ghost use Rattle.std.specs.Prelude.{◌≡◌, ◌+◌, ◌++◌, [], length, IfOk, IfErr, OnOk};
 ghost use Rattle.ra_labels.specs.declared.command.Command.{Command};
 ghost use Rattle.ra_lines.specs.Grammar.{AreNames, Spells};
 ghost use Rattle.ra_lines.specs.Names.{MayJoin};

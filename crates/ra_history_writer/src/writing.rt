@@ -1,5 +1,5 @@
 //! A monitor's history, written as a text.
-ghost use Rattle.std.specs.Prelude.{◌≡◌, ◌+◌, ◌-◌, ◌++◌, ◌∷◌, [], ◌<◌, ◌≤◌, ◌^◌, false, length, map, take, OnOk, IfOk, IfErr};
+ghost use Rattle.std.specs.Prelude.{◌≡◌, ◌+◌, ◌-◌, ◌++◌, ◌∷◌, [], ◌<◌, ◌≤◌, false, length, map, take, OnOk, IfOk, IfErr};
 ghost use Rattle.std.specs.List.{AllByRecursion};
 ghost use Rattle.ra_accepted.specs.Accepted.{accepted_in, accepted_one};
 ghost use Rattle.ra_lines.specs.Grammar.{bytes_of, first_line};

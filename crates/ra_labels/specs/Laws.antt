@@ -121,7 +121,8 @@ WasJoinedHaving records replica n =
 
 -- no replica had anything whose number is none of theirs
 abbrev pub NoneHadBeyond : ℕ → Records → Type 0
-NoneHadBeyond first records = (replica n : ℕ) → replica_count first records ≤ replica → had records replica n ≡ false
+NoneHadBeyond founders records =
+    (replica n : ℕ) → replica_count founders records ≤ replica → had records replica n ≡ false
 
 -- label n was issued at a replica that had label m before
 abbrev pub WasIssuedHaving : Records → ℕ → ℕ → Type 0

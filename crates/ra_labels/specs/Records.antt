@@ -18,9 +18,9 @@ label_count (_ ∷ before) = label_count before
 
 -- how many replicas there are, of which this many were there first
 abbrev pub replica_count : ℕ → Records → ℕ
-replica_count first [] = first
-replica_count first (Join replica from ∷ before) = replica_count first before + 1
-replica_count first (_ ∷ before) = replica_count first before
+replica_count founders [] = founders
+replica_count founders (Join replica from ∷ before) = replica_count founders before + 1
+replica_count founders (_ ∷ before) = replica_count founders before
 
 -- the stamp of a replica, with this clock
 abbrev pub stamp_at : ℕ → ℕ → Stamp

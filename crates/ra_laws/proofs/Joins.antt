@@ -24,10 +24,10 @@ use Rattle.ra_laws.proofs.HadUpdates.{among-same}
 use Rattle.ra_laws.proofs.Insertion.{order_later}
 
 -- each join adds a replica
-pub joins-counted : (first : ℕ) (records : Records) → replica_count first records ≡ first + length (filter is_join records)
-joins-counted first [] = omega arith
-joins-counted first (Join joined from ∷ before) = omega (arith, joins-counted first before)
-joins-counted first (_ ∷ before) = joins-counted first before
+pub joins-counted : (founders : ℕ) (records : Records) → replica_count founders records ≡ founders + length (filter is_join records)
+joins-counted founders [] = omega arith
+joins-counted founders (Join joined from ∷ before) = omega (arith, joins-counted founders before)
+joins-counted founders (_ ∷ before) = joins-counted founders before
 
 -- the refusals of a join, over what they test
 abbrev chain : Bool → Bool → Bool → Bool → Option Refusal
@@ -154,28 +154,28 @@ refused-full replicas records replica from =
     )
 
 -- nobody had anything whose number is none of the replicas'
-pub beyond-operation : (first : ℕ) (records : Records) (by : ℕ) (op : Op) (clock : Option ℕ)
-    → by < replica_count first records → NoneHadBeyond first records → NoneHadBeyond first (Operate by op clock ∷ records)
-beyond-operation first records by op clock there none replica n above =
+pub beyond-operation : (founders : ℕ) (records : Records) (by : ℕ) (op : Op) (clock : Option ℕ)
+    → by < replica_count founders records → NoneHadBeyond founders records → NoneHadBeyond founders (Operate by op clock ∷ records)
+beyond-operation founders records by op clock there none replica n above =
     or_from (by == replica && n == label_count records && is_update op) (had records replica n)
     (and_left (by == replica && n == label_count records) (is_update op)
     (and_left (by == replica) (n == label_count records)
     (ne_eqb by replica (λ same. absurd (omega (arith, there, above, same))))))
     (none replica n above)
 
-pub beyond-delivery : (first : ℕ) (records : Records) (to label : ℕ) → to < replica_count first records
-    → NoneHadBeyond first records → NoneHadBeyond first (Deliver to label ∷ records)
-beyond-delivery first records to label there none replica n above =
+pub beyond-delivery : (founders : ℕ) (records : Records) (to label : ℕ) → to < replica_count founders records
+    → NoneHadBeyond founders records → NoneHadBeyond founders (Deliver to label ∷ records)
+beyond-delivery founders records to label there none replica n above =
     or_from (to == replica && n == label && is_update_at records n) (had records replica n)
     (and_left (to == replica && n == label) (is_update_at records n)
     (and_left (to == replica) (n == label)
     (ne_eqb to replica (λ same. absurd (omega (arith, there, above, same))))))
     (none replica n above)
 
-pub beyond-join : (first : ℕ) (records : Records) (from : ℕ) → NoneHadBeyond first records
-    → NoneHadBeyond first (Join (replica_count first records) from ∷ records)
-beyond-join first records from none replica n above =
-    let joined = replica_count first records in
+pub beyond-join : (founders : ℕ) (records : Records) (from : ℕ) → NoneHadBeyond founders records
+    → NoneHadBeyond founders (Join (replica_count founders records) from ∷ records)
+beyond-join founders records from none replica n above =
+    let joined = replica_count founders records in
     or_from (joined == replica && had records from n) (had records replica n)
     (and_left (joined == replica) (had records from n)
     (ne_eqb joined replica (λ same. absurd (omega (arith, above, same)))))
@@ -203,19 +203,19 @@ beyond-all kind replicas commands =
     kept_by_all (NoneHadBeyond replicas) kind replicas (beyond-one kind replicas) [] commands (λ replica n above. refl)
 
 -- a new replica had what the one had from which it joined
-pub joined-labels : (first : ℕ) (records : Records) (from n : ℕ) → NoneHadBeyond first records
-    → had (Join (replica_count first records) from ∷ records) (replica_count first records) n ≡ had records from n
-joined-labels first records from n none =
-    let joined = replica_count first records in
+pub joined-labels : (founders : ℕ) (records : Records) (from n : ℕ) → NoneHadBeyond founders records
+    → had (Join (replica_count founders records) from ∷ records) (replica_count founders records) n ≡ had records from n
+joined-labels founders records from n none =
+    let joined = replica_count founders records in
     ap (λ b. b && had records from n || had records joined n) (eq-eqb joined joined refl)
     ∙ ap (λ b. had records from n || b) (none joined n (omega arith))
     ∙ or_comm (had records from n) false
 
 -- and it has issued nothing: an update that it had issued it would have had
-pub joined-issued : (first : ℕ) (records : Records) → NoneHadBeyond first records
-    → updates_issued records (replica_count first records) ≡ 0
-joined-issued first records none =
-    let joined = replica_count first records in
+pub joined-issued : (founders : ℕ) (records : Records) → NoneHadBeyond founders records
+    → updates_issued records (replica_count founders records) ≡ 0
+joined-issued founders records none =
+    let joined = replica_count founders records in
     elim (cases_lt 0 (updates_issued records joined)) [
       | inl some ↦
           let own = place-there records joined 0 some in
@@ -223,15 +223,15 @@ joined-issued first records none =
       | inr not_one ↦ omega (arith, not_one)
     ]
 
-pub joined-own : (kind : Kind) (first : ℕ) (records : Records) (from : ℕ) → NoneHadBeyond first records
-    → updates_had kind (Join (replica_count first records) from ∷ records) (replica_count first records)
+pub joined-own : (kind : Kind) (founders : ℕ) (records : Records) (from : ℕ) → NoneHadBeyond founders records
+    → updates_had kind (Join (replica_count founders records) from ∷ records) (replica_count founders records)
     ≡ updates_had kind records from
-joined-own kind first records from none =
-    let joined = replica_count first records in
+joined-own kind founders records from none =
+    let joined = replica_count founders records in
     let now = Join joined from ∷ records in
     ap (updates_had_of now joined) (order_later kind (Join joined from) records)
     ∙ among-same (had now joined) (had records from) (named_labels kind records) (λ l there.
-    joined-labels first records from l.number none)
+    joined-labels founders records from l.number none)
 
 pub joined-others : (kind : Kind) (records : Records) (joined from replica : ℕ) → ¬ (joined ≡ replica)
     → updates_had kind (Join joined from ∷ records) replica ≡ updates_had kind records replica

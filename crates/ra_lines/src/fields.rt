@@ -1,6 +1,6 @@
 //! Bytes, cut into pieces.
 ghost use Rattle.std.specs.Prelude.{◌≡◌, ◌≢◌, ◌∷◌, [], All, MatchOption};
-ghost use Rattle.ra_lines.specs.Fields.{IsCutAt, pieces_at};
+ghost use Rattle.ra_lines.specs.Fields.{IsCutAt};
 ghost use Rattle.ra_lines.specs.Reading.{mark_first};
 ghost use Rattle.ra_lines.specs.Grammar.{fields_of, marked};
 

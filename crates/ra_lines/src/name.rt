@@ -1,8 +1,8 @@
 //! Names of replicas.
-ghost use Rattle.std.specs.Prelude.{◌≡◌, ◌≤◌, ℕ, ◌++◌, ◌∷◌, ◌||◌, [], List, IfOk, IfErr, IfSome, IsNone, OnOk, OnErr, IsErrOf, not, length, map, bytes_eq, option_copied, slice_get};
+ghost use Rattle.std.specs.Prelude.{◌≡◌, ◌≤◌, ℕ, ◌++◌, ◌∷◌, ◌||◌, [], List, IfOk, IfErr, IfSome, IsNone, OnOk, OnErr, IsErrOf, not, length, bytes_eq, option_copied, slice_get};
 ghost use Rattle.std.specs.List.{list_all, list_any};
 ghost use Rattle.ra_lines.specs.Grammar as grammar;
-ghost use Rattle.ra_lines.specs.Grammar.{has_form_of_name, is_reserved, index_of_name, ListsNames, AreNames};
+ghost use Rattle.ra_lines.specs.Grammar.{has_form_of_name, index_of_name, ListsNames, AreNames};
 ghost use Rattle.ra_lines.specs.Reading.{replica_read};
 ghost use Rattle.ra_lines.specs.Names.{AreNamesSoFar, MayJoin, bytes_of_each, texts_of, is_bad_behind, AreDistinctNames, IsFirstBad, IsFaultOf, StopsAdding};
 ghost use Rattle.ra_lines.specs.declared.format.Format.TheVariants.{Rah2};

@@ -1,5 +1,5 @@
 //! A text that is read line by line.
-ghost use Rattle.std.specs.Prelude.{◌≡◌, true, ℕ, List, IfOk, IfErr, OnOk, OnErr, IsErrOf, string_bytes};
+ghost use Rattle.std.specs.Prelude.{◌≡◌, true, IfOk, IfErr, OnOk, OnErr, IsErrOf, string_bytes};
 ghost use Rattle.ra_lines.specs.Grammar.{is_name, new_name};
 ghost use Rattle.ra_labels.specs.Laws.{is_join};
 ghost use Rattle.ra_lines.specs.Lines.{Gives, SpellsItem, IsItemOf, HasNames, names_in, with_name};

@@ -1,5 +1,5 @@
 //! The accepted commands as what they amount to: a command is taken here, refused or answered.
-ghost use Rattle.std.specs.Prelude.{◌≡◌, ℕ, ◌+◌, ◌<◌, ◌≤◌, ◌∷◌, [], map, IfOk, OnErr, OnOk, Option, None};
+ghost use Rattle.std.specs.Prelude.{◌≡◌, ℕ, ◌+◌, ◌<◌, ◌≤◌, [], map, IfOk, OnErr, OnOk, Option, None};
 ghost use Rattle.ra_labels.specs.declared.operation.Op.{Op};
 ghost use Rattle.ra_labels.specs.Records.{Records, label_count, replica_count, next_label};
 ghost use Rattle.ra_labels.specs.Visibility.{had};
@@ -172,8 +172,8 @@ impl History {
 
     // The first refusal that a join deserves, if any.
     fn refusal_of_join(&self, replica: u8, from: u8) -> Option<Refusal>
-        ensures first { (first : ℕ) (records : Records) → self.now.replicas ≡ replica_count first records
-            → refusal_of_join first records replica from ≡ result }
+        ensures first { (founders : ℕ) (records : Records) → self.now.replicas ≡ replica_count founders records
+            → refusal_of_join founders records replica from ≡ result }
         ensures few { result ≡ None → self.now.replicas < MOST_REPLICAS }
     {
         if from >= self.replicas || replica > self.replicas {

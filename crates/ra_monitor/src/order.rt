@@ -1,5 +1,5 @@
 //! The named order of each kind.
-ghost use Rattle.std.specs.Prelude.{[], IfOk};
+ghost use Rattle.std.specs.Prelude.{IfOk};
 ghost use Rattle.ra_monitor.specs.Order.{IsOrderOf};
 ghost use Rattle.ra_labels.specs.Situation.{nothing_yet};
 

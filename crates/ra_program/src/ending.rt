@@ -1,5 +1,5 @@
 //! How the program ends.
-ghost use Rattle.std.specs.Prelude.{◌≡◌, codes};
+ghost use Rattle.std.specs.Prelude.{codes};
 ghost use Rattle.ra_history_text.specs.Faults.{check_fault_words};
 ghost use Rattle.ra_program.specs.Endings.{StopsProgram};
 

@@ -113,10 +113,10 @@ join-stays list arrivals edits records replica joined from held other =
     (had (Join joined from ∷ records) replica) (had_by_new records joined from replica other) held
 
 -- and it has the list of the other one
-pub join-copied : (list : ReplicaList) (arrivals : List Arrival) (edits : List (Option Edit)) (first : ℕ)
-    (records : Records) (from : ℕ) → NoneHadBeyond first records → IsListOf list arrivals edits records from
-    → let joined = replica_count first records in IsListOf list arrivals edits (Join joined from ∷ records) joined
-join-copied list arrivals edits first records from beyond held =
-    let joined = replica_count first records in
+pub join-copied : (list : ReplicaList) (arrivals : List Arrival) (edits : List (Option Edit)) (founders : ℕ)
+    (records : Records) (from : ℕ) → NoneHadBeyond founders records → IsListOf list arrivals edits records from
+    → let joined = replica_count founders records in IsListOf list arrivals edits (Join joined from ∷ records) joined
+join-copied list arrivals edits founders records from beyond held =
+    let joined = replica_count founders records in
     joined_alike list arrivals edits records joined from (had records from) (had (Join joined from ∷ records) joined)
-    (λ n. sym (a_new_replica_had_what_the_other_had-labels first records from n beyond)) held
+    (λ n. sym (a_new_replica_had_what_the_other_had-labels founders records from n beyond)) held

@@ -47,9 +47,9 @@ pub fn a_list_stays_with_what_others_do()
 
 /// A list of the replica from which a new one joins is one of the new replica.
 pub fn a_new_replica_has_the_list_of_the_other()
-    ensures { (list : ReplicaList) (arrivals : List Arrival) (edits : List (Option Edit)) (first : ℕ)
-        (records : Records) (from : ℕ) → NoneHadBeyond first records → IsListOf list arrivals edits records from
-        → let joined = replica_count first records in
+    ensures { (list : ReplicaList) (arrivals : List Arrival) (edits : List (Option Edit)) (founders : ℕ)
+        (records : Records) (from : ℕ) → NoneHadBeyond founders records → IsListOf list arrivals edits records from
+        → let joined = replica_count founders records in
         IsListOf list arrivals edits (Join joined from ∷ records) joined }
 {}
 

@@ -1,18 +1,17 @@
 //! The list of one replica of an RGA, after those of its updates that do not wait for another one.
-ghost use Rattle.std.specs.Prelude.{◌≡◌, ℕ, ◌+◌, ◌<◌, ◌≤◌, ◌^◌, Bool, true, false, List, ◌++◌, ◌∷◌, [], length, Option, Some, None, IfOk, OnOk, OnErr, if◌then◌else◌};
+ghost use Rattle.std.specs.Prelude.{◌≡◌, ℕ, ◌+◌, ◌<◌, ◌≤◌, ◌^◌, Bool, true, false, List, ◌++◌, ◌∷◌, [], length, Option, Some, None, IfOk, OnErr, if◌then◌else◌};
 ghost use Rattle.std.specs.Option.{option_copied};
 ghost use Rattle.ra_labels.specs.declared.kind.Kind.TheVariants.{Rga};
 ghost use Rattle.ra_labels.specs.declared.operation.Update.TheVariants.{After, RgaRemove};
-ghost use Rattle.ra_labels.specs.declared.label.Label.{Label};
 ghost use Rattle.ra_labels.specs.declared.command.Command.TheVariants.{Deliver};
 ghost use Rattle.ra_labels.specs.Records.{Records, label_count};
 ghost use Rattle.ra_labels.specs.Visibility.{had};
 ghost use Rattle.ra_labels.specs.Rewriting.{updates_of};
-ghost use Rattle.ra_labels.specs.Specification.{Listed, state_after, is_admitted};
+ghost use Rattle.ra_labels.specs.Specification.{Listed, state_after};
 ghost use Rattle.ra_labels.specs.Linearization.{extends_visibility, updates_admitted};
-ghost use Rattle.ra_labels.specs.NamedOrder.{greater_of, named_labels, named_sequence};
+ghost use Rattle.ra_labels.specs.NamedOrder.{greater_of, named_sequence};
 ghost use Rattle.ra_labels.specs.Laws.{StampsAreOneLabels, elements_in};
-ghost use Rattle.ra_labels.specs.Insertion.{updates_passing, updates_had, updates_among, Makes};
+ghost use Rattle.ra_labels.specs.Insertion.{updates_passing, updates_had, Makes};
 ghost use Rattle.ra_labels.specs.Situation.{Next, operate, label_of};
 ghost use Rattle.ra_labels.specs.Waiting.{is_there};
 ghost use Rattle.ra_element_list.specs.ElementList.{Arrival, ElementList, root, arrival_at, is_marked, IsNearestBefore};

@@ -1,7 +1,7 @@
 //! The pairs of an OR-Set, which rise by element and then by identifier.
 ghost use Rattle.std.specs.Prelude.{◌≡◌, ◌↔◌, IsTrue, IfOk};
 ghost use Rattle.std.specs.BTreeSet.{IsOrdered};
-ghost use Rattle.ra_labels.specs.Lists.{pair_cmp, identifiers_of, elements_of, without_pairs};
+ghost use Rattle.ra_labels.specs.Lists.{pair_cmp, identifiers_of, without_pairs};
 ghost use Rattle.ra_seqspec.specs.Pairs.{distinct_elements};
 
 use ra_labels::{Elements, NoMemory};

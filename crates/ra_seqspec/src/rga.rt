@@ -1,5 +1,5 @@
 //! The list of an RGA, as nodes with links.
-ghost use Rattle.std.specs.Prelude.{◌≡◌, ◌↔◌, ℕ, ◌+◌, ◌≤◌, ◌<◌, ◌&&◌, ◌||◌, ◌==◌, nat_eq, is_some, ◌∷◌, [], length, true, false, not, IsTrue, IfOk, IsOk, IfSome, OnOk, OnErr, Some, if◌then◌else◌};
+ghost use Rattle.std.specs.Prelude.{◌≡◌, ◌↔◌, ℕ, ◌+◌, ◌≤◌, ◌<◌, ◌||◌, ◌==◌, nat_eq, is_some, ◌∷◌, [], length, true, false, not, IsTrue, IfOk, IsOk, OnOk, OnErr, Some, if◌then◌else◌};
 ghost use Rattle.std.specs.Vec.{vec_len, vec_capacity};
 ghost use Rattle.std.specs.HashMap.{get, spare};
 ghost use Rattle.ra_labels.specs.Lists.{is_among, insert_after, hide, shown};

@@ -1,5 +1,5 @@
 //! How a lock is opened and its passes are dealt out.
-ghost use Rattle.std.specs.Prelude.{◌≡◌, ◌+◌, ◌-◌, ◌<◌, ◌≤◌, ◌⊎◌, [], map, All, IfOk, IsOkUnless, Some};
+ghost use Rattle.std.specs.Prelude.{◌≡◌, ◌-◌, ◌<◌, ◌≤◌, ◌⊎◌, [], map, All, IfOk, IsOkUnless, Some};
 ghost use Rattle.std.specs.List.{range_with_len};
 ghost use Rattle.ra_ticket.specs.Steps.{IsSeated, IsPart};
 ghost use Rattle.ra_ticket.specs.Views.{stage_of, numbers_of, seen_of};

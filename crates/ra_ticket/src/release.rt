@@ -1,5 +1,5 @@
 //! How a pass publishes its entry and gives the journal back.
-ghost use Rattle.std.specs.Prelude.{◌≡◌, ℕ, ◌+◌, ◌≤◌, [], ◌∷◌, Some, None};
+ghost use Rattle.std.specs.Prelude.{◌≡◌, ℕ, ◌+◌, ◌≤◌, [], ◌∷◌, Some};
 ghost use Rattle.ra_journal.specs.Log.{readings, IsLegal};
 ghost use Rattle.ra_ticket.specs.Steps.{IsSeated, IsSameSeat, HoldsPublished, HoldsAhead, MayPublish};
 ghost use Rattle.ra_ticket.specs.Views.{stage_of, serving_of, seen_of};

@@ -1,9 +1,10 @@
 -- A run that is made two.
 use Rattle.std.proofs.Common.{◌≡◌, ◌≢◌, ℕ, zero, suc, ◌+◌, ◌<◌, true, List, [], ◌∷◌, ◌++◌, length, get_or, sym, ap, ◌∙◌, subst, refl, arith, append_assoc}
 use Rattle.std.specs.Prelude.{set, nat_lt}
-use Rattle.std.specs.List.{AllByRecursion, insert, list_all}
+use Rattle.std.specs.List.{AllByRecursion, list_all}
 use Rattle.std.proofs.lemmas.Bool.{lt-ltb, ltb-true, and_from, and_parts}
 use Rattle.ra_labels.specs.NamedOrder.{lowest_rank}
+use Rattle.ra_labels.proofs.Halves.{halved, halved_is, length_halved}
 use Rattle.ra_time_order.specs.declared.entry.Entry.{Entry}
 use Rattle.ra_time_order.specs.declared.run.Run.{Run}
 use Rattle.ra_time_order.specs.Positions.{no_entry}
@@ -14,37 +15,11 @@ use Rattle.ra_time_order.proofs.Each.{each_left, each_right, each_at, each_from,
 use Rattle.ra_time_order.proofs.RisingRanks.{rise_round}
 use Rattle.ra_time_order.proofs.Runs.{before_first, own_first}
 
--- the runs with the two halves in the place of the run
-split_runs : List Run → ℕ → Run → Run → List Run
-split_runs [] at left right = []
-split_runs (run ∷ runs) zero left right = left ∷ right ∷ runs
-split_runs (run ∷ runs) (suc at) left right = run ∷ split_runs runs at left right
-
-step : (at : ℕ) → suc at + 1 ≡ suc (at + 1)
-step at = omega arith
-
-split_is : (runs : List Run) (at : ℕ) (left right : Run) → at < length runs
-    → insert (set runs at left) (at + 1) right ≡ split_runs runs at left right
-unfolding split_runs
-split_is [] at left right there = absurd (omega arith)
-split_is (run ∷ runs) zero left right there = refl
-split_is (run ∷ runs) (suc at) left right there =
-    ap (λ k. insert (set (run ∷ runs) (suc at) left) k right) (step at)
-    ∙ ap (λ rs. run ∷ rs) (split_is runs at left right (omega arith))
-
 module _ (left right : Run) where
-  length_split : (runs : List Run) (at : ℕ) → at < length runs
-      → length (split_runs runs at left right) ≡ length runs + 1
-  unfolding split_runs
-  length_split [] at there = absurd (omega arith)
-  length_split (run ∷ runs) zero there = omega arith
-  length_split (run ∷ runs) (suc at) there = omega (arith, length_split runs at (omega arith))
-
   -- the labels stay
   joined_split : (runs : List Run) (at : ℕ) (d : Run) → at < length runs
       → left.chunk.entries ++ right.chunk.entries ≡ (get_or runs at d).chunk.entries
-      → joined (split_runs runs at left right) ≡ joined runs
-  unfolding split_runs
+      → joined (halved runs at left right) ≡ joined runs
   joined_split [] at d there same = absurd (omega arith)
   joined_split (run ∷ runs) zero d there same =
       sym (append_assoc left.chunk.entries right.chunk.entries (joined runs)) ∙ ap (λ xs. xs ++ joined runs) same
@@ -54,8 +29,7 @@ module _ (left right : Run) where
   -- each has room, where each other one had
   room_split : (runs : List Run) (at : ℕ) → at < length runs → 0 < left.chunk.room → 0 < right.chunk.room
       → ((k : ℕ) (d : Run) → k < length runs → k ≢ at → 0 < (get_or runs k d).chunk.room)
-      → AllByRecursion HasRoom (split_runs runs at left right)
-  unfolding split_runs
+      → AllByRecursion HasRoom (halved runs at left right)
   room_split [] at there room_left room_right room = absurd (omega arith)
   room_split (run ∷ runs) zero there room_left room_right room = (
     room_left,
@@ -73,8 +47,7 @@ module _ (left right : Run) where
 
   lowest_split : (runs : List Run) (at : ℕ) (d : Run) → at < length runs → left.first ≡ (get_or runs at d).first
       → ((d : Run) → (get_or runs 0 d).first ≡ lowest_rank) → (d : Run)
-      → (get_or (split_runs runs at left right) 0 d).first ≡ lowest_rank
-  unfolding split_runs
+      → (get_or (halved runs at left right) 0 d).first ≡ lowest_rank
   lowest_split [] at d there first lowest e = absurd (omega arith)
   lowest_split (run ∷ runs) zero d there first lowest e = first ∙ lowest e
   lowest_split (run ∷ runs) (suc at) d there first lowest e = lowest e
@@ -129,8 +102,7 @@ module _ (left right : Run) where
         → AreBetween before runs → Rise (before ++ joined runs)
         → left.chunk.entries ++ right.chunk.entries ≡ (get_or runs at d).chunk.entries
         → left.first ≡ (get_or runs at d).first
-        → AreBetween before (split_runs runs at left right)
-    unfolding split_runs
+        → AreBetween before (halved runs at left right)
     between_split before [] at d there between rise same first = absurd (omega arith)
     between_split before (run ∷ runs) zero d there between rise same first =
         between_here before run runs between rise same first
@@ -146,7 +118,7 @@ module _ (left right : Run) where
           between.0,
           subst (λ xs. AllByRecursion (From run.first) (run.chunk.entries ++ xs))
               (sym (joined_split runs at d short same)) between.1,
-          subst (AllByRecursion (StartsFrom run.first)) (split_is runs at left right short)
+          subst (AllByRecursion (StartsFrom run.first)) (halved_is runs at left right short)
               (each_insert (StartsFrom run.first) (set runs at left) (at + 1) right
               (each_set (StartsFrom run.first) runs at left between.2 (subst (AtMost run.first) (sym first) its))
               (at_most_through run.first (get_or runs at d).first right.first its over)),
@@ -164,20 +136,20 @@ pub split_keeps : (runs new : List Run) (labels at : ℕ) → RunsKept runs labe
     → (joined new ≡ joined runs) × RunsKept new labels at × AllByRecursion HasRoom new
 split_keeps runs new labels at kept (left, right, halves, made) =
     let there = kept.there in
-    let is : new ≡ split_runs runs at left right = made ∙ split_is runs at left right there in
+    let is : new ≡ halved runs at left right = made ∙ halved_is runs at left right there in
     let same = joined_split left right runs at left there halves.entries in
     let head = head_of right.chunk.entries no_entry halves.some in
     let first : head.0.rank ≡ right.first = ap (λ (e : Entry). e.rank) head.3 ∙ halves.begins in
     let between = between_split left right head.0 head.1 head.2 first [] runs at left there kept.between kept.rise
     halves.entries halves.first in
     let room = room_split left right runs at there halves.left_room halves.right_room kept.room in
-    let after : RunsKept (split_runs runs at left right) labels at = record {
+    let after : RunsKept (halved runs at left right) labels at = record {
       count = kept.count ∙ ap (λ xs. length xs) (sym same);
-      there = omega (arith, there, length_split left right runs at there);
+      there = omega (arith, there, length_halved runs at left right there);
       rise = subst Rise (sym same) kept.rise;
       between = between;
       lowest = lowest_split left right runs at left there halves.first kept.lowest;
-      room = λ k d high other. each_at HasRoom (split_runs runs at left right) k d room high;
+      room = λ k d high other. each_at HasRoom (halved runs at left right) k d room high;
     } in (
       ap joined is ∙ same,
       subst (λ rs. RunsKept rs labels at) (sym is) after,

@@ -81,7 +81,7 @@ module _ (records : Records) (next : Next) (seen : Seen)
     | inr older ↦ older
   ]
 
-  module _ (stamps : List (List Stamp)) (first : ℕ) (are : AreGreatestOf stamps first records) where
+  module _ (stamps : List (List Stamp)) (founders : ℕ) (are : AreGreatestOf stamps founders records) where
     -- so far: of the first replicas
     record SoFar (q : ℕ) (s : Stamp) : Type 0 where
       above : (l : Label) (t : Stamp) → Contains (labels_of records) l → sees now n l.number ≡ true → l.replica < q

@@ -128,7 +128,7 @@ module _ (records : Records) (next : Next) where
       (λ both. let parts = and_parts (next.by == q) (is_update next.op) both in
       not_own (eqb-true next.by q parts.0) parts.1))
 
-  module _ (stamps : List (List Stamp)) (first : ℕ) (are : AreGreatestOf stamps first records)
+  module _ (stamps : List (List Stamp)) (founders : ℕ) (are : AreGreatestOf stamps founders records)
       (known : next.by < length stamps) where
     abbrev with_it : List (List Stamp)
     with_it = stamps_with stamps next.by (is_update next.op) x.stamp
@@ -240,7 +240,7 @@ module _ (records : Records) (next : Next) where
       | inr older ↦ omega (arith, are.known label older, length_with (is_update next.op))
     ]
 
-    pub greatest_with_label : AreGreatestOf with_it first now
+    pub greatest_with_label : AreGreatestOf with_it founders now
     greatest_with_label = record {
       replicas = omega (arith, are.replicas, length_with (is_update next.op));
       places = omega (arith, are.places, length_with (is_update next.op));

@@ -23,9 +23,9 @@ IsAmong records replica count label =
     × (place_of records label.number < count)
 
 -- of each replica the greatest own stamp among its first updates, for each number of them
-pub record AreGreatestOf (stamps : List (List Stamp)) (first : ℕ) (records : Records) : Type 0 where
+pub record AreGreatestOf (stamps : List (List Stamp)) (founders : ℕ) (records : Records) : Type 0 where
   -- there is one for each replica, and for those that come later
-  pub replicas : replica_count first records ≤ length stamps
+  pub replicas : replica_count founders records ≤ length stamps
   pub places : MOST_REPLICAS ≤ length stamps
   pub known : (label : Label) → Contains (labels_of records) label → label.replica < length stamps
   pub updates : (q : ℕ) → q < length stamps → length (stamps_at stamps q) ≡ updates_issued records q

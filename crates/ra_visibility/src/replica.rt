@@ -1,5 +1,5 @@
 //! What is kept of one replica: its updates in turn, and how many of each other one it had.
-ghost use Rattle.std.specs.Prelude.{◌≡◌, ◌<◌, ◌≤◌, ℕ, IfOk, OnOk, OnErr, Option, Some, None, true, length, get_or};
+ghost use Rattle.std.specs.Prelude.{◌≡◌, ◌<◌, IfOk, OnOk, OnErr, Option, None, true, length, get_or};
 ghost use Rattle.ra_visibility.specs.Replica.{new_replica, joined_from, with_own, without_own, stored_at, with_next, without_last};
 
 use crate::stored::Stored;

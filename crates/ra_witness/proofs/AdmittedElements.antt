@@ -76,7 +76,7 @@ makes_removal op x is = subst (λ o. Makes o (RgaRemove x)) (sym is)
     (Whole, at_head (Whole, Does (RgaRemove x)) [] (Whole, Does (RgaRemove x)) refl)
 
 module _ (all : ElementList) (edits : List (Option Edit)) (records : Records) (are : AreElementsOf all edits records)
-    (first : ℕ) (next : Next) (label : Label) (offered : IsOffered (past_of variant.Rga first records) next label) where
+    (founders : ℕ) (next : Next) (label : Label) (offered : IsOffered (past_of variant.Rga founders records) next label) where
   abbrev now : Records
   now = operate next ∷ records
 
@@ -104,7 +104,7 @@ module _ (all : ElementList) (edits : List (Option Edit)) (records : Records) (a
 
     pub some_clock : 1 ≤ stamp.clock
     some_clock =
-        let (at, clock, least, known) = has_stamp (past_of variant.Rga first records) next label offered (ap carries_stamp is) in
+        let (at, clock, least, known) = has_stamp (past_of variant.Rga founders records) next label offered (ap carries_stamp is) in
         let same : stamp ≡ stamp_at next.by at = same_Some stamp (stamp_at next.by at) (sym stamped ∙ known) in
         let clocks = ap (λ (s : Stamp). s.clock) same in
         omega (arith, least, clocks)
@@ -187,7 +187,7 @@ module _ (all : ElementList) (edits : List (Option Edit)) (records : Records) (a
 
   module _ (x : ℕ) (is : next.op ≡ ops.RgaRemove x) where
     pub unclocked : next.clock ≡ None
-    unclocked = (its_clock (past_of variant.Rga first records) next label offered).1 (ap carries_stamp is)
+    unclocked = (its_clock (past_of variant.Rga founders records) next label offered).1 (ap carries_stamp is)
 
   module _ (x : ℕ) (is : next.op ≡ ops.RgaRemove x) (greatest : Stamp) (ranks : timestamp_of now own ≡ greatest) where
     -- a removal stands behind the labels that rank with it

@@ -42,9 +42,9 @@ elements_like a b edits records same_elements same_arrivals are =
     subst (λ es. AreElementsOf (record { elements = es; arrivals = b.arrivals; has_room = b.has_room }) edits records) same_elements
     (subst (λ rs. AreElementsOf (record { elements = a.elements; arrivals = rs; has_room = b.has_room }) edits records) same_arrivals roomy)
 
-pub rga_like : (a b : Rga) (first : ℕ) (records : Records) → a.all.elements ≡ b.all.elements → a.all.arrivals ≡ b.all.arrivals → a.edits.items ≡ b.edits.items → a.lists.items ≡ b.lists.items
-    → IsRgaOf a first records → IsRgaOf b first records
-rga_like a b first records same_elements same_arrivals same_edits same_lists stands = record {
+pub rga_like : (a b : Rga) (founders : ℕ) (records : Records) → a.all.elements ≡ b.all.elements → a.all.arrivals ≡ b.all.arrivals → a.edits.items ≡ b.edits.items → a.lists.items ≡ b.lists.items
+    → IsRgaOf a founders records → IsRgaOf b founders records
+rga_like a b founders records same_elements same_arrivals same_edits same_lists stands = record {
   elements = subst (λ ds. AreElementsOf b.all ds records) same_edits (elements_like a.all b.all a.edits.items records same_elements same_arrivals stands.elements);
   replicas = ap length (sym same_lists) ∙ stands.replicas;
   lists =

@@ -193,10 +193,13 @@ module _ (writes : List (Option Written)) (lasts : List (List (Option ℕ))) (nu
       Contains-permutation (named_labels past.kind now) (labels_of now) other (IsPermutation-sym (labels_of now) (named_labels past.kind now) (named_labels_are_sorted-same past.kind now)) named
 
 -- of a register
-module _ (writes : List (Option Written)) (lasts : List (List (Option ℕ))) (number_of : ℕ → Option ℕ) (states : List State) (first : ℕ)
-    (records : Records) (to n : ℕ) (sorts : IsByTimestamp Register) (kept : AreStatesOf (updates_written writes) states (past_of Register first records)) (are : AreWritesOf writes number_of records)
+module _ (writes : List (Option Written)) (lasts : List (List (Option ℕ))) (number_of : ℕ → Option ℕ) (states : List State) (founders : ℕ)
+    (records : Records) (to n : ℕ) (sorts : IsByTimestamp Register) (kept : AreStatesOf (updates_written writes) states (past_of Register founders records)) (are : AreWritesOf writes number_of records)
     (lastof : AreLastOf writes lasts records) (once : StampsAreOneLabels records) (holds : Holds Register records) (within : to < length lasts) (there : to < length states)
     (it : IsNewWrite writes records to n) where
+  abbrev past_r : Past
+  past_r = past_of Register founders records
+
   abbrev now_r : Records
   now_r = Deliver to n ∷ records
 
@@ -215,41 +218,44 @@ module _ (writes : List (Option Written)) (lasts : List (List (Option ℕ))) (nu
   none_had : (before behind : List Label) → named_labels Register now_r ≡ before ++ last_r.label ∷ behind → (other : Label) → Contains behind other → had now_r to other.number ≡ false
   none_had before behind is other late = elim (cases_Bool (had now_r to other.number)) [
     | inl h ↦
-        let found = named_there writes lasts number_of states (past_of Register first records) to n not_rga sorts kept are lastof once holds within there it before behind is other late in
+        let found = named_there writes lasts number_of states past_r to n not_rga sorts kept are lastof once holds within there it before behind is other late in
         let (u, makes) = had_makes now_r to other found h in
         let (v, at, same) = its_write writes now_r other u kept.labels found makes in
         let on : v.on ≡ it.write.on = on_zero other v found at ∙ sym (on_zero it.label it.write it.there (ap (write_at writes) it.number ∙ it.found)) in
-        absurd (none_on writes lasts number_of states (past_of Register first records) to n not_rga sorts kept are lastof once holds within there it before behind is other v late h at on)
+        absurd (none_on writes lasts number_of states past_r to n not_rga sorts kept are lastof once holds within there it before behind is other v late h at on)
     | inr not_had ↦ not_had
   ]
 
   last_value : (value : ℕ) → last_r.write.update ≡ Write value → last_written (updates_had Register now_r to) ≡ Some value
   last_value value is_write =
-      let (before, behind, is) = split Register writes number_of now_r to it.write.on (counting writes lasts to n it.write) sorts kept.labels (are_now writes lasts number_of states (past_of Register first records) to n not_rga sorts kept are lastof once holds within there it) last_r in
-      let makes = last_own writes lasts number_of states (past_of Register first records) to n not_rga sorts kept are lastof once holds within there it in
+      let (before, behind, is) = split Register writes number_of now_r to it.write.on (counting writes lasts to n it.write) sorts kept.labels (are_now writes lasts number_of states past_r to n not_rga sorts kept are lastof once holds within there it) last_r in
+      let makes = last_own writes lasts number_of states past_r to n not_rga sorts kept are lastof once holds within there it in
       the_last_label_has_the_last_update-register now_r (had now_r to) before behind last_r.label value is (subst (λ u. Makes last_r.label.op u) is_write makes)
       (ap (had now_r to) last_r.number ∙ last_r.had_it) (none_had before behind is)
 
   register_step : state_after Register (updates_had Register (Deliver to it.label.number ∷ records) to) ≡ then_step (state_after Register (updates_had Register records to)) last_r.write.update
   register_step =
-      let makes = its_makes writes lasts number_of states (past_of Register first records) to n not_rga sorts kept are lastof once holds within there it in
+      let makes = its_makes writes lasts number_of states past_r to n not_rga sorts kept are lastof once holds within there it in
       let own = only_writes it.write.update (done_of_kind Register records it.label it.write.update holds it.there makes) in
-      let last_makes_it = last_own writes lasts number_of states (past_of Register first records) to n not_rga sorts kept are lastof once holds within there it in
+      let last_makes_it = last_own writes lasts number_of states past_r to n not_rga sorts kept are lastof once holds within there it in
       let counted = only_writes last_r.write.update (done_of_kind Register records last_r.label last_r.write.update holds last_r.there last_makes_it) in
       let says = subst (λ m. last_written (updates_had Register (Deliver to m ∷ records) to) ≡ Some counted.0) (sym it.number) (last_value counted.0 counted.1) in
       a_delivery_is_one_step-register records to it.label own.0 counted.0 it.there (subst (λ u. Makes it.label.op u) own.1 makes)
-      (its_new writes lasts number_of states (past_of Register first records) to n not_rga sorts kept are lastof once holds within there it)
-      (admitted writes lasts number_of states (past_of Register first records) to n not_rga sorts kept are lastof once holds within there it) says
+      (its_new writes lasts number_of states past_r to n not_rga sorts kept are lastof once holds within there it)
+      (admitted writes lasts number_of states past_r to n not_rga sorts kept are lastof once holds within there it) says
       ∙ ap (then_step (state_after Register (updates_had Register records to))) (sym counted.1)
 
-  pub kept-register : AreStatesOf (updates_written writes) (states_after states to (update_at (updates_written writes) (counting writes lasts to n it.write))) (past_of Register first (Deliver to n ∷ records))
-  kept-register = kept-made writes lasts number_of states (past_of Register first records) to n not_rga sorts kept are lastof once holds within there it register_step
+  pub kept-register : AreStatesOf (updates_written writes) (states_after states to (update_at (updates_written writes) (counting writes lasts to n it.write))) (past_of Register founders (Deliver to n ∷ records))
+  kept-register = kept-made writes lasts number_of states past_r to n not_rga sorts kept are lastof once holds within there it register_step
 
 -- of an LWW set
-module _ (writes : List (Option Written)) (lasts : List (List (Option ℕ))) (number_of : ℕ → Option ℕ) (states : List State) (first : ℕ)
-    (records : Records) (to n : ℕ) (sorts : IsByTimestamp LwwSet) (kept : AreStatesOf (updates_written writes) states (past_of LwwSet first records)) (are : AreWritesOf writes number_of records)
+module _ (writes : List (Option Written)) (lasts : List (List (Option ℕ))) (number_of : ℕ → Option ℕ) (states : List State) (founders : ℕ)
+    (records : Records) (to n : ℕ) (sorts : IsByTimestamp LwwSet) (kept : AreStatesOf (updates_written writes) states (past_of LwwSet founders records)) (are : AreWritesOf writes number_of records)
     (lastof : AreLastOf writes lasts records) (once : StampsAreOneLabels records) (holds : Holds LwwSet records) (within : to < length lasts) (there : to < length states)
     (it : IsNewWrite writes records to n) where
+  abbrev past_s : Past
+  past_s = past_of LwwSet founders records
+
   abbrev now_s : Records
   now_s = Deliver to n ∷ records
 
@@ -261,7 +267,7 @@ module _ (writes : List (Option Written)) (lasts : List (List (Option ℕ))) (nu
 
   its_element : (x : ℕ) × (element_of it.write.update ≡ Some x)
   its_element =
-      let makes = its_makes writes lasts number_of states (past_of LwwSet first records) to n not_rga_s sorts kept are lastof once holds within there it in
+      let makes = its_makes writes lasts number_of states past_s to n not_rga_s sorts kept are lastof once holds within there it in
       on_element it.write.update (done_of_kind LwwSet records it.label it.write.update holds it.there makes)
 
   -- its number is that of the element
@@ -270,7 +276,7 @@ module _ (writes : List (Option Written)) (lasts : List (List (Option ℕ))) (nu
 
   last_element : (x : ℕ) → element_of it.write.update ≡ Some x → element_of last_s.write.update ≡ Some x
   last_element x is =
-      let makes = last_own writes lasts number_of states (past_of LwwSet first records) to n not_rga_s sorts kept are lastof once holds within there it in
+      let makes = last_own writes lasts number_of states past_s to n not_rga_s sorts kept are lastof once holds within there it in
       let y = on_element last_s.write.update (done_of_kind LwwSet records last_s.label last_s.write.update holds last_s.there makes) in
       let known = numbered number_of (element_of last_s.write.update) y.0 last_s.write.on y.1 (are.numbers (counting writes lasts to n it.write) last_s.write last_s.found) in
       y.1 ∙ ap Some (are.one y.0 x it.write.on (known ∙ ap Some last_s.on) (its_number x is))
@@ -279,18 +285,18 @@ module _ (writes : List (Option Written)) (lasts : List (List (Option ℕ))) (nu
       → (other : Label) (later : Update) → Contains behind other → had now_s to other.number ≡ true → Makes other.op later → acts_on x later ≡ false
   none_acts x element before behind is other later late h makes = elim (cases_Bool (acts_on x later)) [
     | inl acts ↦
-        let found = named_there writes lasts number_of states (past_of LwwSet first records) to n not_rga_s sorts kept are lastof once holds within there it before behind is other late in
+        let found = named_there writes lasts number_of states past_s to n not_rga_s sorts kept are lastof once holds within there it before behind is other late in
         let (v, at, same) = its_write writes now_s other later kept.labels found makes in
         let known = numbered number_of (element_of v.update) x v.on (ap element_of same ∙ there_acts x later acts) (are.numbers other.number v at) in
-        absurd (none_on writes lasts number_of states (past_of LwwSet first records) to n not_rga_s sorts kept are lastof once holds within there it before behind is other v late h at
+        absurd (none_on writes lasts number_of states past_s to n not_rga_s sorts kept are lastof once holds within there it before behind is other v late h at
         (same_Some v.on it.write.on (sym known ∙ its_number x element)))
     | inr elsewhere ↦ elsewhere
   ]
 
   last_update : (x : ℕ) → element_of it.write.update ≡ Some x → last_on x (updates_had LwwSet now_s to) ≡ Some last_s.write.update
   last_update x element =
-      let (before, behind, is) = split LwwSet writes number_of now_s to it.write.on (counting writes lasts to n it.write) sorts kept.labels (are_now writes lasts number_of states (past_of LwwSet first records) to n not_rga_s sorts kept are lastof once holds within there it) last_s in
-      let makes = last_own writes lasts number_of states (past_of LwwSet first records) to n not_rga_s sorts kept are lastof once holds within there it in
+      let (before, behind, is) = split LwwSet writes number_of now_s to it.write.on (counting writes lasts to n it.write) sorts kept.labels (are_now writes lasts number_of states past_s to n not_rga_s sorts kept are lastof once holds within there it) last_s in
+      let makes = last_own writes lasts number_of states past_s to n not_rga_s sorts kept are lastof once holds within there it in
       the_last_label_has_the_last_update-lww_set now_s (had now_s to) before behind last_s.label last_s.write.update x is makes
       (ap (had now_s to) last_s.number ∙ last_s.had_it) (acts_there x last_s.write.update (last_element x element)) (none_acts x element before behind is)
 
@@ -299,10 +305,10 @@ module _ (writes : List (Option Written)) (lasts : List (List (Option ℕ))) (nu
       let (x, element) = its_element in
       let says = subst (λ m. last_on x (updates_had LwwSet (Deliver to m ∷ records) to) ≡ Some last_s.write.update) (sym it.number) (last_update x element) in
       a_delivery_is_one_step-lww_set records to it.label it.write.update last_s.write.update x it.there
-      (its_makes writes lasts number_of states (past_of LwwSet first records) to n not_rga_s sorts kept are lastof once holds within there it)
-      (its_new writes lasts number_of states (past_of LwwSet first records) to n not_rga_s sorts kept are lastof once holds within there it)
-      (admitted writes lasts number_of states (past_of LwwSet first records) to n not_rga_s sorts kept are lastof once holds within there it)
+      (its_makes writes lasts number_of states past_s to n not_rga_s sorts kept are lastof once holds within there it)
+      (its_new writes lasts number_of states past_s to n not_rga_s sorts kept are lastof once holds within there it)
+      (admitted writes lasts number_of states past_s to n not_rga_s sorts kept are lastof once holds within there it)
       (acts_there x it.write.update element) says
 
-  pub kept-lww_set : AreStatesOf (updates_written writes) (states_after states to (update_at (updates_written writes) (counting writes lasts to n it.write))) (past_of LwwSet first (Deliver to n ∷ records))
-  kept-lww_set = kept-made writes lasts number_of states (past_of LwwSet first records) to n not_rga_s sorts kept are lastof once holds within there it set_step
+  pub kept-lww_set : AreStatesOf (updates_written writes) (states_after states to (update_at (updates_written writes) (counting writes lasts to n it.write))) (past_of LwwSet founders (Deliver to n ∷ records))
+  kept-lww_set = kept-made writes lasts number_of states past_s to n not_rga_s sorts kept are lastof once holds within there it set_step

@@ -35,9 +35,9 @@ none_half (l ∷ ls) zero other = no_half l.op (other l (at_head l ls l refl))
 none_half (l ∷ ls) (suc n) other = none_half ls n (λ m there. other m (behind_head l ls m there))
 
 -- labels of another kind have none
-pub none_has_halves : (kind : Kind) (first : ℕ) (records : Records) (n : ℕ) → ¬ (kind ≡ OrSet) → EachLabelFits kind first records
+pub none_has_halves : (kind : Kind) (founders : ℕ) (records : Records) (n : ℕ) → ¬ (kind ≡ OrSet) → EachLabelFits kind founders records
     → has_query_half (slice_get (updates_by_number records) n) ≡ false
-none_has_halves kind first records n other fits =
+none_has_halves kind founders records n other fits =
     let labels = labels_of records in
     none_half (reverse labels) n (λ l there is.
     other (sym (fits l (Contains-permutation (reverse labels) labels l (IsPermutation-sym labels (reverse labels) (IsPermutation-reverse labels)) there)).of_kind ∙ is))

@@ -76,10 +76,10 @@ module _ (writes : List (Option Written)) (records : Records) (joined from q r :
   none_alike : (element : ℕ) → NoneIsOn writes records r element → NoneIsOn writes (Join joined from ∷ records) q element
   none_alike element none label write there h at on = none label write there (sym (same label.number) ∙ h) at on
 
-module _ (writes : List (Option Written)) (lasts : List (List (Option ℕ))) (first : ℕ) (records : Records) (from : ℕ)
-    (last : AreLastOf writes lasts records) (counted : length lasts ≡ replica_count first records) (there : from < length lasts) (beyond : NoneHadBeyond first records) where
+module _ (writes : List (Option Written)) (lasts : List (List (Option ℕ))) (founders : ℕ) (records : Records) (from : ℕ)
+    (last : AreLastOf writes lasts records) (counted : length lasts ≡ replica_count founders records) (there : from < length lasts) (beyond : NoneHadBeyond founders records) where
   abbrev joined : ℕ
-  joined = replica_count first records
+  joined = replica_count founders records
 
   abbrev now : Records
   now = Join joined from ∷ records
@@ -88,7 +88,7 @@ module _ (writes : List (Option Written)) (lasts : List (List (Option ℕ))) (fi
   next = lasts ++ get_or lasts from [] ∷ []
 
   its_own : (q n : ℕ) → q ≡ joined → had now q n ≡ had records from n
-  its_own q n is = ap (λ r. had now r n) is ∙ a_new_replica_had_what_the_other_had-labels first records from n beyond
+  its_own q n is = ap (λ r. had now r n) is ∙ a_new_replica_had_what_the_other_had-labels founders records from n beyond
 
   of_others : (q n : ℕ) → ¬ (q ≡ joined) → had now q n ≡ had records q n
   of_others q n other = ap (λ b. (b && had records from n) || had records q n) (ne_eqb joined q (λ is. other (sym is)))

@@ -87,17 +87,17 @@ lists_pushed lists new arrivals edits records each own q list at = elim (pushed_
 ]
 
 -- with the list of a replica that joins, a copy of that from which it joins
-lists_joined : (lists : List ReplicaList) (list : ReplicaList) (arrivals : List Arrival) (edits : List (Option Edit)) (first : ℕ) (records : Records) (from : ℕ) → AreListsOf lists arrivals edits records
-    → length lists ≡ replica_count first records → IsListOf list arrivals edits records from → NoneHadBeyond first records
-    → AreListsOf (lists ++ list ∷ []) arrivals edits (Join (replica_count first records) from ∷ records)
-lists_joined lists list arrivals edits first records from each counted own beyond q other at =
-    let joined = replica_count first records in
+lists_joined : (lists : List ReplicaList) (list : ReplicaList) (arrivals : List Arrival) (edits : List (Option Edit)) (founders : ℕ) (records : Records) (from : ℕ) → AreListsOf lists arrivals edits records
+    → length lists ≡ replica_count founders records → IsListOf list arrivals edits records from → NoneHadBeyond founders records
+    → AreListsOf (lists ++ list ∷ []) arrivals edits (Join (replica_count founders records) from ∷ records)
+lists_joined lists list arrivals edits founders records from each counted own beyond q other at =
+    let joined = replica_count founders records in
     let now = Join joined from ∷ records in
     elim (pushed_at lists q list other at) [
       | inl (there, was) ↦ a_list_stays_with_what_others_do-join other arrivals edits records q joined from (each q other was) (λ is. omega (arith, there, counted, is))
       | inr (last, same) ↦
           subst (λ x. IsListOf x arrivals edits now q) same
-          (subst (λ (r : ℕ). IsListOf list arrivals edits now r) (sym (last ∙ counted)) (a_new_replica_has_the_list_of_the_other list arrivals edits first records from beyond own))
+          (subst (λ (r : ℕ). IsListOf list arrivals edits now r) (sym (last ∙ counted)) (a_new_replica_has_the_list_of_the_other list arrivals edits founders records from beyond own))
     ]
 
 -- the elements stay with later records of the same labels in the same order
@@ -146,12 +146,12 @@ told_edit all edits records n elements is =
     ] in
     made (update_in label.op) refl
 
-module _ (rga : Rga) (first : ℕ) (records : Records) (stands : IsRgaOf rga first records) (r : ℕ) (new : ReplicaList) (there : r < length rga.lists.items) where
+module _ (rga : Rga) (founders : ℕ) (records : Records) (stands : IsRgaOf rga founders records) (r : ℕ) (new : ReplicaList) (there : r < length rga.lists.items) where
   abbrev changed : Rga
   changed = record { edits = rga.edits; all = rga.all; lists = with_item rga.lists r new }
 
   -- with the delivery
-  pub rga_told : (n : ℕ) → IsListOf new rga.all.arrivals rga.edits.items (Deliver r n ∷ records) r → IsRgaOf changed first (Deliver r n ∷ records)
+  pub rga_told : (n : ℕ) → IsListOf new rga.all.arrivals rga.edits.items (Deliver r n ∷ records) r → IsRgaOf changed founders (Deliver r n ∷ records)
   rga_told n own = record {
     elements = elements_told rga.all rga.edits.items records r n stands.elements;
     replicas = length-set rga.lists.items r new ∙ stands.replicas;
@@ -161,7 +161,7 @@ module _ (rga : Rga) (first : ℕ) (records : Records) (stands : IsRgaOf rga fir
   }
 
   -- as it was
-  pub rga_same : IsListOf new rga.all.arrivals rga.edits.items records r → IsRgaOf changed first records
+  pub rga_same : IsListOf new rga.all.arrivals rga.edits.items records r → IsRgaOf changed founders records
   rga_same own = record {
     elements = stands.elements;
     replicas = length-set rga.lists.items r new ∙ stands.replicas;
@@ -170,28 +170,28 @@ module _ (rga : Rga) (first : ℕ) (records : Records) (stands : IsRgaOf rga fir
   }
 
 -- with a replica that joins
-pub rga_joined : (old new : Rga) (first : ℕ) (records : Records) (from : ℕ) (list : ReplicaList) → IsRgaOf old first records → IsJoinedFrom (past_of variant.Rga first records) from → slice_get old.lists.items from ≡ Some list
-    → new.edits ≡ old.edits → new.all ≡ old.all → new.lists.items ≡ old.lists.items ++ list ∷ [] → IsRgaOf new first (Join (replica_count first records) from ∷ records)
-rga_joined old new first records from list stands joins at edits all lists =
-    let now = Join (replica_count first records) from ∷ records in
+pub rga_joined : (old new : Rga) (founders : ℕ) (records : Records) (from : ℕ) (list : ReplicaList) → IsRgaOf old founders records → IsJoinedFrom (past_of variant.Rga founders records) from → slice_get old.lists.items from ≡ Some list
+    → new.edits ≡ old.edits → new.all ≡ old.all → new.lists.items ≡ old.lists.items ++ list ∷ [] → IsRgaOf new founders (Join (replica_count founders records) from ∷ records)
+rga_joined old new founders records from list stands joins at edits all lists =
+    let now = Join (replica_count founders records) from ∷ records in
     let same_edits : old.edits.items ≡ new.edits.items = sym (ap (λ ds. ds.items) edits) in
     let same_arrivals : old.all.arrivals ≡ new.all.arrivals = sym (ap (λ (es : ElementList). es.arrivals) all) in
     record {
       elements =
           subst (λ ds. AreElementsOf new.all ds now) same_edits
-          (subst (λ es. AreElementsOf es old.edits.items now) (sym all) (elements_joined old.all old.edits.items records (replica_count first records) from stands.elements));
+          (subst (λ es. AreElementsOf es old.edits.items now) (sym all) (elements_joined old.all old.edits.items records (replica_count founders records) from stands.elements));
       replicas = omega (arith, ap length lists, length-append old.lists.items (list ∷ []), stands.replicas);
       lists =
           subst (λ ls. AreListsOf ls new.all.arrivals new.edits.items now) (sym lists)
           (subst (λ ds. AreListsOf (old.lists.items ++ list ∷ []) new.all.arrivals ds now) same_edits
           (subst (λ rs. AreListsOf (old.lists.items ++ list ∷ []) rs old.edits.items now) same_arrivals
-          (lists_joined old.lists.items list old.all.arrivals old.edits.items first records from stands.lists stands.replicas (stands.lists from list at) joins.beyond)));
+          (lists_joined old.lists.items list old.all.arrivals old.edits.items founders records from stands.lists stands.replicas (stands.lists from list at) joins.beyond)));
       few = subst (λ rs. length rs ≤ label_count records + 1) same_arrivals stands.few;
     }
 
 -- where what is kept says the same
-pub rga_same_kept : (old new : Rga) (first : ℕ) (records : Records) → IsRgaOf old first records → new.edits.items ≡ old.edits.items → new.all ≡ old.all → new.lists.items ≡ old.lists.items → IsRgaOf new first records
-rga_same_kept old new first records stands edits all lists =
+pub rga_same_kept : (old new : Rga) (founders : ℕ) (records : Records) → IsRgaOf old founders records → new.edits.items ≡ old.edits.items → new.all ≡ old.all → new.lists.items ≡ old.lists.items → IsRgaOf new founders records
+rga_same_kept old new founders records stands edits all lists =
     let same_arrivals : old.all.arrivals ≡ new.all.arrivals = sym (ap (λ (es : ElementList). es.arrivals) all) in
     record {
       elements = subst (λ ds. AreElementsOf new.all ds records) (sym edits) (subst (λ es. AreElementsOf es old.edits.items records) (sym all) stands.elements);

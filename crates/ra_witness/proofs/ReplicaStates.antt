@@ -171,23 +171,23 @@ delivered_of_kind kind records to label holds there new u makes =
 new_there : (records : Records) (to n : ℕ) (label : Label) → IsUpdateAt records n label → had records to n ≡ false → had records to label.number ≡ false
 new_there records to n label at new = ap (had records to) at.number ∙ new
 
-pub kept-counter : (updates : List (Option Update)) (states : List State) (first : ℕ) (records : Records) (to n : ℕ) → AreStatesOf updates states (past_of Counter first records) → to < length states
+pub kept-counter : (updates : List (Option Update)) (states : List State) (founders : ℕ) (records : Records) (to n : ℕ) → AreStatesOf updates states (past_of Counter founders records) → to < length states
     → is_update_at records n ≡ true → had records to n ≡ false → Holds Counter records
-    → AreStatesOf updates (states_after states to (update_at updates n)) (past_of Counter first (Deliver to n ∷ records))
-kept-counter updates states first records to n kept there is new holds =
+    → AreStatesOf updates (states_after states to (update_at updates n)) (past_of Counter founders (Deliver to n ∷ records))
+kept-counter updates states founders records to n kept there is new holds =
     let (label, at) = update_found records n is in
     let new_label = new_there records to n label at new in
-    kept-stepped updates states (past_of Counter first records) kept to n label (λ rga. cc (rga)) there at
+    kept-stepped updates states (past_of Counter founders records) kept to n label (λ rga. cc (rga)) there at
     (delivered_of_kind Counter records to label holds at.there new_label)
     (λ u makes. a_delivery_is_one_step-counter records to label u at.there makes new_label)
 
-pub kept-or_set : (updates : List (Option Update)) (states : List State) (first : ℕ) (records : Records) (to n : ℕ) → AreStatesOf updates states (past_of OrSet first records) → to < length states
+pub kept-or_set : (updates : List (Option Update)) (states : List State) (founders : ℕ) (records : Records) (to n : ℕ) → AreStatesOf updates states (past_of OrSet founders records) → to < length states
     → is_update_at records n ≡ true → Holds OrSet records → IdentifiersAreOneLabels records → IsCausal (Deliver to n ∷ records)
-    → AreStatesOf updates (states_after states to (update_at updates n)) (past_of OrSet first (Deliver to n ∷ records))
-kept-or_set updates states first records to n kept there is holds once causal =
+    → AreStatesOf updates (states_after states to (update_at updates n)) (past_of OrSet founders (Deliver to n ∷ records))
+kept-or_set updates states founders records to n kept there is holds once causal =
     let (label, at) = update_found records n is in
     let new_label = new_there records to n label at causal.0 in
     let causal_label = subst (λ m. IsCausal (Deliver to m ∷ records)) (sym at.number) causal in
-    kept-stepped updates states (past_of OrSet first records) kept to n label (λ rga. cc (rga)) there at
+    kept-stepped updates states (past_of OrSet founders records) kept to n label (λ rga. cc (rga)) there at
     (delivered_of_kind OrSet records to label holds at.there new_label)
     (λ u makes. a_delivery_is_one_step-or_set records to label u at.there makes holds once causal_label)

@@ -44,7 +44,7 @@ either_cause : (a b : Bool) → b ≡ a → cond b None (Some cause.Update) ≡ 
 either_cause true b same = ap (λ c. cond c None (Some cause.Update)) same
 either_cause false b same = ap (λ c. cond c None (Some cause.Update)) same
 
-module _ (first : ℕ) (records : Records) (next : Next) (label : Label) (offered : IsOffered (past_of variant.Rga first records) next label) where
+module _ (founders : ℕ) (records : Records) (next : Next) (label : Label) (offered : IsOffered (past_of variant.Rga founders records) next label) where
   abbrev now : Records
   now = operate next ∷ records
 

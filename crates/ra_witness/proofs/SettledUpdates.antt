@@ -110,8 +110,8 @@ of_rga past is to n told = subst (λ k. IsTold (past_of k past.founders past.rec
 pub settled_in : {E : Type 0} {P : ℕ → Type 0} (Q : ℕ → Records → Type 0) (k : Effects) (past : Past)
     (stands : AreEffectsOf k past) (kept : rga.Rga) → k ≡ effects.Rga kept → (to n : ℕ) → IsTold past to n
     → (result : Result ℕ E)
-    → ((first : ℕ) (records : Records) → IsRgaOf kept first records → IsTold (past_of Rga first records) to n
-    → IfOk result (λ steps. Q first records × SettlesMore records (Deliver to n) to steps))
+    → ((founders : ℕ) (records : Records) → IsRgaOf kept founders records → IsTold (past_of Rga founders records) to n
+    → IfOk result (λ steps. Q founders records × SettlesMore records (Deliver to n) to steps))
     → ((steps : ℕ) → SettlesMore past.records (Deliver to n) to steps → P steps) → IfOk result P
 settled_in Q k past stands kept is to n told result delivered follows =
     let known = is_rga k past stands kept is in

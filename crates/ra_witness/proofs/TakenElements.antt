@@ -30,14 +30,14 @@ use Rattle.ra_witness.proofs.ReplicaLists.{AreListsOf, lists_with, settles_more}
 use Rattle.ra_witness.proofs.NewLabel.{elements_more, adds_nothing, adds_removal}
 use Rattle.ra_witness.proofs.NewElement.{adds_insertion}
 
-module _ (old grown : Rga) (first : ℕ) (records : Records) (next : Next) (label : Label)
-    (stands : IsRgaOf old first records) (offered : IsOffered (past_of variant.Rga first records) next label) where
+module _ (old grown : Rga) (founders : ℕ) (records : Records) (next : Next) (label : Label)
+    (stands : IsRgaOf old founders records) (offered : IsOffered (past_of variant.Rga founders records) next label) where
   abbrev now : Records
   now = operate next ∷ records
 
   -- with a label that does nothing
   pub rga_asked : is_update next.op ≡ false → grown.edits.items ≡ old.edits.items ++ None ∷ [] → grown.all ≡ old.all
-      → grown.lists ≡ old.lists → IsRgaOf grown first now × SettlesMore records (operate next) next.by 0
+      → grown.lists ≡ old.lists → IsRgaOf grown founders now × SettlesMore records (operate next) next.by 0
   rga_asked asks its_edits same_all same_lists =
       let edits = old.edits.items in
       let with_it = edits ++ None ∷ [] in
@@ -72,13 +72,13 @@ module _ (old grown : Rga) (first : ℕ) (records : Records) (next : Next) (labe
       → grown.edits.items ≡ old.edits.items ++ Some (Removes number) ∷ [] → grown.all ≡ old.all
       → grown.lists.items ≡ set old.lists.items next.by list
       → IsListOf list old.all.arrivals (old.edits.items ++ Some (Removes number) ∷ []) now next.by
-      → IsRgaOf grown first now
+      → IsRgaOf grown founders now
   rga_removed x number list is within is_it admitted its_edits same_all its_lists own =
       let edits = old.edits.items in
       let with_it = edits ++ Some (Removes number) ∷ [] in
       let removes : Makes next.op (RgaRemove (element_at old.all.arrivals number)) =
       subst (λ y. Makes next.op (RgaRemove y)) (sym is_it) (makes_removal next.op x is) in
-      let no_clock = unclocked old.all edits records stands.elements first next label offered x is in
+      let no_clock = unclocked old.all edits records stands.elements founders next label offered x is in
       let elements = elements_more old.all old.all edits records next.by next.op next.clock (Some (Removes number))
       stands.elements
       (adds_removal old.all edits records next.by next.op next.clock number stands.elements removes within no_clock admitted) in
@@ -114,7 +114,7 @@ module _ (old grown : Rga) (first : ℕ) (records : Records) (next : Next) (labe
       → grown.lists.items ≡ set old.lists.items next.by list
       → IsListOf list (old.all.arrivals ++ newest ∷ [])
       (old.edits.items ++ Some (PutsIn (length old.all.arrivals)) ∷ []) now next.by
-      → IsRgaOf grown first now
+      → IsRgaOf grown founders now
   rga_put anchor x m stamp list is stamped within is_anchor new admitted its_edits its_arrivals its_elements its_lists own =
       let newest : Arrival = record { element = x; stamp = stamp; anchor = m } in
       let edits = old.edits.items in
@@ -125,7 +125,7 @@ module _ (old grown : Rga) (first : ℕ) (records : Records) (next : Next) (labe
       subst (λ y. Makes next.op (After y x)) (sym is_anchor) (makes_after next.op anchor x is) in
       let own_stamp : (label_of records next).stamp ≡ Some stamp =
       sym (ap (λ (l : Label). l.stamp) offered.becomes) ∙ stamped in
-      let clocked = some_clock old.all edits records stands.elements first next label offered anchor x is stamp stamped in
+      let clocked = some_clock old.all edits records stands.elements founders next label offered anchor x is stamp stamped in
       let elements = elements_more old.all grown.all edits records next.by next.op next.clock (Some (PutsIn number))
       stands.elements
       (adds_insertion old.all grown.all edits records next.by next.op next.clock m x stamp stands.elements makes within new

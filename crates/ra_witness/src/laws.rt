@@ -63,16 +63,16 @@ pub fn what_is_kept_with_a_label()
 
 /// What is kept of a counter or an OR-Set with one more delivery is what was kept, once the receiver made the update.
 pub fn what_is_kept_with_a_delivery()
-    ensures counter { (updates : List (Option Update)) (states : List State) (first : ℕ) (records : Records)
-        (to n : ℕ) → AreStatesOf updates states (past_of Counter first records) → to < length states
+    ensures counter { (updates : List (Option Update)) (states : List State) (founders : ℕ) (records : Records)
+        (to n : ℕ) → AreStatesOf updates states (past_of Counter founders records) → to < length states
         → is_update_at records n ≡ true → had records to n ≡ false → Holds Counter records
-        → let now = past_of Counter first (Deliver to n ∷ records) in
+        → let now = past_of Counter founders (Deliver to n ∷ records) in
         AreStatesOf updates (states_after states to (update_at updates n)) now }
-    ensures or_set { (updates : List (Option Update)) (states : List State) (first : ℕ) (records : Records)
-        (to n : ℕ) → AreStatesOf updates states (past_of OrSet first records) → to < length states
+    ensures or_set { (updates : List (Option Update)) (states : List State) (founders : ℕ) (records : Records)
+        (to n : ℕ) → AreStatesOf updates states (past_of OrSet founders records) → to < length states
         → is_update_at records n ≡ true → Holds OrSet records → IdentifiersAreOneLabels records
         → IsCausal (Deliver to n ∷ records)
-        → let now = past_of OrSet first (Deliver to n ∷ records) in
+        → let now = past_of OrSet founders (Deliver to n ∷ records) in
         AreStatesOf updates (states_after states to (update_at updates n)) now }
 {}
 
@@ -87,24 +87,24 @@ pub fn what_is_kept_with_a_join()
 /// that counts: that of the delivered label or of the last one on its element, whichever has the greater stamp.
 pub fn what_is_kept_with_a_delivery_that_may_be_overridden()
     ensures register { (writes : List (Option Written)) (lasts : List (List (Option ℕ))) (number_of : ℕ → Option ℕ)
-        (states : List State) (first : ℕ) (records : Records) (to n : ℕ) (write : Written)
-        → AreStatesOf (updates_written writes) states (past_of Register first records)
+        (states : List State) (founders : ℕ) (records : Records) (to n : ℕ) (write : Written)
+        → AreStatesOf (updates_written writes) states (past_of Register founders records)
         → AreWritesOf writes number_of records → AreLastOf writes lasts records → StampsAreOneLabels records
         → Holds Register records
         → to < length lasts → to < length states → is_update_at records n ≡ true → had records to n ≡ false
         → write_at writes n ≡ Some write
         → let update = update_at (updates_written writes) (counting writes lasts to n write) in
-        let now = past_of Register first (Deliver to n ∷ records) in
+        let now = past_of Register founders (Deliver to n ∷ records) in
         AreStatesOf (updates_written writes) (states_after states to update) now }
     ensures lww_set { (writes : List (Option Written)) (lasts : List (List (Option ℕ))) (number_of : ℕ → Option ℕ)
-        (states : List State) (first : ℕ) (records : Records) (to n : ℕ) (write : Written)
-        → AreStatesOf (updates_written writes) states (past_of LwwSet first records)
+        (states : List State) (founders : ℕ) (records : Records) (to n : ℕ) (write : Written)
+        → AreStatesOf (updates_written writes) states (past_of LwwSet founders records)
         → AreWritesOf writes number_of records → AreLastOf writes lasts records → StampsAreOneLabels records
         → Holds LwwSet records
         → to < length lasts → to < length states → is_update_at records n ≡ true → had records to n ≡ false
         → write_at writes n ≡ Some write
         → let update = update_at (updates_written writes) (counting writes lasts to n write) in
-        let now = past_of LwwSet first (Deliver to n ∷ records) in
+        let now = past_of LwwSet founders (Deliver to n ∷ records) in
         AreStatesOf (updates_written writes) (states_after states to update) now }
 {}
 

@@ -1,14 +1,14 @@
 //! Of a register and of an LWW set: of the updates on one element the last one counts.
-ghost use Rattle.std.specs.Prelude.{◌≡◌, ◌==◌, ◌+◌, ◌<◌, ◌≤◌, ◌^◌, ◌++◌, ◌∷◌, [], ℕ, true, nat_eq, replicate, get_or, set, vec_len, option_map, Option, Some, None, IfOk, IfSome, IsSome, OnOk, OnErr, if◌then◌else◌};
+ghost use Rattle.std.specs.Prelude.{◌≡◌, ◌==◌, ◌+◌, ◌<◌, ◌^◌, ◌++◌, ◌∷◌, [], ℕ, true, nat_eq, replicate, get_or, set, vec_len, Option, Some, None, IfOk, IfSome, OnOk, OnErr, if◌then◌else◌};
 ghost use Rattle.std.specs.List.{list_all};
 ghost use Rattle.std.specs.HashMap.{get, hash_map_len};
 ghost use Rattle.ra_labels.specs.declared.label.Stamp.{Stamp};
-ghost use Rattle.ra_labels.specs.Specification.{start_of, answers};
+ghost use Rattle.ra_labels.specs.Specification.{start_of};
 ghost use Rattle.ra_seqspec.specs.Asked.{asks_rising};
 ghost use Rattle.ra_rewrite.specs.Parts.{acts_in};
 ghost use Rattle.ra_witness.specs.Labels.{queries_in, cause_in};
 ghost use Rattle.ra_witness.specs.States.{state_at, update_at, after_step, CanStep, states_after};
-ghost use Rattle.ra_witness.specs.ElementNumbers.{element_of, number_in, number_with, count_with};
+ghost use Rattle.ra_witness.specs.ElementNumbers.{element_of, number_with, count_with};
 ghost use Rattle.ra_witness.specs.Overriding.{label_on, updates_written, write_of, write_at, later_of, is_above, labels_in, last_label, counting, last_with};
 ghost use Rattle.ra_witness.specs.declared.overriding.written.Written.{Written};
 

@@ -1,5 +1,5 @@
 //! Of an RGA: an element that comes late comes in behind the nearest one before it that is there.
-ghost use Rattle.std.specs.Prelude.{◌≡◌, ◌↔◌, ℕ, ◌+◌, ◌<◌, ◌≤◌, ◌^◌, ◌++◌, ◌∷◌, [], true, List, length, Option, Some, None, vec_len, vec_capacity, IsTrue, IsSome, IfOk, OnOk, OnErr, if◌then◌else◌};
+ghost use Rattle.std.specs.Prelude.{◌≡◌, ◌↔◌, ℕ, ◌<◌, ◌≤◌, ◌^◌, ◌∷◌, [], true, length, Option, Some, None, vec_len, vec_capacity, IsTrue, IsSome, IfOk, OnOk, OnErr, if◌then◌else◌};
 ghost use Rattle.ra_labels.specs.declared.kind.Kind.TheVariants as kinds;
 ghost use Rattle.ra_labels.specs.declared.operation.Op.{Op};
 ghost use Rattle.ra_labels.specs.declared.operation.Op.TheVariants as ops;
@@ -9,11 +9,11 @@ ghost use Rattle.ra_labels.specs.Records.{Records, replica_count};
 ghost use Rattle.ra_labels.specs.Visibility.{had};
 ghost use Rattle.ra_labels.specs.Rewriting.{acts_of};
 ghost use Rattle.std.specs.Ordering.{is_lt, is_le};
-ghost use Rattle.ra_labels.specs.NamedOrder.{stamp_cmp, named_labels, named_sequence};
+ghost use Rattle.ra_labels.specs.NamedOrder.{stamp_cmp, named_sequence};
 ghost use Rattle.ra_labels.specs.Linearization.{updates_admitted};
 ghost use Rattle.ra_labels.specs.Fault.{cause_of};
 ghost use Rattle.ra_labels.specs.Specification.{state_after, is_admitted};
-ghost use Rattle.ra_labels.specs.Insertion.{updates_among, updates_had};
+ghost use Rattle.ra_labels.specs.Insertion.{updates_had};
 ghost use Rattle.ra_labels.specs.Situation.{past_of, Next, next_of, operate};
 ghost use Rattle.ra_rewrite.specs.Parts.{acts_in};
 ghost use Rattle.ra_seqspec.specs.Asked.{asks_rising};
@@ -62,8 +62,8 @@ impl Rga {
     pub fn cause(&self, label: &Label, parts: &Parts) -> Option<Cause>
         requires replica { label.now.replica < vec_len self.now.lists }
         requires rising { list_all asks_rising (queries_in (acts_in parts.now)) ≡ true }
-        ensures { (first : ℕ) (records : Records) (next : Next) → IsRgaOf self.now first records
-            → IsOffered (past_of kinds.Rga first records) next label.now → acts_in parts.now ≡ acts_of next.op
+        ensures { (founders : ℕ) (records : Records) (next : Next) → IsRgaOf self.now founders records
+            → IsOffered (past_of kinds.Rga founders records) next label.now → acts_in parts.now ≡ acts_of next.op
             → result ≡ cause_of kinds.Rga (operate next ∷ records) }
     {
         match &label.op {
@@ -77,8 +77,8 @@ impl Rga {
 
     // Is it known, of all labels, that the anchor comes before the new element, and the element not?
     fn admits_insertion(&self, anchor: u32, element: u32, stamp: Option<Stamp>) -> bool
-        ensures { (first : ℕ) (records : Records) (next : Next) (label : Label) → IsRgaOf self.now first records
-            → IsOffered (past_of kinds.Rga first records) next label → next.op ≡ ops.After anchor element
+        ensures { (founders : ℕ) (records : Records) (next : Next) (label : Label) → IsRgaOf self.now founders records
+            → IsOffered (past_of kinds.Rga founders records) next label → next.op ≡ ops.After anchor element
             → label.stamp ≡ stamp → IsTrue result
             ↔ (updates_admitted kinds.Rga (named_sequence kinds.Rga (operate next ∷ records)) ≡ true) }
     {
@@ -94,9 +94,9 @@ impl Rga {
     // Is it known, of all labels, that the element comes before its removal by this replica?
     fn admits_removal(&self, replica: u8, element: u32) -> bool
         requires { replica < vec_len self.now.lists }
-        ensures { (first : ℕ) (records : Records) (op : Op) (clock : Option ℕ) (label : Label)
-            → IsRgaOf self.now first records
-            → IsOffered (past_of kinds.Rga first records) (next_of replica op clock) label
+        ensures { (founders : ℕ) (records : Records) (op : Op) (clock : Option ℕ) (label : Label)
+            → IsRgaOf self.now founders records
+            → IsOffered (past_of kinds.Rga founders records) (next_of replica op clock) label
             → op ≡ ops.RgaRemove element → IsTrue result
             ↔ (updates_admitted kinds.Rga (named_sequence kinds.Rga (Operate replica op clock ∷ records)) ≡ true) }
     {
@@ -111,7 +111,7 @@ impl Rga {
     fn cause_of_query(&self, replica: u8, parts: &Parts) -> Option<Cause>
         requires replica { replica < vec_len self.now.lists }
         requires rising { list_all asks_rising (queries_in (acts_in parts.now)) ≡ true }
-        ensures { (first : ℕ) (records : Records) → IsRgaOf self.now first records
+        ensures { (founders : ℕ) (records : Records) → IsRgaOf self.now founders records
             → result ≡ cause_in (state_after kinds.Rga (updates_had kinds.Rga records replica)) (acts_in parts.now) }
     {
         asked::cause_if_any(self.lists[replica as usize].state(), parts)
@@ -120,14 +120,14 @@ impl Rga {
     /// Takes the next label in: answers how many steps that took, one at most.
     pub fn add(&mut self, label: &Label) -> Result<u64, NoMemory>
         requires { MayGrow self.old label.now }
-        ensures taken { (first : ℕ) (records : Records) (next : Next) → IsRgaOf self.old first records
-            → IsOffered (past_of kinds.Rga first records) next label.now
+        ensures taken { (founders : ℕ) (records : Records) (next : Next) → IsRgaOf self.old founders records
+            → IsOffered (past_of kinds.Rga founders records) next label.now
             → updates_admitted kinds.Rga (named_sequence kinds.Rga (operate next ∷ records)) ≡ true
-            → IfOk result (λ steps. IsRgaOf self.new first (operate next ∷ records)
+            → IfOk result (λ steps. IsRgaOf self.new founders (operate next ∷ records)
             × SettlesMore records (operate next) next.by steps) }
         ensures step { IfOk result (λ steps. steps ≤ 1) }
-        ensures same { (first : ℕ) (records : Records) → IsRgaOf self.old first records
-            → OnErr result (IsRgaOf self.new first records) }
+        ensures same { (founders : ℕ) (records : Records) → IsRgaOf self.old founders records
+            → OnErr result (IsRgaOf self.new founders records) }
     {
         self.edits.reserve(1)?;
         match &label.op {
@@ -148,14 +148,15 @@ impl Rga {
         requires stamp { IsSome label.now.stamp }
         requires known { (n : ℕ) × (n < length self.old.all.arrivals) × (element_at self.old.all.arrivals n ≡ anchor) }
         requires new { (n : ℕ) → n < length self.old.all.arrivals → ¬ (element_at self.old.all.arrivals n ≡ element) }
-        ensures taken { (first : ℕ) (records : Records) (next : Next) → IsRgaOf self.old first records
-            → IsOffered (past_of kinds.Rga first records) next label.now
+        ensures taken { (founders : ℕ) (records : Records) (next : Next) → IsRgaOf self.old founders records
+            → IsOffered (past_of kinds.Rga founders records) next label.now
             → updates_admitted kinds.Rga (named_sequence kinds.Rga (operate next ∷ records)) ≡ true
-            → next.op ≡ ops.After anchor element → IfOk result (λ steps. IsRgaOf self.new first (operate next ∷ records)
+            → next.op ≡ ops.After anchor element
+            → IfOk result (λ steps. IsRgaOf self.new founders (operate next ∷ records)
             × SettlesMore records (operate next) next.by steps) }
         ensures step { IfOk result (λ steps. steps ≤ 1) }
-        ensures same { (first : ℕ) (records : Records) → IsRgaOf self.old first records
-            → OnErr result (IsRgaOf self.new first records) }
+        ensures same { (founders : ℕ) (records : Records) → IsRgaOf self.old founders records
+            → OnErr result (IsRgaOf self.new founders records) }
     {
         let Some(behind) = self.all.number_of(anchor) else {
             unreachable!()
@@ -177,14 +178,14 @@ impl Rga {
         requires room { vec_len self.old.edits < vec_capacity self.old.edits }
         requires replica { label.now.replica < vec_len self.old.lists }
         requires known { (n : ℕ) × (n < length self.old.all.arrivals) × (element_at self.old.all.arrivals n ≡ element) }
-        ensures taken { (first : ℕ) (records : Records) (next : Next) → IsRgaOf self.old first records
-            → IsOffered (past_of kinds.Rga first records) next label.now
+        ensures taken { (founders : ℕ) (records : Records) (next : Next) → IsRgaOf self.old founders records
+            → IsOffered (past_of kinds.Rga founders records) next label.now
             → updates_admitted kinds.Rga (named_sequence kinds.Rga (operate next ∷ records)) ≡ true
-            → next.op ≡ ops.RgaRemove element → IfOk result (λ steps. IsRgaOf self.new first (operate next ∷ records)
+            → next.op ≡ ops.RgaRemove element → IfOk result (λ steps. IsRgaOf self.new founders (operate next ∷ records)
             × SettlesMore records (operate next) next.by steps) }
         ensures step { IfOk result (λ steps. steps ≤ 1) }
-        ensures same { (first : ℕ) (records : Records) → IsRgaOf self.old first records
-            → OnErr result (IsRgaOf self.new first records) }
+        ensures same { (founders : ℕ) (records : Records) → IsRgaOf self.old founders records
+            → OnErr result (IsRgaOf self.new founders records) }
     {
         let Some(number) = self.all.number_of(element) else {
             unreachable!()
@@ -198,12 +199,12 @@ impl Rga {
     /// The label is delivered to the replica: answers how many steps that took.
     pub fn deliver(&mut self, replica: u8, label: u32) -> Result<u64, NoMemory>
         requires { MayHear self.old replica label }
-        ensures delivered { (first : ℕ) (records : Records) → IsRgaOf self.old first records
-            → IsTold (past_of kinds.Rga first records) replica label
-            → IfOk result (λ steps. IsRgaOf self.new first (Deliver replica label ∷ records)
+        ensures delivered { (founders : ℕ) (records : Records) → IsRgaOf self.old founders records
+            → IsTold (past_of kinds.Rga founders records) replica label
+            → IfOk result (λ steps. IsRgaOf self.new founders (Deliver replica label ∷ records)
             × SettlesMore records (Deliver replica label) replica steps) }
-        ensures same { (first : ℕ) (records : Records) → IsRgaOf self.old first records
-            → OnErr result (IsRgaOf self.new first records) }
+        ensures same { (founders : ℕ) (records : Records) → IsRgaOf self.old founders records
+            → OnErr result (IsRgaOf self.new founders records) }
     {
         let edits = self.edits.as_slice();
         let Some(edit) = edits[label as usize] else {
@@ -215,11 +216,11 @@ impl Rga {
     /// The next replica joins from this one: it has an equal list. Costs a copy of the list.
     pub fn join(&mut self, from: u8) -> Result<(), NoMemory>
         requires { from < vec_len self.old.lists }
-        ensures joined { (first : ℕ) (records : Records) → IsRgaOf self.old first records
-            → IsJoinedFrom (past_of kinds.Rga first records) from
-            → OnOk result (IsRgaOf self.new first (Join (replica_count first records) from ∷ records)) }
-        ensures same { (first : ℕ) (records : Records) → IsRgaOf self.old first records
-            → OnErr result (IsRgaOf self.new first records) }
+        ensures joined { (founders : ℕ) (records : Records) → IsRgaOf self.old founders records
+            → IsJoinedFrom (past_of kinds.Rga founders records) from
+            → OnOk result (IsRgaOf self.new founders (Join (replica_count founders records) from ∷ records)) }
+        ensures same { (founders : ℕ) (records : Records) → IsRgaOf self.old founders records
+            → OnErr result (IsRgaOf self.new founders records) }
     {
         let list = self.lists[from as usize].copy()?;
         self.lists.push(list)?;

@@ -1,7 +1,7 @@
 //! The named sequence, put together from the order and the halves of its labels.
 ghost use Rattle.std.specs.Prelude.{◌≡◌, ◌<◌, ◌++◌, flat_map, vec_len, Some, IfOk, OnOk};
 ghost use Rattle.std.specs.List.{slice_get};
-ghost use Rattle.ra_witness.specs.Sequence.{has_query_half, refs_at, ref_to};
+ghost use Rattle.ra_witness.specs.Sequence.{has_query_half, refs_at};
 
 use crate::part_ref::{Half, PartRef};
 use ra_labels::{NoMemory, Update};

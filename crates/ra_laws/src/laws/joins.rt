@@ -15,13 +15,13 @@ ghost use Rattle.ra_labels.specs.Insertion.{updates_had};
 /// In the records that commands leave, from none on, no replica had anything before it joined: an operation or a
 /// delivery at one that is there, and a join with the next number, leave it so.
 pub fn none_had_before_it_joined()
-    ensures operation { (first : ℕ) (records : Records) (by : ℕ) (op : Op) (clock : Option ℕ)
-        → by < replica_count first records → NoneHadBeyond first records
-        → NoneHadBeyond first (Operate by op clock ∷ records) }
-    ensures delivery { (first : ℕ) (records : Records) (to n : ℕ) → to < replica_count first records
-        → NoneHadBeyond first records → NoneHadBeyond first (Deliver to n ∷ records) }
-    ensures join { (first : ℕ) (records : Records) (from : ℕ) → NoneHadBeyond first records
-        → NoneHadBeyond first (Join (replica_count first records) from ∷ records) }
+    ensures operation { (founders : ℕ) (records : Records) (by : ℕ) (op : Op) (clock : Option ℕ)
+        → by < replica_count founders records → NoneHadBeyond founders records
+        → NoneHadBeyond founders (Operate by op clock ∷ records) }
+    ensures delivery { (founders : ℕ) (records : Records) (to n : ℕ) → to < replica_count founders records
+        → NoneHadBeyond founders records → NoneHadBeyond founders (Deliver to n ∷ records) }
+    ensures join { (founders : ℕ) (records : Records) (from : ℕ) → NoneHadBeyond founders records
+        → NoneHadBeyond founders (Join (replica_count founders records) from ∷ records) }
     ensures one { (kind : Kind) (replicas : ℕ) (records : Records) (command : Command) → NoneHadBeyond replicas records
         → NoneHadBeyond replicas (records_after kind replicas records command) }
     ensures all { (kind : Kind) (replicas : ℕ) (commands : List Command)
@@ -31,13 +31,13 @@ pub fn none_had_before_it_joined()
 /// A replica that joins had all that the one had from which it joined, and nothing else, in the same order; it has
 /// issued nothing. What the others had, and the named order, are as before.
 pub fn a_new_replica_had_what_the_other_had()
-    ensures labels { (first : ℕ) (records : Records) (from n : ℕ) → NoneHadBeyond first records
-        → let joined = replica_count first records in
+    ensures labels { (founders : ℕ) (records : Records) (from n : ℕ) → NoneHadBeyond founders records
+        → let joined = replica_count founders records in
         had (Join joined from ∷ records) joined n ≡ had records from n }
-    ensures issued { (first : ℕ) (records : Records) → NoneHadBeyond first records
-        → updates_issued records (replica_count first records) ≡ 0 }
-    ensures own { (kind : Kind) (first : ℕ) (records : Records) (from : ℕ) → NoneHadBeyond first records
-        → let joined = replica_count first records in
+    ensures issued { (founders : ℕ) (records : Records) → NoneHadBeyond founders records
+        → updates_issued records (replica_count founders records) ≡ 0 }
+    ensures own { (kind : Kind) (founders : ℕ) (records : Records) (from : ℕ) → NoneHadBeyond founders records
+        → let joined = replica_count founders records in
         updates_had kind (Join joined from ∷ records) joined ≡ updates_had kind records from }
     ensures others { (kind : Kind) (records : Records) (joined from replica : ℕ) → ¬ (joined ≡ replica)
         → updates_had kind (Join joined from ∷ records) replica ≡ updates_had kind records replica }

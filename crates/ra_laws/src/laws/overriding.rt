@@ -1,5 +1,5 @@
 //! Updates that override earlier ones.
-ghost use Rattle.std.specs.Prelude.{◌≡◌, ◌↔◌, true, ℕ, List, [], ◌∷◌, ◌++◌, Contains, Some};
+ghost use Rattle.std.specs.Prelude.{◌≡◌, ◌↔◌, true, ℕ, List, ◌∷◌, ◌++◌, Contains, Some};
 ghost use Rattle.ra_labels.specs.declared.kind.Kind.TheVariants.{Register, LwwSet};
 ghost use Rattle.ra_labels.specs.declared.operation.Update.{Update};
 ghost use Rattle.ra_labels.specs.declared.operation.Update.TheVariants.{Write, LwwAdd};

@@ -7,7 +7,8 @@ ghost use Rattle.ra_labels.specs.Laws.{is_join};
 
 /// Each join adds a replica, and no other command does.
 pub fn each_join_adds_a_replica()
-    ensures { (first : ℕ) (records : Records) → replica_count first records ≡ first + length (filter is_join records) }
+    ensures { (founders : ℕ) (records : Records)
+        → replica_count founders records ≡ founders + length (filter is_join records) }
 {}
 
 /// An operation is found, in all later records, as the label with the number of labels before it; with its replica, and

@@ -1,5 +1,4 @@
 //! How long calls wait beside others, by what each thread gets done.
-ghost use Rattle.std.specs.Prelude.{All};
 ghost use Rattle.ra_ticket.specs.Passes.{IsPassOf};
 
 use super::calls::opened;

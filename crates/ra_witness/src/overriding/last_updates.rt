@@ -1,5 +1,5 @@
 //! Of one replica, the last label on each element.
-ghost use Rattle.std.specs.Prelude.{◌≡◌, ◌<◌, ℕ, [], Some, replicate, vec_len, slice_set, IfOk, OnOk, OnErr};
+ghost use Rattle.std.specs.Prelude.{◌≡◌, ◌<◌, ℕ, [], Some, replicate, vec_len, slice_set, IfOk, OnOk};
 ghost use Rattle.ra_witness.specs.Overriding.{label_on, labels_in};
 
 use ra_labels::NoMemory;

@@ -11,15 +11,15 @@ use Rattle.ra_witness.proofs.ReplicaLists.{rga_same_kept}
 use Rattle.ra_witness.proofs.rga.Rga.add.Goals as goal
 
 pub returns-in_default-clause-taken : goal.returns-in_default-clause-taken
-returns-in_default-clause-taken c = λ first records next stands offered admitted.
+returns-in_default-clause-taken c = λ founders records next stands offered admitted.
     let self = c.args.self.now in
     let label = c.args.label.now in
-    let past = past_of variant.Rga first records in
+    let past = past_of variant.Rga founders records in
     let grown : Rga = record { edits = c.push_reserved.new.self; all = self.all; lists = self.lists } in
     let same = its_op past next label offered in
     let asks = asks_only next.op (λ a x is. c.in_default.not-After a x (same ∙ is))
     (λ x is. c.in_default.not-RgaRemove x (same ∙ is)) (of_its_kind past next label offered) in
-    rga_asked self grown first records next label stands offered asks
+    rga_asked self grown founders records next label stands offered asks
     (c.push_reserved.ensures.items ∙ ap (λ ds. ds ++ None ∷ []) c.in_ok-reserve.ensures.items) refl refl
 
 pub put_in-requires-clause-known : goal.put_in-requires-clause-known
@@ -27,10 +27,10 @@ put_in-requires-clause-known c =
     let may = c.requires in
     let self = c.args.self.now in
     let label = c.args.label.now in
-    let past = past_of variant.Rga may.first may.records in
+    let past = past_of variant.Rga may.founders may.records in
     let is = sym (its_op past may.next label may.offered) ∙ c.in-After.is in
     let (at, same, least, stamped) = has_stamp past may.next label may.offered (ap carries_stamp is) in
-    let (m, within, is_anchor, less) = insertion_needs self.all self.edits.items may.records may.stands.elements may.first
+    let (m, within, is_anchor, less) = insertion_needs self.all self.edits.items may.records may.stands.elements may.founders
     may.next label may.offered c.in-After.anchor c.in-After.element is _ stamped may.admitted in
     (m, within, is_anchor)
 
@@ -39,10 +39,10 @@ put_in-requires-clause-new c =
     let may = c.requires in
     let self = c.args.self.now in
     let label = c.args.label.now in
-    let past = past_of variant.Rga may.first may.records in
+    let past = past_of variant.Rga may.founders may.records in
     let is = sym (its_op past may.next label may.offered) ∙ c.in-After.is in
     let (at, same, least, stamped) = has_stamp past may.next label may.offered (ap carries_stamp is) in
-    insertion_new self.all self.edits.items may.records may.stands.elements may.first may.next label may.offered
+    insertion_new self.all self.edits.items may.records may.stands.elements may.founders may.next label may.offered
     c.in-After.anchor c.in-After.element is _ stamped may.admitted
 
 pub remove-requires-clause-known : goal.remove-requires-clause-known
@@ -50,37 +50,37 @@ remove-requires-clause-known c =
     let may = c.requires in
     let self = c.args.self.now in
     let label = c.args.label.now in
-    let is = sym (its_op (past_of variant.Rga may.first may.records) may.next label may.offered) ∙ c.in-RgaRemove.is in
-    let needs = removal_needs self.all self.edits.items may.records may.stands.elements may.first may.next label may.offered
+    let is = sym (its_op (past_of variant.Rga may.founders may.records) may.next label may.offered) ∙ c.in-RgaRemove.is in
+    let needs = removal_needs self.all self.edits.items may.records may.stands.elements may.founders may.next label may.offered
     c.in-RgaRemove.element is _ refl may.admitted in
     (needs.number, needs.within, needs.is_it)
 
 pub returns-in-After-clause-taken : goal.returns-in-After-clause-taken
-returns-in-After-clause-taken c = λ first records next stands offered admitted.
+returns-in-After-clause-taken c = λ founders records next stands offered admitted.
     let self = c.args.self.now in
     let reserved : Rga = record { edits = c.reserve.new.self; all = self.all; lists = self.lists } in
-    c.put_in.ensures.taken first records next
-    (rga_same_kept self reserved first records stands c.in_ok-reserve.ensures.items refl refl) offered admitted
-    (sym (its_op (past_of variant.Rga first records) next c.args.label.now offered) ∙ c.in-After.is)
+    c.put_in.ensures.taken founders records next
+    (rga_same_kept self reserved founders records stands c.in_ok-reserve.ensures.items refl refl) offered admitted
+    (sym (its_op (past_of variant.Rga founders records) next c.args.label.now offered) ∙ c.in-After.is)
 
 pub returns-in-After-clause-same : goal.returns-in-After-clause-same
-returns-in-After-clause-same c = λ first records stands.
+returns-in-After-clause-same c = λ founders records stands.
     let self = c.args.self.now in
     let reserved : Rga = record { edits = c.reserve.new.self; all = self.all; lists = self.lists } in
-    c.put_in.ensures.same first records
-    (rga_same_kept self reserved first records stands c.in_ok-reserve.ensures.items refl refl)
+    c.put_in.ensures.same founders records
+    (rga_same_kept self reserved founders records stands c.in_ok-reserve.ensures.items refl refl)
 
 pub returns-in-RgaRemove-clause-taken : goal.returns-in-RgaRemove-clause-taken
-returns-in-RgaRemove-clause-taken c = λ first records next stands offered admitted.
+returns-in-RgaRemove-clause-taken c = λ founders records next stands offered admitted.
     let self = c.args.self.now in
     let reserved : Rga = record { edits = c.reserve.new.self; all = self.all; lists = self.lists } in
-    c.remove.ensures.taken first records next
-    (rga_same_kept self reserved first records stands c.in_ok-reserve.ensures.items refl refl) offered admitted
-    (sym (its_op (past_of variant.Rga first records) next c.args.label.now offered) ∙ c.in-RgaRemove.is)
+    c.remove.ensures.taken founders records next
+    (rga_same_kept self reserved founders records stands c.in_ok-reserve.ensures.items refl refl) offered admitted
+    (sym (its_op (past_of variant.Rga founders records) next c.args.label.now offered) ∙ c.in-RgaRemove.is)
 
 pub returns-in-RgaRemove-clause-same : goal.returns-in-RgaRemove-clause-same
-returns-in-RgaRemove-clause-same c = λ first records stands.
+returns-in-RgaRemove-clause-same c = λ founders records stands.
     let self = c.args.self.now in
     let reserved : Rga = record { edits = c.reserve.new.self; all = self.all; lists = self.lists } in
-    c.remove.ensures.same first records
-    (rga_same_kept self reserved first records stands c.in_ok-reserve.ensures.items refl refl)
+    c.remove.ensures.same founders records
+    (rga_same_kept self reserved founders records stands c.in_ok-reserve.ensures.items refl refl)

@@ -16,29 +16,29 @@ use Rattle.ra_witness.proofs.RgaCauses.{asks_only, query_cause, update_cause}
 use Rattle.ra_witness.proofs.rga.Rga.cause.Goals as goal
 
 pub returns-in_default : goal.returns-in_default
-returns-in_default c = λ first records next stands offered acts.
+returns-in_default c = λ founders records next stands offered acts.
     let label = c.args.label.now in
-    let same = its_op (past_of variant.Rga first records) next label offered in
-    let asks = asks_only next.op (λ a x is. c.in_default.not-After a x (same ∙ is)) (λ x is. c.in_default.not-RgaRemove x (same ∙ is)) (of_its_kind (past_of variant.Rga first records) next label offered) in
-    c.cause_of_query.ensures first records stands
-    ∙ ap (λ r. cause_in (state_after variant.Rga (updates_had variant.Rga records r)) (acts_in c.args.parts.now)) (its_replica (past_of variant.Rga first records) next label offered)
+    let same = its_op (past_of variant.Rga founders records) next label offered in
+    let asks = asks_only next.op (λ a x is. c.in_default.not-After a x (same ∙ is)) (λ x is. c.in_default.not-RgaRemove x (same ∙ is)) (of_its_kind (past_of variant.Rga founders records) next label offered) in
+    c.cause_of_query.ensures founders records stands
+    ∙ ap (λ r. cause_in (state_after variant.Rga (updates_had variant.Rga records r)) (acts_in c.args.parts.now)) (its_replica (past_of variant.Rga founders records) next label offered)
     ∙ ap (cause_in (state_after variant.Rga (updates_had variant.Rga records next.by))) acts
-    ∙ query_cause first records next label offered asks
+    ∙ query_cause founders records next label offered asks
 
 pub returns-in-After : goal.returns-in-After
-returns-in-After c = λ first records next stands offered acts.
+returns-in-After c = λ founders records next stands offered acts.
     let label = c.args.label.now in
-    let is = sym (its_op (past_of variant.Rga first records) next label offered) ∙ c.in-After.is in
+    let is = sym (its_op (past_of variant.Rga founders records) next label offered) ∙ c.in-After.is in
     c.update_unless.ensures
-    ∙ update_cause first records next label offered c.admits_insertion.result (λ o. ap (λ p. cause_in o (acts_of p)) is)
-    (c.admits_insertion.ensures first records next label stands offered is refl)
+    ∙ update_cause founders records next label offered c.admits_insertion.result (λ o. ap (λ p. cause_in o (acts_of p)) is)
+    (c.admits_insertion.ensures founders records next label stands offered is refl)
 
 pub returns-in-RgaRemove : goal.returns-in-RgaRemove
-returns-in-RgaRemove c = λ first records next stands offered acts.
+returns-in-RgaRemove c = λ founders records next stands offered acts.
     let label = c.args.label.now in
-    let is = sym (its_op (past_of variant.Rga first records) next label offered) ∙ c.in-RgaRemove.is in
-    let replica = its_replica (past_of variant.Rga first records) next label offered in
+    let is = sym (its_op (past_of variant.Rga founders records) next label offered) ∙ c.in-RgaRemove.is in
+    let replica = its_replica (past_of variant.Rga founders records) next label offered in
     c.update_unless-in-RgaRemove.ensures
-    ∙ update_cause first records next label offered c.admits_removal.result (λ o. ap (λ p. cause_in o (acts_of p)) is)
+    ∙ update_cause founders records next label offered c.admits_removal.result (λ o. ap (λ p. cause_in o (acts_of p)) is)
     (subst (λ r. (c.admits_removal.result ≡ true) ↔ (updates_admitted variant.Rga (named_sequence variant.Rga (Operate r next.op next.clock ∷ records)) ≡ true)) replica
-    (c.admits_removal.ensures first records next.op next.clock label stands (subst (λ r. IsOffered (past_of variant.Rga first records) (next_of r next.op next.clock) label) (sym replica) offered) is))
+    (c.admits_removal.ensures founders records next.op next.clock label stands (subst (λ r. IsOffered (past_of variant.Rga founders records) (next_of r next.op next.clock) label) (sym replica) offered) is))

@@ -28,11 +28,11 @@ pub unreachable-requires-in_default-stamp : goal.unreachable-requires-in_default
 unreachable-requires-in_default-stamp c = false≢true (subst (λ o. IsSome o) c.in_default-stamp.is c.requires.stamp)
 
 pub returns-in_err-reserve-clause-same : goal.returns-in_err-reserve-clause-same
-returns-in_err-reserve-clause-same c = λ first records stands.
+returns-in_err-reserve-clause-same c = λ founders records stands.
     let self = c.args.self.now in
     let spared : Rga = record { edits = self.edits; all = c.reserve.new.self; lists = self.lists } in
     let left = c.in_err-reserve.ensures in
-    on_err_any c.from_residual.result (rga_like self spared first records (sym left.elements) (sym left.arrivals) refl refl stands)
+    on_err_any c.from_residual.result (rga_like self spared founders records (sym left.elements) (sym left.arrivals) refl refl stands)
 
 pub put_own-requires-clause-anchor : goal.put_own-requires-clause-anchor
 put_own-requires-clause-anchor c =
@@ -47,21 +47,21 @@ insert-requires-clause-anchor c =
     omega (arith, known.0, count)
 
 pub returns-in_err-steps-clause-same : goal.returns-in_err-steps-clause-same
-returns-in_err-steps-clause-same c = λ first records stands.
+returns-in_err-steps-clause-same c = λ founders records stands.
     let self = c.args.self.now in
     let spared : Rga = record { edits = self.edits; all = c.reserve.new.self; lists = self.lists } in
     let room = c.in_ok-reserve.ensures in
-    let there_still = rga_like self spared first records (sym room.elements) (sym room.arrivals) refl refl stands in
+    let there_still = rga_like self spared founders records (sym room.elements) (sym room.arrivals) refl refl stands in
     let lists = self.lists.items in
     let r = c.args.label.now.replica in
     let list = c.index_mut-list.result.now in
     let within : r < length lists = omega (arith, c.requires.replica, self.lists.ok.0) in
     let there = slice_get_read lists (length lists) r list refl within c.index_mut-list.ensures.value in
     on_err_any c.from_residual-in_err-steps.result
-    (rga_same spared first records there_still r c.put_own.new.self within (c.in_err-steps.ensures.err spared.all.arrivals self.edits.items records r (there_still.lists r list there)))
+    (rga_same spared founders records there_still r c.put_own.new.self within (c.in_err-steps.ensures.err spared.all.arrivals self.edits.items records r (there_still.lists r list there)))
 
 pub returns-clause-taken : goal.returns-clause-taken
-returns-clause-taken c = λ first records next stands offered admitted is.
+returns-clause-taken c = λ founders records next stands offered admitted is.
     let self = c.args.self.now in
     let label = c.args.label.now in
     let lists = self.lists.items in
@@ -70,9 +70,9 @@ returns-clause-taken c = λ first records next stands offered admitted is.
     let all = c.reserve.new.self in
     let spared : Rga = record { edits = self.edits; all = all; lists = self.lists } in
     let room = c.in_ok-reserve.ensures in
-    let there_still = rga_like self spared first records (sym room.elements) (sym room.arrivals) refl refl stands in
+    let there_still = rga_like self spared founders records (sym room.elements) (sym room.arrivals) refl refl stands in
     let list = c.index_mut-list.result.now in
-    let by = its_replica (past_of variant.Rga first records) next label offered in
+    let by = its_replica (past_of variant.Rga founders records) next label offered in
     let within : label.replica < length lists = omega (arith, c.requires.replica, self.lists.ok.0) in
     let there = sym (ap (slice_get lists) by)
     ∙ slice_get_read lists (length lists) label.replica list refl within c.index_mut-list.ensures.value in
@@ -93,7 +93,7 @@ returns-clause-taken c = λ first records next stands offered admitted is.
     } in
     let pushed : c.push_reserved.new.self.items ≡ self.edits.items ++ Some (PutsIn (length all.arrivals)) ∷ [] =
     c.push_reserved.ensures.items ∙ ap (λ n. self.edits.items ++ Some (PutsIn n) ∷ []) c.len-number.ensures in (
-      rga_put spared grown first records next label there_still offered c.args.anchor x m c.in-Some-stamp.stamp new_list is
+      rga_put spared grown founders records next label there_still offered c.args.anchor x m c.in-Some-stamp.stamp new_list is
           stamped m_within m_is
           (λ n there same.
           c.requires.new n (omega (arith, there, count)) (ap (λ rs. element_at rs n) (sym room.arrivals) ∙ same))

@@ -23,7 +23,7 @@ pub remove_own-requires : goal.remove_own-requires
 remove_own-requires c = record { number = ((c.in-Some.ensures c.in-Some.number).0 refl).0 }
 
 pub returns-in_err-steps-clause-same : goal.returns-in_err-steps-clause-same
-returns-in_err-steps-clause-same c = λ first records stands.
+returns-in_err-steps-clause-same c = λ founders records stands.
     let self = c.args.self.now in
     let lists = self.lists.items in
     let r = c.args.label.now.replica in
@@ -31,24 +31,24 @@ returns-in_err-steps-clause-same c = λ first records stands.
     let within : r < length lists = omega (arith, c.requires.replica, self.lists.ok.0) in
     let there = slice_get_read lists (length lists) r list refl within c.index_mut-list.ensures.value in
     on_err_any c.from_residual.result
-    (rga_same self first records stands r c.remove_own.new.self within (c.in_err-steps.ensures.err self.all.arrivals self.edits.items records r (stands.lists r list there)))
+    (rga_same self founders records stands r c.remove_own.new.self within (c.in_err-steps.ensures.err self.all.arrivals self.edits.items records r (stands.lists r list there)))
 
 pub returns-clause-taken : goal.returns-clause-taken
-returns-clause-taken c = λ first records next stands offered admitted is.
+returns-clause-taken c = λ founders records next stands offered admitted is.
     let self = c.args.self.now in
     let label = c.args.label.now in
     let lists = self.lists.items in
     let x = c.args.element in
     let number = c.in-Some.number in
     let list = c.index_mut-list.result.now in
-    let by = its_replica (past_of variant.Rga first records) next label offered in
+    let by = its_replica (past_of variant.Rga founders records) next label offered in
     let within : label.replica < length lists = omega (arith, c.requires.replica, self.lists.ok.0) in
     let there = sym (ap (slice_get lists) by)
     ∙ slice_get_read lists (length lists) label.replica list refl within c.index_mut-list.ensures.value in
     let was = stands.lists next.by list there in
     let known = (c.in-Some.ensures number).0 refl in
     let removes = subst (λ y. Makes next.op (RgaRemove y)) (sym known.1) (makes_removal next.op x is) in
-    let no_clock = unclocked self.all self.edits.items records stands.elements first next label offered x is in
+    let no_clock = unclocked self.all self.edits.items records stands.elements founders next label offered x is in
     let own = c.in_ok-steps.ensures.removed self.edits.items records next stands.elements was
     (ap (λ l. l.number) offered.becomes) removes no_clock offered.fits admitted in
     let new_list = c.remove_own.new.self in
@@ -57,7 +57,7 @@ returns-clause-taken c = λ first records next stands offered admitted is.
       all = self.all;
       lists = with_item self.lists label.replica new_list;
     } in (
-      rga_removed self grown first records next label stands offered x number new_list is known.0 known.1 admitted
+      rga_removed self grown founders records next label stands offered x number new_list is known.0 known.1 admitted
           c.push_reserved.ensures.items refl (ap (λ r. set lists r new_list) by) own.0,
       settles_more was own.0 own.1,
     )
