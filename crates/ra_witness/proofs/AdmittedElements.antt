@@ -146,7 +146,7 @@ module _ (all : ElementList) (edits : List (Option Edit)) (records : Records) (a
                   behind_head own (labels_of records) it there,
                   subst (λ y. Makes it.op (After from y)) is_anchor makes,
                   other_stands it (arrival_at all.arrivals m).stamp there at
-                  ∙ is_less (stamp_cmp (arrival_at all.arrivals m).stamp stamp) less,
+                      ∙ is_less (stamp_cmp (arrival_at all.arrivals m).stamp stamp) less,
                 )
           ],
         )
@@ -180,7 +180,7 @@ module _ (all : ElementList) (edits : List (Option Edit)) (records : Records) (a
               as_number.within,
               as_number.is,
               ap is_lt (sym (other_stands other (arrival_at all.arrivals m).stamp old as_number.stamp))
-              ∙ less_to (label_cmp variant.Rga now other own) less,
+                  ∙ less_to (label_cmp variant.Rga now other own) less,
             )
       ]
     ]
@@ -222,7 +222,7 @@ module _ (all : ElementList) (edits : List (Option Edit)) (records : Records) (a
             behind_head own (labels_of records) it there,
             subst (λ y. Makes it.op (After from y)) is_it makes,
             other_ranks it (arrival_at all.arrivals n).stamp there at
-            ∙ le_then (stamp_cmp (arrival_at all.arrivals n).stamp greatest) ranked_below,
+                ∙ le_then (stamp_cmp (arrival_at all.arrivals n).stamp greatest) ranked_below,
           ),
         )
 
