@@ -44,7 +44,7 @@ impl Asks {
 // What was answered: how often yes, how often that the log is full, and how often that no ticket is left; and of joins
 // how often that the replica joined, and that it was there.
 #[derive(Clone, Copy, Debug, PartialEq, Eq)]
-struct Told {
+struct AnswerCounts {
     yes: u32,
     full: u32,
     worn: u32,
@@ -52,8 +52,8 @@ struct Told {
     there: u32,
 }
 
-impl Told {
-    const NOTHING: Told = Told {
+impl AnswerCounts {
+    const NOTHING: AnswerCounts = AnswerCounts {
         yes: 0,
         full: 0,
         worn: 0,
@@ -91,7 +91,7 @@ impl Told {
 #[derive(Drop)]
 struct Asked {
     pass: Pass<Monitor>,
-    told: Told,
+    told: AnswerCounts,
 }
 
 // The pass asks so often.
@@ -100,7 +100,7 @@ fn ask<R: Wait>(rt: &R, desk: &Desk, pass: Pass<Monitor>, asks: Asks, calls: u32
     ensures { IsPassOf desk.now result.pass }
 {
     let mut pass = pass;
-    let mut told = Told::NOTHING;
+    let mut told = AnswerCounts::NOTHING;
     for call in 0..calls {
         told.add(desk.submit(rt, &mut pass, asks.command(call)));
     }
@@ -140,8 +140,8 @@ fn ask_all<R: Threads + Wait + Sync>(
 }
 
 // What all of them were told.
-fn told_to(asked: &[Option<Asked>]) -> Told {
-    let mut all = Told::NOTHING;
+fn told_to(asked: &[Option<Asked>]) -> AnswerCounts {
+    let mut all = AnswerCounts::NOTHING;
     for one in asked {
         if let Some(Asked { told, .. }) = one {
             all.yes = all.yes.saturating_add(told.yes);
@@ -169,7 +169,7 @@ fn first_of(rt: &impl Abort, desk: &Desk, asked: Vec<Option<Asked>>) -> Pass<Mon
 
 // How many entries the log may have, and the first ticket; how many passes there are, and how many of them call; what
 // these ask, and how often; and what all of them are told.
-type Row = (u32, u64, u8, u8, Asks, u32, Told);
+type Row = (u32, u64, u8, u8, Asks, u32, AnswerCounts);
 
 // Ten calls of each; a log that is full after fifty calls; ten tickets that are left; half of the passes dropped before
 // any call. And each of some passes has the same replicas join, so each joins once, and was there each other time.
@@ -181,9 +181,9 @@ const ROWS: [Row; 5] = [
         64,
         Asks::Verdict,
         10,
-        Told {
+        AnswerCounts {
             yes: 640,
-            ..Told::NOTHING
+            ..AnswerCounts::NOTHING
         },
     ),
     (
@@ -193,10 +193,10 @@ const ROWS: [Row; 5] = [
         64,
         Asks::Verdict,
         1,
-        Told {
+        AnswerCounts {
             yes: 50,
             full: 14,
-            ..Told::NOTHING
+            ..AnswerCounts::NOTHING
         },
     ),
     (
@@ -206,10 +206,10 @@ const ROWS: [Row; 5] = [
         64,
         Asks::Verdict,
         1,
-        Told {
+        AnswerCounts {
             yes: 10,
             worn: 54,
-            ..Told::NOTHING
+            ..AnswerCounts::NOTHING
         },
     ),
     (
@@ -219,9 +219,9 @@ const ROWS: [Row; 5] = [
         32,
         Asks::Verdict,
         1,
-        Told {
+        AnswerCounts {
             yes: 32,
-            ..Told::NOTHING
+            ..AnswerCounts::NOTHING
         },
     ),
     (
@@ -231,10 +231,10 @@ const ROWS: [Row; 5] = [
         8,
         Asks::Joins,
         JOINS,
-        Told {
+        AnswerCounts {
             joined: 61,
             there: 427,
-            ..Told::NOTHING
+            ..AnswerCounts::NOTHING
         },
     ),
 ];
@@ -258,7 +258,7 @@ fn passes_on_threads_have_their_calls(rt: HostRuntime) {
 }
 
 // Three replicas were there first.
-fn is_left(rt: &impl Abort, monitor: &Monitor, told: Told) {
+fn is_left(rt: &impl Abort, monitor: &Monitor, told: AnswerCounts) {
     let report = monitor.report();
     assert!(rt; report.calls == told.replied() && report.refused == told.there);
     assert_eq!(rt;

@@ -2,11 +2,11 @@
 ghost use Rattle.std.specs.Prelude.{◌≡◌, ◌<◌, ◌≤◌, [], All};
 ghost use Rattle.ra_ticket.specs.Passes.{IsPassOf, IsSamePass};
 
-mod gate;
+mod halt;
 mod tally;
 pub mod threads;
 
-use gate::{Flag, Gate, is_raised_in_time, lowered, raise, shared};
+use halt::{Flag, Halt, is_raised_in_time, lowered, raise, shared};
 use ra_ticket::{
     CallFault, Caller, Glance, Journal, MOST_ENTRIES, OpenFault, Pass, StepFault, TicketLock,
 };
@@ -280,22 +280,22 @@ fn use_and_drop<R: Abort + Wait>(
     drop(outlives);
 }
 
-// A tally behind a gate, and the flags of the gate.
-fn gated(rt: &impl Abort, alloc: Global) -> (Tally, Flag, Flag)
+// A tally whose steps halt, and the flags of the halt.
+fn halted(rt: &impl Abort, alloc: Global) -> (Tally, Flag, Flag)
     ensures { result.0.log.items ≡ [] }
 {
     let inside = lowered(rt, alloc);
     let go_on = lowered(rt, alloc);
-    let gate = Gate {
+    let halt = Halt {
         inside: shared(rt, &inside),
         go_on: shared(rt, &go_on),
     };
-    (tally_of(rt, alloc, 9).behind(gate), inside, go_on)
+    (tally_of(rt, alloc, 9).halting(halt), inside, go_on)
 }
 
 #[test]
 fn a_call_under_way_keeps_others_out_and_lets_them_glance(rt: HostRuntime) {
-    let (tally, inside, go_on) = gated(&rt, rt.alloc());
+    let (tally, inside, go_on) = halted(&rt, rt.alloc());
     let (lock, mut passes) = opened(&rt, rt.alloc(), tally, 2, 10);
     let other = last_pass(&rt, &lock, &mut passes);
     let pass = last_pass(&rt, &lock, &mut passes);
@@ -338,7 +338,7 @@ fn last_caller(rt: &impl Abort, callers: &mut Vec<Caller<Tally>>) -> Caller<Tall
 // The same of callers, which have their lock with them.
 #[test]
 fn a_caller_finds_a_call_under_way(rt: HostRuntime) {
-    let (tally, inside, go_on) = gated(&rt, rt.alloc());
+    let (tally, inside, go_on) = halted(&rt, rt.alloc());
     let (mut caller, mut other) = two_callers(&rt, rt.alloc(), tally);
     let (reply, found) = thread::join(
         &rt,

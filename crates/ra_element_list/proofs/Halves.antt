@@ -5,8 +5,8 @@ use Rattle.std.specs.List.{insert}
 use Rattle.std.proofs.lemmas.Bool.{cases_lt, cases_eq, cond-true, cond-false, lt-ltb, le-ltb}
 use Rattle.std.proofs.lemmas.List.{length-set, map-append, get_or-set_same, get_or-set_other, get_or_append_left, get_or-append-add, length-append}
 use Rattle.std.proofs.lemmas.List.Elements.{Contains-append_left, Contains-append_right, Contains-append_cases}
-use Rattle.std.proofs.lemmas.List.Edits.{length-insert, get_or-insert_below, get_or-insert_at, get_or-insert_above}
-use Rattle.ra_labels.proofs.Halves.{halved, halved_is}
+use Rattle.std.proofs.lemmas.List.Edits.{get_or-insert_below, get_or-insert_at, get_or-insert_above}
+use Rattle.ra_labels.proofs.Halves.{halved, halved_is, length_halved}
 use Rattle.ra_element_list.specs.declared.entry.Entry.{Entry}
 use Rattle.ra_element_list.specs.declared.element.Element.{Element}
 use Rattle.ra_element_list.specs.Entries.{no_entry, entry_at, numbers_in}
@@ -40,7 +40,7 @@ module _ (chunks : List Chunk) (at : ℕ) (left right : Chunk) (there : at < len
   few = omega (arith, length-set chunks at left)
 
   pub length_split : length now ≡ length chunks + 1
-  length_split = length-insert (set chunks at left) (at + 1) right few ∙ ap (λ n. n + 1) (length-set chunks at left)
+  length_split = ap length (halved_is chunks at left right there) ∙ length_halved chunks at left right there
 
   pub left_at : chunk_at now at ≡ left
   left_at = get_or-insert_below (set chunks at left) (at + 1) right no_chunk at (omega arith) few

@@ -10,11 +10,11 @@ use ra_labels::{Op, Stamp};
 /// The value with the greatest stamp, once there is one.
 #[derive(Drop)]
 pub struct Register {
-    last: Option<Written>,
+    last: Option<LastWrite>,
 }
 
 #[derive(Clone, Copy)]
-struct Written {
+struct LastWrite {
     value: u32,
     stamp: Stamp,
 }
@@ -57,7 +57,7 @@ impl Register {
     /// A write of the value with this stamp.
     pub fn write(&mut self, value: u32, stamp: Stamp) {
         if !self.has_above(stamp) {
-            self.last = Some(Written { value, stamp });
+            self.last = Some(LastWrite { value, stamp });
         }
     }
 }

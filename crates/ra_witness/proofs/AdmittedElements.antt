@@ -99,7 +99,7 @@ module _ (all : ElementList) (edits : List (Option Edit)) (records : Records) (a
       by_test true is = let (n, within, same) = there_numbered all edits records are x is in absurd (new n within same)
 
   module _ (anchor x : ℕ) (is : next.op ≡ ops.After anchor x) (stamp : Stamp) (stamped : label.stamp ≡ Some stamp) where
-    own_stamp : own.stamp ≡ Some stamp
+    pub own_stamp : own.stamp ≡ Some stamp
     own_stamp = sym (ap (λ (l : Label). l.stamp) offered.becomes) ∙ stamped
 
     pub some_clock : 1 ≤ stamp.clock
@@ -189,63 +189,63 @@ module _ (all : ElementList) (edits : List (Option Edit)) (records : Records) (a
     pub unclocked : next.clock ≡ None
     unclocked = (its_clock (past_of variant.Rga founders records) next label offered).1 (ap carries_stamp is)
 
-  module _ (x : ℕ) (is : next.op ≡ ops.RgaRemove x) (greatest : Stamp) (ranks : timestamp_of now own ≡ greatest) where
-    -- a removal stands behind the labels that rank with it
-    other_ranks : (other : Label) (t : Stamp) → Contains (labels_of records) other → other.stamp ≡ Some t
-        → label_cmp variant.Rga now other own ≡ ordering_then (stamp_cmp t greatest) Less
-    other_ranks other t there at =
-        ap (λ s. ordering_then (stamp_cmp s (timestamp_of now own)) (nat_cmp other.number (label_count records)))
-        (a_timestamp_is_the_greatest_seen-own now other t at)
-        ∙ ap (λ s. ordering_then (stamp_cmp t s) (nat_cmp other.number (label_count records))) ranks
-        ∙ ap (λ o. ordering_then (stamp_cmp t greatest) o)
-        (less_cmp other.number (label_count records) (label_below records other there))
+    module _ (greatest : Stamp) (ranks : timestamp_of now own ≡ greatest) where
+      -- a removal stands behind the labels that rank with it
+      other_ranks : (other : Label) (t : Stamp) → Contains (labels_of records) other → other.stamp ≡ Some t
+          → label_cmp variant.Rga now other own ≡ ordering_then (stamp_cmp t greatest) Less
+      other_ranks other t there at =
+          ap (λ s. ordering_then (stamp_cmp s (timestamp_of now own)) (nat_cmp other.number (label_count records)))
+          (a_timestamp_is_the_greatest_seen-own now other t at)
+          ∙ ap (λ s. ordering_then (stamp_cmp t s) (nat_cmp other.number (label_count records))) ranks
+          ∙ ap (λ o. ordering_then (stamp_cmp t greatest) o)
+          (less_cmp other.number (label_count records) (label_below records other there))
 
-    -- the removed element is not the root, and was put in by a label below
-    decided : AreAdmitted ↔ ((¬ (x ≡ 0)) × WasPutInBelow now own x)
-    decided =
-        a_new_update_is_admitted_where_a_label_below_it_put_in_what_it_needs-removal records next.by next.op next.clock
-        x (makes_removal next.op x is) offered.holds.updates
+      -- the removed element is not the root, and was put in by a label below
+      decided : AreAdmitted ↔ ((¬ (x ≡ 0)) × WasPutInBelow now own x)
+      decided =
+          a_new_update_is_admitted_where_a_label_below_it_put_in_what_it_needs-removal records next.by next.op next.clock
+          x (makes_removal next.op x is) offered.holds.updates
 
-    pub removal_admitted : (n : ℕ) → 0 < n → n < length all.arrivals → element_at all.arrivals n ≡ x
-        → is_le (stamp_cmp (arrival_at all.arrivals n).stamp greatest) ≡ true → AreAdmitted
-    removal_admitted n some within is_it ranked_below =
-        let (it, there, makes, at) = its_label all edits records are n some within in
-        let from = element_at all.arrivals (arrival_at all.arrivals n).anchor in
-        decided.1 (
-          (λ root_is.
-              let zero_is = are.once n 0 within are.some
-              (is_it ∙ root_is ∙ sym (ap (λ (a : Arrival). a.element) are.first)) in
-              omega (arith, some, zero_is)),
-          (
-            it,
-            from,
-            behind_head own (labels_of records) it there,
-            subst (λ y. Makes it.op (After from y)) is_it makes,
-            other_ranks it (arrival_at all.arrivals n).stamp there at
-                ∙ le_then (stamp_cmp (arrival_at all.arrivals n).stamp greatest) ranked_below,
-          ),
-        )
+      pub removal_admitted : (n : ℕ) → 0 < n → n < length all.arrivals → element_at all.arrivals n ≡ x
+          → is_le (stamp_cmp (arrival_at all.arrivals n).stamp greatest) ≡ true → AreAdmitted
+      removal_admitted n some within is_it ranked_below =
+          let (it, there, makes, at) = its_label all edits records are n some within in
+          let from = element_at all.arrivals (arrival_at all.arrivals n).anchor in
+          decided.1 (
+            (λ root_is.
+                let zero_is = are.once n 0 within are.some
+                (is_it ∙ root_is ∙ sym (ap (λ (a : Arrival). a.element) are.first)) in
+                omega (arith, some, zero_is)),
+            (
+              it,
+              from,
+              behind_head own (labels_of records) it there,
+              subst (λ y. Makes it.op (After from y)) is_it makes,
+              other_ranks it (arrival_at all.arrivals n).stamp there at
+                  ∙ le_then (stamp_cmp (arrival_at all.arrivals n).stamp greatest) ranked_below,
+            ),
+          )
 
-    pub record IsRemovable : Type 0 where
-      pub number : ℕ
-      pub some : ¬ (x ≡ 0)
-      pub within : number < length all.arrivals
-      pub is_it : element_at all.arrivals number ≡ x
-      pub ranked_below : is_le (stamp_cmp (arrival_at all.arrivals number).stamp greatest) ≡ true
+      pub record IsRemovable : Type 0 where
+        pub number : ℕ
+        pub some : ¬ (x ≡ 0)
+        pub within : number < length all.arrivals
+        pub is_it : element_at all.arrivals number ≡ x
+        pub ranked_below : is_le (stamp_cmp (arrival_at all.arrivals number).stamp greatest) ≡ true
 
-    pub removal_needs : AreAdmitted → IsRemovable
-    removal_needs admitted =
-        let (some, (other, a, there, makes, less)) = decided.0 admitted in
-        elim (head_or_behind own (labels_of records) other there) [
-          | inl newest ↦ absurd (not_below_own now own (ap (λ l. label_cmp variant.Rga now l own) newest ∙ less))
-          | inr old ↦
-              let (m, as_number) = its_number all edits records are other a x old makes in
-              record {
-                number = m;
-                some = some;
-                within = as_number.within;
-                is_it = as_number.is;
-                ranked_below = then_le (stamp_cmp (arrival_at all.arrivals m).stamp greatest)
-                    (sym (other_ranks other (arrival_at all.arrivals m).stamp old as_number.stamp) ∙ less);
-              }
-        ]
+      pub removal_needs : AreAdmitted → IsRemovable
+      removal_needs admitted =
+          let (some, (other, a, there, makes, less)) = decided.0 admitted in
+          elim (head_or_behind own (labels_of records) other there) [
+            | inl newest ↦ absurd (not_below_own now own (ap (λ l. label_cmp variant.Rga now l own) newest ∙ less))
+            | inr old ↦
+                let (m, as_number) = its_number all edits records are other a x old makes in
+                record {
+                  number = m;
+                  some = some;
+                  within = as_number.within;
+                  is_it = as_number.is;
+                  ranked_below = then_le (stamp_cmp (arrival_at all.arrivals m).stamp greatest)
+                      (sym (other_ranks other (arrival_at all.arrivals m).stamp old as_number.stamp) ∙ less);
+                }
+          ]

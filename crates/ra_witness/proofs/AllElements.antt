@@ -1,6 +1,7 @@
 -- When the elements of all labels are those of records: at first, with room for one more, and what is known of them.
 use Rattle.std.proofs.Common.{◌≡◌, ℕ, zero, suc, ◌<◌, true, false, List, [], ◌∷◌, length, Option, Some, refl, sym, ap, ◌∙◌, subst, inl, inr, arith}
-use Rattle.std.specs.Prelude.{Contains}
+use Rattle.std.specs.Prelude.{Contains, Vec}
+use Rattle.std.specs.declared.alloc.Global.{Global}
 use Rattle.std.proofs.lemmas.Bool.{cases_eq}
 use Rattle.std.proofs.lemmas.Option.{none-some}
 use Rattle.std.proofs.lemmas.List.Sorted.{Contains-permutation, IsPermutation-sym}
@@ -52,6 +53,15 @@ rga_like a b founders records same_elements same_arrivals same_edits same_lists 
       (subst (λ ds. AreListsOf a.lists.items b.all.arrivals ds records) same_edits (subst (λ rs. AreListsOf a.lists.items rs a.edits.items records) same_arrivals stands.lists));
   few = omega (arith, stands.few, ap length same_arrivals);
 }
+
+abbrev with_edits : Rga → Vec (Option Edit) Global → Rga
+with_edits rga edits = record { edits = edits; all = rga.all; lists = rga.lists }
+
+-- also with room for one more edit
+pub rga_reserved : (rga : Rga) (edits : Vec (Option Edit) Global) (founders : ℕ) (records : Records)
+    → edits.items ≡ rga.edits.items → IsRgaOf rga founders records → IsRgaOf (with_edits rga edits) founders records
+rga_reserved rga edits founders records same stands =
+    rga_like rga (with_edits rga edits) founders records refl refl (sym same) refl stands
 
 none_there : (n : ℕ) (x : Edit) → edit_at [] n ≡ Some x → ⊥
 none_there n x is = none-some x is

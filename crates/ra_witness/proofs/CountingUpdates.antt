@@ -35,6 +35,7 @@ use Rattle.ra_witness.specs.ElementNumbers.{element_of}
 use Rattle.ra_witness.specs.Overriding.{updates_written, write_at, counting}
 use Rattle.ra_witness.specs.Overridden.{IsNumberOf, AreWritesOf, IsLastOn, AreLastOf}
 use Rattle.ra_witness.proofs.Causes.{are_of}
+use Rattle.ra_witness.proofs.CommutingKinds.{not_rga-overriding}
 use Rattle.ra_witness.proofs.ReplicaStates.{kept-delivery, stepped}
 use Rattle.ra_witness.proofs.DoneUpdates.{its_write, written_made, update_of_write, had_makes, done_of_kind}
 use Rattle.ra_witness.proofs.DeliveredLasts.{one_write, IsNewWrite, counting-last}
@@ -137,178 +138,226 @@ numbered number_of e x number is known = subst (λ o. IsNumberOf number_of o num
 unnumbered : (number_of : ℕ → Option ℕ) (e : Option ℕ) (number : ℕ) → e ≡ None → IsNumberOf number_of e number → number ≡ 0
 unnumbered number_of e number is known = subst (λ o. IsNumberOf number_of o number) is known
 
-module _ (writes : List (Option Written)) (lasts : List (List (Option ℕ))) (number_of : ℕ → Option ℕ) (states : List State) (past : Past) (to n : ℕ) (not_rga : ¬ (past.kind ≡ Rga)) (sorts : IsByTimestamp past.kind) (kept : AreStatesOf (updates_written writes) states past) (are : AreWritesOf writes number_of past.records)
-    (lastof : AreLastOf writes lasts past.records) (once : StampsAreOneLabels past.records) (holds : Holds past.kind past.records) (within : to < length lasts) (there : to < length states)
-    (it : IsNewWrite writes past.records to n) where
+pub by_timestamp : (kind : Kind) → (kind ≡ Register) ⊎ (kind ≡ LwwSet) → IsByTimestamp kind
+by_timestamp kind (inl is) = subst IsByTimestamp (sym is) (λ rs l. refl)
+by_timestamp kind (inr is) = subst IsByTimestamp (sym is) (λ rs l. refl)
+
+-- what is kept of a register or an LWW set is that of the past, and the replica is there
+pub record WritesStand (writes : List (Option Written)) (lasts : List (List (Option ℕ))) (number_of : ℕ → Option ℕ)
+    (states : List State) (past : Past) (to : ℕ) : Type 0 where
+  pub one : (past.kind ≡ Register) ⊎ (past.kind ≡ LwwSet)
+  pub kept : AreStatesOf (updates_written writes) states past
+  pub are : AreWritesOf writes number_of past.records
+  pub lastof : AreLastOf writes lasts past.records
+  pub once : StampsAreOneLabels past.records
+  pub holds : Holds past.kind past.records
+  pub within : to < length lasts
+  pub there : to < length states
+
+module _ {writes : List (Option Written)} {lasts : List (List (Option ℕ))} {number_of : ℕ → Option ℕ}
+    {states : List State} {past : Past} {to n : ℕ}
+    (given : WritesStand writes lasts number_of states past to) (it : IsNewWrite writes past.records to n) where
+  sorts : IsByTimestamp past.kind
+  sorts = by_timestamp past.kind given.one
+
+  not_rga : ¬ (past.kind ≡ Rga)
+  not_rga = not_rga-overriding past.kind given.one
+
   abbrev now : Records
   now = Deliver to n ∷ past.records
+
+  -- the records with the delivery, by the label's own number
+  abbrev named_so : Records
+  named_so = Deliver to it.label.number ∷ past.records
 
   abbrev counts : ℕ
   counts = counting writes lasts to n it.write
 
   abbrev are_now : AreWritesOf writes number_of now
-  are_now = record { stamps = are.stamps; numbers = are.numbers; one = are.one }
+  are_now = record { stamps = given.are.stamps; numbers = given.are.numbers; one = given.are.one }
 
   abbrev last : IsLastOn writes now to it.write.on counts
-  last = counting-last writes lasts number_of past.records to n are lastof once within it
+  last = counting-last writes lasts number_of past.records to n given.are given.lastof given.once given.within it
 
   its_makes : Makes it.label.op it.write.update
-  its_makes = written_made writes past.records it.label it.write kept.labels it.there (ap (write_at writes) it.number ∙ it.found)
+  its_makes = written_made writes past.records it.label it.write given.kept.labels it.there
+      (ap (write_at writes) it.number ∙ it.found)
 
   its_new : had past.records to it.label.number ≡ false
   its_new = ap (had past.records to) it.number ∙ it.new
 
-  of_kind : (label : Label) (u : Update) → Contains (labels_of past.records) label → Makes label.op u → is_kind past.kind (kind_of_update u) ≡ true
-  of_kind label u found makes = done_of_kind past.kind past.records label u holds found makes
+  of_kind : (label : Label) (u : Update) → Contains (labels_of past.records) label → Makes label.op u
+      → is_kind past.kind (kind_of_update u) ≡ true
+  of_kind label u found makes = done_of_kind past.kind past.records label u given.holds found makes
 
-  admitted : is_admitted past.kind (updates_had past.kind (Deliver to it.label.number ∷ past.records) to) ≡ true
-  admitted = admitted_delivered past.kind past.records to it.label it.write.update (state_at states to) not_rga it.there its_makes its_new (kept.folded to there) (of_kind it.label it.write.update it.there its_makes)
+  its_kind : is_kind past.kind (kind_of_update it.write.update) ≡ true
+  its_kind = of_kind it.label it.write.update it.there its_makes
+
+  admitted : is_admitted past.kind (updates_had past.kind named_so to) ≡ true
+  admitted = admitted_delivered past.kind past.records to it.label it.write.update (state_at states to) not_rga
+      it.there its_makes its_new (given.kept.folded to given.there) its_kind
 
   last_own : Makes last.label.op last.write.update
-  last_own = last_makes past.kind writes number_of now to it.write.on counts sorts kept.labels are_now last
+  last_own = last_makes past.kind writes number_of now to it.write.on counts sorts given.kept.labels are_now last
+
+  last_kind : is_kind past.kind (kind_of_update last.write.update) ≡ true
+  last_kind = of_kind last.label last.write.update last.there last_own
+
+  last_is_had : had now to last.label.number ≡ true
+  last_is_had = last_had past.kind writes number_of now to it.write.on counts sorts given.kept.labels are_now last
+
+  last_stands : (before behind : List Label) × (named_labels past.kind now ≡ before ++ last.label ∷ behind)
+  last_stands = split past.kind writes number_of now to it.write.on counts sorts given.kept.labels are_now last
+
+  -- the state then: that before with the update that counts
+  abbrev IsOneStep : Type 0
+  IsOneStep = state_after past.kind (updates_had past.kind named_so to)
+      ≡ then_step (state_after past.kind (updates_had past.kind past.records to)) last.write.update
 
   -- once the update that counts is made
-  led_by : state_after past.kind (updates_had past.kind (Deliver to it.label.number ∷ past.records) to) ≡ then_step (state_after past.kind (updates_had past.kind past.records to)) last.write.update
-      → state_after past.kind (updates_had past.kind now to) ≡ Some (after_step (state_at states to) (update_at (updates_written writes) counts))
+  led_by : IsOneStep → state_after past.kind (updates_had past.kind now to)
+      ≡ Some (after_step (state_at states to) (update_at (updates_written writes) counts))
   led_by step =
-      let led = kept.folded to there in
+      let led = given.kept.folded to given.there in
+      let was = updates_had past.kind past.records to in
       ap (λ m. state_after past.kind (updates_had past.kind (Deliver to m ∷ past.records) to)) (sym it.number)
       ∙ step
-      ∙ stepped past.kind (state_after past.kind (updates_had past.kind past.records to)) (state_at states to) last.write.update led
-      (states_are_of_their_kind past.kind (updates_had past.kind past.records to) (state_at states to) led) (of_kind last.label last.write.update last.there last_own) not_rga
+      ∙ stepped past.kind (state_after past.kind was) (state_at states to) last.write.update led
+      (states_are_of_their_kind past.kind was (state_at states to) led) last_kind not_rga
       ∙ ap (λ o. Some (after_step (state_at states to) o)) (sym (update_of_write writes counts last.write last.found))
 
-  pub kept-made : state_after past.kind (updates_had past.kind (Deliver to it.label.number ∷ past.records) to) ≡ then_step (state_after past.kind (updates_had past.kind past.records to)) last.write.update
-      → AreStatesOf (updates_written writes) (states_after states to (update_at (updates_written writes) counts)) (past_of past.kind past.founders now)
-  kept-made step = kept-delivery (updates_written writes) states past kept to n (update_at (updates_written writes) counts) there (led_by step)
+  -- the states with the delivery
+  abbrev AreKept : Type 0
+  AreKept = AreStatesOf (updates_written writes) (states_after states to (update_at (updates_written writes) counts))
+      (past_of past.kind past.founders now)
+
+  kept-made : IsOneStep → AreKept
+  kept-made step = kept-delivery (updates_written writes) states past given.kept to n
+      (update_at (updates_written writes) counts) given.there (led_by step)
 
   -- none behind the last label that counts is on its element
-  none_on : (before behind : List Label) → named_labels past.kind now ≡ before ++ last.label ∷ behind → (other : Label) (v : Written) → Contains behind other
-      → had now to other.number ≡ true → write_at writes other.number ≡ Some v → ¬ (v.on ≡ it.write.on)
-  none_on = none_behind past.kind writes number_of now to it.write.on counts sorts kept.labels are_now last
+  none_on : (before behind : List Label) → named_labels past.kind now ≡ before ++ last.label ∷ behind
+      → (other : Label) (v : Written) → Contains behind other → had now to other.number ≡ true
+      → write_at writes other.number ≡ Some v → ¬ (v.on ≡ it.write.on)
+  none_on = none_behind past.kind writes number_of now to it.write.on counts sorts given.kept.labels are_now last
 
-  named_there : (before behind : List Label) → named_labels past.kind now ≡ before ++ last.label ∷ behind → (other : Label) → Contains behind other → Contains (labels_of past.records) other
+  named_there : (before behind : List Label) → named_labels past.kind now ≡ before ++ last.label ∷ behind
+      → (other : Label) → Contains behind other → Contains (labels_of past.records) other
   named_there before behind is other late =
-      let named : Contains (named_labels past.kind now) other = subst (λ ls. Contains ls other) (sym is) (Contains-append_right before (last.label ∷ behind) other (behind_head last.label behind other late)) in
-      Contains-permutation (named_labels past.kind now) (labels_of now) other (IsPermutation-sym (labels_of now) (named_labels past.kind now) (named_labels_are_sorted-same past.kind now)) named
+      let named : Contains (named_labels past.kind now) other = subst (λ ls. Contains ls other) (sym is)
+      (Contains-append_right before (last.label ∷ behind) other (behind_head last.label behind other late)) in
+      Contains-permutation (named_labels past.kind now) (labels_of now) other
+      (IsPermutation-sym (labels_of now) (named_labels past.kind now) (named_labels_are_sorted-same past.kind now)) named
 
 -- of a register
-module _ (writes : List (Option Written)) (lasts : List (List (Option ℕ))) (number_of : ℕ → Option ℕ) (states : List State) (founders : ℕ)
-    (records : Records) (to n : ℕ) (sorts : IsByTimestamp Register) (kept : AreStatesOf (updates_written writes) states (past_of Register founders records)) (are : AreWritesOf writes number_of records)
-    (lastof : AreLastOf writes lasts records) (once : StampsAreOneLabels records) (holds : Holds Register records) (within : to < length lasts) (there : to < length states)
+module _ {writes : List (Option Written)} {lasts : List (List (Option ℕ))} {number_of : ℕ → Option ℕ}
+    {states : List State} {founders : ℕ} {records : Records} {to n : ℕ}
+    (given : WritesStand writes lasts number_of states (past_of Register founders records) to)
     (it : IsNewWrite writes records to n) where
-  abbrev past_r : Past
-  past_r = past_of Register founders records
-
-  abbrev now_r : Records
-  now_r = Deliver to n ∷ records
-
-  abbrev last_r : IsLastOn writes now_r to it.write.on (counting writes lasts to n it.write)
-  last_r = counting-last writes lasts number_of records to n are lastof once within it
-
-  not_rga : ¬ (Register ≡ Rga)
-  not_rga r = cc (r)
-
   -- each write is on the one value
-  on_zero : (label : Label) (write : Written) → Contains (labels_of records) label → write_at writes label.number ≡ Some write → write.on ≡ 0
+  on_zero : (label : Label) (write : Written) → Contains (labels_of records) label
+      → write_at writes label.number ≡ Some write → write.on ≡ 0
   on_zero label write found at =
-      let of_it = done_of_kind Register records label write.update holds found (written_made writes records label write kept.labels found at) in
-      unnumbered number_of (element_of write.update) write.on (no_element write.update of_it) (are.numbers label.number write at)
+      let makes = written_made writes records label write given.kept.labels found at in
+      unnumbered number_of (element_of write.update) write.on
+      (no_element write.update (of_kind given it label write.update found makes)) (given.are.numbers label.number write at)
 
-  none_had : (before behind : List Label) → named_labels Register now_r ≡ before ++ last_r.label ∷ behind → (other : Label) → Contains behind other → had now_r to other.number ≡ false
-  none_had before behind is other late = elim (cases_Bool (had now_r to other.number)) [
+  none_had : (before behind : List Label) → named_labels Register (now given it) ≡ before ++ (last given it).label ∷ behind
+      → (other : Label) → Contains behind other → had (now given it) to other.number ≡ false
+  none_had before behind is other late = elim (cases_Bool (had (now given it) to other.number)) [
     | inl h ↦
-        let found = named_there writes lasts number_of states past_r to n not_rga sorts kept are lastof once holds within there it before behind is other late in
-        let (u, makes) = had_makes now_r to other found h in
-        let (v, at, same) = its_write writes now_r other u kept.labels found makes in
-        let on : v.on ≡ it.write.on = on_zero other v found at ∙ sym (on_zero it.label it.write it.there (ap (write_at writes) it.number ∙ it.found)) in
-        absurd (none_on writes lasts number_of states past_r to n not_rga sorts kept are lastof once holds within there it before behind is other v late h at on)
+        let found = named_there given it before behind is other late in
+        let (u, makes) = had_makes (now given it) to other found h in
+        let (v, at, same) = its_write writes (now given it) other u given.kept.labels found makes in
+        let on : v.on ≡ it.write.on = on_zero other v found at
+        ∙ sym (on_zero it.label it.write it.there
+        (ap (write_at writes) it.number ∙ it.found)) in
+        absurd (none_on given it before behind is other v late h at on)
     | inr not_had ↦ not_had
   ]
 
-  last_value : (value : ℕ) → last_r.write.update ≡ Write value → last_written (updates_had Register now_r to) ≡ Some value
+  last_value : (value : ℕ) → (last given it).write.update ≡ Write value
+      → last_written (updates_had Register (now given it) to) ≡ Some value
   last_value value is_write =
-      let (before, behind, is) = split Register writes number_of now_r to it.write.on (counting writes lasts to n it.write) sorts kept.labels (are_now writes lasts number_of states past_r to n not_rga sorts kept are lastof once holds within there it) last_r in
-      let makes = last_own writes lasts number_of states past_r to n not_rga sorts kept are lastof once holds within there it in
-      the_last_label_has_the_last_update-register now_r (had now_r to) before behind last_r.label value is (subst (λ u. Makes last_r.label.op u) is_write makes)
-      (ap (had now_r to) last_r.number ∙ last_r.had_it) (none_had before behind is)
+      let (before, behind, is) = last_stands given it in
+      the_last_label_has_the_last_update-register (now given it) (had (now given it) to) before behind (last given it).label value
+      is (subst (λ u. Makes (last given it).label.op u) is_write (last_own given it)) (last_is_had given it)
+      (none_had before behind is)
 
-  register_step : state_after Register (updates_had Register (Deliver to it.label.number ∷ records) to) ≡ then_step (state_after Register (updates_had Register records to)) last_r.write.update
-  register_step =
-      let makes = its_makes writes lasts number_of states past_r to n not_rga sorts kept are lastof once holds within there it in
-      let own = only_writes it.write.update (done_of_kind Register records it.label it.write.update holds it.there makes) in
-      let last_makes_it = last_own writes lasts number_of states past_r to n not_rga sorts kept are lastof once holds within there it in
-      let counted = only_writes last_r.write.update (done_of_kind Register records last_r.label last_r.write.update holds last_r.there last_makes_it) in
-      let says = subst (λ m. last_written (updates_had Register (Deliver to m ∷ records) to) ≡ Some counted.0) (sym it.number) (last_value counted.0 counted.1) in
-      a_delivery_is_one_step-register records to it.label own.0 counted.0 it.there (subst (λ u. Makes it.label.op u) own.1 makes)
-      (its_new writes lasts number_of states past_r to n not_rga sorts kept are lastof once holds within there it)
-      (admitted writes lasts number_of states past_r to n not_rga sorts kept are lastof once holds within there it) says
-      ∙ ap (then_step (state_after Register (updates_had Register records to))) (sym counted.1)
-
-  pub kept-register : AreStatesOf (updates_written writes) (states_after states to (update_at (updates_written writes) (counting writes lasts to n it.write))) (past_of Register founders (Deliver to n ∷ records))
-  kept-register = kept-made writes lasts number_of states past_r to n not_rga sorts kept are lastof once holds within there it register_step
+  kept-register : AreKept given it
+  kept-register =
+      let (own, is_own) = only_writes it.write.update (its_kind given it) in
+      let (counted, is_counted) = only_writes (last given it).write.update (last_kind given it) in
+      let says = subst (λ m. last_written (updates_had Register (Deliver to m ∷ records) to) ≡ Some counted)
+      (sym it.number) (last_value counted is_counted) in
+      kept-made given it
+      (a_delivery_is_one_step-register records to it.label own counted it.there
+      (subst (λ u. Makes it.label.op u) is_own (its_makes given it)) (its_new given it) (admitted given it) says
+      ∙ ap (then_step (state_after Register (updates_had Register records to))) (sym is_counted))
 
 -- of an LWW set
-module _ (writes : List (Option Written)) (lasts : List (List (Option ℕ))) (number_of : ℕ → Option ℕ) (states : List State) (founders : ℕ)
-    (records : Records) (to n : ℕ) (sorts : IsByTimestamp LwwSet) (kept : AreStatesOf (updates_written writes) states (past_of LwwSet founders records)) (are : AreWritesOf writes number_of records)
-    (lastof : AreLastOf writes lasts records) (once : StampsAreOneLabels records) (holds : Holds LwwSet records) (within : to < length lasts) (there : to < length states)
+module _ {writes : List (Option Written)} {lasts : List (List (Option ℕ))} {number_of : ℕ → Option ℕ}
+    {states : List State} {founders : ℕ} {records : Records} {to n : ℕ}
+    (given : WritesStand writes lasts number_of states (past_of LwwSet founders records) to)
     (it : IsNewWrite writes records to n) where
-  abbrev past_s : Past
-  past_s = past_of LwwSet founders records
-
-  abbrev now_s : Records
-  now_s = Deliver to n ∷ records
-
-  abbrev last_s : IsLastOn writes now_s to it.write.on (counting writes lasts to n it.write)
-  last_s = counting-last writes lasts number_of records to n are lastof once within it
-
-  not_rga_s : ¬ (LwwSet ≡ Rga)
-  not_rga_s r = cc (r)
-
-  its_element : (x : ℕ) × (element_of it.write.update ≡ Some x)
-  its_element =
-      let makes = its_makes writes lasts number_of states past_s to n not_rga_s sorts kept are lastof once holds within there it in
-      on_element it.write.update (done_of_kind LwwSet records it.label it.write.update holds it.there makes)
-
   -- its number is that of the element
   its_number : (x : ℕ) → element_of it.write.update ≡ Some x → number_of x ≡ Some it.write.on
-  its_number x is = numbered number_of (element_of it.write.update) x it.write.on is (are.numbers n it.write it.found)
+  its_number x is = numbered number_of (element_of it.write.update) x it.write.on is
+      (given.are.numbers n it.write it.found)
 
-  last_element : (x : ℕ) → element_of it.write.update ≡ Some x → element_of last_s.write.update ≡ Some x
+  last_element : (x : ℕ) → element_of it.write.update ≡ Some x → element_of (last given it).write.update ≡ Some x
   last_element x is =
-      let makes = last_own writes lasts number_of states past_s to n not_rga_s sorts kept are lastof once holds within there it in
-      let y = on_element last_s.write.update (done_of_kind LwwSet records last_s.label last_s.write.update holds last_s.there makes) in
-      let known = numbered number_of (element_of last_s.write.update) y.0 last_s.write.on y.1 (are.numbers (counting writes lasts to n it.write) last_s.write last_s.found) in
-      y.1 ∙ ap Some (are.one y.0 x it.write.on (known ∙ ap Some last_s.on) (its_number x is))
+      let write = (last given it).write in
+      let (y, on_y) = on_element write.update (last_kind given it) in
+      let known = numbered number_of (element_of write.update) y write.on on_y
+      (given.are.numbers (counts given it) write (last given it).found) in
+      on_y ∙ ap Some (given.are.one y x it.write.on (known ∙ ap Some (last given it).on) (its_number x is))
 
-  none_acts : (x : ℕ) → element_of it.write.update ≡ Some x → (before behind : List Label) → named_labels LwwSet now_s ≡ before ++ last_s.label ∷ behind
-      → (other : Label) (later : Update) → Contains behind other → had now_s to other.number ≡ true → Makes other.op later → acts_on x later ≡ false
+  none_acts : (x : ℕ) → element_of it.write.update ≡ Some x → (before behind : List Label)
+      → named_labels LwwSet (now given it) ≡ before ++ (last given it).label ∷ behind → (other : Label) (later : Update)
+      → Contains behind other → had (now given it) to other.number ≡ true → Makes other.op later → acts_on x later ≡ false
   none_acts x element before behind is other later late h makes = elim (cases_Bool (acts_on x later)) [
     | inl acts ↦
-        let found = named_there writes lasts number_of states past_s to n not_rga_s sorts kept are lastof once holds within there it before behind is other late in
-        let (v, at, same) = its_write writes now_s other later kept.labels found makes in
-        let known = numbered number_of (element_of v.update) x v.on (ap element_of same ∙ there_acts x later acts) (are.numbers other.number v at) in
-        absurd (none_on writes lasts number_of states past_s to n not_rga_s sorts kept are lastof once holds within there it before behind is other v late h at
+        let found = named_there given it before behind is other late in
+        let (v, at, same) = its_write writes (now given it) other later given.kept.labels found makes in
+        let known = numbered number_of (element_of v.update) x v.on (ap element_of same ∙ there_acts x later acts)
+        (given.are.numbers other.number v at) in
+        absurd (none_on given it before behind is other v late h at
         (same_Some v.on it.write.on (sym known ∙ its_number x element)))
     | inr elsewhere ↦ elsewhere
   ]
 
-  last_update : (x : ℕ) → element_of it.write.update ≡ Some x → last_on x (updates_had LwwSet now_s to) ≡ Some last_s.write.update
+  last_update : (x : ℕ) → element_of it.write.update ≡ Some x
+      → last_on x (updates_had LwwSet (now given it) to) ≡ Some (last given it).write.update
   last_update x element =
-      let (before, behind, is) = split LwwSet writes number_of now_s to it.write.on (counting writes lasts to n it.write) sorts kept.labels (are_now writes lasts number_of states past_s to n not_rga_s sorts kept are lastof once holds within there it) last_s in
-      let makes = last_own writes lasts number_of states past_s to n not_rga_s sorts kept are lastof once holds within there it in
-      the_last_label_has_the_last_update-lww_set now_s (had now_s to) before behind last_s.label last_s.write.update x is makes
-      (ap (had now_s to) last_s.number ∙ last_s.had_it) (acts_there x last_s.write.update (last_element x element)) (none_acts x element before behind is)
+      let (before, behind, is) = last_stands given it in
+      the_last_label_has_the_last_update-lww_set (now given it) (had (now given it) to) before behind (last given it).label
+      (last given it).write.update x is (last_own given it) (last_is_had given it)
+      (acts_there x (last given it).write.update (last_element x element)) (none_acts x element before behind is)
 
-  set_step : state_after LwwSet (updates_had LwwSet (Deliver to it.label.number ∷ records) to) ≡ then_step (state_after LwwSet (updates_had LwwSet records to)) last_s.write.update
-  set_step =
-      let (x, element) = its_element in
-      let says = subst (λ m. last_on x (updates_had LwwSet (Deliver to m ∷ records) to) ≡ Some last_s.write.update) (sym it.number) (last_update x element) in
-      a_delivery_is_one_step-lww_set records to it.label it.write.update last_s.write.update x it.there
-      (its_makes writes lasts number_of states past_s to n not_rga_s sorts kept are lastof once holds within there it)
-      (its_new writes lasts number_of states past_s to n not_rga_s sorts kept are lastof once holds within there it)
-      (admitted writes lasts number_of states past_s to n not_rga_s sorts kept are lastof once holds within there it)
-      (acts_there x it.write.update element) says
+  kept-lww_set : AreKept given it
+  kept-lww_set =
+      let (x, element) = on_element it.write.update (its_kind given it) in
+      let says = subst (λ m. last_on x (updates_had LwwSet (Deliver to m ∷ records) to) ≡ Some (last given it).write.update)
+      (sym it.number) (last_update x element) in
+      kept-made given it
+      (a_delivery_is_one_step-lww_set records to it.label it.write.update (last given it).write.update x it.there
+      (its_makes given it) (its_new given it) (admitted given it) (acts_there x it.write.update element) says)
 
-  pub kept-lww_set : AreStatesOf (updates_written writes) (states_after states to (update_at (updates_written writes) (counting writes lasts to n it.write))) (past_of LwwSet founders (Deliver to n ∷ records))
-  kept-lww_set = kept-made writes lasts number_of states past_s to n not_rga_s sorts kept are lastof once holds within there it set_step
+-- of either
+module _ {writes : List (Option Written)} {lasts : List (List (Option ℕ))} {number_of : ℕ → Option ℕ}
+    {states : List State} {past : Past} {to n : ℕ} (given : WritesStand writes lasts number_of states past to)
+    (it : IsNewWrite writes past.records to n) where
+  abbrev StandsAs : Kind → Type 0
+  StandsAs kind = WritesStand writes lasts number_of states (past_of kind past.founders past.records) to
+
+  abbrev AreKeptAs : Kind → Type 0
+  AreKeptAs kind = AreStatesOf (updates_written writes)
+      (states_after states to (update_at (updates_written writes) (counting writes lasts to n it.write)))
+      (past_of kind past.founders (Deliver to n ∷ past.records))
+
+  pub kept-overriding : AreKeptAs past.kind
+  kept-overriding = elim given.one [
+    | inl is ↦ subst AreKeptAs (sym is) (kept-register (subst StandsAs is given) it)
+    | inr is ↦ subst AreKeptAs (sym is) (kept-lww_set (subst StandsAs is given) it)
+  ]

@@ -1,20 +1,16 @@
 -- What is kept of a register and an LWW set with one label or delivery more.
 use Rattle.std.proofs.Common.{◌≡◌, ℕ, ◌<◌, ◌≤◌, ◌+◌, Bool, true, false, cond, List, ◌∷◌, length, Option, Some, None, refl, sym, ap, ◌∙◌, subst, inl, inr, arith}
-use Rattle.std.specs.Prelude.{◌⊎◌, nat_eq, vec_len, is_some, unwrap_or, option_map}
+use Rattle.std.specs.Prelude.{nat_eq, vec_len, is_some, unwrap_or, option_map}
 use Rattle.std.specs.HashMap.{get, hash_map_len}
 use Rattle.std.proofs.lemmas.Bool.{cases_eq, eq-eqb, ne_eqb, false≢true}
 use Rattle.std.proofs.lemmas.Option.{same_Some}
 use Rattle.std.proofs.lemmas.List.{length-map}
-use Rattle.ra_labels.specs.declared.kind.Kind.{Kind}
-use Rattle.ra_labels.specs.declared.kind.Kind.TheVariants as variant
 use Rattle.ra_labels.specs.declared.operation.Update.{Update}
 use Rattle.ra_labels.specs.declared.command.Command.TheVariants.{Deliver}
 use Rattle.ra_labels.specs.Records.{label_count, replica_count}
 use Rattle.ra_labels.specs.Visibility.{is_update_at}
 use Rattle.ra_labels.specs.Specification.{State}
-use Rattle.ra_labels.specs.Fault.{Holds}
 use Rattle.ra_labels.specs.Situation.{Past, past_of, past_with}
-use Rattle.ra_visibility.specs.Order.{IsByTimestamp}
 use Rattle.ra_witness.specs.declared.overriding.written.Written.{Written}
 use Rattle.ra_witness.specs.declared.overriding.Overriding.{Overriding}
 use Rattle.ra_witness.specs.Labels.{update_in}
@@ -28,13 +24,9 @@ use Rattle.ra_witness.specs.Effects.{IsOverridingOf}
 use Rattle.ra_witness.proofs.NumberedLabels.{updates_counted, update_found, makes_it, makes_none}
 use Rattle.ra_witness.proofs.DoneUpdates.{its_write}
 use Rattle.ra_witness.proofs.DeliveredLasts.{is_new_write, lasts-kept}
-use Rattle.ra_witness.proofs.CountingUpdates.{kept-register, kept-lww_set}
+use Rattle.ra_witness.proofs.CountingUpdates.{kept-overriding}
 use Rattle.ra_witness.proofs.TakenLabels.{still_below}
 use Rattle.ra_witness.proofs.Range.{can_step}
-
-pub by_timestamp : (kind : Kind) → (kind ≡ variant.Register) ⊎ (kind ≡ variant.LwwSet) → IsByTimestamp kind
-by_timestamp kind (inl is) = subst IsByTimestamp (sym is) (λ rs l. refl)
-by_timestamp kind (inr is) = subst IsByTimestamp (sym is) (λ rs l. refl)
 
 abbrev pub numbers_of : Overriding → ℕ → Option ℕ
 numbers_of kept = get nat_eq kept.numbers.numbers
@@ -76,22 +68,18 @@ module _ (kept : Overriding) (past : Past) (stands : IsOverridingOf kept past) (
 
   -- the states with the delivery
   pub states_brought : AreStatesOf (updates_written writes) next_states (past_with past (Deliver to n))
-  states_brought = by stands.one
-    where
-      there : to < length kept.states.items
-      there = omega (arith, stands.states.replicas, told.replica)
-
-      by : (past.kind ≡ variant.Register) ⊎ (past.kind ≡ variant.LwwSet) → AreStatesOf (updates_written writes) next_states (past_with past (Deliver to n))
-      by (inl is) =
-          subst (λ k. AreStatesOf (updates_written writes) next_states (past_of k past.founders (Deliver to n ∷ past.records))) (sym is)
-          (kept-register writes lasts (numbers_of kept) kept.states.items past.founders past.records to n (λ rs l. refl)
-          (subst (λ k. AreStatesOf (updates_written writes) kept.states.items (past_of k past.founders past.records)) is stands.states) stands.writes stands.lasts told.stamps
-          (subst (λ k. Holds k past.records) is told.holds) within there (is_new_write writes past.records to n write told.update told.causal.0 found))
-      by (inr is) =
-          subst (λ k. AreStatesOf (updates_written writes) next_states (past_of k past.founders (Deliver to n ∷ past.records))) (sym is)
-          (kept-lww_set writes lasts (numbers_of kept) kept.states.items past.founders past.records to n (λ rs l. refl)
-          (subst (λ k. AreStatesOf (updates_written writes) kept.states.items (past_of k past.founders past.records)) is stands.states) stands.writes stands.lasts told.stamps
-          (subst (λ k. Holds k past.records) is told.holds) within there (is_new_write writes past.records to n write told.update told.causal.0 found))
+  states_brought = kept-overriding
+      (record {
+        one = stands.one;
+        kept = stands.states;
+        are = stands.writes;
+        lastof = stands.lasts;
+        once = told.stamps;
+        holds = told.holds;
+        within = within;
+        there = omega (arith, stands.states.replicas, told.replica);
+      })
+      (is_new_write writes past.records to n write told.update told.causal.0 found)
 
   pub can_bring : label_count past.records ≤ 1048576 → CanStep (state_at kept.states.items to) (update_at (updates_written writes) (counting writes lasts to n write))
   can_bring few =

@@ -1,10 +1,10 @@
 -- The lists of replicas of an RGA, where one of them changes.
-use Rattle.std.proofs.Common.{◌≡◌, ℕ, zero, suc, ◌<◌, ◌≤◌, ◌+◌, true, List, [], ◌∷◌, ◌++◌, length, set, Option, Some, None, refl, sym, ap, ◌∙◌, subst, inl, inr, arith}
+use Rattle.std.proofs.Common.{◌≡◌, ℕ, zero, suc, ◌<◌, ◌≤◌, ◌+◌, true, List, [], ◌∷◌, ◌++◌, length, set, get_or, Option, Some, None, refl, sym, ap, ◌∙◌, subst, inl, inr, arith}
 use Rattle.std.specs.Prelude.{◌⊎◌, flat_map, Contains}
 use Rattle.std.specs.List.{slice_get}
 use Rattle.std.specs.Vec.{with_item}
 use Rattle.std.proofs.lemmas.Bool.{false≢true}
-use Rattle.std.proofs.lemmas.Option.{none-some, same_Some}
+use Rattle.std.proofs.lemmas.Option.{none-some, same_Some, slice_get_read}
 use Rattle.std.proofs.lemmas.List.{length-set, length-append}
 use Rattle.ra_labels.specs.declared.kind.Kind.TheVariants as variant
 use Rattle.ra_labels.specs.declared.operation.Update.{Update}
@@ -17,7 +17,7 @@ use Rattle.ra_labels.specs.Rewriting.{parts_of, updates_of}
 use Rattle.ra_labels.specs.Specification.{state_after}
 use Rattle.ra_labels.specs.NamedOrder.{named_labels}
 use Rattle.ra_labels.specs.Laws.{NoneHadBeyond}
-use Rattle.ra_labels.specs.Situation.{past_of}
+use Rattle.ra_labels.specs.Situation.{past_of, Next}
 use Rattle.ra_laws.proofs.TheLaws.{a_delivery_puts_its_update_in-order, a_new_replica_had_what_the_other_had-order}
 use Rattle.ra_element_list.specs.ElementList.{Arrival, ElementList}
 use Rattle.ra_replica_list.specs.declared.edit.Edit.{Edit}
@@ -28,8 +28,19 @@ use Rattle.ra_witness.specs.declared.rga.Rga.{Rga}
 use Rattle.ra_witness.specs.Labels.{update_in}
 use Rattle.ra_witness.specs.Rga.{IsRgaOf}
 use Rattle.ra_witness.specs.Settled.{SettlesMore}
-use Rattle.ra_witness.specs.Offered.{IsJoinedFrom}
+use Rattle.ra_witness.specs.Offered.{IsOffered, IsJoinedFrom}
+use Rattle.ra_witness.proofs.Forms.{its_replica}
 use Rattle.ra_witness.proofs.NumberedLabels.{update_found, makes_it, makes_none}
+
+-- the list of the replica that the next label is of is read at that label's replica
+pub own_list : (rga : Rga) (founders : ℕ) (records : Records) (next : Next) (label : Label) (list : ReplicaList)
+    → IsRgaOf rga founders records → IsOffered (past_of variant.Rga founders records) next label
+    → list ≡ get_or rga.lists.items label.replica list → slice_get rga.lists.items next.by ≡ Some list
+own_list rga founders records next label list stands offered read =
+    let by = its_replica (past_of variant.Rga founders records) next label offered in
+    sym (ap (slice_get rga.lists.items) by)
+    ∙ slice_get_read rga.lists.items (length rga.lists.items) label.replica list refl
+    (omega (arith, by, stands.replicas, offered.replica)) read
 
 -- where one changed, each is that one or was there before
 one_changed : {A : Type 0} (xs : List A) (r q : ℕ) (new x : A) → r < length xs → slice_get (set xs r new) q ≡ Some x
@@ -186,19 +197,5 @@ rga_joined old new founders records from list stands joins at edits all lists =
           (subst (λ ds. AreListsOf (old.lists.items ++ list ∷ []) new.all.arrivals ds now) same_edits
           (subst (λ rs. AreListsOf (old.lists.items ++ list ∷ []) rs old.edits.items now) same_arrivals
           (lists_joined old.lists.items list old.all.arrivals old.edits.items founders records from stands.lists stands.replicas (stands.lists from list at) joins.beyond)));
-      few = subst (λ rs. length rs ≤ label_count records + 1) same_arrivals stands.few;
-    }
-
--- where what is kept says the same
-pub rga_same_kept : (old new : Rga) (founders : ℕ) (records : Records) → IsRgaOf old founders records → new.edits.items ≡ old.edits.items → new.all ≡ old.all → new.lists.items ≡ old.lists.items → IsRgaOf new founders records
-rga_same_kept old new founders records stands edits all lists =
-    let same_arrivals : old.all.arrivals ≡ new.all.arrivals = sym (ap (λ (es : ElementList). es.arrivals) all) in
-    record {
-      elements = subst (λ ds. AreElementsOf new.all ds records) (sym edits) (subst (λ es. AreElementsOf es old.edits.items records) (sym all) stands.elements);
-      replicas = ap length lists ∙ stands.replicas;
-      lists =
-          subst (λ ls. AreListsOf ls new.all.arrivals new.edits.items records) (sym lists)
-          (subst (λ ds. AreListsOf old.lists.items new.all.arrivals ds records) (sym edits)
-          (subst (λ rs. AreListsOf old.lists.items rs old.edits.items records) same_arrivals stands.lists));
       few = subst (λ rs. length rs ≤ label_count records + 1) same_arrivals stands.few;
     }

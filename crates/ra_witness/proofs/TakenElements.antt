@@ -15,7 +15,7 @@ use Rattle.ra_labels.specs.Linearization.{updates_admitted}
 use Rattle.ra_labels.specs.Laws.{elements_in}
 use Rattle.ra_labels.specs.Late.{put_after}
 use Rattle.ra_labels.specs.Insertion.{Makes}
-use Rattle.ra_labels.specs.Situation.{past_of, Next, operate, label_of}
+use Rattle.ra_labels.specs.Situation.{past_of, Next, operate}
 use Rattle.ra_element_list.specs.ElementList.{Arrival, ElementList, arrival_at, IsBelowByStamp}
 use Rattle.ra_replica_list.specs.declared.edit.Edit.TheVariants.{PutsIn, Removes}
 use Rattle.ra_replica_list.specs.Edits.{element_at, AreElementsOf}
@@ -25,7 +25,7 @@ use Rattle.ra_witness.specs.declared.rga.Rga.{Rga}
 use Rattle.ra_witness.specs.Rga.{IsRgaOf}
 use Rattle.ra_witness.specs.Settled.{SettlesMore}
 use Rattle.ra_witness.specs.Offered.{IsOffered}
-use Rattle.ra_witness.proofs.AdmittedElements.{makes_after, makes_removal, some_clock, unclocked}
+use Rattle.ra_witness.proofs.AdmittedElements.{own_stamp, some_clock}
 use Rattle.ra_witness.proofs.ReplicaLists.{AreListsOf, lists_with, settles_more}
 use Rattle.ra_witness.proofs.NewLabel.{elements_more, adds_nothing, adds_removal}
 use Rattle.ra_witness.proofs.NewElement.{adds_insertion}
@@ -67,18 +67,16 @@ module _ (old grown : Rga) (founders : ℕ) (records : Records) (next : Next) (l
       )
 
   -- with one that removes the element of this number
-  pub rga_removed : (x number : ℕ) (list : ReplicaList) → next.op ≡ ops.RgaRemove x → number < length old.all.arrivals
-      → element_at old.all.arrivals number ≡ x → updates_admitted variant.Rga (named_sequence variant.Rga now) ≡ true
+  pub rga_removed : (number : ℕ) (list : ReplicaList) → Makes next.op (RgaRemove (element_at old.all.arrivals number))
+      → next.clock ≡ None → number < length old.all.arrivals
+      → updates_admitted variant.Rga (named_sequence variant.Rga now) ≡ true
       → grown.edits.items ≡ old.edits.items ++ Some (Removes number) ∷ [] → grown.all ≡ old.all
       → grown.lists.items ≡ set old.lists.items next.by list
       → IsListOf list old.all.arrivals (old.edits.items ++ Some (Removes number) ∷ []) now next.by
       → IsRgaOf grown founders now
-  rga_removed x number list is within is_it admitted its_edits same_all its_lists own =
+  rga_removed number list removes no_clock within admitted its_edits same_all its_lists own =
       let edits = old.edits.items in
       let with_it = edits ++ Some (Removes number) ∷ [] in
-      let removes : Makes next.op (RgaRemove (element_at old.all.arrivals number)) =
-      subst (λ y. Makes next.op (RgaRemove y)) (sym is_it) (makes_removal next.op x is) in
-      let no_clock = unclocked old.all edits records stands.elements founders next label offered x is in
       let elements = elements_more old.all old.all edits records next.by next.op next.clock (Some (Removes number))
       stands.elements
       (adds_removal old.all edits records next.by next.op next.clock number stands.elements removes within no_clock admitted) in
@@ -103,7 +101,7 @@ module _ (old grown : Rga) (founders : ℕ) (records : Records) (next : Next) (l
   -- with one that puts an element in behind that of this number
   pub rga_put : (anchor x m : ℕ) (stamp : Stamp) (list : ReplicaList) → next.op ≡ ops.After anchor x
       → let newest : Arrival = record { element = x; stamp = stamp; anchor = m } in
-      label.stamp ≡ Some stamp → m < length old.all.arrivals → element_at old.all.arrivals m ≡ anchor
+      label.stamp ≡ Some stamp → m < length old.all.arrivals → Makes next.op (After (element_at old.all.arrivals m) x)
       → ((n : ℕ) → n < length old.all.arrivals → ¬ (element_at old.all.arrivals n ≡ x))
       → updates_admitted variant.Rga (named_sequence variant.Rga now) ≡ true
       → grown.edits.items ≡ old.edits.items ++ Some (PutsIn (length old.all.arrivals)) ∷ []
@@ -115,21 +113,18 @@ module _ (old grown : Rga) (founders : ℕ) (records : Records) (next : Next) (l
       → IsListOf list (old.all.arrivals ++ newest ∷ [])
       (old.edits.items ++ Some (PutsIn (length old.all.arrivals)) ∷ []) now next.by
       → IsRgaOf grown founders now
-  rga_put anchor x m stamp list is stamped within is_anchor new admitted its_edits its_arrivals its_elements its_lists own =
+  rga_put anchor x m stamp list is stamped within makes new admitted its_edits its_arrivals its_elements its_lists own =
       let newest : Arrival = record { element = x; stamp = stamp; anchor = m } in
       let edits = old.edits.items in
       let number = length old.all.arrivals in
       let with_it = edits ++ Some (PutsIn number) ∷ [] in
       let arrived = old.all.arrivals ++ newest ∷ [] in
-      let makes : Makes next.op (After (element_at old.all.arrivals m) x) =
-      subst (λ y. Makes next.op (After y x)) (sym is_anchor) (makes_after next.op anchor x is) in
-      let own_stamp : (label_of records next).stamp ≡ Some stamp =
-      sym (ap (λ (l : Label). l.stamp) offered.becomes) ∙ stamped in
+      let its_stamp = own_stamp old.all edits records stands.elements founders next label offered anchor x is stamp stamped in
       let clocked = some_clock old.all edits records stands.elements founders next label offered anchor x is stamp stamped in
       let elements = elements_more old.all grown.all edits records next.by next.op next.clock (Some (PutsIn number))
       stands.elements
       (adds_insertion old.all grown.all edits records next.by next.op next.clock m x stamp stands.elements makes within new
-      own_stamp clocked offered.stamps admitted its_arrivals its_elements) in
+      its_stamp clocked offered.stamps admitted its_arrivals its_elements) in
       let lists : AreListsOf (set old.lists.items next.by list) arrived with_it now =
       lists_with old.lists.items next.by list arrived with_it now (omega (arith, stands.replicas, offered.replica)) own
       (λ q other differ at.

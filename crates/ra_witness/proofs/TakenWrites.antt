@@ -25,7 +25,8 @@ use Rattle.ra_witness.specs.Effects.{IsOverridingOf}
 use Rattle.ra_witness.proofs.TakenLabels.{writes-query, lasts-query, writes-update, lasts-update}
 use Rattle.ra_witness.proofs.Forms.{its_replica}
 use Rattle.ra_witness.proofs.CommutingKinds.{not_rga-overriding, states_taken}
-use Rattle.ra_witness.proofs.OverridingKinds.{by_timestamp, numbers_of, writes_counted, below_with, count_grows}
+use Rattle.ra_witness.proofs.CountingUpdates.{by_timestamp}
+use Rattle.ra_witness.proofs.OverridingKinds.{numbers_of, writes_counted, below_with, count_grows}
 
 abbrev done_by : Option Written → Option Update
 done_by = option_map (λ written. written.update)

@@ -1,6 +1,6 @@
 //! What one more label, delivery or replica changes in what is kept, each law the clause of a function that does
 //! nothing.
-ghost use Rattle.std.specs.Prelude.{◌≡◌, ℕ, ◌+◌, ◌<◌, ◌≤◌, true, false, not, List, [], ◌∷◌, ◌++◌, length, map, flat_map, Option, Some, None, get_or, if◌then◌else◌};
+ghost use Rattle.std.specs.Prelude.{◌≡◌, ◌⊎◌, ℕ, ◌+◌, ◌<◌, ◌≤◌, true, false, not, List, [], ◌∷◌, ◌++◌, length, map, flat_map, Option, Some, None, get_or, if◌then◌else◌};
 ghost use Rattle.ra_labels.specs.declared.kind.Kind.{Kind};
 ghost use Rattle.ra_labels.specs.declared.kind.Kind.TheVariants.{Counter, Register, LwwSet, OrSet, Rga};
 ghost use Rattle.ra_labels.specs.declared.operation.Op.{Op};
@@ -86,26 +86,15 @@ pub fn what_is_kept_with_a_join()
 /// What is kept of a register or an LWW set with one more delivery is what was kept, once the receiver made the update
 /// that counts: that of the delivered label or of the last one on its element, whichever has the greater stamp.
 pub fn what_is_kept_with_a_delivery_that_may_be_overridden()
-    ensures register { (writes : List (Option Written)) (lasts : List (List (Option ℕ))) (number_of : ℕ → Option ℕ)
-        (states : List State) (founders : ℕ) (records : Records) (to n : ℕ) (write : Written)
-        → AreStatesOf (updates_written writes) states (past_of Register founders records)
-        → AreWritesOf writes number_of records → AreLastOf writes lasts records → StampsAreOneLabels records
-        → Holds Register records
-        → to < length lasts → to < length states → is_update_at records n ≡ true → had records to n ≡ false
-        → write_at writes n ≡ Some write
+    ensures { (writes : List (Option Written)) (lasts : List (List (Option ℕ))) (number_of : ℕ → Option ℕ)
+        (states : List State) (past : Past) (to n : ℕ) (write : Written)
+        → (past.kind ≡ Register) ⊎ (past.kind ≡ LwwSet) → AreStatesOf (updates_written writes) states past
+        → AreWritesOf writes number_of past.records → AreLastOf writes lasts past.records
+        → StampsAreOneLabels past.records → Holds past.kind past.records
+        → to < length lasts → to < length states → is_update_at past.records n ≡ true
+        → had past.records to n ≡ false → write_at writes n ≡ Some write
         → let update = update_at (updates_written writes) (counting writes lasts to n write) in
-        let now = past_of Register founders (Deliver to n ∷ records) in
-        AreStatesOf (updates_written writes) (states_after states to update) now }
-    ensures lww_set { (writes : List (Option Written)) (lasts : List (List (Option ℕ))) (number_of : ℕ → Option ℕ)
-        (states : List State) (founders : ℕ) (records : Records) (to n : ℕ) (write : Written)
-        → AreStatesOf (updates_written writes) states (past_of LwwSet founders records)
-        → AreWritesOf writes number_of records → AreLastOf writes lasts records → StampsAreOneLabels records
-        → Holds LwwSet records
-        → to < length lasts → to < length states → is_update_at records n ≡ true → had records to n ≡ false
-        → write_at writes n ≡ Some write
-        → let update = update_at (updates_written writes) (counting writes lasts to n write) in
-        let now = past_of LwwSet founders (Deliver to n ∷ records) in
-        AreStatesOf (updates_written writes) (states_after states to update) now }
+        AreStatesOf (updates_written writes) (states_after states to update) (past_with past (Deliver to n)) }
 {}
 
 /// The parts of the labels in the named order are the named sequence.

@@ -2,7 +2,7 @@
 ghost use Rattle.std.specs.Prelude.{◌≡◌, ◌<◌, ◌≤◌, ◌+◌, ◌%◌, ◌^◌, [], length, sum_by, None};
 ghost use Rattle.ra_journal.specs.declared.journal.TheConstants.{MOST_ENTRIES};
 
-use super::gate::Gate;
+use super::halt::Halt;
 use ra_ticket::{Entry, Journal, MOST_ENTRIES, StepFault};
 use std::alloc::Global;
 use std::sync::Arc;
@@ -14,7 +14,7 @@ pub struct Tally {
     total: u32,
     log: Vec<Entry<u32, u32>>,
     drops: Arc<AtomicU64, Global>,
-    gate: Option<Gate>,
+    halt: Option<Halt>,
     ghost in_range: { (0 < limit) × (limit ≤ MOST_ENTRIES) },
     ghost within: { length log.items ≤ limit },
     ghost totals: { total ≡ sum_by (λ e. e.command) log.items % 2 ^ 32 },
@@ -31,12 +31,12 @@ impl Tally {
             total: 0,
             log: Vec::new(alloc),
             drops,
-            gate: None,
+            halt: None,
         }
     }
 
-    /// The same, and each step goes through the gate before it answers.
-    pub fn behind(self, gate: Gate) -> Tally
+    /// The same, and each step halts there before it answers.
+    pub fn halting(self, halt: Halt) -> Tally
         requires { self.log.items ≡ [] }
         ensures { result.log.items ≡ [] }
     {
@@ -45,14 +45,14 @@ impl Tally {
             total,
             log,
             drops,
-            gate: _,
+            halt: _,
         } = self;
         Tally {
             limit,
             total,
             log,
             drops,
-            gate: Some(gate),
+            halt: Some(halt),
         }
     }
 }
@@ -64,7 +64,7 @@ impl Drop for Tally {
             total: _,
             log: _,
             drops,
-            gate: _,
+            halt: _,
         } = self;
         drops.fetch_add(1, Ordering::SeqCst);
     }
@@ -107,8 +107,8 @@ impl Journal for Tally {
         if self.log.len() == self.limit as usize {
             return Err(StepFault::Full(command));
         }
-        if let Some(gate) = &self.gate {
-            gate.pass();
+        if let Some(halt) = &self.halt {
+            halt.halt();
         }
         let reply = self.total.wrapping_add(command);
         let entry = Entry {

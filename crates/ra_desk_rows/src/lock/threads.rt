@@ -2,7 +2,7 @@
 ghost use Rattle.std.specs.Prelude.{All};
 ghost use Rattle.ra_ticket.specs.Passes.{IsPassOf};
 
-use super::gate::{is_raised_in_time, raise};
+use super::halt::{is_raised_in_time, raise};
 use super::tally::Tally;
 use ra_ticket::{CallFault, Journal, Pass, TicketLock};
 use std::alloc::{AllocError, Global};

@@ -7,7 +7,7 @@ use Rattle.ra_witness.proofs.Forms.{of_its_kind, its_op, has_stamp}
 use Rattle.ra_witness.proofs.AdmittedElements.{insertion_new, insertion_needs, removal_needs}
 use Rattle.ra_witness.proofs.RgaCauses.{asks_only}
 use Rattle.ra_witness.proofs.TakenElements.{rga_asked}
-use Rattle.ra_witness.proofs.ReplicaLists.{rga_same_kept}
+use Rattle.ra_witness.proofs.AllElements.{rga_reserved}
 use Rattle.ra_witness.proofs.rga.Rga.add.Goals as goal
 
 pub returns-in_default-clause-taken : goal.returns-in_default-clause-taken
@@ -57,30 +57,22 @@ remove-requires-clause-known c =
 
 pub returns-in-After-clause-taken : goal.returns-in-After-clause-taken
 returns-in-After-clause-taken c = λ founders records next stands offered admitted.
-    let self = c.args.self.now in
-    let reserved : Rga = record { edits = c.reserve.new.self; all = self.all; lists = self.lists } in
     c.put_in.ensures.taken founders records next
-    (rga_same_kept self reserved founders records stands c.in_ok-reserve.ensures.items refl refl) offered admitted
+    (rga_reserved c.args.self.now c.reserve.new.self founders records c.in_ok-reserve.ensures.items stands) offered admitted
     (sym (its_op (past_of variant.Rga founders records) next c.args.label.now offered) ∙ c.in-After.is)
 
 pub returns-in-After-clause-same : goal.returns-in-After-clause-same
 returns-in-After-clause-same c = λ founders records stands.
-    let self = c.args.self.now in
-    let reserved : Rga = record { edits = c.reserve.new.self; all = self.all; lists = self.lists } in
     c.put_in.ensures.same founders records
-    (rga_same_kept self reserved founders records stands c.in_ok-reserve.ensures.items refl refl)
+    (rga_reserved c.args.self.now c.reserve.new.self founders records c.in_ok-reserve.ensures.items stands)
 
 pub returns-in-RgaRemove-clause-taken : goal.returns-in-RgaRemove-clause-taken
 returns-in-RgaRemove-clause-taken c = λ founders records next stands offered admitted.
-    let self = c.args.self.now in
-    let reserved : Rga = record { edits = c.reserve.new.self; all = self.all; lists = self.lists } in
     c.remove.ensures.taken founders records next
-    (rga_same_kept self reserved founders records stands c.in_ok-reserve.ensures.items refl refl) offered admitted
+    (rga_reserved c.args.self.now c.reserve.new.self founders records c.in_ok-reserve.ensures.items stands) offered admitted
     (sym (its_op (past_of variant.Rga founders records) next c.args.label.now offered) ∙ c.in-RgaRemove.is)
 
 pub returns-in-RgaRemove-clause-same : goal.returns-in-RgaRemove-clause-same
 returns-in-RgaRemove-clause-same c = λ founders records stands.
-    let self = c.args.self.now in
-    let reserved : Rga = record { edits = c.reserve.new.self; all = self.all; lists = self.lists } in
     c.remove.ensures.same founders records
-    (rga_same_kept self reserved founders records stands c.in_ok-reserve.ensures.items refl refl)
+    (rga_reserved c.args.self.now c.reserve.new.self founders records c.in_ok-reserve.ensures.items stands)

@@ -2,7 +2,8 @@ use Rattle.std.proofs.Common.{◌∙◌, length, Some, refl, sym, ap, arith}
 use Rattle.std.proofs.lemmas.Option.{slice_get_read}
 use Rattle.ra_labels.proofs.Results.{on_err_any}
 use Rattle.ra_witness.specs.declared.rga.Rga.{Rga}
-use Rattle.ra_witness.proofs.ReplicaLists.{rga_joined, rga_same_kept}
+use Rattle.ra_witness.proofs.AllElements.{rga_like}
+use Rattle.ra_witness.proofs.ReplicaLists.{rga_joined}
 use Rattle.ra_witness.proofs.rga.Rga.join.Goals as goal
 
 pub returns-in_err-push-clause-same : goal.returns-in_err-push-clause-same
@@ -10,7 +11,7 @@ returns-in_err-push-clause-same c = λ founders records stands.
     let self = c.args.self.now in
     let new : Rga = record { edits = self.edits; all = self.all; lists = c.push.new.self } in
     on_err_any c.from_residual-in_err-push.result
-    (rga_same_kept self new founders records stands refl refl c.in_err-push.ensures.items)
+    (rga_like self new founders records refl refl refl (sym c.in_err-push.ensures.items) stands)
 
 pub returns-clause-joined : goal.returns-clause-joined
 returns-clause-joined c = λ founders records stands joins.

@@ -1,6 +1,5 @@
 use Rattle.std.proofs.Common.{◌≡◌, ◌<◌, ◌∷◌, ◌++◌, [], ◌∙◌, length, set, Some, refl, sym, ap, subst, arith}
 use Rattle.std.specs.Prelude.{IsSome}
-use Rattle.std.specs.List.{slice_get}
 use Rattle.std.specs.Vec.{with_item}
 use Rattle.std.proofs.lemmas.Bool.{false≢true}
 use Rattle.std.proofs.lemmas.Option.{slice_get_read}
@@ -15,7 +14,7 @@ use Rattle.ra_witness.specs.declared.rga.Rga.{Rga}
 use Rattle.ra_witness.proofs.Forms.{its_replica}
 use Rattle.ra_witness.proofs.AdmittedElements.{makes_after}
 use Rattle.ra_witness.proofs.AllElements.{rga_like}
-use Rattle.ra_witness.proofs.ReplicaLists.{rga_same, settles_more}
+use Rattle.ra_witness.proofs.ReplicaLists.{own_list, rga_same, settles_more}
 use Rattle.ra_witness.proofs.TakenElements.{rga_put}
 use Rattle.ra_witness.proofs.rga.Rga.put_in.Goals as goal
 
@@ -73,10 +72,8 @@ returns-clause-taken c = λ founders records next stands offered admitted is.
     let there_still = rga_like self spared founders records (sym room.elements) (sym room.arrivals) refl refl stands in
     let list = c.index_mut-list.result.now in
     let by = its_replica (past_of variant.Rga founders records) next label offered in
-    let within : label.replica < length lists = omega (arith, c.requires.replica, self.lists.ok.0) in
-    let there = sym (ap (slice_get lists) by)
-    ∙ slice_get_read lists (length lists) label.replica list refl within c.index_mut-list.ensures.value in
-    let was = there_still.lists next.by list there in
+    let was = there_still.lists next.by list
+    (own_list self founders records next label list stands offered c.index_mut-list.ensures.value) in
     let known = (c.in-Some.ensures m).0 refl in
     let count = ap length room.arrivals in
     let m_within : m < length all.arrivals = omega (arith, known.0, count) in
@@ -94,7 +91,7 @@ returns-clause-taken c = λ founders records next stands offered admitted is.
     let pushed : c.push_reserved.new.self.items ≡ self.edits.items ++ Some (PutsIn (length all.arrivals)) ∷ [] =
     c.push_reserved.ensures.items ∙ ap (λ n. self.edits.items ++ Some (PutsIn n) ∷ []) c.len-number.ensures in (
       rga_put spared grown founders records next label there_still offered c.args.anchor x m c.in-Some-stamp.stamp new_list is
-          stamped m_within m_is
+          stamped m_within makes
           (λ n there same.
           c.requires.new n (omega (arith, there, count)) (ap (λ rs. element_at rs n) (sym room.arrivals) ∙ same))
           admitted pushed c.insert.ensures.arrivals c.insert.ensures.elements (ap (λ r. set lists r new_list) by) own.0,

@@ -1,5 +1,4 @@
-use Rattle.std.proofs.Common.{◌<◌, ◌∙◌, length, set, refl, sym, ap, subst, arith}
-use Rattle.std.specs.List.{slice_get}
+use Rattle.std.proofs.Common.{◌<◌, length, set, refl, sym, ap, subst, arith}
 use Rattle.std.specs.Vec.{with_item}
 use Rattle.std.proofs.lemmas.Option.{slice_get_read}
 use Rattle.ra_labels.specs.declared.kind.Kind.TheVariants as variant
@@ -10,7 +9,7 @@ use Rattle.ra_labels.specs.Situation.{past_of}
 use Rattle.ra_witness.specs.declared.rga.Rga.{Rga}
 use Rattle.ra_witness.proofs.Forms.{its_replica}
 use Rattle.ra_witness.proofs.AdmittedElements.{makes_removal, unclocked}
-use Rattle.ra_witness.proofs.ReplicaLists.{rga_same, settles_more}
+use Rattle.ra_witness.proofs.ReplicaLists.{own_list, rga_same, settles_more}
 use Rattle.ra_witness.proofs.TakenElements.{rga_removed}
 use Rattle.ra_witness.proofs.rga.Rga.remove.Goals as goal
 
@@ -42,10 +41,8 @@ returns-clause-taken c = λ founders records next stands offered admitted is.
     let number = c.in-Some.number in
     let list = c.index_mut-list.result.now in
     let by = its_replica (past_of variant.Rga founders records) next label offered in
-    let within : label.replica < length lists = omega (arith, c.requires.replica, self.lists.ok.0) in
-    let there = sym (ap (slice_get lists) by)
-    ∙ slice_get_read lists (length lists) label.replica list refl within c.index_mut-list.ensures.value in
-    let was = stands.lists next.by list there in
+    let was = stands.lists next.by list
+    (own_list self founders records next label list stands offered c.index_mut-list.ensures.value) in
     let known = (c.in-Some.ensures number).0 refl in
     let removes = subst (λ y. Makes next.op (RgaRemove y)) (sym known.1) (makes_removal next.op x is) in
     let no_clock = unclocked self.all self.edits.items records stands.elements founders next label offered x is in
@@ -57,7 +54,7 @@ returns-clause-taken c = λ founders records next stands offered admitted is.
       all = self.all;
       lists = with_item self.lists label.replica new_list;
     } in (
-      rga_removed self grown founders records next label stands offered x number new_list is known.0 known.1 admitted
+      rga_removed self grown founders records next label stands offered number new_list removes no_clock known.0 admitted
           c.push_reserved.ensures.items refl (ap (λ r. set lists r new_list) by) own.0,
       settles_more was own.0 own.1,
     )

@@ -1,4 +1,4 @@
-//! A gate that a step goes through: it tells that it stands there, and waits until it may go on.
+//! A halt of a step: it tells that it stands there, and waits until it may go on.
 
 use std::alloc::Global;
 use std::hint;
@@ -48,16 +48,16 @@ pub fn is_raised_in_time(flag: &AtomicU64) -> bool {
     false
 }
 
-/// It is open once `go_on` is raised.
+/// It ends once `go_on` is raised.
 #[derive(Drop)]
-pub struct Gate {
+pub struct Halt {
     pub inside: Flag,
     pub go_on: Flag,
 }
 
-impl Gate {
-    /// Goes through: raises `inside` and waits for `go_on`.
-    pub fn pass(&self) {
+impl Halt {
+    /// Raises `inside` and waits for `go_on`.
+    pub fn halt(&self) {
         raise(&self.inside);
         is_raised_in_time(&self.go_on);
     }
