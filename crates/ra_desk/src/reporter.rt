@@ -203,7 +203,8 @@ impl DeskReporter {
         ensures one_log { log_of result.1 ≡ log_of result.0 }
         ensures legal { IsLegalLog (setup_of result.0) (log_of result.0)
             × IsLegalLog (setup_of result.1) (log_of result.1) }
-        ensures draws_none { KnowsWhatEitherKnew self other result.0 }
+        // It draws no ticket.
+        ensures draws_none { KnowsWhatEitherKnew self other result.0 × KnowsWhatEitherKnew self other result.1 }
         ensures calls { result.2 ≡ length (log_of result.0) }
     {
         let DeskReporter { caller, setup } = self;

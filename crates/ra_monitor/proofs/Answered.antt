@@ -6,7 +6,7 @@ use Rattle.std.proofs.lemmas.Bool.{lt-ltb, le-ltb}
 use Rattle.std.proofs.lemmas.Option.{none-some}
 use Rattle.ra_labels.specs.declared.operation.Op.{Op}
 use Rattle.ra_labels.specs.declared.command.Command.{Command}
-use Rattle.ra_labels.specs.declared.command.Command.TheVariants.{Operate, Deliver}
+use Rattle.ra_labels.specs.declared.command.Command.TheVariants.{Deliver}
 use Rattle.ra_labels.specs.declared.refusal.Refusal.{Refusal}
 use Rattle.ra_labels.specs.declared.refusal.Refusal.TheVariants.{UnknownReplica, StampTaken, IdTaken}
 use Rattle.ra_labels.specs.declared.reply.Reply.{Reply}
@@ -14,7 +14,7 @@ use Rattle.ra_labels.specs.declared.reply.Reply.TheVariants.{Refused}
 use Rattle.ra_labels.specs.Records.{Records}
 use Rattle.ra_labels.specs.Fault.{fault_of}
 use Rattle.ra_labels.specs.Answer.{when, first_of, no_at, misfit_of, identifier_of, comes_with_taken, gives_taken, is_identifier_taken, refusal_of, refusal_at, answer_to_accepted, with_accepted, records_after}
-use Rattle.ra_labels.specs.Situation.{Past, past_of, past_with, replicas_of, IsAccepted}
+use Rattle.ra_labels.specs.Situation.{Past, past_of, past_with, replicas_of, IsAccepted, Next, operate}
 use Rattle.ra_monitor.specs.declared.history.History.{History}
 use Rattle.ra_monitor.specs.Taken.{brought_with, brought_by, refusal_by}
 use Rattle.ra_monitor.specs.History.{StandsFor, IsAnswered, JoinsRecords}
@@ -89,30 +89,30 @@ brought_taken records by op (Some at) (Some given) is bare = absurd (none-some a
 brought_taken records by op (Some at) None is bare = unless_more _
 brought_taken records by op None None is bare = refl
 
-module _ (past : Past) (by : ℕ) (op : Op) (clock : Option ℕ) where
+module _ (past : Past) (next : Next) where
   abbrev misfit : Option Refusal
-  misfit = misfit_of past.kind (Operate by op clock)
+  misfit = misfit_of past.kind (operate next)
 
   abbrev of_taken : Option Refusal
-  of_taken = first_of (when (comes_with_taken past.records by clock) StampTaken
-      ∷ when (gives_taken past.records op) IdTaken ∷ [])
+  of_taken = first_of (when (comes_with_taken past.records next.by next.clock) StampTaken
+      ∷ when (gives_taken past.records next.op) IdTaken ∷ [])
 
-  pub by_none : replicas_of past ≤ by
-      → refusal_of past.kind past.founders past.records (Operate by op clock) ≡ Some UnknownReplica
+  pub by_none : replicas_of past ≤ next.by
+      → refusal_of past.kind past.founders past.records (operate next) ≡ Some UnknownReplica
   by_none beyond = ap (λ b. option_or (when (not b) UnknownReplica) (option_or misfit of_taken))
-      (le-ltb by (replicas_of past) beyond)
+      (le-ltb next.by (replicas_of past) beyond)
 
-  pub by_misfit : (why : Refusal) → by < replicas_of past → misfit ≡ Some why
-      → refusal_of past.kind past.founders past.records (Operate by op clock) ≡ Some why
+  pub by_misfit : (why : Refusal) → next.by < replicas_of past → misfit ≡ Some why
+      → refusal_of past.kind past.founders past.records (operate next) ≡ Some why
   by_misfit why there is = ap (λ b. option_or (when (not b) UnknownReplica) (option_or misfit of_taken))
-      (lt-ltb by (replicas_of past) there)
+      (lt-ltb next.by (replicas_of past) there)
       ∙ ap (λ o. option_or o of_taken) is
 
-  pub by_taken : by < replicas_of past → misfit ≡ None
-      → refusal_of past.kind past.founders past.records (Operate by op clock)
-      ≡ refusal_by past.records (brought_by by op clock)
+  pub by_taken : next.by < replicas_of past → misfit ≡ None
+      → refusal_of past.kind past.founders past.records (operate next)
+      ≡ refusal_by past.records (brought_by next)
   by_taken there fits = ap (λ b. option_or (when (not b) UnknownReplica) (option_or misfit of_taken))
-      (lt-ltb by (replicas_of past) there)
+      (lt-ltb next.by (replicas_of past) there)
       ∙ ap (λ o. option_or o of_taken) fits
-      ∙ brought_taken past.records by op clock (identifier_of op) refl
-      (λ given gives. no_clock past.kind by op clock given fits gives)
+      ∙ brought_taken past.records next.by next.op next.clock (identifier_of next.op) refl
+      (λ given gives. no_clock past.kind next given fits gives)

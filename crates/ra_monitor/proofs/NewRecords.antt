@@ -156,7 +156,7 @@ stands_delivered old new past to label stands none tracker causal witness labels
 pub newest_stands : (old new : History) (past : Past) (next : Next) (label : Label) (brought : Brought)
     → StandsFor old past → fault_of past.kind past.records ≡ None
     → IsVisibilityOf new.tracker.now (past_with past (operate next))
-    → label ≡ label_of past.records next → brought ≡ brought_by next.by next.op next.clock
+    → label ≡ label_of past.records next → brought ≡ brought_by next
     → new.labels ≡ old.labels → new.witness ≡ old.witness → new.fault ≡ old.fault → new.replicas ≡ old.replicas
     → IsTakenIn past.records new.taken → vec_len new.taken.clocks ≡ vec_len old.taken.clocks
     → IsAccepted past (operate next)

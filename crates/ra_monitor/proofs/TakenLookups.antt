@@ -6,9 +6,9 @@ use Rattle.ra_labels.specs.declared.kind.Kind.{Kind}
 use Rattle.ra_labels.specs.declared.operation.Op.{Op}
 use Rattle.ra_labels.specs.declared.operation.Op.TheVariants as op
 use Rattle.ra_labels.specs.declared.label.Stamp.{Stamp}
-use Rattle.ra_labels.specs.declared.command.Command.TheVariants.{Operate}
 use Rattle.ra_labels.specs.Records.{Records, next_label}
 use Rattle.ra_labels.specs.Answer.{misfit_of, carries_stamp, has_stamp, is_taken, identifier_of, is_identifier_taken}
+use Rattle.ra_labels.specs.Situation.{Next, operate}
 use Rattle.ra_laws.proofs.TheLaws.{forms_that_deserve_no_refusal}
 use Rattle.ra_monitor.specs.declared.taken.Taken.{Taken}
 use Rattle.ra_monitor.specs.Taken.{HasRoom, CanKeep, is_stamp_in, is_identifier_in, brought_with, brought_by, has_brought, gives_brought, IsTakenIn}
@@ -34,9 +34,10 @@ carries_none (op.RgaRemove x) given e = refl
 carries_none (op.RgaRead list) given e = refl
 
 -- so no clock came with it, where its form fits
-pub no_clock : (kind : Kind) (by : ℕ) (op : Op) (clock : Option ℕ) (given : ℕ) → misfit_of kind (Operate by op clock) ≡ None
-    → identifier_of op ≡ Some given → clock ≡ None
-no_clock kind by op clock given fits gives = ((forms_that_deserve_no_refusal kind by op clock).0 fits).2.1 (carries_none op given gives)
+pub no_clock : (kind : Kind) (next : Next) (given : ℕ) → misfit_of kind (operate next) ≡ None
+    → identifier_of next.op ≡ Some given → next.clock ≡ None
+no_clock kind next given fits gives =
+    ((forms_that_deserve_no_refusal kind next.by next.op next.clock).0 fits).2.1 (carries_none next.op given gives)
 
 -- a stamp was brought exactly where the label has it
 stamps_brought : (records : Records) (by : ℕ) (op : Op) (clock gives : Option ℕ) (stamp : Stamp)
@@ -55,22 +56,23 @@ identifiers_brought by op (Some at) None identifier is = refl
 identifiers_brought by op None None identifier is = refl
 
 -- what is taken with the newest label
-pub taken_more : (kind : Kind) (old new : Taken) (records : Records) (by : ℕ) (op : Op) (clock : Option ℕ)
-    → misfit_of kind (Operate by op clock) ≡ None
-    → ((stamp : Stamp) → is_stamp_in new stamp ≡ (has_brought (brought_by by op clock) stamp || is_stamp_in old stamp))
+pub taken_more : (kind : Kind) (old new : Taken) (records : Records) (next : Next)
+    → misfit_of kind (operate next) ≡ None
+    → ((stamp : Stamp) → is_stamp_in new stamp ≡ (has_brought (brought_by next) stamp || is_stamp_in old stamp))
     → ((identifier : ℕ) → is_identifier_in new identifier
-    ≡ (gives_brought (brought_by by op clock) identifier || is_identifier_in old identifier))
-    → IsTakenIn records old → IsTakenIn (Operate by op clock ∷ records) new
-taken_more kind old new records by op clock fits stamps identifiers known = record {
+    ≡ (gives_brought (brought_by next) identifier || is_identifier_in old identifier))
+    → IsTakenIn records old → IsTakenIn (operate next ∷ records) new
+taken_more kind old new records next fits stamps identifiers known = record {
   stamps = λ stamp.
       stamps stamp
-      ∙ ap (λ b. has_brought (brought_by by op clock) stamp || b) (known.stamps stamp)
+      ∙ ap (λ b. has_brought (brought_by next) stamp || b) (known.stamps stamp)
       ∙ ap (λ b. b || is_taken records stamp)
-      (stamps_brought records by op clock (identifier_of op) stamp refl (λ given gives. no_clock kind by op clock given fits gives));
+      (stamps_brought records next.by next.op next.clock (identifier_of next.op) stamp refl
+      (λ given gives. no_clock kind next given fits gives));
   identifiers = λ identifier.
       identifiers identifier
-      ∙ ap (λ b. gives_brought (brought_by by op clock) identifier || b) (known.identifiers identifier)
-      ∙ ap (λ b. b || is_identifier_taken records identifier) (identifiers_brought by op clock (identifier_of op) identifier refl);
+      ∙ ap (λ b. gives_brought (brought_by next) identifier || b) (known.identifiers identifier)
+      ∙ ap (λ b. b || is_identifier_taken records identifier) (identifiers_brought next.by next.op next.clock (identifier_of next.op) identifier refl);
 }
 
 -- there is room for what a label brings
@@ -80,6 +82,6 @@ can_keep_with taken by (Some given) clock room there = room.identifier
 can_keep_with taken by None (Some at) room there = (there, room.clock)
 can_keep_with taken by None None room there = tt
 
-pub can_keep : (taken : Taken) (by : ℕ) (op : Op) (clock : Option ℕ) → HasRoom taken by → by < vec_len taken.clocks
-    → CanKeep taken (brought_by by op clock)
-can_keep taken by op clock room there = can_keep_with taken by (identifier_of op) clock room there
+pub can_keep : (taken : Taken) (next : Next) → HasRoom taken next.by → next.by < vec_len taken.clocks
+    → CanKeep taken (brought_by next)
+can_keep taken next room there = can_keep_with taken next.by (identifier_of next.op) next.clock room there

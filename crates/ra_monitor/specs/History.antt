@@ -70,7 +70,7 @@ pub record HasNewest (history : History) (past : Past) (next : Next) (label : La
   pub none : fault_of past.kind past.records ≡ None
   pub accepted : IsAccepted past (operate next)
   pub becomes : label ≡ label_of past.records next
-  pub brings : brought ≡ brought_by next.by next.op next.clock
+  pub brings : brought ≡ brought_by next
 
 -- the history stands for some past of few labels
 pub record IsOfFew (history : History) (setup : Setup) : Type 0 where
@@ -100,7 +100,7 @@ pub record MayAccept (history : History) (next : Next) (brought : Brought) : Typ
   pub few : label_count past.records < MOST_LABELS
   pub none : fault_of past.kind past.records ≡ None
   pub accepted : IsAccepted past (operate next)
-  pub brings : brought ≡ brought_by next.by next.op next.clock
+  pub brings : brought ≡ brought_by next
 
 -- it stands for some past without a fault, after which the next replica may join from this one
 pub record MayJoin (history : History) (from : ℕ) : Type 0 where

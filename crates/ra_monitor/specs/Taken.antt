@@ -3,7 +3,7 @@ use Rattle.std.specs.Prelude.{◌≡◌, ℕ, ◌<◌, ◌==◌, nat_eq, Bool, f
 use Rattle.std.specs.HashSet.{contains, spare}
 use Rattle.std.specs.Ordering.{is_eq}
 use Rattle.ra_labels.specs.declared.label.Stamp.{Stamp}
-use Rattle.ra_labels.specs.declared.operation.Op.{Op}
+use Rattle.ra_labels.specs.Situation.{Next}
 use Rattle.ra_labels.specs.declared.refusal.Refusal.{Refusal}
 use Rattle.ra_labels.specs.declared.refusal.Refusal.TheVariants.{StampTaken, IdTaken}
 use Rattle.ra_labels.specs.Records.{Records, stamp_at}
@@ -35,14 +35,14 @@ CanKeep taken (brought.TheVariants.Stamp stamp) =
     (stamp.replica < vec_len taken.clocks) × (0 < (clocks_at taken.clocks.items stamp.replica).room)
 CanKeep taken brought.TheVariants.Nothing = Unit {0}
 
--- what the label brings that the operation becomes: the identifier that it gives, or else its own stamp, if it has one
+-- what the label brings that comes next: the identifier that it gives, or else its own stamp, if it has one
 abbrev pub brought_with : ℕ → Option ℕ → Option ℕ → brought.Brought
 brought_with by (Some identifier) clock = brought.TheVariants.Identifier identifier
 brought_with by None (Some clock) = brought.TheVariants.Stamp (stamp_at by clock)
 brought_with by None None = brought.TheVariants.Nothing
 
-abbrev pub brought_by : ℕ → Op → Option ℕ → brought.Brought
-brought_by by op clock = brought_with by (identifier_of op) clock
+abbrev pub brought_by : Next → brought.Brought
+brought_by next = brought_with next.by (identifier_of next.op) next.clock
 
 abbrev pub has_brought : brought.Brought → Stamp → Bool
 has_brought (brought.TheVariants.Stamp own) stamp = is_eq (stamp_cmp own stamp)

@@ -141,7 +141,7 @@ impl History {
     fn refusal_of(&self, replica: u8, misfit: Option<Refusal>, brought: Brought) -> Option<Refusal>
         ensures { (past : Past) (op : Op) (clock : Option ℕ) → IsTakenIn past.records self.now.taken
             → self.now.replicas ≡ replicas_of past → let command = Command.Operate replica op clock in
-            misfit ≡ misfit_of past.kind command → brought ≡ brought_by replica op clock
+            misfit ≡ misfit_of past.kind command → brought ≡ brought_by (next_of replica op clock)
             → result ≡ refusal_of past.kind past.founders past.records command }
     {
         if replica >= self.replicas {

@@ -168,7 +168,8 @@ impl<M: Journal> Caller<M> {
         ensures one_log { seen (pass_of result.1) ≡ seen (pass_of result.0) }
         ensures legal { KnowsLegal M.reply_of (pass_of result.0) × KnowsLegal M.reply_of (pass_of result.1) }
         // It draws no ticket.
-        ensures draws_none { KnowsWhatEitherKnew (pass_of self) (pass_of other) (pass_of result.0) }
+        ensures draws_none { KnowsWhatEitherKnew (pass_of self) (pass_of other) (pass_of result.0)
+            × KnowsWhatEitherKnew (pass_of self) (pass_of other) (pass_of result.1) }
         ensures calls { result.2 ≡ length (seen (pass_of result.0)) }
     {
         let Caller { lock, pass } = self;

@@ -57,6 +57,8 @@ fn look_and_part<M: Journal>(
     ensures one_log { seen_of seat.new.me.0 ≡ seen_of result.0.me.0 }
     ensures bounds { (next_of result.0.me.0 ≡ max (next_of seat.old.me.0) (next_of other.me.0))
         × (serving_of result.0.me.0 ≡ max (serving_of seat.old.me.0) (serving_of other.me.0)) }
+    ensures rest_bounds { (next_of seat.new.me.0 ≡ max (next_of seat.old.me.0) (next_of other.me.0))
+        × (serving_of seat.new.me.0 ≡ max (serving_of seat.old.me.0) (serving_of other.me.0)) }
     ensures marked { SeesMarked (readings M.setup M.log M.reply_of M.fault_of) result.0.me.0 result.1
         × SeesMarked (readings M.setup M.log M.reply_of M.fault_of) seat.new.me.0 result.1 }
 {
@@ -83,7 +85,7 @@ impl<M: Journal> TicketLock<M> {
         ensures one_log { seen result.1 ≡ seen result.0 }
         ensures legal { KnowsLegal M.reply_of result.0 × KnowsLegal M.reply_of result.1 }
         // It draws no ticket.
-        ensures draws_none { KnowsWhatEitherKnew first second result.0 }
+        ensures draws_none { KnowsWhatEitherKnew first second result.0 × KnowsWhatEitherKnew first second result.1 }
         ensures calls { result.2 ≡ length (seen result.0) }
     {
         let board = &self.table.shared;

@@ -6,17 +6,16 @@ use Rattle.std.proofs.lemmas.Bool.{cases_lt, eq-eqb, ne_eqb}
 use Rattle.std.proofs.lemmas.Option.{same_Some}
 use Rattle.std.proofs.lemmas.List.{get_or_append_left, get_or_at}
 use Rattle.ra_labels.specs.declared.kind.Kind.TheVariants as variant
-use Rattle.ra_labels.specs.declared.operation.Op.{Op}
 use Rattle.ra_labels.specs.declared.operation.Update.TheVariants.{After}
 use Rattle.ra_labels.specs.declared.label.Label.{Label}
 use Rattle.ra_labels.specs.declared.label.Stamp.{Stamp}
-use Rattle.ra_labels.specs.declared.command.Command.TheVariants.{Operate}
-use Rattle.ra_labels.specs.Records.{Records, label_count, labels_of, next_label}
+use Rattle.ra_labels.specs.Records.{Records, label_count, labels_of}
 use Rattle.ra_labels.specs.NamedOrder.{named_sequence, stamp_cmp, lowest_rank, label_cmp}
 use Rattle.ra_labels.specs.Linearization.{updates_admitted}
 use Rattle.ra_labels.specs.Laws.{elements_in, StampsAreOneLabels}
 use Rattle.ra_labels.specs.Late.{put_after}
 use Rattle.ra_labels.specs.Insertion.{Makes}
+use Rattle.ra_labels.specs.Situation.{Next, operate, label_of}
 use Rattle.ra_labels.proofs.Members.{at_head, behind_head}
 use Rattle.ra_labels.proofs.StampOrder.{below_tested}
 use Rattle.ra_laws.proofs.TheLaws.{an_operation_makes_one_update-one, a_new_label_in_the_list_of_all-insertion, labels_with_stamps_stand_in_their_order}
@@ -43,25 +42,25 @@ stamp_found (r ∷ rs) once zero within = ap (λ b. cond b r.stamp (stamp_of rs 
 stamp_found (r ∷ rs) once (suc n) within =
     ap (λ b. cond b r.stamp (stamp_of rs (element_at rs n)))
     (ne_eqb r.element (element_at rs n) (λ same. let here = once 0 (suc n) (omega arith) within same in omega (arith, here)))
-    ∙ stamp_found rs (λ i j a b same. let next = once (suc i) (suc j) (omega (arith, a)) (omega (arith, b)) same in omega (arith, next)) n (omega (arith, within))
+    ∙ stamp_found rs (λ i j a b same. let later = once (suc i) (suc j) (omega (arith, a)) (omega (arith, b)) same in omega (arith, later)) n (omega (arith, within))
 
 not_less : (b : Bool) → ¬ (b ≡ true) → b ≡ false
 not_less true other = absurd (other refl)
 not_less false other = refl
 
-module _ (all next : ElementList) (edits : List (Option Edit)) (records : Records) (by : ℕ) (op : Op) (clock : Option ℕ) (m x : ℕ) (stamp : Stamp)
-    (are : AreElementsOf all edits records) (makes : Makes op (After (element_at all.arrivals m) x)) (within : m < length all.arrivals)
-    (new : (n : ℕ) → n < length all.arrivals → ¬ (element_at all.arrivals n ≡ x)) (stamped : (next_label records by op clock).stamp ≡ Some stamp)
-    (clocked : 1 ≤ stamp.clock) (stamps : StampsAreOneLabels (Operate by op clock ∷ records))
-    (admitted : updates_admitted variant.Rga (named_sequence variant.Rga (Operate by op clock ∷ records)) ≡ true)
-    (arrivals : next.arrivals ≡ all.arrivals ++ record { element = x; stamp = stamp; anchor = m } ∷ [])
+module _ (all grown : ElementList) (edits : List (Option Edit)) (records : Records) (next : Next) (m x : ℕ) (stamp : Stamp)
+    (are : AreElementsOf all edits records) (makes : Makes next.op (After (element_at all.arrivals m) x)) (within : m < length all.arrivals)
+    (new : (n : ℕ) → n < length all.arrivals → ¬ (element_at all.arrivals n ≡ x)) (stamped : (label_of records next).stamp ≡ Some stamp)
+    (clocked : 1 ≤ stamp.clock) (stamps : StampsAreOneLabels (operate next ∷ records))
+    (admitted : updates_admitted variant.Rga (named_sequence variant.Rga (operate next ∷ records)) ≡ true)
+    (arrivals : grown.arrivals ≡ all.arrivals ++ record { element = x; stamp = stamp; anchor = m } ∷ [])
     (elements : (below : ℕ → ℕ → Bool) (list : List (ℕ × Bool)) → IsBelowByStamp below x stamp all.arrivals → elements_in list ≡ all.elements
-    → next.elements ≡ elements_in (put_after below (arrival_at all.arrivals m).element x list)) where
+    → grown.elements ≡ elements_in (put_after below (arrival_at all.arrivals m).element x list)) where
   abbrev now : Records
-  now = Operate by op clock ∷ records
+  now = operate next ∷ records
 
   abbrev own : Label
-  own = next_label records by op clock
+  own = label_of records next
 
   abbrev newest : Arrival
   newest = record { element = x; stamp = stamp; anchor = m }
@@ -69,18 +68,18 @@ module _ (all next : ElementList) (edits : List (Option Edit)) (records : Record
   abbrev number : ℕ
   number = length all.arrivals
 
-  kept : (n : ℕ) → n < number → arrival_at next.arrivals n ≡ arrival_at all.arrivals n
+  kept : (n : ℕ) → n < number → arrival_at grown.arrivals n ≡ arrival_at all.arrivals n
   kept n there = ap (λ rs. arrival_at rs n) arrivals ∙ get_or_append_left all.arrivals (newest ∷ []) root n there
 
-  is_newest : arrival_at next.arrivals number ≡ newest
+  is_newest : arrival_at grown.arrivals number ≡ newest
   is_newest = ap (λ rs. arrival_at rs number) arrivals ∙ get_or_at all.arrivals newest [] root number refl
 
-  count : length next.arrivals ≡ number + 1
+  count : length grown.arrivals ≡ number + 1
   count = omega (arith, ap length arrivals, length-append all.arrivals (newest ∷ []))
 
-  its_update : update_of next.arrivals (PutsIn number) ≡ After (element_at all.arrivals m) x
+  its_update : update_of grown.arrivals (PutsIn number) ≡ After (element_at all.arrivals m) x
   its_update =
-      ap (λ (a : Arrival). After (element_at next.arrivals a.anchor) a.element) is_newest
+      ap (λ (a : Arrival). After (element_at grown.arrivals a.anchor) a.element) is_newest
       ∙ ap (λ (a : Arrival). After a.element x) (kept m within)
 
   its_edit : (edit : Edit) → Some (PutsIn number) ≡ Some edit → PutsIn number ≡ edit
@@ -89,18 +88,18 @@ module _ (all next : ElementList) (edits : List (Option Edit)) (records : Record
   its_own_number : (n : ℕ) → Some (PutsIn number) ≡ Some (PutsIn n) → number ≡ n
   its_own_number n is = cc (is)
 
-  once_more : (i j : ℕ) → i < length next.arrivals → j < length next.arrivals → element_at next.arrivals i ≡ element_at next.arrivals j → i ≡ j
+  once_more : (i j : ℕ) → i < length grown.arrivals → j < length grown.arrivals → element_at grown.arrivals i ≡ element_at grown.arrivals j → i ≡ j
   once_more i j there_i there_j same = elim (cases_lt i number) [
     | inl old_i ↦ elim (cases_lt j number) [
       | inl old_j ↦ are.once i j old_i old_j (sym (ap (λ (a : Arrival). a.element) (kept i old_i)) ∙ same ∙ ap (λ (a : Arrival). a.element) (kept j old_j))
       | inr new_j ↦
           let at : j ≡ number = omega (arith, new_j, there_j, count) in
-          absurd (new i old_i (sym (ap (λ (a : Arrival). a.element) (kept i old_i)) ∙ same ∙ ap (λ k. element_at next.arrivals k) at ∙ ap (λ (a : Arrival). a.element) is_newest))
+          absurd (new i old_i (sym (ap (λ (a : Arrival). a.element) (kept i old_i)) ∙ same ∙ ap (λ k. element_at grown.arrivals k) at ∙ ap (λ (a : Arrival). a.element) is_newest))
     ]
     | inr new_i ↦ elim (cases_lt j number) [
       | inl old_j ↦
           let at : i ≡ number = omega (arith, new_i, there_i, count) in
-          absurd (new j old_j (sym (ap (λ (a : Arrival). a.element) (kept j old_j)) ∙ sym same ∙ ap (λ k. element_at next.arrivals k) at ∙ ap (λ (a : Arrival). a.element) is_newest))
+          absurd (new j old_j (sym (ap (λ (a : Arrival). a.element) (kept j old_j)) ∙ sym same ∙ ap (λ k. element_at grown.arrivals k) at ∙ ap (λ (a : Arrival). a.element) is_newest))
       | inr new_j ↦ omega (arith, new_i, new_j, there_i, there_j, count)
     ]
   ]
@@ -140,23 +139,23 @@ module _ (all next : ElementList) (edits : List (Option Edit)) (records : Record
       omega (arith, its, lower)) in
       ap (below x) (sym as_number.is) ∙ below_by_stamp n as_number.within ∙ ap is_lt (sym stands)
 
-  pub adds_insertion : Adds all next edits records by op clock (Some (PutsIn number))
+  pub adds_insertion : Adds all grown edits records next (Some (PutsIn number))
   adds_insertion = record {
     kept = kept;
     longer = omega (arith, count);
-    made = λ update does. (PutsIn number, refl, its_update ∙ an_operation_makes_one_update-one op (After (element_at all.arrivals m) x) update makes does);
-    makes = λ edit is. subst (λ d. Makes op (update_of next.arrivals d)) (its_edit edit is) (subst (λ u. Makes op u) (sym its_update) makes);
-    known = λ edit is. subst (λ d. number_of d < length next.arrivals) (its_edit edit is) (omega (arith, count));
-    stamp = λ n is. stamped ∙ ap (λ (a : Arrival). Some a.stamp) (sym is_newest) ∙ ap (λ k. Some (arrival_at next.arrivals k).stamp) (its_own_number n is);
+    made = λ update does. (PutsIn number, refl, its_update ∙ an_operation_makes_one_update-one next.op (After (element_at all.arrivals m) x) update makes does);
+    makes = λ edit is. subst (λ d. Makes next.op (update_of grown.arrivals d)) (its_edit edit is) (subst (λ u. Makes next.op u) (sym its_update) makes);
+    known = λ edit is. subst (λ d. number_of d < length grown.arrivals) (its_edit edit is) (omega (arith, count));
+    stamp = λ n is. stamped ∙ ap (λ (a : Arrival). Some a.stamp) (sym is_newest) ∙ ap (λ k. Some (arrival_at grown.arrivals k).stamp) (its_own_number n is);
     unstamped = λ n is. absurd (cc (is));
     came = λ n after there. let at : number ≡ n = omega (arith, after, there, count) in ap (λ k. Some (PutsIn k)) at;
     anchored = λ n after there.
         let at : n ≡ number = omega (arith, after, there, count) in
-        let anchor : (arrival_at next.arrivals n).anchor ≡ m = ap (λ k. (arrival_at next.arrivals k).anchor) at ∙ ap (λ (a : Arrival). a.anchor) is_newest in
+        let anchor : (arrival_at grown.arrivals n).anchor ≡ m = ap (λ k. (arrival_at grown.arrivals k).anchor) at ∙ ap (λ (a : Arrival). a.anchor) is_newest in
         omega (arith, anchor, within, count);
     once = once_more;
     listed =
         let (list, led) = list_after now admitted in
-        let put = a_new_label_in_the_list_of_all-insertion records by op clock (element_at all.arrivals m) x are.listed.0 list below makes are.listed.1 led not_below_root others_stand in
+        let put = a_new_label_in_the_list_of_all-insertion records next.by next.op next.clock (element_at all.arrivals m) x are.listed.0 list below makes are.listed.1 led not_below_root others_stand in
         (list, led, ap elements_in put ∙ sym (elements below are.listed.0 below_by_stamp are.listed.2));
   }

@@ -1,16 +1,14 @@
 -- The elements of all labels with one label more, whatever it does.
 use Rattle.std.proofs.Common.{◌≡◌, ℕ, zero, suc, ◌<◌, ◌≤◌, Bool, true, false, List, [], ◌∷◌, ◌++◌, length, Option, Some, None, refl, sym, ap, ◌∙◌, subst, inl, inr, arith, length-append}
-use Rattle.std.specs.Prelude.{◌⊎◌}
+use Rattle.std.specs.Prelude.{◌⊎◌, option_map}
 use Rattle.std.proofs.lemmas.Bool.{cases_lt, true≢false}
 use Rattle.std.proofs.lemmas.Option.{none-some, same_Some}
 use Rattle.std.proofs.lemmas.List.{get_or_append_left, get_or_at}
 use Rattle.ra_labels.specs.declared.kind.Kind.TheVariants as variant
-use Rattle.ra_labels.specs.declared.operation.Op.{Op}
 use Rattle.ra_labels.specs.declared.operation.Update.{Update}
 use Rattle.ra_labels.specs.declared.operation.Update.TheVariants.{After, RgaRemove}
 use Rattle.ra_labels.specs.declared.label.Label.{Label}
-use Rattle.ra_labels.specs.declared.command.Command.TheVariants.{Operate}
-use Rattle.ra_labels.specs.Records.{Records, label_count, labels_of, next_label}
+use Rattle.ra_labels.specs.Records.{Records, label_count, labels_of, stamp_at}
 use Rattle.ra_labels.specs.Visibility.{is_update}
 use Rattle.ra_labels.specs.Rewriting.{updates_of}
 use Rattle.ra_labels.specs.Specification.{State, Number, Written, Members, Pairs, Listed, state_after}
@@ -19,6 +17,7 @@ use Rattle.ra_labels.specs.NamedOrder.{named_sequence}
 use Rattle.ra_labels.specs.Linearization.{updates_admitted}
 use Rattle.ra_labels.specs.Laws.{elements_in}
 use Rattle.ra_labels.specs.Insertion.{Makes}
+use Rattle.ra_labels.specs.Situation.{Next, operate, label_of}
 use Rattle.ra_labels.proofs.Members.{head_or_behind, at_head, behind_head}
 use Rattle.ra_laws.proofs.TheLaws.{an_operation_makes_one_update-exactly, an_operation_makes_one_update-one, an_operation_puts_its_update_among_all-query, updates_admitted_where_they_lead_to_a_state, states_are_of_their_kind, a_new_label_in_the_list_of_all-removal}
 use Rattle.ra_element_list.specs.ElementList.{Arrival, ElementList, arrival_at}
@@ -44,27 +43,27 @@ edit_more (d ∷ ds) o (suc n) edit is = elim (edit_more ds o n edit is) [
 ]
 
 -- what one label more adds: its edit, and the element that it puts in, if any
-pub record Adds (all next : ElementList) (edits : List (Option Edit)) (records : Records) (by : ℕ) (op : Op) (clock : Option ℕ) (o : Option Edit) : Type 0 where
-  pub kept : (n : ℕ) → n < length all.arrivals → arrival_at next.arrivals n ≡ arrival_at all.arrivals n
-  pub longer : length all.arrivals ≤ length next.arrivals
-  pub made : (update : Update) → Makes op update → (edit : Edit) × (o ≡ Some edit) × (update_of next.arrivals edit ≡ update)
-  pub makes : (edit : Edit) → o ≡ Some edit → Makes op (update_of next.arrivals edit)
-  pub known : (edit : Edit) → o ≡ Some edit → number_of edit < length next.arrivals
-  pub stamp : (number : ℕ) → o ≡ Some (PutsIn number) → (next_label records by op clock).stamp ≡ Some (arrival_at next.arrivals number).stamp
-  pub unstamped : (number : ℕ) → o ≡ Some (Removes number) → (next_label records by op clock).stamp ≡ None
-  pub came : (number : ℕ) → length all.arrivals ≤ number → number < length next.arrivals → o ≡ Some (PutsIn number)
-  pub anchored : (number : ℕ) → length all.arrivals ≤ number → number < length next.arrivals → (arrival_at next.arrivals number).anchor < length next.arrivals
-  pub once : (m n : ℕ) → m < length next.arrivals → n < length next.arrivals → element_at next.arrivals m ≡ element_at next.arrivals n → m ≡ n
-  pub listed : (list : List (ℕ × Bool)) × (state_after variant.Rga (updates_of (named_sequence variant.Rga (Operate by op clock ∷ records))) ≡ Some (Listed list))
-      × (elements_in list ≡ next.elements)
+pub record Adds (all grown : ElementList) (edits : List (Option Edit)) (records : Records) (next : Next) (o : Option Edit) : Type 0 where
+  pub kept : (n : ℕ) → n < length all.arrivals → arrival_at grown.arrivals n ≡ arrival_at all.arrivals n
+  pub longer : length all.arrivals ≤ length grown.arrivals
+  pub made : (update : Update) → Makes next.op update → (edit : Edit) × (o ≡ Some edit) × (update_of grown.arrivals edit ≡ update)
+  pub makes : (edit : Edit) → o ≡ Some edit → Makes next.op (update_of grown.arrivals edit)
+  pub known : (edit : Edit) → o ≡ Some edit → number_of edit < length grown.arrivals
+  pub stamp : (number : ℕ) → o ≡ Some (PutsIn number) → (label_of records next).stamp ≡ Some (arrival_at grown.arrivals number).stamp
+  pub unstamped : (number : ℕ) → o ≡ Some (Removes number) → (label_of records next).stamp ≡ None
+  pub came : (number : ℕ) → length all.arrivals ≤ number → number < length grown.arrivals → o ≡ Some (PutsIn number)
+  pub anchored : (number : ℕ) → length all.arrivals ≤ number → number < length grown.arrivals → (arrival_at grown.arrivals number).anchor < length grown.arrivals
+  pub once : (m n : ℕ) → m < length grown.arrivals → n < length grown.arrivals → element_at grown.arrivals m ≡ element_at grown.arrivals n → m ≡ n
+  pub listed : (list : List (ℕ × Bool)) × (state_after variant.Rga (updates_of (named_sequence variant.Rga (operate next ∷ records))) ≡ Some (Listed list))
+      × (elements_in list ≡ grown.elements)
 
-module _ (all next : ElementList) (edits : List (Option Edit)) (records : Records) (by : ℕ) (op : Op) (clock : Option ℕ) (o : Option Edit)
-    (are : AreElementsOf all edits records) (adds : Adds all next edits records by op clock o) where
+module _ (all grown : ElementList) (edits : List (Option Edit)) (records : Records) (next : Next) (o : Option Edit)
+    (are : AreElementsOf all edits records) (adds : Adds all grown edits records next o) where
   abbrev now : Records
-  now = Operate by op clock ∷ records
+  now = operate next ∷ records
 
   abbrev own : Label
-  own = next_label records by op clock
+  own = label_of records next
 
   abbrev with_it : List (Option Edit)
   with_it = edits ++ o ∷ []
@@ -78,16 +77,16 @@ module _ (all next : ElementList) (edits : List (Option Edit)) (records : Record
   kept_edit : (n : ℕ) (edit : Edit) → edit_at edits n ≡ Some edit → edit_at with_it n ≡ Some edit
   kept_edit n edit at = edit_old n (omega (arith, edit_within edits n edit at, are.count)) ∙ at
 
-  same_update : (edit : Edit) → number_of edit < length all.arrivals → update_of next.arrivals edit ≡ update_of all.arrivals edit
+  same_update : (edit : Edit) → number_of edit < length all.arrivals → update_of grown.arrivals edit ≡ update_of all.arrivals edit
   same_update (PutsIn n) within =
-      ap (λ (a : Arrival). After (element_at next.arrivals a.anchor) a.element) (adds.kept n within)
+      ap (λ (a : Arrival). After (element_at grown.arrivals a.anchor) a.element) (adds.kept n within)
       ∙ ap (λ (a : Arrival). After a.element (element_at all.arrivals n)) (adds.kept (arrival_at all.arrivals n).anchor (are.anchored n within))
   same_update (Removes n) within = ap (λ (a : Arrival). RgaRemove a.element) (adds.kept n within)
 
   newest_edit : (label : Label) (edit : Edit) → own ≡ label → edit_at with_it label.number ≡ Some edit → o ≡ Some edit
   newest_edit label edit newest at = sym edit_own ∙ ap (λ (l : Label). edit_at with_it l.number) newest ∙ at
 
-  pub elements_more : AreElementsOf next with_it now
+  pub elements_more : AreElementsOf grown with_it now
   elements_more = record {
     count = omega (arith, length-append edits (o ∷ []), are.count);
     made = λ label update there makes. elim (head_or_behind own (labels_of records) label there) [
@@ -133,12 +132,12 @@ module _ (all next : ElementList) (edits : List (Option Edit)) (records : Record
   }
 
 -- a label that does nothing
-pub adds_nothing : (all : ElementList) (edits : List (Option Edit)) (records : Records) (by : ℕ) (op : Op) (clock : Option ℕ) → AreElementsOf all edits records → is_update op ≡ false
-    → Adds all all edits records by op clock None
-adds_nothing all edits records by op clock are asks = record {
+pub adds_nothing : (all : ElementList) (edits : List (Option Edit)) (records : Records) (next : Next) → AreElementsOf all edits records → is_update next.op ≡ false
+    → Adds all all edits records next None
+adds_nothing all edits records next are asks = record {
   kept = λ n within. refl;
   longer = omega arith;
-  made = λ update makes. absurd (true≢false (sym ((an_operation_makes_one_update-exactly op).1 (update, makes)) ∙ asks));
+  made = λ update makes. absurd (true≢false (sym ((an_operation_makes_one_update-exactly next.op).1 (update, makes)) ∙ asks));
   makes = λ edit is. absurd (none-some edit is);
   known = λ edit is. absurd (none-some edit is);
   stamp = λ number is. absurd (none-some (PutsIn number) is);
@@ -148,7 +147,7 @@ adds_nothing all edits records by op clock are asks = record {
   once = are.once;
   listed = (
     are.listed.0,
-    ap (state_after variant.Rga) (an_operation_puts_its_update_among_all-query variant.Rga records by op clock asks) ∙ are.listed.1,
+    ap (state_after variant.Rga) (an_operation_puts_its_update_among_all-query variant.Rga records next.by next.op next.clock asks) ∙ are.listed.1,
     are.listed.2,
   );
 }
@@ -172,22 +171,22 @@ elements_stay x [] = refl
 elements_stay x (entry ∷ list) = ap (λ xs. entry.0 ∷ xs) (elements_stay x list)
 
 -- a label that removes an element
-pub adds_removal : (all : ElementList) (edits : List (Option Edit)) (records : Records) (by : ℕ) (op : Op) (clock : Option ℕ) (number : ℕ) → AreElementsOf all edits records
-    → Makes op (RgaRemove (element_at all.arrivals number)) → number < length all.arrivals → clock ≡ None
-    → updates_admitted variant.Rga (named_sequence variant.Rga (Operate by op clock ∷ records)) ≡ true → Adds all all edits records by op clock (Some (Removes number))
-adds_removal all edits records by op clock number are removes within unclocked admitted = record {
+pub adds_removal : (all : ElementList) (edits : List (Option Edit)) (records : Records) (next : Next) (number : ℕ) → AreElementsOf all edits records
+    → Makes next.op (RgaRemove (element_at all.arrivals number)) → number < length all.arrivals → next.clock ≡ None
+    → updates_admitted variant.Rga (named_sequence variant.Rga (operate next ∷ records)) ≡ true → Adds all all edits records next (Some (Removes number))
+adds_removal all edits records next number are removes within unclocked admitted = record {
   kept = λ n within. refl;
   longer = omega arith;
-  made = λ update makes. (Removes number, refl, an_operation_makes_one_update-one op (RgaRemove (element_at all.arrivals number)) update removes makes);
-  makes = λ edit is. subst (λ d. Makes op (update_of all.arrivals d)) (same_Some (Removes number) edit is) removes;
+  made = λ update makes. (Removes number, refl, an_operation_makes_one_update-one next.op (RgaRemove (element_at all.arrivals number)) update removes makes);
+  makes = λ edit is. subst (λ d. Makes next.op (update_of all.arrivals d)) (same_Some (Removes number) edit is) removes;
   known = λ edit is. subst (λ d. number_of d < length all.arrivals) (same_Some (Removes number) edit is) within;
   stamp = λ other is. absurd (cc (is));
-  unstamped = λ other is. ap (λ c. (next_label records by op c).stamp) unclocked;
+  unstamped = λ other is. ap (option_map (stamp_at next.by)) unclocked;
   came = λ other new there. absurd (omega (arith, new, there));
   anchored = λ other new there. absurd (omega (arith, new, there));
   once = are.once;
   listed =
-      let (list, led) = list_after (Operate by op clock ∷ records) admitted in
-      let hidden = a_new_label_in_the_list_of_all-removal records by op clock (element_at all.arrivals number) are.listed.0 list removes are.listed.1 led in
+      let (list, led) = list_after (operate next ∷ records) admitted in
+      let hidden = a_new_label_in_the_list_of_all-removal records next.by next.op next.clock (element_at all.arrivals number) are.listed.0 list removes are.listed.1 led in
       (list, led, ap elements_in hidden ∙ elements_stay (element_at all.arrivals number) are.listed.0 ∙ are.listed.2);
 }

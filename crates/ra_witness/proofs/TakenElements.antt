@@ -41,8 +41,8 @@ module _ (old grown : Rga) (founders : ℕ) (records : Records) (next : Next) (l
   rga_asked asks its_edits same_all same_lists =
       let edits = old.edits.items in
       let with_it = edits ++ None ∷ [] in
-      let elements = elements_more old.all old.all edits records next.by next.op next.clock None stands.elements
-      (adds_nothing old.all edits records next.by next.op next.clock stands.elements asks) in
+      let elements = elements_more old.all old.all edits records next None stands.elements
+      (adds_nothing old.all edits records next stands.elements asks) in
       let asked = λ (q : ℕ) (list : ReplicaList) (at : slice_get old.lists.items q ≡ Some list).
       a_list_stays_with_what_others_do-query list old.all edits records q next stands.elements (stands.lists q list at) asks in
       let lists : AreListsOf old.lists.items old.all.arrivals with_it now = λ q list at. (asked q list at).0 in
@@ -77,9 +77,9 @@ module _ (old grown : Rga) (founders : ℕ) (records : Records) (next : Next) (l
   rga_removed number list removes no_clock within admitted its_edits same_all its_lists own =
       let edits = old.edits.items in
       let with_it = edits ++ Some (Removes number) ∷ [] in
-      let elements = elements_more old.all old.all edits records next.by next.op next.clock (Some (Removes number))
+      let elements = elements_more old.all old.all edits records next (Some (Removes number))
       stands.elements
-      (adds_removal old.all edits records next.by next.op next.clock number stands.elements removes within no_clock admitted) in
+      (adds_removal old.all edits records next number stands.elements removes within no_clock admitted) in
       let lists : AreListsOf (set old.lists.items next.by list) old.all.arrivals with_it now =
       lists_with old.lists.items next.by list old.all.arrivals with_it now
       (omega (arith, stands.replicas, offered.replica)) own
@@ -121,9 +121,9 @@ module _ (old grown : Rga) (founders : ℕ) (records : Records) (next : Next) (l
       let arrived = old.all.arrivals ++ newest ∷ [] in
       let its_stamp = own_stamp old.all edits records stands.elements founders next label offered anchor x is stamp stamped in
       let clocked = some_clock old.all edits records stands.elements founders next label offered anchor x is stamp stamped in
-      let elements = elements_more old.all grown.all edits records next.by next.op next.clock (Some (PutsIn number))
+      let elements = elements_more old.all grown.all edits records next (Some (PutsIn number))
       stands.elements
-      (adds_insertion old.all grown.all edits records next.by next.op next.clock m x stamp stands.elements makes within new
+      (adds_insertion old.all grown.all edits records next m x stamp stands.elements makes within new
       its_stamp clocked offered.stamps admitted its_arrivals its_elements) in
       let lists : AreListsOf (set old.lists.items next.by list) arrived with_it now =
       lists_with old.lists.items next.by list arrived with_it now (omega (arith, stands.replicas, offered.replica)) own

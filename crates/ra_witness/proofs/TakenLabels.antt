@@ -5,15 +5,14 @@ use Rattle.std.proofs.lemmas.Bool.{cases_lt, cases_eq, cases_Bool, eq-eqb, ne_eq
 use Rattle.std.proofs.lemmas.Option.{none-some, same_Some}
 use Rattle.std.proofs.lemmas.List.{length-map, get_or_append_left, get_or_at}
 use Rattle.ra_labels.specs.declared.kind.Kind.{Kind}
-use Rattle.ra_labels.specs.declared.operation.Op.{Op}
 use Rattle.ra_labels.specs.declared.label.Stamp.{Stamp}
 use Rattle.ra_labels.specs.declared.label.Label.{Label}
-use Rattle.ra_labels.specs.declared.command.Command.TheVariants.{Operate}
-use Rattle.ra_labels.specs.Records.{Records, label_count, labels_of, next_label}
+use Rattle.ra_labels.specs.Records.{Records, label_count, labels_of}
 use Rattle.ra_labels.specs.Visibility.{is_update, had, sees}
 use Rattle.ra_labels.specs.Linearization.{extends_visibility}
 use Rattle.ra_labels.specs.NamedOrder.{rank_of, named_sequence}
 use Rattle.ra_labels.specs.Laws.{IsStampBelow, StampsAreOneLabels}
+use Rattle.ra_labels.specs.Situation.{Next, operate, label_of}
 use Rattle.ra_labels.proofs.Members.{head_or_behind, at_head, behind_head}
 use Rattle.ra_labels.proofs.StampOrder.{below_else}
 use Rattle.ra_laws.proofs.TheLaws.{each_number_has_its_label-found, each_number_has_its_label-none, visibility_is_extended_where_ranks_say_so, a_timestamp_is_the_greatest_seen-own, had_updates-updates, had_updates-there}
@@ -37,42 +36,42 @@ writes_counted : (writes : List (Option Written)) (records : Records) → update
 writes_counted writes records kept =
     sym (length-map writes (option_map (λ (w : Written). w.update))) ∙ ap length kept ∙ updates_counted records
 
-module _ (writes : List (Option Written)) (records : Records) (by : ℕ) (op : Op) (clock : Option ℕ) (o : Option Written) (kept : updates_written writes ≡ updates_by_number records) where
+module _ (writes : List (Option Written)) (records : Records) (next : Next) (o : Option Written) (kept : updates_written writes ≡ updates_by_number records) where
   abbrev now : Records
-  now = Operate by op clock ∷ records
+  now = operate next ∷ records
 
   abbrev label : Label
-  label = next_label records by op clock
+  label = label_of records next
 
-  abbrev next : List (Option Written)
-  next = writes ++ o ∷ []
+  abbrev longer : List (Option Written)
+  longer = writes ++ o ∷ []
 
-  at_old : (m : ℕ) → m < label_count records → write_at next m ≡ write_at writes m
+  at_old : (m : ℕ) → m < label_count records → write_at longer m ≡ write_at writes m
   at_old m below = let counted = writes_counted writes records kept in get_or_append_left writes (o ∷ []) None m (omega (arith, counted, below))
 
-  at_new : write_at next (label_count records) ≡ o
+  at_new : write_at longer (label_count records) ≡ o
   at_new = get_or_at writes o [] None (label_count records) (writes_counted writes records kept)
 
   had_still : (q m : ℕ) → had records q m ≡ true → had now q m ≡ true
-  had_still q m h = or_right (by == q && m == label_count records && is_update op) (had records q m) h
+  had_still q m h = or_right (next.by == q && m == label_count records && is_update next.op) (had records q m) h
 
   -- of the older labels replicas had the same
   had_was : (q m : ℕ) → m < label_count records → had now q m ≡ true → had records q m ≡ true
-  had_was q m below h = elim (cases_Bool (by == q)) [
-    | inl same ↦ sym (ap (λ b. (b && is_update op) || had records q m) (ap (λ b. b && m == label_count records) same ∙ ne_eqb m (label_count records) (λ e. absurd (omega (arith, e, below))))) ∙ h
-    | inr differ ↦ sym (ap (λ b. (b && m == label_count records && is_update op) || had records q m) differ) ∙ h
+  had_was q m below h = elim (cases_Bool (next.by == q)) [
+    | inl same ↦ sym (ap (λ b. (b && is_update next.op) || had records q m) (ap (λ b. b && m == label_count records) same ∙ ne_eqb m (label_count records) (λ e. absurd (omega (arith, e, below))))) ∙ h
+    | inr differ ↦ sym (ap (λ b. (b && m == label_count records && is_update next.op) || had records q m) differ) ∙ h
   ]
 
-  had_new_only : (q : ℕ) → had now q (label_count records) ≡ true → (q ≡ by) × (is_update op ≡ true)
-  had_new_only q h = elim (cases_eq by q) [
+  had_new_only : (q : ℕ) → had now q (label_count records) ≡ true → (q ≡ next.by) × (is_update next.op ≡ true)
+  had_new_only q h = elim (cases_eq next.by q) [
     | inl same ↦ (
       sym same,
-      elim (cases_Bool (is_update op)) [
+      elim (cases_Bool (is_update next.op)) [
         | inl is ↦ is
-        | inr none ↦ absurd (not_old q (sym (ap (λ b. (by == q && label_count records == label_count records && b) || had records q (label_count records)) none ∙ ap (λ b. b || had records q (label_count records)) (and_false (by == q && label_count records == label_count records))) ∙ h))
+        | inr none ↦ absurd (not_old q (sym (ap (λ b. (next.by == q && label_count records == label_count records && b) || had records q (label_count records)) none ∙ ap (λ b. b || had records q (label_count records)) (and_false (next.by == q && label_count records == label_count records))) ∙ h))
       ],
     )
-    | inr differ ↦ absurd (not_old q (sym (ap (λ b. (b && label_count records == label_count records && is_update op) || had records q (label_count records)) (ne_eqb by q differ)) ∙ h))
+    | inr differ ↦ absurd (not_old q (sym (ap (λ b. (b && label_count records == label_count records && is_update next.op) || had records q (label_count records)) (ne_eqb next.by q differ)) ∙ h))
   ]
     where
       and_false : (b : Bool) → b && false ≡ false
@@ -83,7 +82,7 @@ module _ (writes : List (Option Written)) (records : Records) (by : ℕ) (op : O
       not_old r old = let there = had_updates-there records (label_count records) (had_updates-updates records r (label_count records) old) in omega (arith, there)
 
   -- an older label on an element is as before
-  last_still : (q c k : ℕ) → ((w : Written) → o ≡ Some w → q ≡ by → ¬ (w.on ≡ c)) → IsLastOn writes records q c k → IsLastOn next now q c k
+  last_still : (q c k : ℕ) → ((w : Written) → o ≡ Some w → q ≡ next.by → ¬ (w.on ≡ c)) → IsLastOn writes records q c k → IsLastOn longer now q c k
   last_still q c k elsewhere on_it =
       let below = label_below records on_it.label on_it.there in
       let number = on_it.number in
@@ -98,7 +97,7 @@ module _ (writes : List (Option Written)) (records : Records) (by : ℕ) (op : O
         above = λ other lesser there h at on. elim (head_or_behind label (labels_of records) other there) [
           | inl newest ↦
               let is_new : other.number ≡ label_count records = ap (λ (l : Label). l.number) (sym newest) in
-              let its : o ≡ Some lesser = sym at_new ∙ ap (write_at next) (sym is_new) ∙ at in
+              let its : o ≡ Some lesser = sym at_new ∙ ap (write_at longer) (sym is_new) ∙ at in
               absurd (elsewhere lesser its (had_new_only q (ap (had now q) (sym is_new) ∙ h)).0 on)
           | inr old ↦
               let within = label_below records other old in
@@ -106,11 +105,11 @@ module _ (writes : List (Option Written)) (records : Records) (by : ℕ) (op : O
         ];
       }
 
-  none_still : (q c : ℕ) → ((w : Written) → o ≡ Some w → q ≡ by → ¬ (w.on ≡ c)) → NoneIsOn writes records q c → NoneIsOn next now q c
+  none_still : (q c : ℕ) → ((w : Written) → o ≡ Some w → q ≡ next.by → ¬ (w.on ≡ c)) → NoneIsOn writes records q c → NoneIsOn longer now q c
   none_still q c elsewhere none l w there h at on = elim (head_or_behind label (labels_of records) l there) [
     | inl newest ↦
         let is_new : l.number ≡ label_count records = ap (λ (m : Label). m.number) (sym newest) in
-        let its : o ≡ Some w = sym at_new ∙ ap (write_at next) (sym is_new) ∙ at in
+        let its : o ≡ Some w = sym at_new ∙ ap (write_at longer) (sym is_new) ∙ at in
         elsewhere w its (had_new_only q (ap (had now q) (sym is_new) ∙ h)).0 on
     | inr old ↦
         let within = label_below records l old in
@@ -118,12 +117,12 @@ module _ (writes : List (Option Written)) (records : Records) (by : ℕ) (op : O
   ]
 
 -- a query leaves what is kept
-pub writes-query : (writes : List (Option Written)) (number_of : ℕ → Option ℕ) (records : Records) (by : ℕ) (op : Op) (clock : Option ℕ)
-    → updates_written writes ≡ updates_by_number records → AreWritesOf writes number_of records → AreWritesOf (writes ++ None ∷ []) number_of (Operate by op clock ∷ records)
-writes-query writes number_of records by op clock kept are = record {
-  stamps = λ l w there at. elim (head_or_behind (next_label records by op clock) (labels_of records) l there) [
-    | inl newest ↦ absurd (none-some w (sym (at_new writes records by op clock None kept) ∙ ap (write_at (writes ++ None ∷ [])) (ap (λ (m : Label). m.number) newest) ∙ at))
-    | inr old ↦ are.stamps l w old (sym (at_old writes records by op clock None kept l.number (label_below records l old)) ∙ at)
+pub writes-query : (writes : List (Option Written)) (number_of : ℕ → Option ℕ) (records : Records) (next : Next)
+    → updates_written writes ≡ updates_by_number records → AreWritesOf writes number_of records → AreWritesOf (writes ++ None ∷ []) number_of (operate next ∷ records)
+writes-query writes number_of records next kept are = record {
+  stamps = λ l w there at. elim (head_or_behind (label_of records next) (labels_of records) l there) [
+    | inl newest ↦ absurd (none-some w (sym (at_new writes records next None kept) ∙ ap (write_at (writes ++ None ∷ [])) (ap (λ (m : Label). m.number) newest) ∙ at))
+    | inr old ↦ are.stamps l w old (sym (at_old writes records next None kept l.number (label_below records l old)) ∙ at)
   ];
   numbers = λ n w at. are.numbers n w (pushed_none writes n w at);
   one = are.one;
@@ -135,11 +134,11 @@ writes-query writes number_of records by op clock kept are = record {
     pushed_none (x ∷ ws) zero w at = at
     pushed_none (x ∷ ws) (suc n) w at = pushed_none ws n w at
 
-pub lasts-query : (writes : List (Option Written)) (lasts : List (List (Option ℕ))) (records : Records) (by : ℕ) (op : Op) (clock : Option ℕ)
-    → updates_written writes ≡ updates_by_number records → AreLastOf writes lasts records → AreLastOf (writes ++ None ∷ []) lasts (Operate by op clock ∷ records)
-lasts-query writes lasts records by op clock kept last = record {
-  some = λ q c k below is. last_still writes records by op clock None kept q c k (λ w none. absurd (none-some w none)) (last.some q c k below is);
-  none = λ q c below is. none_still writes records by op clock None kept q c (λ w none. absurd (none-some w none)) (last.none q c below is);
+pub lasts-query : (writes : List (Option Written)) (lasts : List (List (Option ℕ))) (records : Records) (next : Next)
+    → updates_written writes ≡ updates_by_number records → AreLastOf writes lasts records → AreLastOf (writes ++ None ∷ []) lasts (operate next ∷ records)
+lasts-query writes lasts records next kept last = record {
+  some = λ q c k below is. last_still writes records next None kept q c k (λ w none. absurd (none-some w none)) (last.some q c k below is);
+  none = λ q c below is. none_still writes records next None kept q c (λ w none. absurd (none-some w none)) (last.none q c below is);
 }
 
 -- the numbers of elements, with that of the next write
@@ -220,15 +219,15 @@ module _ (number_of : ℕ → Option ℕ) (next : ℕ) (e : Option ℕ) (one : (
   ]
 
 -- an update that fits is above all that its replica had
-module _ (kind : Kind) (writes : List (Option Written)) (lasts : List (List (Option ℕ))) (number_of : ℕ → Option ℕ) (count by : ℕ) (op : Op) (clock : Option ℕ) (records : Records) (w : Written)
+module _ (kind : Kind) (writes : List (Option Written)) (lasts : List (List (Option ℕ))) (number_of : ℕ → Option ℕ) (count : ℕ) (next : Next) (records : Records) (w : Written)
     (sorts : IsByTimestamp kind) (kept : updates_written writes ≡ updates_by_number records) (are : AreWritesOf writes number_of records) (below : AreBelow number_of count)
-    (it : IsNextWrite w number_of count by op clock) (extended : extends_visibility (Operate by op clock ∷ records) (named_sequence kind (Operate by op clock ∷ records)) ≡ true)
-    (once : StampsAreOneLabels (Operate by op clock ∷ records)) where
+    (it : IsNextWrite w number_of count next) (extended : extends_visibility (operate next ∷ records) (named_sequence kind (operate next ∷ records)) ≡ true)
+    (once : StampsAreOneLabels (operate next ∷ records)) where
   abbrev now_t : Records
-  now_t = Operate by op clock ∷ records
+  now_t = operate next ∷ records
 
   abbrev own : Label
-  own = next_label records by op clock
+  own = label_of records next
 
   abbrev writes_t : List (Option Written)
   writes_t = writes ++ Some w ∷ []
@@ -236,10 +235,10 @@ module _ (kind : Kind) (writes : List (Option Written)) (lasts : List (List (Opt
   its_rank : (l : Label) (s : Stamp) → l.stamp ≡ Some s → rank_of kind now_t l ≡ s
   its_rank l s is = sorts now_t l ∙ a_timestamp_is_the_greatest_seen-own now_t l s is
 
-  sees_it : (m : ℕ) → had records by m ≡ true → sees now_t (label_count records) m ≡ true
-  sees_it m h = ap (λ b. cond b (had records by m) (sees records (label_count records) m)) (eq-eqb (label_count records) (label_count records) refl) ∙ h
+  sees_it : (m : ℕ) → had records next.by m ≡ true → sees now_t (label_count records) m ≡ true
+  sees_it m h = ap (λ b. cond b (had records next.by m) (sees records (label_count records) m)) (eq-eqb (label_count records) (label_count records) refl) ∙ h
 
-  above_old : (other : Label) (v : Written) → Contains (labels_of records) other → had records by other.number ≡ true → write_at writes other.number ≡ Some v → IsStampBelow v.stamp w.stamp
+  above_old : (other : Label) (v : Written) → Contains (labels_of records) other → had records next.by other.number ≡ true → write_at writes other.number ≡ Some v → IsStampBelow v.stamp w.stamp
   above_old other v old h at =
       let its = are.stamps other v old at in
       let there = behind_head own (labels_of records) other old in
@@ -251,63 +250,63 @@ module _ (kind : Kind) (writes : List (Option Written)) (lasts : List (List (Opt
       let within = label_below records other old in
       omega (arith, number, within))
 
-  updates : is_update op ≡ true
-  updates = makes_some op w.update it.update
+  updates : is_update next.op ≡ true
+  updates = makes_some next.op w.update it.update
 
-  had_own : had now_t by (label_count records) ≡ true
-  had_own = or_left (by == by && label_count records == label_count records && is_update op) (had records by (label_count records))
-      (and_from (by == by && label_count records == label_count records) (is_update op) (and_from (by == by) (label_count records == label_count records) (eq-eqb by by refl) (eq-eqb (label_count records) (label_count records) refl)) updates)
+  had_own : had now_t next.by (label_count records) ≡ true
+  had_own = or_left (next.by == next.by && label_count records == label_count records && is_update next.op) (had records next.by (label_count records))
+      (and_from (next.by == next.by && label_count records == label_count records) (is_update next.op) (and_from (next.by == next.by) (label_count records == label_count records) (eq-eqb next.by next.by refl) (eq-eqb (label_count records) (label_count records) refl)) updates)
 
-  own_last : IsLastOn writes_t now_t by w.on (label_count records)
+  own_last : IsLastOn writes_t now_t next.by w.on (label_count records)
   own_last = record {
     label = own;
     write = w;
     there = at_head own (labels_of records) own refl;
     number = refl;
     had_it = had_own;
-    found = at_new writes records by op clock (Some w) kept;
+    found = at_new writes records next (Some w) kept;
     on = refl;
     above = λ other lesser there h at on. elim (head_or_behind own (labels_of records) other there) [
       | inl newest ↦ inl (ap (λ (l : Label). l.number) (sym newest))
       | inr old ↦
           let within = label_below records other old in
-          inr (above_old other lesser old (had_was writes records by op clock (Some w) kept by other.number within h) (sym (at_old writes records by op clock (Some w) kept other.number within) ∙ at))
+          inr (above_old other lesser old (had_was writes records next (Some w) kept next.by other.number within h) (sym (at_old writes records next (Some w) kept other.number within) ∙ at))
     ];
   }
 
-  elsewhere_of : (q c : ℕ) → ((q ≡ by) → ¬ (c ≡ w.on)) → (v : Written) → Some w ≡ Some v → q ≡ by → ¬ (v.on ≡ c)
+  elsewhere_of : (q c : ℕ) → ((q ≡ next.by) → ¬ (c ≡ w.on)) → (v : Written) → Some w ≡ Some v → q ≡ next.by → ¬ (v.on ≡ c)
   elsewhere_of q c elsewhere v same at_by on = elsewhere at_by (sym on ∙ ap (λ (x : Written). x.on) (sym (same_Some w v same)))
 
-  here_with : (q c : ℕ) → q ≡ by → c ≡ w.on → last_with lasts by w.on (label_count records) q c ≡ Some (label_count records)
-  here_with q c at_by on_it = ap (λ b. cond b (Some (label_count records)) (last_label lasts q c)) (and_from (q == by) (c == w.on) (eq-eqb q by at_by) (eq-eqb c w.on on_it))
+  here_with : (q c : ℕ) → q ≡ next.by → c ≡ w.on → last_with lasts next.by w.on (label_count records) q c ≡ Some (label_count records)
+  here_with q c at_by on_it = ap (λ b. cond b (Some (label_count records)) (last_label lasts q c)) (and_from (q == next.by) (c == w.on) (eq-eqb q next.by at_by) (eq-eqb c w.on on_it))
 
-  elsewhere_with : (q c : ℕ) → ((q ≡ by) → ¬ (c ≡ w.on)) → last_with lasts by w.on (label_count records) q c ≡ last_label lasts q c
-  elsewhere_with q c elsewhere = elim (cases_eq q by) [
-    | inl here ↦ ap (λ b. cond b (Some (label_count records)) (last_label lasts q c)) (ap (λ b. b && c == w.on) (eq-eqb q by here) ∙ ne_eqb c w.on (elsewhere here))
-    | inr other ↦ ap (λ b. cond (b && c == w.on) (Some (label_count records)) (last_label lasts q c)) (ne_eqb q by other)
+  elsewhere_with : (q c : ℕ) → ((q ≡ next.by) → ¬ (c ≡ w.on)) → last_with lasts next.by w.on (label_count records) q c ≡ last_label lasts q c
+  elsewhere_with q c elsewhere = elim (cases_eq q next.by) [
+    | inl here ↦ ap (λ b. cond b (Some (label_count records)) (last_label lasts q c)) (ap (λ b. b && c == w.on) (eq-eqb q next.by here) ∙ ne_eqb c w.on (elsewhere here))
+    | inr other ↦ ap (λ b. cond (b && c == w.on) (Some (label_count records)) (last_label lasts q c)) (ne_eqb q next.by other)
   ]
 
-  pub lasts-update : (next : List (List (Option ℕ))) → AreLastOf writes lasts records → length next ≡ length lasts
-      → ((q c : ℕ) → last_label next q c ≡ last_with lasts by w.on (label_count records) q c) → AreLastOf writes_t next now_t
-  lasts-update next last same says = record {
+  pub lasts-update : (lasts_now : List (List (Option ℕ))) → AreLastOf writes lasts records → length lasts_now ≡ length lasts
+      → ((q c : ℕ) → last_label lasts_now q c ≡ last_with lasts next.by w.on (label_count records) q c) → AreLastOf writes_t lasts_now now_t
+  lasts-update lasts_now last same says = record {
     some = λ q c k within is. elim (where_is q c) [
       | inl here ↦
           let one : label_count records ≡ k = same_Some (label_count records) k (sym (says q c ∙ here_with q c here.0 here.1) ∙ is) in
-          subst (λ m. IsLastOn writes_t now_t q c m) one (subst (λ r. IsLastOn writes_t now_t r c (label_count records)) (sym here.0) (subst (λ e. IsLastOn writes_t now_t by e (label_count records)) (sym here.1) own_last))
+          subst (λ m. IsLastOn writes_t now_t q c m) one (subst (λ r. IsLastOn writes_t now_t r c (label_count records)) (sym here.0) (subst (λ e. IsLastOn writes_t now_t next.by e (label_count records)) (sym here.1) own_last))
       | inr elsewhere ↦
-          last_still writes records by op clock (Some w) kept q c k (elsewhere_of q c elsewhere)
+          last_still writes records next (Some w) kept q c k (elsewhere_of q c elsewhere)
           (last.some q c k (omega (arith, same, within)) (sym (says q c ∙ elsewhere_with q c elsewhere) ∙ is))
     ];
     none = λ q c within is. elim (where_is q c) [
       | inl here ↦ absurd (none-some (label_count records) (sym is ∙ says q c ∙ here_with q c here.0 here.1))
       | inr elsewhere ↦
-          none_still writes records by op clock (Some w) kept q c (elsewhere_of q c elsewhere)
+          none_still writes records next (Some w) kept q c (elsewhere_of q c elsewhere)
           (last.none q c (omega (arith, same, within)) (sym (says q c ∙ elsewhere_with q c elsewhere) ∙ is))
     ];
   }
     where
-      where_is : (q c : ℕ) → ((q ≡ by) × (c ≡ w.on)) ⊎ ((q ≡ by) → ¬ (c ≡ w.on))
-      where_is q c = elim (cases_eq q by) [
+      where_is : (q c : ℕ) → ((q ≡ next.by) × (c ≡ w.on)) ⊎ ((q ≡ next.by) → ¬ (c ≡ w.on))
+      where_is q c = elim (cases_eq q next.by) [
         | inl at_by ↦ elim (cases_eq c w.on) [
           | inl on_it ↦ inl (at_by, on_it)
           | inr differ ↦ inr (λ _. differ)
@@ -319,9 +318,9 @@ module _ (kind : Kind) (writes : List (Option Written)) (lasts : List (List (Opt
   writes-update = record {
     stamps = λ l v there at. elim (head_or_behind own (labels_of records) l there) [
       | inl newest ↦
-          let same : w ≡ v = same_Some w v (sym (at_new writes records by op clock (Some w) kept) ∙ ap (write_at writes_t) (ap (λ (m : Label). m.number) newest) ∙ at) in
+          let same : w ≡ v = same_Some w v (sym (at_new writes records next (Some w) kept) ∙ ap (write_at writes_t) (ap (λ (m : Label). m.number) newest) ∙ at) in
           ap (λ (m : Label). m.stamp) (sym newest) ∙ it.stamp ∙ ap (λ (x : Written). Some x.stamp) same
-      | inr old ↦ are.stamps l v old (sym (at_old writes records by op clock (Some w) kept l.number (label_below records l old)) ∙ at)
+      | inr old ↦ are.stamps l v old (sym (at_old writes records next (Some w) kept l.number (label_below records l old)) ∙ at)
     ];
     numbers = λ n v at. elim (pushed writes n v at) [
       | inl old ↦ subst (λ k. IsNumberOf (number_with number_of (element_of w.update) k) (element_of v.update) v.on) (sym it.on)

@@ -54,7 +54,7 @@ module _ (old new : Overriding) (past : Past) (next : Next) (label : Label)
       let count = hash_map_len old.numbers.numbers in
       let lasts = labels_in old.lasts.items in
       let replica = its_replica past next label offered in
-      let it : IsNextWrite write number_of count next.by next.op next.clock = record {
+      let it : IsNextWrite write number_of count next = record {
         update = sym does;
         stamp = sym (ap (λ (l : Label). l.stamp) offered.becomes) ∙ stamped;
         on = refl;
@@ -79,9 +79,9 @@ module _ (old new : Overriding) (past : Past) (next : Next) (label : Label)
             (subst (λ ss. AreStatesOf (updates_written old.writes.items ++ update_in next.op ∷ []) ss (past_of past.kind past.founders now)) (sym its_states) later);
         writes = subst (λ ws. AreWritesOf ws (numbers_of new) now) (sym its_writes)
             (subst (λ ns. AreWritesOf (old.writes.items ++ Some write ∷ []) ns now) (sym its_numbers)
-            (writes-update past.kind old.writes.items [] number_of count next.by next.op next.clock past.records write sorts kept stands.writes stands.numbers it offered.fits offered.stamps));
+            (writes-update past.kind old.writes.items [] number_of count next past.records write sorts kept stands.writes stands.numbers it offered.fits offered.stamps));
         lasts = subst (λ ws. AreLastOf ws (labels_in new.lasts.items) now) (sym its_writes)
-            (lasts-update past.kind old.writes.items lasts number_of count next.by next.op next.clock past.records write sorts kept stands.writes stands.numbers it offered.fits offered.stamps
+            (lasts-update past.kind old.writes.items lasts number_of count next past.records write sorts kept stands.writes stands.numbers it offered.fits offered.stamps
             (labels_in new.lasts.items) stands.lasts same_labels last_says);
         replicas = same ∙ stands.replicas;
         numbers = subst (λ ns. AreBelow ns (hash_map_len new.numbers.numbers)) (sym its_numbers)
@@ -107,10 +107,10 @@ module _ (old new : Overriding) (past : Past) (next : Next) (label : Label)
             (subst (λ ss. AreStatesOf (updates_written old.writes.items ++ update_in next.op ∷ []) ss (past_of past.kind past.founders now)) (sym its_states) later);
         writes = subst (λ ws. AreWritesOf ws (numbers_of new) now) (sym its_writes)
             (subst (λ ns. AreWritesOf (old.writes.items ++ None ∷ []) (get nat_eq ns.numbers) now) (sym its_numbers)
-            (writes-query old.writes.items (numbers_of old) past.records next.by next.op next.clock kept stands.writes));
+            (writes-query old.writes.items (numbers_of old) past.records next kept stands.writes));
         lasts = subst (λ ws. AreLastOf ws (labels_in new.lasts.items) now) (sym its_writes)
             (subst (λ ls. AreLastOf (old.writes.items ++ None ∷ []) (labels_in ls) now) (sym its_lasts)
-            (lasts-query old.writes.items (labels_in old.lasts.items) past.records next.by next.op next.clock kept stands.lasts));
+            (lasts-query old.writes.items (labels_in old.lasts.items) past.records next kept stands.lasts));
         replicas = ap length its_lasts ∙ stands.replicas;
         numbers = subst (λ ns. AreBelow (get nat_eq ns.numbers) (hash_map_len ns.numbers)) (sym its_numbers) stands.numbers;
         few = subst (λ ns. hash_map_len ns.numbers ≤ label_count past.records + 1) (sym its_numbers) (omega (arith, stands.few));

@@ -1,10 +1,10 @@
 -- When the writes and the last labels that are kept of a register or an LWW set are those of records.
 use Rattle.std.specs.Prelude.{◌≡◌, ◌⊎◌, ℕ, ◌<◌, true, List, length, Option, Some, None, option_map, Contains}
-use Rattle.ra_labels.specs.declared.operation.Op.{Op}
 use Rattle.ra_labels.specs.declared.label.Label.{Label}
 use Rattle.ra_labels.specs.Records.{Records, labels_of, stamp_at}
 use Rattle.ra_labels.specs.Visibility.{had}
 use Rattle.ra_labels.specs.Laws.{IsStampBelow}
+use Rattle.ra_labels.specs.Situation.{Next}
 use Rattle.ra_witness.specs.declared.overriding.written.Written.{Written}
 use Rattle.ra_witness.specs.Labels.{update_in}
 use Rattle.ra_witness.specs.ElementNumbers.{element_of, number_in}
@@ -53,9 +53,8 @@ pub record AreLastOf (writes : List (Option Written)) (lasts : List (List (Optio
 abbrev pub AreBelow : (ℕ → Option ℕ) → ℕ → Type 0
 AreBelow number_of next = (x number : ℕ) → number_of x ≡ Some number → number < next
 
--- what is kept of the label that an operation becomes with this clock: its stamp and the number of its element
-pub record IsNextWrite (write : Written) (number_of : ℕ → Option ℕ) (next by : ℕ) (op : Op)
-    (clock : Option ℕ) : Type 0 where
-  pub update : update_in op ≡ Some write.update
-  pub stamp : option_map (stamp_at by) clock ≡ Some write.stamp
-  pub on : write.on ≡ number_in number_of next (element_of write.update)
+-- what is kept of the label that comes next: its stamp and the number of its element
+pub record IsNextWrite (write : Written) (number_of : ℕ → Option ℕ) (count : ℕ) (next : Next) : Type 0 where
+  pub update : update_in next.op ≡ Some write.update
+  pub stamp : option_map (stamp_at next.by) next.clock ≡ Some write.stamp
+  pub on : write.on ≡ number_in number_of count (element_of write.update)

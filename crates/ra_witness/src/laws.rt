@@ -3,9 +3,8 @@
 ghost use Rattle.std.specs.Prelude.{◌≡◌, ◌⊎◌, ℕ, ◌+◌, ◌<◌, ◌≤◌, true, false, not, List, [], ◌∷◌, ◌++◌, length, map, flat_map, Option, Some, None, get_or, if◌then◌else◌};
 ghost use Rattle.ra_labels.specs.declared.kind.Kind.{Kind};
 ghost use Rattle.ra_labels.specs.declared.kind.Kind.TheVariants.{Counter, Register, LwwSet, OrSet, Rga};
-ghost use Rattle.ra_labels.specs.declared.operation.Op.{Op};
 ghost use Rattle.ra_labels.specs.declared.operation.Update.{Update};
-ghost use Rattle.ra_labels.specs.declared.command.Command.TheVariants.{Operate, Deliver, Join};
+ghost use Rattle.ra_labels.specs.declared.command.Command.TheVariants.{Deliver, Join};
 ghost use Rattle.ra_labels.specs.declared.reply.Cause.TheVariants as cause;
 ghost use Rattle.ra_labels.specs.Records.{Records, label_count};
 ghost use Rattle.ra_seqspec.specs.Range.{IsInRange};
@@ -113,21 +112,21 @@ pub fn the_last_labels_with_a_label()
     ensures query_lasts { (writes : List (Option Written)) (lasts : List (List (Option ℕ))) (records : Records)
         (next : Next) → updates_written writes ≡ updates_by_number records → AreLastOf writes lasts records
         → AreLastOf (writes ++ None ∷ []) lasts (operate next ∷ records) }
-    ensures writes { (kind : Kind) (writes : List (Option Written)) (number_of : ℕ → Option ℕ) (count by : ℕ) (op : Op)
-        (clock : Option ℕ) (records : Records) (write : Written) → IsByTimestamp kind
+    ensures writes { (kind : Kind) (writes : List (Option Written)) (number_of : ℕ → Option ℕ) (count : ℕ) (next : Next)
+        (records : Records) (write : Written) → IsByTimestamp kind
         → updates_written writes ≡ updates_by_number records → AreWritesOf writes number_of records
-        → AreBelow number_of count → IsNextWrite write number_of count by op clock
-        → let now = Operate by op clock ∷ records in extends_visibility now (named_sequence kind now) ≡ true
+        → AreBelow number_of count → IsNextWrite write number_of count next
+        → let now = operate next ∷ records in extends_visibility now (named_sequence kind now) ≡ true
         → StampsAreOneLabels now → let numbers = number_with number_of (element_of write.update) write.on in
         AreWritesOf (writes ++ Some write ∷ []) numbers now × AreBelow numbers (count + 1) }
-    ensures lasts { (kind : Kind) (writes : List (Option Written)) (lasts next : List (List (Option ℕ)))
-        (number_of : ℕ → Option ℕ) (count by : ℕ) (op : Op) (clock : Option ℕ) (records : Records) (write : Written)
+    ensures lasts { (kind : Kind) (writes : List (Option Written)) (lasts lasts_now : List (List (Option ℕ)))
+        (number_of : ℕ → Option ℕ) (count : ℕ) (next : Next) (records : Records) (write : Written)
         → IsByTimestamp kind → updates_written writes ≡ updates_by_number records → AreWritesOf writes number_of records
-        → AreBelow number_of count → IsNextWrite write number_of count by op clock
-        → let now = Operate by op clock ∷ records in extends_visibility now (named_sequence kind now) ≡ true
-        → StampsAreOneLabels now → AreLastOf writes lasts records → length next ≡ length lasts
-        → ((q c : ℕ) → last_label next q c ≡ last_with lasts by write.on (label_count records) q c)
-        → AreLastOf (writes ++ Some write ∷ []) next now }
+        → AreBelow number_of count → IsNextWrite write number_of count next
+        → let now = operate next ∷ records in extends_visibility now (named_sequence kind now) ≡ true
+        → StampsAreOneLabels now → AreLastOf writes lasts records → length lasts_now ≡ length lasts
+        → ((q c : ℕ) → last_label lasts_now q c ≡ last_with lasts next.by write.on (label_count records) q c)
+        → AreLastOf (writes ++ Some write ∷ []) lasts_now now }
 {}
 
 /// Once a label is delivered, that one or the last one on its element is the last one, which has the greater stamp; and

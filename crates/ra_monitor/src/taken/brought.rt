@@ -1,6 +1,7 @@
 //! What a label brings that no other label may have: its own stamp, or the identifier that it gives.
 ghost use Rattle.std.specs.Prelude.{◌≡◌};
 ghost use Rattle.ra_labels.specs.Answer.{identifier_of};
+ghost use Rattle.ra_labels.specs.Situation.{next_of};
 ghost use Rattle.ra_monitor.specs.Taken.{brought_by};
 
 use ra_labels::{Op, Stamp};
@@ -19,7 +20,7 @@ pub enum Brought {
 impl Brought {
     /// What the label brings that the replica's operation becomes with this clock.
     pub fn by(replica: u8, op: &Op, clock: Option<u32>) -> Brought
-        ensures { result ≡ brought_by replica op.now clock }
+        ensures { result ≡ brought_by (next_of replica op.now clock) }
     {
         match (identifier_of(op), clock) {
             (Some(identifier), _) => Brought::Identifier(identifier),

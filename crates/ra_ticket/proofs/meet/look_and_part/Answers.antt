@@ -17,3 +17,7 @@ returns-clause-marked g c = let cut = c.split_first-first.ensures in let marked 
 pub returns-clause-bounds : goal.returns-clause-bounds
 returns-clause-bounds g c = bounds_are _ _ _ _ _ _ c.requires.idle.0 c.requires.idle.1
     c.join.ensures.met c.look_together-mark.ensures.bounds c.split_first-first.ensures.first
+
+pub returns-clause-rest_bounds : goal.returns-clause-rest_bounds
+returns-clause-rest_bounds g c = bounds_are _ _ _ _ _ _ c.requires.idle.0 c.requires.idle.1
+    c.join.ensures.met c.look_together-mark.ensures.bounds c.split_first-first.ensures.rest
