@@ -5,11 +5,11 @@ use Rattle.std.specs.List.{slice_get, AllByRecursion}
 use Rattle.std.proofs.lemmas.List.{append_assoc, append-nil, length-append, reverse-append}
 use Rattle.std.proofs.lemmas.List.Elements.{filter-append}
 use Rattle.std.proofs.lemmas.Bool.{cond-false}
-use Rattle.ra_labels.specs.declared.operation.Op.{Op}
 use Rattle.ra_labels.specs.declared.label.Label.{Label}
 use Rattle.ra_labels.specs.declared.command.Command.{Command}
 use Rattle.ra_labels.specs.declared.command.Command.TheVariants.{Operate}
 use Rattle.ra_labels.specs.Records.{Records, label_count, labels_of}
+use Rattle.ra_labels.specs.Situation.{Next, next_of, operate}
 use Rattle.ra_monitor.specs.declared.setup.Setup.{Setup}
 use Rattle.ra_monitor.specs.Monitor.{MonitorEntry, records_of, IsLegalLog}
 use Rattle.ra_accepted.specs.Accepted.{is_no, tells_accepted, accepted_in}
@@ -88,10 +88,10 @@ operations_counted (c ∷ before) =
     ∙ append-nil (operations_in before)) ∙ operations_counted before
 
 -- the newest operation stands at its number
-pub newest_stands : (before : Records) (by : ℕ) (op : Op) (clock : Option ℕ) (more : List Command)
-    → slice_get (operations_in (Operate by op clock ∷ before) ++ more) (label_count before) ≡ Some (Operate by op clock)
-newest_stands before by op clock more =
-    let c = Operate by op clock in
+pub newest_stands : (before : Records) (last : Next) (more : List Command)
+    → slice_get (operations_in (operate last ∷ before) ++ more) (label_count before) ≡ Some (operate last)
+newest_stands before last more =
+    let c = operate last in
     ap (λ (cs : List Command). slice_get (cs ++ more) (label_count before)) (one_more c before)
     ∙ ap (λ (cs : List Command). slice_get cs (label_count before)) (append_assoc (operations_in before) (c ∷ []) more)
     ∙ ap (slice_get (operations_in before ++ c ∷ more)) (sym (operations_counted before))
@@ -104,7 +104,7 @@ labels_stand (Operate by op clock ∷ before) more count few =
     let c = Operate by op clock in
     let same : operations_in (c ∷ before) ++ more ≡ operations_in before ++ c ∷ more =
     ap (λ (cs : List Command). cs ++ more) (one_more c before) ∙ append_assoc (operations_in before) (c ∷ []) more in (
-      record { stands = (clock, newest_stands before by op clock more); below = omega (arith, few) },
+      record { stands = (clock, newest_stands before (next_of by op clock) more); below = omega (arith, few) },
       subst (λ (cs : List Command). AllByRecursion (IsAmong cs count) (labels_of before)) (sym same)
           (labels_stand before (c ∷ more) count (omega (arith, few))),
     )

@@ -5,7 +5,6 @@ use Rattle.std.specs.Option.{option_or}
 use Rattle.std.proofs.lemmas.Bool.{cond-false, ne_eqb, cases_Bool, or_parts}
 use Rattle.std.proofs.lemmas.List.{length-map}
 use Rattle.ra_labels.specs.declared.kind.Kind.{Kind}
-use Rattle.ra_labels.specs.declared.operation.Op.{Op}
 use Rattle.ra_labels.specs.declared.command.Command.{Command}
 use Rattle.ra_labels.specs.declared.command.Command.TheVariants.{Operate, Verdict}
 use Rattle.ra_labels.specs.declared.reply.Cause.{Cause}
@@ -14,6 +13,7 @@ use Rattle.ra_labels.specs.Records.{Records, label_count}
 use Rattle.ra_labels.specs.Visibility.{had, is_update}
 use Rattle.ra_labels.specs.Fault.{fault_of, fault_at, cause_of, records_before_fault}
 use Rattle.ra_labels.specs.Answer.{refusal_of, records_after, records_after_all, with_accepted}
+use Rattle.ra_labels.specs.Situation.{Next, next_of, operate}
 use Rattle.ra_laws.proofs.TheLaws.{records_before_fault_have_none-all}
 use Rattle.ra_seqspec.specs.declared.TheConstants.{FARTHEST_COUNT}
 use Rattle.ra_monitor.specs.Limits.{IsLimit}
@@ -56,16 +56,14 @@ after_all kind n records (c ∷ cs) sound =
     after_all kind n (records_after kind n records c) cs (after_one kind n records c sound)
 
 -- the records end with the fault's label
-pub record EndsAtFault (kind : Kind) (records : Records) (fault : Fault) (before : Records) (by : ℕ) (op : Op)
-    (clock : Option ℕ) : Type 0 where
-  pub records_are : records ≡ Operate by op clock ∷ before
+pub record EndsAtFault (kind : Kind) (records : Records) (fault : Fault) (before : Records) (last : Next) : Type 0 where
+  pub records_are : records ≡ operate last ∷ before
   pub label : fault.label ≡ label_count before
   pub sound : fault_of kind before ≡ None
   pub before_is : records_before_fault kind records ≡ before
 
 abbrev pub Ends : Kind → Records → Fault → Type 0
-Ends kind records fault =
-    (before : Records) × (by : ℕ) × (op : Op) × (clock : Option ℕ) × EndsAtFault kind records fault before by op clock
+Ends kind records fault = (before : Records) × (last : Next) × EndsAtFault kind records fault before last
 
 label_is : (n : ℕ) (why : Option Cause) (fault : Fault) → option_map (fault_at n) why ≡ Some fault → fault.label ≡ n
 label_is n None fault is = absurd (cc is)
@@ -80,9 +78,7 @@ ends kind (Operate by op clock ∷ before) fault sound is =
     let led : newest ≡ Some fault = sym (ap (λ (o : Option Fault). option_or o newest) sound) ∙ is in
     let fails : is_none (fault_of kind records) ≡ false = ap is_none is in (
       before,
-      by,
-      op,
-      clock,
+      next_of by op clock,
       record {
         records_are = refl;
         label = label_is (label_count before) (cause_of kind records) fault led;
@@ -111,11 +107,11 @@ had_before setup log replica n None is below =
     ap (λ (rs : Records). had rs replica n)
     (sym (records_before_fault_have_none-all setup.kind (records_of setup log) is))
 had_before setup log replica n (Some fault) is below =
-    let (before, by, op, clock, at) = log_ends setup log fault is in
+    let (before, last, at) = log_ends setup log fault is in
     let other : n ≡ label_count before → ⊥ = λ same.
     absurd (omega (arith, below, ap label_count at.before_is, same)) in
     ap (λ (rs : Records). had rs replica n) at.records_are
-    ∙ or_false (by == replica) (n == label_count before) (is_update op) (had before replica n)
+    ∙ or_false (last.by == replica) (n == label_count before) (is_update last.op) (had before replica n)
     (ne_eqb n (label_count before) other)
     ∙ ap (λ (rs : Records). had rs replica n) (sym at.before_is)
 
@@ -148,7 +144,7 @@ pub few_before : (setup : Setup) (log : List MonitorEntry) (o : Option Fault)
 few_before setup log None is =
     omega (arith, ap label_count (records_before_fault_have_none-all setup.kind (records_of setup log) is))
 few_before setup log (Some fault) is =
-    let (before, by, op, clock, at) = log_ends setup log fault is in
+    let (before, last, at) = log_ends setup log fault is in
     omega (arith, ap label_count at.before_is, ap label_count at.records_are)
 
 -- so there are few enough for a state

@@ -5,8 +5,6 @@ use Rattle.std.proofs.lemmas.Bool.{cond-true, cond-false}
 use Rattle.std.proofs.lemmas.List.{append_assoc}
 use Rattle.std.specs.Option.{option_map_or}
 use Rattle.ra_labels.specs.declared.command.Command.{Command}
-use Rattle.ra_labels.specs.declared.command.Command.TheVariants.{Operate}
-use Rattle.ra_labels.specs.declared.operation.Op.{Op}
 use Rattle.ra_labels.specs.declared.refusal.Refusal.{Refusal}
 use Rattle.ra_labels.specs.declared.reply.Fault.{Fault}
 use Rattle.ra_labels.specs.declared.reply.Reply.{Reply}
@@ -14,6 +12,7 @@ use Rattle.ra_labels.specs.declared.reply.Reply.TheVariants as reply
 use Rattle.ra_labels.specs.Records.{Records, label_count}
 use Rattle.ra_labels.specs.Fault.{fault_of}
 use Rattle.ra_labels.specs.Answer.{answer_of, records_after_all, refusal_of, no_at}
+use Rattle.ra_labels.specs.Situation.{Next, operate}
 use Rattle.ra_monitor.specs.declared.setup.Setup.{Setup}
 use Rattle.ra_monitor.specs.declared.trial.Trial.{Trial}
 use Rattle.ra_monitor.specs.Monitor.{MonitorEntry}
@@ -95,10 +94,10 @@ ok_only None (Some fault) None n is = absurd (cc is)
 ok_only None newest (Some why) n is = absurd (cc is)
 ok_only (Some fault) newest why n is = absurd (cc is)
 
-pub ok_holds : (setup : Setup) (records : Records) (by : ℕ) (op : Op) (clock : Option ℕ)
-    → is_ok (answer_of setup.kind setup.replicas records (Operate by op clock)) ≡ true
-    → (refusal_of setup.kind setup.replicas records (Operate by op clock) ≡ None)
-    × (fault_of setup.kind (Operate by op clock ∷ records) ≡ None)
-ok_holds setup records by op clock is =
-    ok_only (fault_of setup.kind records) (fault_of setup.kind (Operate by op clock ∷ records))
-    (refusal_of setup.kind setup.replicas records (Operate by op clock)) (label_count records) is
+pub ok_holds : (setup : Setup) (records : Records) (next : Next)
+    → is_ok (answer_of setup.kind setup.replicas records (operate next)) ≡ true
+    → (refusal_of setup.kind setup.replicas records (operate next) ≡ None)
+    × (fault_of setup.kind (operate next ∷ records) ≡ None)
+ok_holds setup records next is =
+    ok_only (fault_of setup.kind records) (fault_of setup.kind (operate next ∷ records))
+    (refusal_of setup.kind setup.replicas records (operate next)) (label_count records) is

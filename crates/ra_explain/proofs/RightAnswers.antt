@@ -2,12 +2,12 @@
 use Rattle.std.proofs.Common.{◌≡◌, List, ◌∷◌, Option, Some, None, sym, ap, ◌∙◌}
 use Rattle.std.specs.Prelude.{option_and_then}
 use Rattle.std.proofs.lemmas.Bool.{cond-true}
-use Rattle.ra_labels.specs.declared.command.Command.TheVariants.{Operate}
 use Rattle.ra_labels.specs.declared.reply.Cause.TheVariants.{Query}
 use Rattle.ra_labels.specs.declared.reply.Fault.{Fault}
 use Rattle.ra_labels.specs.Records.{Records}
 use Rattle.ra_labels.specs.Specification.{State, state_after}
 use Rattle.ra_labels.specs.Insertion.{updates_had}
+use Rattle.ra_labels.specs.Situation.{operate}
 use Rattle.ra_monitor.specs.declared.setup.Setup.{Setup}
 use Rattle.ra_monitor.specs.Monitor.{MonitorEntry, records_of, fault_in, IsLegalLog}
 use Rattle.ra_explain.specs.Places.{places_in, command_at}
@@ -19,12 +19,12 @@ pub told_at_fault : (setup : Setup) (log : List MonitorEntry) (fault : Fault) �
     → fault_in setup log ≡ Some fault → fault.cause ≡ Query
     → option_and_then (right_by setup log) (command_at log (places_in log) fault.label) ≡ right_answer_in setup log
 told_at_fault setup log fault legal is by_query =
-    let (before, by, operation, clock, at) = log_ends setup log fault is in
-    let newest = right_at setup.kind (Operate by operation clock ∷ before) in
+    let (before, last, at) = log_ends setup log fault is in
+    let newest = right_at setup.kind (operate last ∷ before) in
     ap (option_and_then (right_by setup log))
-    (the_label_at_the_fault_is_found setup log fault before by operation clock legal is at.records_are)
-    ∙ ap (λ (records : Records). option_and_then (λ (state : State). right_in state operation)
-    (state_after setup.kind (updates_had setup.kind records by))) at.before_is
+    (the_label_at_the_fault_is_found setup log fault before last legal is at.records_are)
+    ∙ ap (λ (records : Records). option_and_then (λ (state : State). right_in state last.op)
+    (state_after setup.kind (updates_had setup.kind records last.by))) at.before_is
     ∙ sym (ap (λ (o : Option Fault). right_where setup.kind (records_of setup log) o) is
     ∙ ap (λ (records : Records). right_where setup.kind records (Some fault)) at.records_are
     ∙ cond-true (is_query fault.cause) newest None (ap is_query by_query))

@@ -1,14 +1,13 @@
 -- The laws of a log with a fault, under the names of the functions whose clauses they are. The crates above cite these,
 -- and no other file of this folder.
-use Rattle.std.proofs.Common.{◌≡◌, ℕ, List, ◌∷◌, [], Option, Some, None, sym, ap, ◌∙◌}
+use Rattle.std.proofs.Common.{◌≡◌, List, ◌∷◌, [], Some, None, sym, ap, ◌∙◌}
 use Rattle.std.specs.List.{slice_get}
 use Rattle.std.proofs.lemmas.List.{append-nil}
-use Rattle.ra_labels.specs.declared.operation.Op.{Op}
 use Rattle.ra_labels.specs.declared.command.Command.{Command}
-use Rattle.ra_labels.specs.declared.command.Command.TheVariants.{Operate}
 use Rattle.ra_labels.specs.declared.reply.Fault.{Fault}
 use Rattle.ra_labels.specs.Records.{Records, label_count}
 use Rattle.ra_labels.specs.Fault.{fault_of}
+use Rattle.ra_labels.specs.Situation.{Next, operate}
 use Rattle.ra_monitor.specs.declared.setup.Setup.{Setup}
 use Rattle.ra_monitor.specs.Monitor.{MonitorEntry, records_of, fault_in, IsLegalLog}
 use Rattle.ra_explain.specs.Places.{places_in, command_at}
@@ -16,25 +15,24 @@ use Rattle.ra_explain.proofs.Commands.{operations_in, command_found, newest_stan
 use Rattle.ra_explain.proofs.Faults.{log_ends}
 
 pub the_records_end_at_the_fault : (setup : Setup) (log : List MonitorEntry) (fault : Fault)
-    → fault_in setup log ≡ Some fault → (before : Records) × (by : ℕ) × (operation : Op) × (clock : Option ℕ)
-    × (records_of setup log ≡ Operate by operation clock ∷ before) × (fault.label ≡ label_count before)
+    → fault_in setup log ≡ Some fault → (before : Records) × (last : Next)
+    × (records_of setup log ≡ operate last ∷ before) × (fault.label ≡ label_count before)
     × (fault_of setup.kind before ≡ None)
 the_records_end_at_the_fault setup log fault is =
-    let (before, by, operation, clock, at) = log_ends setup log fault is in
-    (before, by, operation, clock, at.records_are, at.label, at.sound)
+    let (before, last, at) = log_ends setup log fault is in (before, last, at.records_are, at.label, at.sound)
 
 pub the_label_at_the_fault_is_found : (setup : Setup) (log : List MonitorEntry) (fault : Fault) (before : Records)
-    (by : ℕ) (operation : Op) (clock : Option ℕ) → IsLegalLog setup log → fault_in setup log ≡ Some fault
-    → records_of setup log ≡ Operate by operation clock ∷ before
-    → command_at log (places_in log) fault.label ≡ Some (Operate by operation clock)
-the_label_at_the_fault_is_found setup log fault before by operation clock legal is are =
-    let (older, replica, op, stamp, at) = log_ends setup log fault is in
-    let both : Operate replica op stamp ∷ older ≡ Operate by operation clock ∷ before = sym at.records_are ∙ are in
+    (last : Next) → IsLegalLog setup log → fault_in setup log ≡ Some fault
+    → records_of setup log ≡ operate last ∷ before
+    → command_at log (places_in log) fault.label ≡ Some (operate last)
+the_label_at_the_fault_is_found setup log fault before last legal is are =
+    let (older, newest, at) = log_ends setup log fault is in
+    let both : operate newest ∷ older ≡ operate last ∷ before = sym at.records_are ∙ are in
     let behind : older ≡ before = cc both in
     let same : fault.label ≡ label_count before = at.label ∙ ap label_count behind in
     command_found setup log legal fault.label
     ∙ ap (λ (rs : Records). slice_get (operations_in rs) fault.label) are
-    ∙ ap (slice_get (operations_in (Operate by operation clock ∷ before))) same
+    ∙ ap (slice_get (operations_in (operate last ∷ before))) same
     ∙ ap (λ (cs : List Command). slice_get cs (label_count before))
-    (sym (append-nil (operations_in (Operate by operation clock ∷ before))))
-    ∙ newest_stands before by operation clock []
+    (sym (append-nil (operations_in (operate last ∷ before))))
+    ∙ newest_stands before last []

@@ -1,9 +1,7 @@
 //! Laws of a log with a fault, each the clause of a function that does nothing.
 ghost use Rattle.std.specs.Prelude.{◌≡◌, ℕ, ℤ, Bool, true, not, ◌&&◌, List, ◌∷◌, Option, Some, None};
 ghost use Rattle.ra_labels.specs.declared.kind.Kind.{Kind};
-ghost use Rattle.ra_labels.specs.declared.operation.Op.{Op};
 ghost use Rattle.ra_labels.specs.declared.operation.Op.TheVariants as op;
-ghost use Rattle.ra_labels.specs.declared.command.Command.TheVariants.{Operate};
 ghost use Rattle.ra_labels.specs.declared.reply.Fault.{Fault};
 ghost use Rattle.ra_labels.specs.Lists.{is_among, identifiers_of, shown};
 ghost use Rattle.ra_labels.specs.Records.{Records, label_count};
@@ -18,6 +16,7 @@ ghost use Rattle.ra_monitor.specs.Monitor.{MonitorEntry, records_of, fault_in, I
 ghost use Rattle.ra_explain.specs.Places.{places_in, command_at};
 ghost use Rattle.ra_explain.specs.Right.{right_in};
 ghost use Rattle.ra_labels.specs.Answer.{refusal_of};
+ghost use Rattle.ra_labels.specs.Situation.{Next, operate};
 ghost use Rattle.ra_explain.specs.declared.changes.Change.{Change};
 ghost use Rattle.ra_explain.specs.Changes.{command_holds_with, records_with};
 
@@ -25,17 +24,15 @@ ghost use Rattle.ra_explain.specs.Changes.{command_holds_with, records_with};
 /// accepted.
 pub fn the_records_end_at_the_fault()
     ensures { (setup : Setup) (log : List MonitorEntry) (fault : Fault) → fault_in setup log ≡ Some fault
-        → (before : Records) × (by : ℕ) × (operation : Op) × (clock : Option ℕ)
-        × (records_of setup log ≡ Operate by operation clock ∷ before) × (fault.label ≡ label_count before)
-        × (fault_of setup.kind before ≡ None) }
+        → (before : Records) × (last : Next) × (records_of setup log ≡ operate last ∷ before)
+        × (fault.label ≡ label_count before) × (fault_of setup.kind before ≡ None) }
 {}
 
 /// The command of the fault's label stands at its place in the log.
 pub fn the_label_at_the_fault_is_found()
-    ensures { (setup : Setup) (log : List MonitorEntry) (fault : Fault) (before : Records) (by : ℕ) (operation : Op)
-        (clock : Option ℕ) → IsLegalLog setup log → fault_in setup log ≡ Some fault
-        → records_of setup log ≡ Operate by operation clock ∷ before
-        → command_at log (places_in log) fault.label ≡ Some (Operate by operation clock) }
+    ensures { (setup : Setup) (log : List MonitorEntry) (fault : Fault) (before : Records) (last : Next)
+        → IsLegalLog setup log → fault_in setup log ≡ Some fault → records_of setup log ≡ operate last ∷ before
+        → command_at log (places_in log) fault.label ≡ Some (operate last) }
 {}
 
 /// What had to be returned in a state: a counter's number, the value that was written last, the elements of a set, the
@@ -54,11 +51,11 @@ pub fn what_had_to_be_returned()
 
 /// With a change that helps the label is accepted, and the records hold at it: none of them up to it is a fault.
 pub fn a_change_that_helps_makes_the_label_hold()
-    ensures { (setup : Setup) (before : List MonitorEntry) (change : Change) (by : ℕ) (operation : Op)
-        (clock : Option ℕ) → command_holds_with setup before change (Operate by operation clock) ≡ true
-        → let records = records_with setup change by before in
-        (refusal_of setup.kind setup.replicas records (Operate by operation clock) ≡ None)
-        × (fault_of setup.kind (Operate by operation clock ∷ records) ≡ None) }
+    ensures { (setup : Setup) (before : List MonitorEntry) (change : Change) (next : Next)
+        → command_holds_with setup before change (operate next) ≡ true
+        → let records = records_with setup change next.by before in
+        (refusal_of setup.kind setup.replicas records (operate next) ≡ None)
+        × (fault_of setup.kind (operate next ∷ records) ≡ None) }
 {}
 
 /// What reached a replica last matters to it alone. Without some of that, as far back as no label of its own and no

@@ -1,5 +1,5 @@
 -- Where labels stand in the named order, and one more label in the list of all labels of an RGA.
-use Rattle.std.proofs.Common.{◌≡◌, ℕ, Bool, true, false, List, [], ◌∷◌, ◌++◌, Option, Some, refl, sym, ap, ◌∙◌, subst, inl, inr, arith, Ordering, append_assoc}
+use Rattle.std.proofs.Common.{◌≡◌, ℕ, Bool, true, false, List, [], ◌∷◌, ◌++◌, Some, refl, sym, ap, ◌∙◌, subst, inl, inr, arith, Ordering, append_assoc}
 use Rattle.std.specs.Prelude.{◌↔◌, ◌⊎◌, not, Contains, IsSorted, flat_map}
 use Rattle.std.specs.List.{IsDistinct, list_all}
 use Rattle.std.specs.Ordering.{is_lt, nat_cmp, ordering_reverse, ordering_then}
@@ -9,13 +9,11 @@ use Rattle.std.proofs.lemmas.Bool.{true≢false, cases_Bool, not_from_false}
 use Rattle.std.proofs.lemmas.List.Elements.{Contains-append_left, Contains-append_right, Contains-append_cases}
 use Rattle.ra_labels.specs.declared.kind.Kind.{Kind}
 use Rattle.ra_labels.specs.declared.kind.Kind.TheVariants.{Counter, Register, LwwSet, OrSet, Rga}
-use Rattle.ra_labels.specs.declared.operation.Op.{Op}
 use Rattle.ra_labels.specs.declared.operation.Update.{Update}
 use Rattle.ra_labels.specs.declared.operation.Update.TheVariants.{After, RgaRemove}
 use Rattle.ra_labels.specs.declared.label.Stamp.{Stamp}
 use Rattle.ra_labels.specs.declared.label.Label.{Label}
-use Rattle.ra_labels.specs.declared.command.Command.TheVariants.{Operate}
-use Rattle.ra_labels.specs.Records.{Records, labels_of, next_label}
+use Rattle.ra_labels.specs.Records.{Records, labels_of}
 use Rattle.ra_labels.specs.Visibility.{is_update}
 use Rattle.ra_labels.specs.Rewriting.{parts_of, updates_of}
 use Rattle.ra_labels.specs.Lists.{hide}
@@ -24,6 +22,7 @@ use Rattle.ra_labels.specs.NamedOrder.{stamp_cmp, timestamp_of, rank_of, label_c
 use Rattle.ra_labels.specs.Insertion.{updates_among, Makes}
 use Rattle.ra_labels.specs.Late.{put_after}
 use Rattle.ra_labels.specs.Waiting.{is_there, OnePutsIn}
+use Rattle.ra_labels.specs.Situation.{Next, operate, label_of}
 use Rattle.ra_labels.proofs.InLists.{list_all-from_contains}
 use Rattle.ra_labels.proofs.Members.{head_or_behind, at_head, behind_head, split_at, reached}
 use Rattle.ra_labels.proofs.StampOrder.{stamp_same, is_less}
@@ -176,18 +175,18 @@ there-all labels x = (
 )
 
 -- one more operation puts its update among those of all
-pub all-with : (kind : Kind) (records : Records) (by : ℕ) (operation : Op) (clock : Option ℕ) (u : Update)
-    → Makes operation u → let now = Operate by operation clock ∷ records in
-    let label = next_label records by operation clock in
+pub all-with : (kind : Kind) (records : Records) (next : Next) (u : Update)
+    → Makes next.op u → let now = operate next ∷ records in
+    let label = label_of records next in
     (before behind : List Label) × (named_labels kind records ≡ before ++ behind)
     × (named_labels kind now ≡ before ++ label ∷ behind)
     × (updates_of (named_sequence kind records) ≡ updates_of (flat_map parts_of before)
     ++ updates_of (flat_map parts_of behind))
     × (updates_of (named_sequence kind now) ≡ updates_of (flat_map parts_of before)
     ++ u ∷ updates_of (flat_map parts_of behind))
-all-with kind records by operation clock u makes =
-    let label = next_label records by operation clock in
-    let (before, behind, was, is) = order-inserted kind records by operation clock in
+all-with kind records next u makes =
+    let label = label_of records next in
+    let (before, behind, was, is) = order-inserted kind records next in
     let first = each_passes before in
     let later = each_passes behind in (
       before,
@@ -196,32 +195,32 @@ all-with kind records by operation clock u makes =
       is,
       sym (each_passes (named_labels kind records)) ∙ ap (updates_among each) was ∙ among-append each before behind
           ∙ (λ i. first i ++ later i),
-      sym (each_passes (named_labels kind (Operate by operation clock ∷ records))) ∙ ap (updates_among each) is
+      sym (each_passes (named_labels kind (operate next ∷ records))) ∙ ap (updates_among each) is
           ∙ among-append each before (label ∷ behind)
           ∙ (λ i. first i
           ++ (among-append each (label ∷ []) behind ∙ (λ j. among-one each label u makes refl j ++ later j)) i),
     )
 
 -- a new element goes past those of labels that stand behind its own
-pub insertion-all : (records : Records) (by : ℕ) (operation : Op) (clock : Option ℕ) (anchor x : ℕ)
-    (all next : List (ℕ × Bool)) (below : ℕ → ℕ → Bool) → Makes operation (After anchor x)
+pub insertion-all : (records : Records) (next : Next) (anchor x : ℕ)
+    (all all_now : List (ℕ × Bool)) (below : ℕ → ℕ → Bool) → Makes next.op (After anchor x)
     → state_after Rga (updates_of (named_sequence Rga records)) ≡ Some (Listed all)
-    → state_after Rga (updates_of (named_sequence Rga (Operate by operation clock ∷ records))) ≡ Some (Listed next)
+    → state_after Rga (updates_of (named_sequence Rga (operate next ∷ records))) ≡ Some (Listed all_now)
     → below x 0 ≡ false
     → ((other : Label) (behind y : ℕ) → Contains (labels_of records) other → Makes other.op (After behind y)
     → below x y ≡ is_lt
-    (label_cmp Rga (Operate by operation clock ∷ records) (next_label records by operation clock) other))
-    → next ≡ put_after below anchor x all
-insertion-all records by operation clock anchor x all next below makes led led_now root stamps =
-    let now : Records = Operate by operation clock ∷ records in
-    let label = next_label records by operation clock in
+    (label_cmp Rga (operate next ∷ records) (label_of records next) other))
+    → all_now ≡ put_after below anchor x all
+insertion-all records next anchor x all all_now below makes led led_now root stamps =
+    let now : Records = operate next ∷ records in
+    let label = label_of records next in
     let (before, behind, was_named, is_named, was, is) =
-    all-with Rga records by operation clock (After anchor x) makes in
+    all-with Rga records next (After anchor x) makes in
     let first = updates_of (flat_map parts_of before) in
     let later = updates_of (flat_map parts_of behind) in
     let led_was = ap (state_after Rga) (sym was) ∙ led in
     let (older, led_first, anchor_in, out) =
-    inserted_fits first later anchor x all next led_was (ap (state_after Rga) (sym is) ∙ led_now) in
+    inserted_fits first later anchor x all all_now led_was (ap (state_after Rga) (sym is) ∙ led_now) in
     let in_records : (l : Label) → Contains (before ++ behind) l → Contains (labels_of records) l =
     λ l found. in-labels Rga records l (subst (λ ls. Contains ls l) (sym was_named) found) in
     let not_early : (l : Label) → Contains before l → is_lt (label_cmp Rga now label l) ≡ false = λ l found.
@@ -243,26 +242,26 @@ insertion-all records by operation clock anchor x all next below makes led led_n
     among-from each behind (After a y) (subst (λ us. Contains us (After a y)) (sym (each_passes behind)) found) in
     stamps m a y (in_records m (Contains-append_right before behind m m_there)) m_makes
     ∙ ap is_lt (below_behind Rga now before behind label m is_named m_there) in
-    let both : Some (Listed next) ≡ Some (Listed (put_after below anchor x all)) =
+    let both : Some (Listed all_now) ≡ Some (Listed (put_after below anchor x all)) =
     sym led_now ∙ ap (state_after Rga) is
     ∙ late-insertion below first later anchor x older all led_first led_was anchor_in out none lower in
     cc (both)
 
 -- a removal leaves each its place
-pub removal-all : (records : Records) (by : ℕ) (operation : Op) (clock : Option ℕ) (x : ℕ) (all next : List (ℕ × Bool))
-    → Makes operation (RgaRemove x)
+pub removal-all : (records : Records) (next : Next) (x : ℕ) (all all_now : List (ℕ × Bool))
+    → Makes next.op (RgaRemove x)
     → state_after Rga (updates_of (named_sequence Rga records)) ≡ Some (Listed all)
-    → state_after Rga (updates_of (named_sequence Rga (Operate by operation clock ∷ records))) ≡ Some (Listed next)
-    → next ≡ hide x all
-removal-all records by operation clock x all next makes led led_now =
-    let (before, behind, was_named, is_named, was, is) = all-with Rga records by operation clock (RgaRemove x) makes in
+    → state_after Rga (updates_of (named_sequence Rga (operate next ∷ records))) ≡ Some (Listed all_now)
+    → all_now ≡ hide x all
+removal-all records next x all all_now makes led led_now =
+    let (before, behind, was_named, is_named, was, is) = all-with Rga records next (RgaRemove x) makes in
     let first = updates_of (flat_map parts_of before) in
     let later = updates_of (flat_map parts_of behind) in
     let (older, led_first, goes) =
-    split-led first (RgaRemove x ∷ later) next (ap (state_after Rga) (sym is) ∙ led_now) in
-    let (mid, step, rest) = one_step older (RgaRemove x) later next goes in
+    split-led first (RgaRemove x ∷ later) all_now (ap (state_after Rga) (sym is) ∙ led_now) in
+    let (mid, step, rest) = one_step older (RgaRemove x) later all_now goes in
     let (x_in, other, same) = removed_is older mid x step in
-    let both : Some (Listed next) ≡ Some (Listed (hide x all)) =
+    let both : Some (Listed all_now) ≡ Some (Listed (hide x all)) =
     sym led_now ∙ ap (state_after Rga) is
     ∙ late-removal first later x older all led_first (ap (state_after Rga) (sym was) ∙ led) x_in other in
     cc (both)
@@ -272,20 +271,20 @@ no_update : (us : List Update) → ((u : Update) → ¬ Contains us u) → us �
 no_update [] none = refl
 no_update (u ∷ us) none = absurd (none u (at_head u us u refl))
 
-pub all-without : (kind : Kind) (records : Records) (by : ℕ) (operation : Op) (clock : Option ℕ)
-    → is_update operation ≡ false → updates_of (named_sequence kind (Operate by operation clock ∷ records))
+pub all-without : (kind : Kind) (records : Records) (next : Next)
+    → is_update next.op ≡ false → updates_of (named_sequence kind (operate next ∷ records))
     ≡ updates_of (named_sequence kind records)
-all-without kind records by operation clock query =
-    let label = next_label records by operation clock in
-    let (before, behind, was, is) = order-inserted kind records by operation clock in
+all-without kind records next query =
+    let label = label_of records next in
+    let (before, behind, was, is) = order-inserted kind records next in
     let none : updates_among each (label ∷ []) ≡ [] = no_update (updates_among each (label ∷ [])) (λ u found.
     let (m, m_there, it, makes) = among-from each (label ∷ []) u found in
     elim (head_or_behind label [] m m_there) [
       | inl here ↦
-          true≢false (sym (makes_update operation u (subst (λ (l : Label). Makes l.op u) (sym here) makes)) ∙ query)
+          true≢false (sym (makes_update next.op u (subst (λ (l : Label). Makes l.op u) (sym here) makes)) ∙ query)
       | inr nothing ↦ omega (arith, nothing.1)
     ]) in
-    sym (each_passes (named_labels kind (Operate by operation clock ∷ records))) ∙ ap (updates_among each) is
+    sym (each_passes (named_labels kind (operate next ∷ records))) ∙ ap (updates_among each) is
     ∙ among-append each before (label ∷ behind)
     ∙ ap (λ us. updates_among each before ++ us)
     (among-append each (label ∷ []) behind ∙ ap (λ us. us ++ updates_among each behind) none)

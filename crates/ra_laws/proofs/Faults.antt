@@ -7,7 +7,6 @@ use Rattle.std.proofs.lemmas.Option.{none-some, same_Some}
 use Rattle.std.proofs.lemmas.Bool.{cases_eq, cases_order, eq-eqb, ne_eqb, cond-true, cond-false, cond_both, false≢true}
 use Rattle.ra_labels.specs.declared.kind.Kind.{Kind}
 use Rattle.ra_labels.specs.declared.kind.Kind.TheVariants.{Counter}
-use Rattle.ra_labels.specs.declared.operation.Op.{Op}
 use Rattle.ra_labels.specs.declared.command.Command.TheVariants.{Operate, Deliver, Join, Verdict}
 use Rattle.ra_labels.specs.declared.reply.Cause.{Cause}
 use Rattle.ra_labels.specs.declared.reply.Cause.TheVariants.{Order, Update, Query}
@@ -18,6 +17,7 @@ use Rattle.ra_labels.specs.Linearization.{parts_in, extends_visibility, updates_
 use Rattle.ra_labels.specs.NamedOrder.{label_cmp, named_sequence}
 use Rattle.ra_labels.specs.Fault.{Holds, cause_of, fault_of, fault_at, records_before_fault}
 use Rattle.ra_labels.specs.Laws.{IsLeastFault}
+use Rattle.ra_labels.specs.Situation.{Next, next_of, operate}
 use Rattle.ra_laws.proofs.SortedLists.{flat_map-sort_by}
 
 -- the named sequence has each part once and nothing else
@@ -168,13 +168,13 @@ fault_stays kind (Operate by op clock ∷ later) records fault is =
 fault_stays kind (_ ∷ later) records fault is = fault_stays kind later records fault is
 
 -- the records up to the newest label are all of them
-records_to-newest : (by : ℕ) (op : Op) (clock : Option ℕ) (before : Records) (n : ℕ) → n ≡ label_count before
-    → records_to (Operate by op clock ∷ before) n ≡ Operate by op clock ∷ before
-records_to-newest by op clock before n is = cond-true (eqb n (label_count before)) _ _ (eq-eqb _ _ is)
+records_to-newest : (next : Next) (before : Records) (n : ℕ) → n ≡ label_count before
+    → records_to (operate next ∷ before) n ≡ operate next ∷ before
+records_to-newest next before n is = cond-true (eqb n (label_count before)) _ _ (eq-eqb _ _ is)
 
-records_to-older : (by : ℕ) (op : Op) (clock : Option ℕ) (before : Records) (n : ℕ) → n < label_count before
-    → records_to (Operate by op clock ∷ before) n ≡ records_to before n
-records_to-older by op clock before n below =
+records_to-older : (next : Next) (before : Records) (n : ℕ) → n < label_count before
+    → records_to (operate next ∷ before) n ≡ records_to before n
+records_to-older next before n below =
     let other : n ≡ label_count before → ⊥ = λ is. absurd (omega arith) in
     cond-false (eqb n (label_count before)) _ _ (ne_eqb _ _ other)
 
@@ -183,11 +183,11 @@ pub each_label_holds : (kind : Kind) (records : Records) → fault_of kind recor
     → n < label_count records → Holds kind (records_to records n)
 each_label_holds kind [] none n below = absurd (omega arith)
 each_label_holds kind (Operate by op clock ∷ before) none n below = elim (cases_eq n (label_count before)) [
-  | inl is ↦ rw (records_to-newest by op clock before n is)
+  | inl is ↦ rw (records_to-newest (next_of by op clock) before n is)
       (holds_from_no_fault kind (Operate by op clock ∷ before) none)
   | inr other ↦
       let older : n < label_count before = omega arith in
-      rw (records_to-older by op clock before n older)
+      rw (records_to-older (next_of by op clock) before n older)
       (each_label_holds kind before (neither (fault_of kind before) _ none).0 n older)
 ]
 each_label_holds kind (_ ∷ before) none n below = each_label_holds kind before none n below
@@ -198,9 +198,9 @@ pub no_fault_from_labels : (kind : Kind) (records : Records)
 no_fault_from_labels kind [] holds = refl
 no_fault_from_labels kind (Operate by op clock ∷ before) holds =
     let older = no_fault_from_labels kind before
-    (λ n below. subst (Holds kind) (records_to-older by op clock before n below) (holds n (omega arith))) in
+    (λ n below. subst (Holds kind) (records_to-older (next_of by op clock) before n below) (holds n (omega arith))) in
     let newest : Holds kind (Operate by op clock ∷ before) = subst (Holds kind)
-    (records_to-newest by op clock before (label_count before) refl) (holds (label_count before) (omega arith)) in
+    (records_to-newest (next_of by op clock) before (label_count before) refl) (holds (label_count before) (omega arith)) in
     rw (older, no_cause_from_holds kind (Operate by op clock ∷ before) newest)
 no_fault_from_labels kind (_ ∷ before) holds = no_fault_from_labels kind before holds
 
@@ -215,8 +215,8 @@ fault_is_least kind (Operate by op clock ∷ before) fault is =
           let known = fault_is_least kind before fault older in
           record {
             there = omega (arith, known.there);
-            fails = rw (records_to-older by op clock before fault.label known.there) known.fails;
-            holds_before = λ n below. rw (records_to-older by op clock before n (omega (arith, known.there)))
+            fails = rw (records_to-older (next_of by op clock) before fault.label known.there) known.fails;
+            holds_before = λ n below. rw (records_to-older (next_of by op clock) before n (omega (arith, known.there)))
                 (known.holds_before n below);
           }
       | inr newest ↦
@@ -224,10 +224,10 @@ fault_is_least kind (Operate by op clock ∷ before) fault is =
           let why : newest.1 ≡ fault.cause = ap (λ (f : Fault). f.cause) newest.3 in
           record {
             there = omega arith;
-            fails = rw (records_to-newest by op clock before fault.label (sym here), ← why) newest.2;
+            fails = rw (records_to-newest (next_of by op clock) before fault.label (sym here), ← why) newest.2;
             holds_before = λ n below.
                 let older : n < label_count before = omega arith in
-                rw (records_to-older by op clock before n older) (each_label_holds kind before newest.0 n older);
+                rw (records_to-older (next_of by op clock) before n older) (each_label_holds kind before newest.0 n older);
           }
     ]
 fault_is_least kind (_ ∷ before) fault is =

@@ -1,16 +1,16 @@
 -- In causal records, what a replica had of another's updates, and what a label sees of them, are the first ones.
-use Rattle.std.proofs.Common.{◌≡◌, ℕ, ◌+◌, ◌≤◌, Bool, true, false, eqb, [], ◌∷◌, Option, refl, sym, ap, ◌∙◌, subst, inl, inr, arith}
+use Rattle.std.proofs.Common.{◌≡◌, ℕ, ◌+◌, ◌≤◌, Bool, true, false, eqb, [], ◌∷◌, refl, sym, ap, ◌∙◌, subst, inl, inr, arith}
 use Rattle.std.specs.Prelude.{◌⊎◌, ◌==◌, ◌&&◌, ◌||◌, nat_lt}
 use Rattle.std.proofs.lemmas.Bool.{false≢true, cases_lt, cases_eq, cases_Bool, lt-ltb, le-ltb, ltb-true, ltb-false}
 use Rattle.std.proofs.Math.Bool.{or_comm}
 use Rattle.std.proofs.lemmas.Bool.{eq-eqb, ne_eqb, eqb-true, cond-true, cond-false, or_left, and_parts, and_from}
 use Rattle.std.proofs.lemmas.Bool.{false_from_ne_true}
-use Rattle.ra_labels.specs.declared.operation.Op.{Op}
 use Rattle.ra_labels.specs.declared.command.Command.TheVariants.{Operate, Deliver, Join, Verdict}
 use Rattle.ra_labels.specs.Records.{Records, label_count}
 use Rattle.ra_labels.specs.Visibility.{is_update, is_update_at, had, sees, IsCausal}
 use Rattle.ra_labels.specs.Places.{issuer_of, updates_issued, place_of}
 use Rattle.ra_labels.specs.Laws.{IsUpdateOf, AreFirstUpdates}
+use Rattle.ra_labels.specs.Situation.{Next, next_of, operate}
 use Rattle.ra_laws.proofs.SeenLabels.{is_update_at-below, had_update, sees_earlier}
 use Rattle.ra_laws.proofs.Updates.{newest_or_older, updates-more, place-older, place-here, place-below, place-only, place-there, had-own, sees-own}
 
@@ -25,17 +25,17 @@ same_first : (records : Records) (replica count : ℕ) (test other : ℕ → Boo
 same_first records replica count test other same first = (first.0, λ n is. same n is ∙ first.1 n is)
 
 -- one operation later, which does not pass
-later_first : (before : Records) (by : ℕ) (op : Op) (clock : Option ℕ) (replica count : ℕ) (test : ℕ → Bool)
+later_first : (before : Records) (next : Next) (replica count : ℕ) (test : ℕ → Bool)
     → test (label_count before) ≡ false → AreFirstUpdates before replica count test
-    → AreFirstUpdates (Operate by op clock ∷ before) replica count test
-later_first before by op clock replica count test fails first = (
-  omega (arith, first.0, updates-more before by replica op clock),
-  (λ n is. elim (newest_or_older before by op clock replica n is) [
+    → AreFirstUpdates (operate next ∷ before) replica count test
+later_first before next replica count test fails first = (
+  omega (arith, first.0, updates-more before next.by replica next.op next.clock),
+  (λ n is. elim (newest_or_older before next replica n is) [
     | inl new ↦
         ap test new.0 ∙ fails
-        ∙ sym (le-ltb (place_of (Operate by op clock ∷ before) n) count
-        (omega (arith, first.0, place-here before by op clock replica n new)))
-    | inr old ↦ first.1 n old.1 ∙ ap (λ at. nat_lt at count) (sym (place-older before by op clock n old.0))
+        ∙ sym (le-ltb (place_of (operate next ∷ before) n) count
+        (omega (arith, first.0, place-here before next replica n new)))
+    | inr old ↦ first.1 n old.1 ∙ ap (λ at. nat_lt at count) (sym (place-older before next n old.0))
   ]),
 )
 
@@ -66,15 +66,15 @@ or_not true y never = absurd (never refl)
 or_not false y never = refl
 
 -- an operation brings another replica none of the updates
-had-operation : (before : Records) (by : ℕ) (op : Op) (clock : Option ℕ) (replica of n : ℕ) → (replica ≡ of → ⊥)
-    → IsUpdateOf (Operate by op clock ∷ before) of n
-    → had (Operate by op clock ∷ before) replica n ≡ had before replica n
-had-operation before by op clock replica of n other is =
-    or_not (by == replica && n == label_count before && is_update op) (had before replica n) (λ own.
-    let place = and_parts (by == replica) (n == label_count before)
-    (and_parts (by == replica && n == label_count before) (is_update op) own).0 in
-    elim (newest_or_older before by op clock of n is) [
-      | inl new ↦ other (sym (eqb-true by replica place.0) ∙ new.2)
+had-operation : (before : Records) (next : Next) (replica of n : ℕ) → (replica ≡ of → ⊥)
+    → IsUpdateOf (operate next ∷ before) of n
+    → had (operate next ∷ before) replica n ≡ had before replica n
+had-operation before next replica of n other is =
+    or_not (next.by == replica && n == label_count before && is_update next.op) (had before replica n) (λ own.
+    let place = and_parts (next.by == replica) (n == label_count before)
+    (and_parts (next.by == replica && n == label_count before) (is_update next.op) own).0 in
+    elim (newest_or_older before next of n is) [
+      | inl new ↦ other (sym (eqb-true next.by replica place.0) ∙ new.2)
       | inr old ↦ absurd (omega (arith, old.0, eqb-true n (label_count before) place.1))
     ])
 
@@ -205,8 +205,8 @@ others_first (Operate by op clock ∷ before) causal replica of other =
       rest.0,
       same_first (Operate by op clock ∷ before) of rest.0 (had before replica)
           (had (Operate by op clock ∷ before) replica)
-          (λ n is. had-operation before by op clock replica of n other is)
-          (later_first before by op clock of rest.0 (had before replica) (had-next before replica) rest.1),
+          (λ n is. had-operation before (next_of by op clock) replica of n other is)
+          (later_first before (next_of by op clock) of rest.0 (had before replica) (had-next before replica) rest.1),
     )
 others_first (Deliver to label ∷ before) causal replica of other =
     let rest = others_first before causal.2 replica of other in
@@ -257,14 +257,14 @@ sees-first (Operate by op clock ∷ before) causal n of = elim (cases_Bool (eqb 
         rest.0,
         same_first (Operate by op clock ∷ before) of rest.0 (had before by) (sees (Operate by op clock ∷ before) n)
             (λ m is. cond-true (eqb n (label_count before)) (had before by m) (sees before n m) newest)
-            (later_first before by op clock of rest.0 (had before by) (had-next before by) rest.1),
+            (later_first before (next_of by op clock) of rest.0 (had before by) (had-next before by) rest.1),
       )
   | inr older ↦
       let rest = sees-first before causal n of in (
         rest.0,
         same_first (Operate by op clock ∷ before) of rest.0 (sees before n) (sees (Operate by op clock ∷ before) n)
             (λ m is. cond-false (eqb n (label_count before)) (had before by m) (sees before n m) older)
-            (later_first before by op clock of rest.0 (sees before n) (sees-next before n) rest.1),
+            (later_first before (next_of by op clock) of rest.0 (sees before n) (sees-next before n) rest.1),
       )
 ]
 sees-first (Deliver to label ∷ before) causal n of = sees-first before causal.2 n of

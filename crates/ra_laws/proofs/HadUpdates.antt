@@ -1,5 +1,5 @@
 -- What replicas had, with one more operation or delivery.
-use Rattle.std.proofs.Common.{◌≡◌, ℕ, ◌<◌, Bool, true, false, List, [], ◌∷◌, ◌++◌, filter, Option, refl, sym, ap, ◌∙◌, subst, inl, inr, arith}
+use Rattle.std.proofs.Common.{◌≡◌, ℕ, ◌<◌, Bool, true, false, List, [], ◌∷◌, ◌++◌, filter, refl, sym, ap, ◌∙◌, subst, inl, inr, arith}
 use Rattle.std.specs.Prelude.{◌==◌, ◌&&◌, ◌||◌, Contains, flat_map, map, is_some, cond}
 use Rattle.std.specs.List.{IsDistinct, list_any}
 use Rattle.std.specs.Option.{option_map_or}
@@ -16,12 +16,13 @@ use Rattle.ra_labels.specs.declared.operation.Update.{Update}
 use Rattle.ra_labels.specs.declared.operation.Update.TheVariants.{TakeOut}
 use Rattle.ra_labels.specs.declared.operation.Query.TheVariants.{ReadIds}
 use Rattle.ra_labels.specs.declared.label.Label.{Label}
-use Rattle.ra_labels.specs.declared.command.Command.TheVariants.{Operate, Deliver}
-use Rattle.ra_labels.specs.Records.{Records, label_count, labels_of, next_label}
+use Rattle.ra_labels.specs.declared.command.Command.TheVariants.{Deliver}
+use Rattle.ra_labels.specs.Records.{Records, label_count, labels_of}
 use Rattle.ra_labels.specs.Visibility.{is_update, is_update_at, had}
 use Rattle.ra_labels.specs.Rewriting.{Part, Half, QueryHalf, UpdateHalf, Act, Does, Asks, acts_of, part_of, parts_of, update_of, updates_of}
 use Rattle.ra_labels.specs.NamedOrder.{named_labels}
 use Rattle.ra_labels.specs.Insertion.{updates_among, updates_had_of, updates_had, Makes}
+use Rattle.ra_labels.specs.Situation.{Next, operate, label_of}
 use Rattle.ra_labels.proofs.Members.{head_or_behind, at_head, behind_head, split_at, piece_of, everyone}
 use Rattle.ra_labels.proofs.Parts.{part_is_of}
 use Rattle.ra_labels.proofs.Counted.{numbers_below_count}
@@ -147,12 +148,12 @@ differ_round (z ∷ before) behind x differ =
       rest.1,
     )
 
-module _ (kind : Kind) (records : Records) (by : ℕ) (op : Op) (clock : Option ℕ) where
+module _ (kind : Kind) (records : Records) (next : Next) where
   abbrev now : Records
-  now = Operate by op clock ∷ records
+  now = operate next ∷ records
 
   abbrev label : Label
-  label = next_label records by op clock
+  label = label_of records next
 
   -- of the labels before, a replica had the same
   pub had_before : (replica : ℕ) (l : Label) → Contains (labels_of records) l
@@ -161,8 +162,8 @@ module _ (kind : Kind) (records : Records) (by : ℕ) (op : Op) (clock : Option 
       let below = All-contains (λ m. m.number < label_count records) (labels_of records) l
       (numbers_below_count records) there in
       ap (λ b. b || had records replica l.number)
-      (and_left (by == replica && l.number == label_count records) (is_update op)
-      (and_right (by == replica) (l.number == label_count records)
+      (and_left (next.by == replica && l.number == label_count records) (is_update next.op)
+      (and_right (next.by == replica) (l.number == label_count records)
       (ne_eqb l.number (label_count records) (λ is. absurd (omega (arith, below))))))
 
   named_there : (l : Label) → Contains (named_labels kind records) l → Contains (labels_of records) l
@@ -194,52 +195,52 @@ module _ (kind : Kind) (records : Records) (by : ℕ) (op : Op) (clock : Option 
             ∙ ap (λ us. updates_had_of now replica (label ∷ []) ++ us) later) i),
       )
 
-  pub operation-own : (u : Update) → Makes op u → (before behind : List Label)
+  pub operation-own : (u : Update) → Makes next.op u → (before behind : List Label)
       × (named_labels kind records ≡ before ++ behind) × (named_labels kind now ≡ before ++ label ∷ behind)
-      × (updates_had kind records by ≡ updates_had_of records by before ++ updates_had_of records by behind)
-      × (updates_had kind now by ≡ updates_had_of records by before ++ u ∷ updates_had_of records by behind)
+      × (updates_had kind records next.by ≡ updates_had_of records next.by before ++ updates_had_of records next.by behind)
+      × (updates_had kind now next.by ≡ updates_had_of records next.by before ++ u ∷ updates_had_of records next.by behind)
   operation-own u makes =
-      let (before, behind, was, is) = order-inserted kind records by op clock in
-      let pieces = same_pieces by before behind was is in
-      let own : had now by (label_count records) ≡ true =
-      or_left (by == by && label_count records == label_count records && is_update op)
-      (had records by (label_count records))
-      (and_from (by == by && label_count records == label_count records) (is_update op)
-      (and_from (by == by) (label_count records == label_count records) (eq-eqb by by refl)
-      (eq-eqb (label_count records) (label_count records) refl)) (makes_update op u makes)) in (
+      let (before, behind, was, is) = order-inserted kind records next in
+      let pieces = same_pieces next.by before behind was is in
+      let own : had now next.by (label_count records) ≡ true =
+      or_left (next.by == next.by && label_count records == label_count records && is_update next.op)
+      (had records next.by (label_count records))
+      (and_from (next.by == next.by && label_count records == label_count records) (is_update next.op)
+      (and_from (next.by == next.by) (label_count records == label_count records) (eq-eqb next.by next.by refl)
+      (eq-eqb (label_count records) (label_count records) refl)) (makes_update next.op u makes)) in (
         before,
         behind,
         was,
         is,
         pieces.0,
         pieces.1
-            ∙ ap (λ us. updates_had_of records by before ++ (us ++ updates_had_of records by behind))
-            (among-one (had now by) label u makes own),
+            ∙ ap (λ us. updates_had_of records next.by before ++ (us ++ updates_had_of records next.by behind))
+            (among-one (had now next.by) label u makes own),
       )
 
   without_it : (replica : ℕ) → had now replica (label_count records) ≡ false
       → updates_had kind now replica ≡ updates_had kind records replica
   without_it replica fails =
-      let (before, behind, was, is) = order-inserted kind records by op clock in
+      let (before, behind, was, is) = order-inserted kind records next in
       let pieces = same_pieces replica before behind was is in
       pieces.1 ∙ ap (λ us. updates_had_of records replica before ++ (us ++ updates_had_of records replica behind))
       (among-not (had now replica) label fails) ∙ sym pieces.0
 
-  pub operation-query : is_update op ≡ false → updates_had kind now by ≡ updates_had kind records by
+  pub operation-query : is_update next.op ≡ false → updates_had kind now next.by ≡ updates_had kind records next.by
   operation-query none =
-      without_it by
-      (or_from (by == by && label_count records == label_count records && is_update op)
-      (had records by (label_count records))
-      (and_right (by == by && label_count records == label_count records) (is_update op) none) (had_not_yet by))
+      without_it next.by
+      (or_from (next.by == next.by && label_count records == label_count records && is_update next.op)
+      (had records next.by (label_count records))
+      (and_right (next.by == next.by && label_count records == label_count records) (is_update next.op) none) (had_not_yet next.by))
 
-  pub operation-others : (replica : ℕ) → ¬ (by ≡ replica)
+  pub operation-others : (replica : ℕ) → ¬ (next.by ≡ replica)
       → updates_had kind now replica ≡ updates_had kind records replica
   operation-others replica other =
       without_it replica
-      (or_from (by == replica && label_count records == label_count records && is_update op)
+      (or_from (next.by == replica && label_count records == label_count records && is_update next.op)
       (had records replica (label_count records))
-      (and_left (by == replica && label_count records == label_count records) (is_update op)
-      (and_left (by == replica) (label_count records == label_count records) (ne_eqb by replica other)))
+      (and_left (next.by == replica && label_count records == label_count records) (is_update next.op)
+      (and_left (next.by == replica) (label_count records == label_count records) (ne_eqb next.by replica other)))
       (had_not_yet replica))
 
 -- a delivery

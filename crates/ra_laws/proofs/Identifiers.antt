@@ -12,6 +12,7 @@ use Rattle.ra_labels.specs.declared.command.Command.TheVariants.{Operate, Delive
 use Rattle.ra_labels.specs.Records.{Records, labels_of, next_label}
 use Rattle.ra_labels.specs.Answer.{identifier_of, has_identifier, is_identifier_taken, gives_taken, refusal_of, with_accepted, records_after, records_after_all}
 use Rattle.ra_labels.specs.Laws.{Gives, IsOwnIdentifier, IdentifiersAreOneLabels}
+use Rattle.ra_labels.specs.Situation.{next_of}
 use Rattle.ra_laws.proofs.Stamps.{any_one, one_any, once_behind, operated-exactly, kept_by_answers, kept_by_all}
 
 -- what gives an identifier
@@ -56,7 +57,7 @@ once_accepted : (kind : Kind) (replicas : ℕ) (records : Records) (command : Co
     → refusal_of kind replicas records command ≡ None → IdentifiersAreOneLabels records
     → IdentifiersAreOneLabels (with_accepted records command)
 once_accepted kind replicas records (Operate by op clock) accepted once =
-    let free = ((operated-exactly kind replicas records by op clock).0 accepted).3 in
+    let free = ((operated-exactly kind replicas records (next_of by op clock)).0 accepted).3 in
     once_behind ℕ (λ label id. Gives label.op id) (next_label records by op clock) (labels_of records)
     (λ id own other there is. false≢true (sym free ∙ (gives-exactly records op).1 (id, own, (other, there, is)))) once
 once_accepted kind replicas records (Deliver to n) accepted once = once

@@ -1,5 +1,5 @@
 -- One more label in the named order, and what it leaves as it was.
-use Rattle.std.proofs.Common.{◌≡◌, ℕ, ◌<◌, Bool, true, false, List, [], ◌∷◌, ◌++◌, filter, Option, refl, sym, ap, ◌∙◌, subst, inl, inr, arith, Ordering}
+use Rattle.std.proofs.Common.{◌≡◌, ℕ, ◌<◌, Bool, true, false, List, [], ◌∷◌, ◌++◌, filter, refl, sym, ap, ◌∙◌, subst, inl, inr, arith, Ordering}
 use Rattle.std.specs.Prelude.{◌↔◌, ◌⊎◌, ◌==◌, Contains, IsSorted, flat_map, map}
 use Rattle.std.specs.Ordering.{is_lt, nat_cmp, ordering_then}
 use Rattle.std.proofs.lemmas.Bool.{true≢false, false_from_ne_true, cond_both, cond-true, cond-false, eq-eqb}
@@ -8,12 +8,10 @@ use Rattle.std.proofs.lemmas.List.Elements.{All-contains, All-contains_itself, C
 use Rattle.std.proofs.lemmas.List.Sorted.{Contains-permutation, IsPermutation-sym}
 use Rattle.ra_labels.specs.declared.kind.Kind.{Kind}
 use Rattle.ra_labels.specs.declared.kind.Kind.TheVariants.{Counter, OrSet}
-use Rattle.ra_labels.specs.declared.operation.Op.{Op}
 use Rattle.ra_labels.specs.declared.label.Stamp.{Stamp}
 use Rattle.ra_labels.specs.declared.label.Label.{Label}
 use Rattle.ra_labels.specs.declared.command.Command.{Command}
-use Rattle.ra_labels.specs.declared.command.Command.TheVariants.{Operate}
-use Rattle.ra_labels.specs.Records.{Records, label_count, labels_of, next_label}
+use Rattle.ra_labels.specs.Records.{Records, label_count, labels_of}
 use Rattle.ra_labels.specs.Visibility.{had, sees}
 use Rattle.ra_labels.specs.Rewriting.{Part, Half, Act, acts_of, part_of, parts_of, updates_of}
 use Rattle.ra_labels.specs.Linearization.{must_precede, extends_visibility, visible_updates, updates_admitted, queries_admitted}
@@ -21,6 +19,7 @@ use Rattle.ra_labels.specs.NamedOrder.{timestamp_of, rank_of, stamp_cmp, label_c
 use Rattle.ra_labels.specs.Fault.{Holds}
 use Rattle.ra_labels.specs.Laws.{IsStampBelow, MustStandBefore, StandsBefore, IsAnsweredAfter}
 use Rattle.ra_labels.specs.Insertion.{updates_had, StandsWhereItMust, IsAnsweredItself}
+use Rattle.ra_labels.specs.Situation.{Next, operate, label_of}
 use Rattle.ra_labels.proofs.Members.{head_or_behind, at_head, behind_head, piece_of, in_piece}
 use Rattle.ra_labels.proofs.InsertionSort.{sort_by_same}
 use Rattle.ra_labels.proofs.Parts.{part_is_of, some_part}
@@ -131,12 +130,12 @@ stands_in_order kind records (x ∷ xs) sorted p q stands =
           (sorted_behind (label_cmp kind records) (label_cmp-total kind records) x xs sorted) p q further
     ]
 
-module _ (kind : Kind) (records : Records) (by : ℕ) (op : Op) (clock : Option ℕ) where
+module _ (kind : Kind) (records : Records) (next : Next) where
   abbrev now : Records
-  now = Operate by op clock ∷ records
+  now = operate next ∷ records
 
   abbrev label : Label
-  label = next_label records by op clock
+  label = label_of records next
 
   pub order-inserted : (before behind : List Label) × (named_labels kind records ≡ before ++ behind)
       × (named_labels kind now ≡ before ++ label ∷ behind)
@@ -146,7 +145,7 @@ module _ (kind : Kind) (records : Records) (by : ℕ) (op : Op) (clock : Option 
         put.1,
         put.2,
         ap (insert_by (label_cmp kind now) label)
-            (order_later kind (Operate by op clock) records) ∙ put.3,
+            (order_later kind (operate next) records) ∙ put.3,
       )
 
   -- a test that the label fails keeps the same updates
@@ -164,7 +163,7 @@ module _ (kind : Kind) (records : Records) (by : ℕ) (op : Op) (clock : Option 
   pub others-see : (n : ℕ) → n < label_count records
       → visible_updates now (named_sequence kind now) n ≡ visible_updates records (named_sequence kind records) n
   others-see n below =
-      let same = λ (m : ℕ). sees-append (Operate by op clock ∷ []) records n m below in
+      let same = λ (m : ℕ). sees-append (operate next ∷ []) records n m below in
       let not_new : sees now n (label_count records) ≡ false = false_from_ne_true (sees now n (label_count records))
       (λ seen. let earlier = sees_earlier now n (label_count records) seen in
       absurd (omega (arith, below, earlier.0))) in
@@ -172,10 +171,10 @@ module _ (kind : Kind) (records : Records) (by : ℕ) (op : Op) (clock : Option 
       ∙ (λ i. updates_of (filter (λ (p : Part). same p.label.number i) (named_sequence kind records)))
 
   -- and the new one those that its replica had
-  pub own-sees : visible_updates now (named_sequence kind now) (label_count records) ≡ updates_had kind records by
+  pub own-sees : visible_updates now (named_sequence kind now) (label_count records) ≡ updates_had kind records next.by
   own-sees =
       let n = label_count records in
-      let same = λ (m : ℕ). cond-true (n == n) (had records by m) (sees records n m) (eq-eqb n n refl) in
+      let same = λ (m : ℕ). cond-true (n == n) (had records next.by m) (sees records n m) (eq-eqb n n refl) in
       kept_updates (sees now n) (sees_not_itself now n)
       ∙ (λ i. updates_of (filter (λ (p : Part). same p.label.number i) (named_sequence kind records)))
 
@@ -202,12 +201,12 @@ module _ (kind : Kind) (records : Records) (by : ℕ) (op : Op) (clock : Option 
       let below = All-contains (λ l. l.number < label_count records) (labels_of records) n
       (numbers_below_count records) n_there in
       let before : MustStandBefore records m n = elim must [
-        | inl seen ↦ inl (sym (sees-append (Operate by op clock ∷ []) records n.number m.number below) ∙ seen)
+        | inl seen ↦ inl (sym (sees-append (operate next ∷ []) records n.number m.number below) ∙ seen)
         | inr earlier ↦ inr earlier
       ] in
-      subst (λ r. ¬ IsStampBelow r (rank_of kind now m)) (sym (rank_later kind (Operate by op clock) records n n_there))
+      subst (λ r. ¬ IsStampBelow r (rank_of kind now m)) (sym (rank_later kind (operate next) records n n_there))
       (subst (λ r. ¬ IsStampBelow (rank_of kind records n) r)
-      (sym (rank_later kind (Operate by op clock) records m m_there)) (allowed before))
+      (sym (rank_later kind (operate next) records m m_there)) (allowed before))
 
   extended_from_stands : extends_visibility records (named_sequence kind records) ≡ true
       → StandsWhereItMust now label (named_sequence kind now) → extends_visibility now (named_sequence kind now) ≡ true

@@ -4,7 +4,6 @@ use Rattle.std.specs.Prelude.{◌↔◌, ◌==◌, ◌&&◌, ◌||◌, not, nat_
 use Rattle.std.proofs.lemmas.Bool.{false≢true, cases_lt, lt-ltb, ltb-true, ltb-false, le-ltb, eq-eqb, ne_eqb, or_from, and_left}
 use Rattle.std.proofs.Math.Bool.{or_comm}
 use Rattle.ra_labels.specs.declared.kind.Kind.{Kind}
-use Rattle.ra_labels.specs.declared.operation.Op.{Op}
 use Rattle.ra_labels.specs.declared.command.Command.{Command}
 use Rattle.ra_labels.specs.declared.command.Command.TheVariants.{Operate, Deliver, Join, Verdict}
 use Rattle.ra_labels.specs.declared.refusal.Refusal.{Refusal}
@@ -17,6 +16,7 @@ use Rattle.ra_labels.specs.NamedOrder.{named_labels}
 use Rattle.ra_labels.specs.Answer.{when, first_of, refusal_of, refusal_of_join, with_accepted, records_after, records_after_all}
 use Rattle.ra_labels.specs.Laws.{is_join, NoneHadBeyond}
 use Rattle.ra_labels.specs.Insertion.{updates_had_of, updates_had}
+use Rattle.ra_labels.specs.Situation.{Next, next_of, operate}
 use Rattle.ra_laws.proofs.MissingLabels.{delivered-exactly}
 use Rattle.ra_laws.proofs.Updates.{place-there, had-own}
 use Rattle.ra_laws.proofs.Stamps.{operated-exactly, kept_by_answers, kept_by_all}
@@ -154,13 +154,13 @@ refused-full replicas records replica from =
     )
 
 -- nobody had anything whose number is none of the replicas'
-pub beyond-operation : (founders : ℕ) (records : Records) (by : ℕ) (op : Op) (clock : Option ℕ)
-    → by < replica_count founders records → NoneHadBeyond founders records → NoneHadBeyond founders (Operate by op clock ∷ records)
-beyond-operation founders records by op clock there none replica n above =
-    or_from (by == replica && n == label_count records && is_update op) (had records replica n)
-    (and_left (by == replica && n == label_count records) (is_update op)
-    (and_left (by == replica) (n == label_count records)
-    (ne_eqb by replica (λ same. absurd (omega (arith, there, above, same))))))
+pub beyond-operation : (founders : ℕ) (records : Records) (next : Next)
+    → next.by < replica_count founders records → NoneHadBeyond founders records → NoneHadBeyond founders (operate next ∷ records)
+beyond-operation founders records next there none replica n above =
+    or_from (next.by == replica && n == label_count records && is_update next.op) (had records replica n)
+    (and_left (next.by == replica && n == label_count records) (is_update next.op)
+    (and_left (next.by == replica) (n == label_count records)
+    (ne_eqb next.by replica (λ same. absurd (omega (arith, there, above, same))))))
     (none replica n above)
 
 pub beyond-delivery : (founders : ℕ) (records : Records) (to label : ℕ) → to < replica_count founders records
@@ -185,7 +185,7 @@ beyond_accepted : (kind : Kind) (replicas : ℕ) (records : Records) (command : 
     → refusal_of kind replicas records command ≡ None → NoneHadBeyond replicas records
     → NoneHadBeyond replicas (with_accepted records command)
 beyond_accepted kind replicas records (Operate by op clock) accepted none =
-    beyond-operation replicas records by op clock ((operated-exactly kind replicas records by op clock).0 accepted).0 none
+    beyond-operation replicas records (next_of by op clock) ((operated-exactly kind replicas records (next_of by op clock)).0 accepted).0 none
 beyond_accepted kind replicas records (Deliver to label) accepted none =
     beyond-delivery replicas records to label ((delivered-exactly replicas records to label).0 accepted).0 none
 beyond_accepted kind replicas records (Join joined from) accepted none =

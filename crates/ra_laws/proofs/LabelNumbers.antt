@@ -1,12 +1,12 @@
 -- How labels are numbered.
-use Rattle.std.proofs.Common.{◌≡◌, ℕ, ◌<◌, ◌≤◌, eqb, [], ◌∷◌, ◌++◌, Option, Some, None, refl, ap, ◌∙◌, inl, inr, arith, add-one}
+use Rattle.std.proofs.Common.{◌≡◌, ℕ, ◌<◌, ◌≤◌, eqb, [], ◌∷◌, ◌++◌, Some, None, refl, ap, ◌∙◌, inl, inr, arith, add-one}
 use Rattle.std.specs.Prelude.{map}
 use Rattle.std.proofs.lemmas.Bool.{cases_eq, eq-eqb, ne_eqb, cond-true, cond-false}
-use Rattle.ra_labels.specs.declared.operation.Op.{Op}
 use Rattle.ra_labels.specs.declared.label.Label.{Label}
 use Rattle.ra_labels.specs.declared.command.Command.TheVariants.{Operate}
 use Rattle.ra_labels.specs.Records.{Records, label_count, labels_of, label_at, next_label, records_to}
 use Rattle.ra_labels.specs.Laws.{numbers_below}
+use Rattle.ra_labels.specs.Situation.{Next, operate, label_of}
 
 -- the labels are numbered from the number of labels down to 0
 pub numbers_of_labels : (records : Records) → map (λ label. label.number) (labels_of records)
@@ -53,10 +53,10 @@ label_at-append (Operate by op clock ∷ later) records n below =
 label_at-append (_ ∷ later) records n below = label_at-append later records n below
 
 -- an operation is found as its label
-pub label_at-operation : (later before : Records) (by : ℕ) (op : Op) (clock : Option ℕ)
-    → label_at (later ++ Operate by op clock ∷ before) (label_count before) ≡ Some (next_label before by op clock)
-label_at-operation later before by op clock =
-    label_at-append later (Operate by op clock ∷ before) (label_count before) (omega arith)
+pub label_at-operation : (later before : Records) (next : Next)
+    → label_at (later ++ operate next ∷ before) (label_count before) ≡ Some (label_of before next)
+label_at-operation later before next =
+    label_at-append later (operate next ∷ before) (label_count before) (omega arith)
     ∙ cond-true (eqb (label_count before) (label_count before)) _ _ (eq-eqb _ _ refl)
 
 -- the records up to a label end with its operation
@@ -69,10 +69,10 @@ records_to-append (Operate by op clock ∷ later) records n below =
     cond-false (eqb n (label_count (later ++ records))) _ _ (ne_eqb _ _ other) ∙ records_to-append later records n below
 records_to-append (_ ∷ later) records n below = records_to-append later records n below
 
-pub records_to-operation : (later before : Records) (by : ℕ) (op : Op) (clock : Option ℕ)
-    → records_to (later ++ Operate by op clock ∷ before) (label_count before) ≡ Operate by op clock ∷ before
-records_to-operation later before by op clock =
-    records_to-append later (Operate by op clock ∷ before) (label_count before) (omega arith)
+pub records_to-operation : (later before : Records) (next : Next)
+    → records_to (later ++ operate next ∷ before) (label_count before) ≡ operate next ∷ before
+records_to-operation later before next =
+    records_to-append later (operate next ∷ before) (label_count before) (omega arith)
     ∙ cond-true (eqb (label_count before) (label_count before)) _ _ (eq-eqb _ _ refl)
 
 pub records_to-none : (records : Records) (n : ℕ) → label_count records ≤ n → records_to records n ≡ []

@@ -8,18 +8,17 @@ use Rattle.std.proofs.lemmas.Bool.{cases_Bool, eqb-true}
 use Rattle.std.proofs.lemmas.List.Elements.{Contains-append_right}
 use Rattle.ra_labels.specs.declared.kind.Kind.{Kind}
 use Rattle.ra_labels.specs.declared.kind.Kind.TheVariants.{Counter, Register, LwwSet, OrSet}
-use Rattle.ra_labels.specs.declared.operation.Op.{Op}
 use Rattle.ra_labels.specs.declared.operation.Update.{Update}
 use Rattle.ra_labels.specs.declared.operation.Update.TheVariants.{Write}
 use Rattle.ra_labels.specs.declared.label.Label.{Label}
-use Rattle.ra_labels.specs.declared.command.Command.TheVariants.{Operate}
-use Rattle.ra_labels.specs.Records.{Records, label_count, labels_of, next_label}
+use Rattle.ra_labels.specs.Records.{Records, label_count, labels_of}
 use Rattle.ra_labels.specs.Visibility.{had}
 use Rattle.ra_labels.specs.Specification.{Written, state_after, is_admitted}
 use Rattle.ra_labels.specs.NamedOrder.{named_labels}
 use Rattle.ra_labels.specs.Laws.{acts_on}
 use Rattle.ra_labels.specs.Insertion.{updates_among, updates_passing, or_label, updates_had, Makes}
 use Rattle.ra_labels.specs.Commuting.{then_step, last_of, written_by, last_written, last_on}
+use Rattle.ra_labels.specs.Situation.{Next, operate, label_of}
 use Rattle.ra_labels.proofs.Members.{head_or_behind, at_head, behind_head, kept-there}
 use Rattle.ra_laws.proofs.Order.{named_labels-by_number}
 use Rattle.ra_laws.proofs.States.{state_after-push}
@@ -205,20 +204,20 @@ set-overridden records passes before behind label other u v x is makes acts new 
     ∙ sym (ap (last_on y) was ∙ last_on-append y first later))
 
 -- in order of execution the newest label stands last
-pub or_set-issued : (records : Records) (by : ℕ) (operation : Op) (clock : Option ℕ) (u : Update) → Makes operation u
-    → state_after OrSet (updates_had OrSet (Operate by operation clock ∷ records) by)
-    ≡ then_step (state_after OrSet (updates_had OrSet records by)) u
-or_set-issued records by operation clock u makes =
-    let now = Operate by operation clock ∷ records in
-    let label = next_label records by operation clock in
+pub or_set-issued : (records : Records) (next : Next) (u : Update) → Makes next.op u
+    → state_after OrSet (updates_had OrSet (operate next ∷ records) next.by)
+    ≡ then_step (state_after OrSet (updates_had OrSet records next.by)) u
+or_set-issued records next u makes =
+    let now = operate next ∷ records in
+    let label = label_of records next in
     let named = named_labels OrSet records in
     let order : named_labels OrSet now ≡ named ++ label ∷ [] =
     named_labels-by_number OrSet now (λ l. refl) ∙ reverse-cons label (labels_of records)
     ∙ ap (λ ls. ls ++ label ∷ []) (sym (named_labels-by_number OrSet records (λ l. refl))) in
-    let own : had now by label.number ≡ true = had-operation records by operation clock label.number
-    (makes_update operation u makes) ∙ one-passes (had records by) (label_count records) in
-    let before = among-same (had now by) (had records by) named
-    (λ l found. had_before OrSet records by operation clock by l (in-labels OrSet records l found)) in
-    ap (state_after OrSet) (ap (updates_among (had now by)) order ∙ among-append (had now by) named (label ∷ [])
-    ∙ (λ i. before i ++ among-one (had now by) label u makes own i))
-    ∙ state_after-push OrSet (updates_had OrSet records by) u
+    let own : had now next.by label.number ≡ true = had-operation records next label.number
+    (makes_update next.op u makes) ∙ one-passes (had records next.by) (label_count records) in
+    let before = among-same (had now next.by) (had records next.by) named
+    (λ l found. had_before OrSet records next next.by l (in-labels OrSet records l found)) in
+    ap (state_after OrSet) (ap (updates_among (had now next.by)) order ∙ among-append (had now next.by) named (label ∷ [])
+    ∙ (λ i. before i ++ among-one (had now next.by) label u makes own i))
+    ∙ state_after-push OrSet (updates_had OrSet records next.by) u

@@ -1,16 +1,14 @@
 -- When a new label of an RGA is admitted among all, and one that stands behind all that pass.
-use Rattle.std.proofs.Common.{◌≡◌, ℕ, Bool, true, false, List, ◌∷◌, ◌++◌, Option, refl, sym, ap, ◌∙◌, subst, inl, inr}
+use Rattle.std.proofs.Common.{◌≡◌, ℕ, Bool, true, false, List, ◌∷◌, ◌++◌, refl, sym, ap, ◌∙◌, subst, inl, inr}
 use Rattle.std.specs.Prelude.{◌↔◌, ◌⊎◌, Contains, flat_map}
 use Rattle.std.proofs.lemmas.List.{append-nil}
 use Rattle.std.proofs.lemmas.List.Elements.{Contains-append_left}
 use Rattle.ra_labels.specs.declared.kind.Kind.{Kind}
 use Rattle.ra_labels.specs.declared.kind.Kind.TheVariants.{Rga}
-use Rattle.ra_labels.specs.declared.operation.Op.{Op}
 use Rattle.ra_labels.specs.declared.operation.Update.{Update}
 use Rattle.ra_labels.specs.declared.operation.Update.TheVariants.{After, RgaRemove}
 use Rattle.ra_labels.specs.declared.label.Label.{Label}
-use Rattle.ra_labels.specs.declared.command.Command.TheVariants.{Operate}
-use Rattle.ra_labels.specs.Records.{Records, next_label}
+use Rattle.ra_labels.specs.Records.{Records}
 use Rattle.ra_labels.specs.Rewriting.{parts_of, updates_of}
 use Rattle.ra_labels.specs.Specification.{state_after, is_admitted}
 use Rattle.ra_labels.specs.Linearization.{updates_admitted}
@@ -18,6 +16,7 @@ use Rattle.ra_labels.specs.NamedOrder.{named_labels, named_sequence}
 use Rattle.ra_labels.specs.Insertion.{updates_among, updates_passing, or_label, Makes}
 use Rattle.ra_labels.specs.Commuting.{then_step}
 use Rattle.ra_labels.specs.Waiting.{is_there, WasPutInBelow}
+use Rattle.ra_labels.specs.Situation.{Next, operate, label_of}
 use Rattle.ra_laws.proofs.States.{state_after-push}
 use Rattle.ra_laws.proofs.HadUpdates.{among-none}
 use Rattle.ra_laws.proofs.KeptUpdates.{there-exactly}
@@ -50,17 +49,17 @@ from_below records before behind label x is (m, anchor, m_in, makes, less) =
     (among-does each before m (After anchor x) m_there makes refl) in
     (there-exactly x (updates_of (flat_map parts_of before))).1 (inr (anchor, found))
 
-pub offered-insertion : (records : Records) (by : ℕ) (operation : Op) (clock : Option ℕ) (anchor x : ℕ)
-    → Makes operation (After anchor x) → updates_admitted Rga (named_sequence Rga records) ≡ true
-    → (updates_admitted Rga (named_sequence Rga (Operate by operation clock ∷ records)) ≡ true)
+pub offered-insertion : (records : Records) (next : Next) (anchor x : ℕ)
+    → Makes next.op (After anchor x) → updates_admitted Rga (named_sequence Rga records) ≡ true
+    → (updates_admitted Rga (named_sequence Rga (operate next ∷ records)) ≡ true)
     ↔ ((is_there x (updates_of (named_sequence Rga records)) ≡ false)
-    × ((anchor ≡ 0) ⊎ WasPutInBelow (Operate by operation clock ∷ records)
-    (next_label records by operation clock) anchor))
-offered-insertion records by operation clock anchor x makes admitted =
-    let now : Records = Operate by operation clock ∷ records in
-    let label = next_label records by operation clock in
+    × ((anchor ≡ 0) ⊎ WasPutInBelow (operate next ∷ records)
+    (label_of records next) anchor))
+offered-insertion records next anchor x makes admitted =
+    let now : Records = operate next ∷ records in
+    let label = label_of records next in
     let (before, behind, was_named, is_named, was, is) =
-    all-with Rga records by operation clock (After anchor x) makes in
+    all-with Rga records next (After anchor x) makes in
     let first = updates_of (flat_map parts_of before) in
     let later = updates_of (flat_map parts_of behind) in
     let exactly = inserted-admitted first later anchor x (ap (is_admitted Rga) (sym was) ∙ admitted) in (
@@ -75,14 +74,14 @@ offered-insertion records by operation clock anchor x makes admitted =
           ap (is_admitted Rga) is ∙ exactly.1 (there, ap (is_there x) (sym was) ∙ known.0)),
     )
 
-pub offered-removal : (records : Records) (by : ℕ) (operation : Op) (clock : Option ℕ) (x : ℕ)
-    → Makes operation (RgaRemove x) → updates_admitted Rga (named_sequence Rga records) ≡ true
-    → (updates_admitted Rga (named_sequence Rga (Operate by operation clock ∷ records)) ≡ true)
-    ↔ ((¬ (x ≡ 0)) × WasPutInBelow (Operate by operation clock ∷ records) (next_label records by operation clock) x)
-offered-removal records by operation clock x makes admitted =
-    let now : Records = Operate by operation clock ∷ records in
-    let label = next_label records by operation clock in
-    let (before, behind, was_named, is_named, was, is) = all-with Rga records by operation clock (RgaRemove x) makes in
+pub offered-removal : (records : Records) (next : Next) (x : ℕ)
+    → Makes next.op (RgaRemove x) → updates_admitted Rga (named_sequence Rga records) ≡ true
+    → (updates_admitted Rga (named_sequence Rga (operate next ∷ records)) ≡ true)
+    ↔ ((¬ (x ≡ 0)) × WasPutInBelow (operate next ∷ records) (label_of records next) x)
+offered-removal records next x makes admitted =
+    let now : Records = operate next ∷ records in
+    let label = label_of records next in
+    let (before, behind, was_named, is_named, was, is) = all-with Rga records next (RgaRemove x) makes in
     let first = updates_of (flat_map parts_of before) in
     let later = updates_of (flat_map parts_of behind) in
     let exactly = removed-admitted first later x (ap (is_admitted Rga) (sym was) ∙ admitted) in (

@@ -8,12 +8,11 @@ use Rattle.std.proofs.lemmas.List.Sorted.{Contains-permutation, IsPermutation-sy
 use Rattle.std.proofs.Math.Bool.{or-false, or_comm}
 use Rattle.ra_labels.specs.declared.kind.Kind.{Kind}
 use Rattle.ra_labels.specs.declared.kind.Kind.TheVariants.{Rga}
-use Rattle.ra_labels.specs.declared.operation.Op.{Op}
 use Rattle.ra_labels.specs.declared.operation.Update.{Update}
 use Rattle.ra_labels.specs.declared.operation.Update.TheVariants.{After}
 use Rattle.ra_labels.specs.declared.label.Label.{Label}
-use Rattle.ra_labels.specs.declared.command.Command.TheVariants.{Operate, Deliver, Join}
-use Rattle.ra_labels.specs.Records.{Records, label_count, labels_of, next_label}
+use Rattle.ra_labels.specs.declared.command.Command.TheVariants.{Deliver, Join}
+use Rattle.ra_labels.specs.Records.{Records, label_count, labels_of}
 use Rattle.ra_labels.specs.Visibility.{is_update, is_update_at, had}
 use Rattle.ra_labels.specs.Rewriting.{Part, Act, Does, Asks, acts_of, part_of, parts_of, update_of, updates_of}
 use Rattle.ra_labels.specs.Specification.{Listed, state_after, is_admitted}
@@ -24,6 +23,7 @@ use Rattle.ra_labels.specs.Laws.{kind_of_update, elements_in}
 use Rattle.ra_labels.specs.Insertion.{updates_among, updates_passing, or_label, Makes}
 use Rattle.ra_labels.specs.Late.{kept_entries}
 use Rattle.ra_labels.specs.Waiting.{is_there, shown_by, needed_by, NoneWaits}
+use Rattle.ra_labels.specs.Situation.{Next, operate, label_of}
 use Rattle.ra_labels.proofs.InLists.{list_all-contains, list_all-from_contains, bool_same}
 use Rattle.ra_labels.proofs.Members.{head_or_behind, at_head, behind_head, split_at, there-kept, reached, piece_of, in_piece}
 use Rattle.ra_labels.proofs.Parts.{part_is_of}
@@ -101,12 +101,12 @@ pub passing-join : (kind : Kind) (records : Records) (joined from : ℕ) (passes
     → updates_passing kind (Join joined from ∷ records) passes ≡ updates_passing kind records passes
 passing-join kind records joined from passes = ap (updates_among passes) (order_later kind (Join joined from) records)
 
-pub passing-operation : (kind : Kind) (records : Records) (by : ℕ) (op : Op) (clock : Option ℕ) (passes : ℕ → Bool)
-    → passes (label_count records) ≡ false → updates_passing kind (Operate by op clock ∷ records) passes
+pub passing-operation : (kind : Kind) (records : Records) (next : Next) (passes : ℕ → Bool)
+    → passes (label_count records) ≡ false → updates_passing kind (operate next ∷ records) passes
     ≡ updates_passing kind records passes
-passing-operation kind records by op clock passes fails =
-    let label = next_label records by op clock in
-    let (before, behind, was, is) = order-inserted kind records by op clock in
+passing-operation kind records next passes fails =
+    let label = label_of records next in
+    let (before, behind, was, is) = order-inserted kind records next in
     ap (updates_among passes) is ∙ among-append passes before (label ∷ behind)
     ∙ ap (λ us. updates_among passes before ++ us)
     (among-append passes (label ∷ []) behind
@@ -123,16 +123,16 @@ had-delivery records to n m update =
     (ap (is_update_at records) (eqb-true m n is) ∙ update)))
     ∙ or_comm (m == n) (had records to m)
 
-pub had-operation : (records : Records) (by : ℕ) (op : Op) (clock : Option ℕ) (m : ℕ) → is_update op ≡ true
-    → had (Operate by op clock ∷ records) by m ≡ or_label (had records by) (label_count records) m
-had-operation records by op clock m update =
-    ap (λ b. b || had records by m)
-    (bool_same (by == by && m == label_count records && is_update op) (m == label_count records)
-    (λ both. (and_parts (by == by) (m == label_count records)
-    (and_parts (by == by && m == label_count records) (is_update op) both).0).1)
-    (λ is. and_from (by == by && m == label_count records) (is_update op)
-    (and_from (by == by) (m == label_count records) (eq-eqb by by refl) is) update))
-    ∙ or_comm (m == label_count records) (had records by m)
+pub had-operation : (records : Records) (next : Next) (m : ℕ) → is_update next.op ≡ true
+    → had (operate next ∷ records) next.by m ≡ or_label (had records next.by) (label_count records) m
+had-operation records next m update =
+    ap (λ b. b || had records next.by m)
+    (bool_same (next.by == next.by && m == label_count records && is_update next.op) (m == label_count records)
+    (λ both. (and_parts (next.by == next.by) (m == label_count records)
+    (and_parts (next.by == next.by && m == label_count records) (is_update next.op) both).0).1)
+    (λ is. and_from (next.by == next.by && m == label_count records) (is_update next.op)
+    (and_from (next.by == next.by) (m == label_count records) (eq-eqb next.by next.by refl) is) update))
+    ∙ or_comm (m == label_count records) (had records next.by m)
 
 -- the updates among parts, each with whether its label passes
 abbrev mark_one : Bool → Option Update → List (Bool × Update) → List (Bool × Update)

@@ -5,7 +5,6 @@ use Rattle.std.specs.Option.{option_map_or}
 use Rattle.std.proofs.lemmas.Bool.{lt-ltb}
 use Rattle.std.proofs.lemmas.Option.{none-some, same_Some}
 use Rattle.ra_labels.specs.declared.kind.Kind.{Kind}
-use Rattle.ra_labels.specs.declared.operation.Op.{Op}
 use Rattle.ra_labels.specs.declared.command.Command.{Command}
 use Rattle.ra_labels.specs.declared.command.Command.TheVariants.{Operate, Deliver, Join, Verdict}
 use Rattle.ra_labels.specs.declared.refusal.Refusal.{Refusal}
@@ -19,6 +18,7 @@ use Rattle.ra_labels.specs.Rewriting.{Part}
 use Rattle.ra_labels.specs.Linearization.{IsRaLinearization}
 use Rattle.ra_labels.specs.NamedOrder.{named_sequence}
 use Rattle.ra_labels.specs.Laws.{ReplySays}
+use Rattle.ra_labels.specs.Situation.{Next, next_of, operate}
 use Rattle.ra_laws.proofs.Faults.{holds_from_no_fault}
 use Rattle.ra_laws.proofs.Joins.{joined-exactly}
 
@@ -50,12 +50,12 @@ module _ (kind : Kind) (replicas : ℕ) (records : Records) (command : Command) 
   records_after-accepted none fine = rw (none, fine)
 
 -- the answer to an accepted operation
-operation_says : (kind : Kind) (replicas : ℕ) (records : Records) (by : ℕ) (op : Op) (clock : Option ℕ)
-    (fault : Option Fault) → fault_of kind (Operate by op clock ∷ records) ≡ fault
-    → records_after kind replicas records (Operate by op clock) ≡ Operate by op clock ∷ records
-    → ReplySays kind replicas records (Operate by op clock) (option_map_or no_at fault (reply.Ok (label_count records)))
-operation_says kind replicas records by op clock None is after = (refl, after, is, (by, op, clock, refl))
-operation_says kind replicas records by op clock (Some fault) is after = ap (fault_of kind) after ∙ is
+operation_says : (kind : Kind) (replicas : ℕ) (records : Records) (next : Next)
+    (fault : Option Fault) → fault_of kind (operate next ∷ records) ≡ fault
+    → records_after kind replicas records (operate next) ≡ operate next ∷ records
+    → ReplySays kind replicas records (operate next) (option_map_or no_at fault (reply.Ok (label_count records)))
+operation_says kind replicas records next None is after = (refl, after, is, (next.by, next.op, next.clock, refl))
+operation_says kind replicas records next (Some fault) is after = ap (fault_of kind) after ∙ is
 
 -- the answer to an accepted command
 accepted_says : (kind : Kind) (replicas : ℕ) (records : Records) (command : Command) → fault_of kind records ≡ None
@@ -63,7 +63,7 @@ accepted_says : (kind : Kind) (replicas : ℕ) (records : Records) (command : Co
     → records_after kind replicas records command ≡ with_accepted records command
     → ReplySays kind replicas records command (answer_to_accepted kind records command)
 accepted_says kind replicas records (Operate by op clock) none fine after =
-    operation_says kind replicas records by op clock _ refl after
+    operation_says kind replicas records (next_of by op clock) _ refl after
 accepted_says kind replicas records (Deliver to label) none fine after = (after, none, (to, refl))
 accepted_says kind replicas records (Join joined from) none fine after =
     (((joined-exactly replicas records joined from).0 fine).1, after, none, (from, refl))
@@ -133,10 +133,10 @@ records_after_all-append kind replicas records (command ∷ first) then =
     records_after_all-append kind replicas (records_after kind replicas records command) first then
 
 -- where the replica is known, what the command's own form deserves is the first refusal
-pub misfit_refuses : (kind : Kind) (replicas : ℕ) (records : Records) (by : ℕ) (op : Op) (clock : Option ℕ)
-    (why : Refusal) → by < replica_count replicas records → misfit_of kind (Operate by op clock) ≡ Some why
-    → refusal_of kind replicas records (Operate by op clock) ≡ Some why
-misfit_refuses kind replicas records by op clock why below is = rw (lt-ltb by (replica_count replicas records) below, is)
+pub misfit_refuses : (kind : Kind) (replicas : ℕ) (records : Records) (next : Next)
+    (why : Refusal) → next.by < replica_count replicas records → misfit_of kind (operate next) ≡ Some why
+    → refusal_of kind replicas records (operate next) ≡ Some why
+misfit_refuses kind replicas records next why below is = rw (lt-ltb next.by (replica_count replicas records) below, is)
 
 -- a reply Ok or Yes is given where some sequence is an RA-linearization of the records that the command leaves
 pub ok_is_evidence : (kind : Kind) (replicas : ℕ) (records : Records) (command : Command) (n : ℕ)

@@ -1,23 +1,23 @@
 -- Updates of an RGA that wait for others, and those that are settled.
-use Rattle.std.proofs.Common.{◌≡◌, ℕ, ◌+◌, ◌≤◌, Bool, true, false, List, [], ◌∷◌, ◌++◌, Option, refl, sym, ap, ◌∙◌, subst, inl, inr, arith, append_assoc}
+use Rattle.std.proofs.Common.{◌≡◌, ℕ, ◌+◌, ◌≤◌, Bool, true, false, List, [], ◌∷◌, ◌++◌, refl, sym, ap, ◌∙◌, subst, inl, inr, arith, append_assoc}
 use Rattle.std.specs.Prelude.{◌↔◌, ◌⊎◌, ◌==◌, Contains, length}
 use Rattle.std.specs.List.{IsDistinct}
 use Rattle.std.proofs.lemmas.Bool.{false≢true, cases_Bool, or_cases, or_left, eqb-true, eq-eqb, false_from_ne_true}
 use Rattle.std.proofs.lemmas.List.{append-nil, length-append}
 use Rattle.std.proofs.lemmas.List.Elements.{Contains-append_left, Contains-append_cases}
 use Rattle.ra_labels.specs.declared.kind.Kind.TheVariants.{Rga}
-use Rattle.ra_labels.specs.declared.operation.Op.{Op}
 use Rattle.ra_labels.specs.declared.operation.Update.{Update}
 use Rattle.ra_labels.specs.declared.operation.Update.TheVariants.{After}
 use Rattle.ra_labels.specs.declared.label.Label.{Label}
-use Rattle.ra_labels.specs.declared.command.Command.TheVariants.{Operate, Deliver, Join}
-use Rattle.ra_labels.specs.Records.{Records, label_count, labels_of, next_label}
+use Rattle.ra_labels.specs.declared.command.Command.TheVariants.{Deliver, Join}
+use Rattle.ra_labels.specs.Records.{Records, label_count, labels_of}
 use Rattle.ra_labels.specs.Rewriting.{updates_of}
 use Rattle.ra_labels.specs.Specification.{state_after, is_admitted}
 use Rattle.ra_labels.specs.Linearization.{updates_admitted}
 use Rattle.ra_labels.specs.NamedOrder.{named_labels, named_sequence}
 use Rattle.ra_labels.specs.Insertion.{updates_among, updates_passing, or_label, Makes}
 use Rattle.ra_labels.specs.Waiting.{is_there, needed_by, OnePutsIn, NoneWaits, OthersWait, AllSettled, IsSettled}
+use Rattle.ra_labels.specs.Situation.{Next, operate, label_of}
 use Rattle.ra_labels.proofs.InLists.{bool_same}
 use Rattle.ra_labels.proofs.Members.{head_or_behind, at_head, behind_head}
 use Rattle.ra_laws.proofs.Ranks.{named_differ, have_one_number}
@@ -280,17 +280,17 @@ settled-join records joined from had settled is_settled = record {
       ∙ sym (ap (is_there (needed_by u)) (passing-join Rga records joined from settled));
 }
 
-pub settled-operation : (records : Records) (by : ℕ) (op : Op) (clock : Option ℕ) (had settled : ℕ → Bool)
+pub settled-operation : (records : Records) (next : Next) (had settled : ℕ → Bool)
     → had (label_count records) ≡ false → IsSettled records had settled
-    → IsSettled (Operate by op clock ∷ records) had settled
-settled-operation records by op clock had settled new is_settled =
+    → IsSettled (operate next ∷ records) had settled
+settled-operation records next had settled new is_settled =
     let not_yet : settled (label_count records) ≡ false = false_from_ne_true (settled (label_count records))
     (λ it. false≢true (sym new ∙ is_settled.had_them (label_count records) it)) in
-    let same = passing-operation Rga records by op clock settled not_yet in
+    let same = passing-operation Rga records next settled not_yet in
     record {
       had_them = is_settled.had_them;
       where_needed =
-          λ l u there makes had_it. elim (head_or_behind (next_label records by op clock) (labels_of records) l there) [
+          λ l u there makes had_it. elim (head_or_behind (label_of records next) (labels_of records) l there) [
             | inl here ↦ absurd (false≢true (sym new ∙ ap (λ (m : Label). had m.number) here ∙ had_it))
             | inr older ↦ is_settled.where_needed l u older makes had_it ∙ sym (ap (is_there (needed_by u)) same)
           ];

@@ -22,6 +22,7 @@ use Rattle.ra_labels.specs.Answer.{when, first_of, kind_of, is_kind, has_rising_
 use Rattle.ra_labels.specs.Answer.{misfit_of, has_stamp, is_taken, comes_with_taken, gives_taken, refusal_of}
 use Rattle.ra_labels.specs.Answer.{with_accepted, records_after, records_after_all}
 use Rattle.ra_labels.specs.Laws.{IsOwnStamp, HasItsClock, IsFit, EachLabelFits, StampsAreOneLabels}
+use Rattle.ra_labels.specs.Situation.{Next, next_of, operate}
 use Rattle.ra_labels.proofs.Members.{head_or_behind}
 use Rattle.ra_labels.proofs.StampOrder.{stamp_same}
 use Rattle.ra_labels.proofs.SameKind.{same_kind, kind_itself}
@@ -111,25 +112,25 @@ no_unwanted true clock its = refl
 no_unwanted false clock its = ap is_some (its refl)
 
 -- a form that deserves no refusal
-pub fits-exactly : (kind : Kind) (by : ℕ) (op : Op) (clock : Option ℕ)
-    → (misfit_of kind (Operate by op clock) ≡ None)
-    ↔ ((kind_of op ≡ kind) × (has_rising_list op ≡ true) × HasItsClock op clock)
-fits-exactly kind by op clock = (
+pub fits-exactly : (kind : Kind) (next : Next)
+    → (misfit_of kind (operate next) ≡ None)
+    ↔ ((kind_of next.op ≡ kind) × (has_rising_list next.op ≡ true) × HasItsClock next.op next.clock)
+fits-exactly kind next = (
   (λ none.
-      let tests = form-none (not (is_kind kind (kind_of op))) (not (has_rising_list op))
-      (carries_stamp op && not (has_clock clock)) (not (carries_stamp op) && is_some clock) none in (
-        same_kind kind (kind_of op) (not-false (is_kind kind (kind_of op)) tests.0),
-        not-false (has_rising_list op) tests.1,
-        to_clock (carries_stamp op) clock tests.2 tests.3,
+      let tests = form-none (not (is_kind kind (kind_of next.op))) (not (has_rising_list next.op))
+      (carries_stamp next.op && not (has_clock next.clock)) (not (carries_stamp next.op) && is_some next.clock) none in (
+        same_kind kind (kind_of next.op) (not-false (is_kind kind (kind_of next.op)) tests.0),
+        not-false (has_rising_list next.op) tests.1,
+        to_clock (carries_stamp next.op) next.clock tests.2 tests.3,
       )),
   (λ known.
-      let right : is_kind kind (kind_of op) ≡ true = ap (is_kind kind) known.0 ∙ kind_itself kind in
+      let right : is_kind kind (kind_of next.op) ≡ true = ap (is_kind kind) known.0 ∙ kind_itself kind in
       rw (
         right,
         known.1,
-        no_missing (carries_stamp op) clock known.2.0,
+        no_missing (carries_stamp next.op) next.clock known.2.0,
         no_unwanted
-            (carries_stamp op) clock known.2.1,
+            (carries_stamp next.op) next.clock known.2.1,
       )),
 )
 
@@ -162,41 +163,41 @@ all-none true None true id is = absurd (cc (is))
 all-none true None false true is = absurd (cc (is))
 all-none true None false false is = (refl, refl, refl, refl)
 
-module _ (kind : Kind) (replicas : ℕ) (records : Records) (by : ℕ) (op : Op) (clock : Option ℕ) where
-  pub stamp_taken-exactly : (refusal_of kind replicas records (Operate by op clock) ≡ Some StampTaken)
-      ↔ ((by < replica_count replicas records) × (misfit_of kind (Operate by op clock) ≡ None) × (comes_with_taken records by clock ≡ true))
+module _ (kind : Kind) (replicas : ℕ) (records : Records) (next : Next) where
+  pub stamp_taken-exactly : (refusal_of kind replicas records (operate next) ≡ Some StampTaken)
+      ↔ ((next.by < replica_count replicas records) × (misfit_of kind (operate next) ≡ None) × (comes_with_taken records next.by next.clock ≡ true))
   stamp_taken-exactly = (
     (λ refused.
-        let never = form-not_taken (not (is_kind kind (kind_of op))) (not (has_rising_list op))
-        (carries_stamp op && not (has_clock clock)) (not (carries_stamp op) && is_some clock) in
-        let tests = all-stamp (nat_lt by (replica_count replicas records)) (misfit_of kind (Operate by op clock))
-        (comes_with_taken records by clock) (gives_taken records op) never.0 refused in
-        (ltb-true by (replica_count replicas records) tests.0, tests.1, tests.2)),
-    (λ known. rw (lt-ltb by (replica_count replicas records) known.0, known.1, known.2)),
+        let never = form-not_taken (not (is_kind kind (kind_of next.op))) (not (has_rising_list next.op))
+        (carries_stamp next.op && not (has_clock next.clock)) (not (carries_stamp next.op) && is_some next.clock) in
+        let tests = all-stamp (nat_lt next.by (replica_count replicas records)) (misfit_of kind (operate next))
+        (comes_with_taken records next.by next.clock) (gives_taken records next.op) never.0 refused in
+        (ltb-true next.by (replica_count replicas records) tests.0, tests.1, tests.2)),
+    (λ known. rw (lt-ltb next.by (replica_count replicas records) known.0, known.1, known.2)),
   )
 
-  pub id_taken-exactly : (refusal_of kind replicas records (Operate by op clock) ≡ Some IdTaken)
-      ↔ ((by < replica_count replicas records) × (misfit_of kind (Operate by op clock) ≡ None) × (comes_with_taken records by clock ≡ false)
-      × (gives_taken records op ≡ true))
+  pub id_taken-exactly : (refusal_of kind replicas records (operate next) ≡ Some IdTaken)
+      ↔ ((next.by < replica_count replicas records) × (misfit_of kind (operate next) ≡ None) × (comes_with_taken records next.by next.clock ≡ false)
+      × (gives_taken records next.op ≡ true))
   id_taken-exactly = (
     (λ refused.
-        let never = form-not_taken (not (is_kind kind (kind_of op))) (not (has_rising_list op))
-        (carries_stamp op && not (has_clock clock)) (not (carries_stamp op) && is_some clock) in
-        let tests = all-id (nat_lt by (replica_count replicas records)) (misfit_of kind (Operate by op clock))
-        (comes_with_taken records by clock) (gives_taken records op) never.1 refused in
-        (ltb-true by (replica_count replicas records) tests.0, tests.1, tests.2, tests.3)),
-    (λ known. rw (lt-ltb by (replica_count replicas records) known.0, known.1, known.2, known.3)),
+        let never = form-not_taken (not (is_kind kind (kind_of next.op))) (not (has_rising_list next.op))
+        (carries_stamp next.op && not (has_clock next.clock)) (not (carries_stamp next.op) && is_some next.clock) in
+        let tests = all-id (nat_lt next.by (replica_count replicas records)) (misfit_of kind (operate next))
+        (comes_with_taken records next.by next.clock) (gives_taken records next.op) never.1 refused in
+        (ltb-true next.by (replica_count replicas records) tests.0, tests.1, tests.2, tests.3)),
+    (λ known. rw (lt-ltb next.by (replica_count replicas records) known.0, known.1, known.2, known.3)),
   )
 
-  pub operated-exactly : (refusal_of kind replicas records (Operate by op clock) ≡ None)
-      ↔ ((by < replica_count replicas records) × (misfit_of kind (Operate by op clock) ≡ None) × (comes_with_taken records by clock ≡ false)
-      × (gives_taken records op ≡ false))
+  pub operated-exactly : (refusal_of kind replicas records (operate next) ≡ None)
+      ↔ ((next.by < replica_count replicas records) × (misfit_of kind (operate next) ≡ None) × (comes_with_taken records next.by next.clock ≡ false)
+      × (gives_taken records next.op ≡ false))
   operated-exactly = (
     (λ accepted.
-        let tests = all-none (nat_lt by (replica_count replicas records)) (misfit_of kind (Operate by op clock))
-        (comes_with_taken records by clock) (gives_taken records op) accepted in
-        (ltb-true by (replica_count replicas records) tests.0, tests.1, tests.2, tests.3)),
-    (λ known. rw (lt-ltb by (replica_count replicas records) known.0, known.1, known.2, known.3)),
+        let tests = all-none (nat_lt next.by (replica_count replicas records)) (misfit_of kind (operate next))
+        (comes_with_taken records next.by next.clock) (gives_taken records next.op) accepted in
+        (ltb-true next.by (replica_count replicas records) tests.0, tests.1, tests.2, tests.3)),
+    (λ known. rw (lt-ltb next.by (replica_count replicas records) known.0, known.1, known.2, known.3)),
   )
 
 -- a property of the records that each command which is accepted keeps
@@ -228,8 +229,8 @@ fits_accepted : (kind : Kind) (replicas : ℕ) (records : Records) (command : Co
 fits_accepted kind replicas records (Operate by op clock) accepted each label there =
     elim (head_or_behind (next_label records by op clock) (labels_of records) label there) [
       | inl here ↦
-          let known = (operated-exactly kind replicas records by op clock).0 accepted in
-          let form = (fits-exactly kind by op clock).0 known.1 in
+          let known = (operated-exactly kind replicas records (next_of by op clock)).0 accepted in
+          let form = (fits-exactly kind (next_of by op clock)).0 known.1 in
           subst (IsFit kind (replica_count replicas records)) here
           (record { of_kind = form.0; list = form.1; replica = known.0; stamp = (clock, form.2, refl) })
       | inr further ↦ each label further
@@ -281,7 +282,7 @@ once_accepted : (kind : Kind) (replicas : ℕ) (records : Records) (command : Co
     → refusal_of kind replicas records command ≡ None → StampsAreOneLabels records
     → StampsAreOneLabels (with_accepted records command)
 once_accepted kind replicas records (Operate by op clock) accepted once =
-    let free = ((operated-exactly kind replicas records by op clock).0 accepted).2 in
+    let free = ((operated-exactly kind replicas records (next_of by op clock)).0 accepted).2 in
     once_behind Stamp (λ label stamp. label.stamp ≡ Some stamp) (next_label records by op clock) (labels_of records)
     (λ stamp own other there is. newly_given records by op clock other stamp free own there is) once
 once_accepted kind replicas records (Deliver to n) accepted once = once

@@ -5,7 +5,6 @@ use Rattle.std.specs.Option.{option_map_or}
 use Rattle.std.specs.Ordering.{is_lt}
 use Rattle.std.proofs.lemmas.Bool.{cases_Bool, cases_order, cases_lt, cond-true, cond-false, cond_both, ne_eqb}
 use Rattle.std.proofs.lemmas.Option.{none-some}
-use Rattle.ra_labels.specs.declared.operation.Op.{Op}
 use Rattle.ra_labels.specs.declared.label.Stamp.{Stamp}
 use Rattle.ra_labels.specs.declared.label.Label.{Label}
 use Rattle.ra_labels.specs.declared.command.Command.TheVariants.{Operate}
@@ -13,6 +12,7 @@ use Rattle.ra_labels.specs.Records.{Records, label_count, labels_of}
 use Rattle.ra_labels.specs.Visibility.{sees, had}
 use Rattle.ra_labels.specs.NamedOrder.{lowest_rank, stamp_cmp, greater_of, greatest_stamp, timestamp_of}
 use Rattle.ra_labels.specs.Laws.{IsStampBelow, SeesStamp}
+use Rattle.ra_labels.specs.Situation.{Next, next_of, operate}
 use Rattle.ra_labels.proofs.Members.{head_or_behind, kept-there, there-kept}
 use Rattle.ra_labels.proofs.StampOrder.{below_tested, not_below_tested, not_below_itself, not_both_below}
 use Rattle.ra_laws.proofs.LabelNumbers.{label_count-append}
@@ -195,17 +195,17 @@ filter_as p q (label ∷ labels) same =
     ap (λ b. cond b (label ∷ filter p labels) (filter p labels)) (same label)
     ∙ ap (λ rest. cond (q label) (label ∷ rest) rest) (filter_as p q labels same)
 
-seen_by-next : (before : Records) (by : ℕ) (op : Op) (clock : Option ℕ) (label : Label)
-    → label.number < label_count before → seen_by (Operate by op clock ∷ before) label ≡ seen_by before label
-seen_by-next before by op clock label below =
+seen_by-next : (before : Records) (next : Next) (label : Label)
+    → label.number < label_count before → seen_by (operate next ∷ before) label ≡ seen_by before label
+seen_by-next before next label below =
     let other : label.number ≡ label_count before → ⊥ = λ is. absurd (omega arith) in
-    let same : (m : Label) → sees (Operate by op clock ∷ before) label.number m.number
+    let same : (m : Label) → sees (operate next ∷ before) label.number m.number
     ≡ sees before label.number m.number =
     λ m. cond-false (eqb label.number (label_count before)) _ _ (ne_eqb _ _ other) in
-    cond-false (sees (Operate by op clock ∷ before) label.number (label_count before)) _ _
-    (cond-false (eqb label.number (label_count before)) (had before by (label_count before))
+    cond-false (sees (operate next ∷ before) label.number (label_count before)) _ _
+    (cond-false (eqb label.number (label_count before)) (had before next.by (label_count before))
     (sees before label.number (label_count before)) (ne_eqb _ _ other) ∙ sees-next before label.number)
-    ∙ filter_as (λ m. sees (Operate by op clock ∷ before) label.number m.number)
+    ∙ filter_as (λ m. sees (operate next ∷ before) label.number m.number)
     (λ m. sees before label.number m.number) (labels_of before) same
 
 pub timestamp-append : (later records : Records) (label : Label) → label.number < label_count records
@@ -214,6 +214,6 @@ timestamp-append [] records label below = refl
 timestamp-append (Operate by op clock ∷ later) records label below =
     let grows = label_count-append later records in
     ap (λ seen. unwrap_or label.stamp (greatest_stamp seen))
-    (seen_by-next (later ++ records) by op clock label (omega (arith, grows, below)))
+    (seen_by-next (later ++ records) (next_of by op clock) label (omega (arith, grows, below)))
     ∙ timestamp-append later records label below
 timestamp-append (_ ∷ later) records label below = timestamp-append later records label below

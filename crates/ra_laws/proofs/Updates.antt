@@ -11,25 +11,26 @@ use Rattle.ra_labels.specs.Records.{Records, label_count, labels_of}
 use Rattle.ra_labels.specs.Visibility.{is_update, is_update_at, had, sees}
 use Rattle.ra_labels.specs.Places.{issuer_of, updates_issued, place_of}
 use Rattle.ra_labels.specs.Laws.{IsUpdateOf}
+use Rattle.ra_labels.specs.Situation.{Next, next_of, operate}
 use Rattle.ra_laws.proofs.LabelNumbers.{label_count-append, label_at-append, label_at-operation}
 use Rattle.ra_laws.proofs.SeenLabels.{is_update_at-append, is_update_at-below, sees-append}
 
 -- the newest operation
-pub issuer_of-operation : (later before : Records) (by : ℕ) (op : Op) (clock : Option ℕ)
-    → issuer_of (later ++ Operate by op clock ∷ before) (label_count before) ≡ by
-issuer_of-operation later before by op clock =
-    ap (λ label. option_map_or (λ (l : Label). l.replica) label 0) (label_at-operation later before by op clock)
+pub issuer_of-operation : (later before : Records) (next : Next)
+    → issuer_of (later ++ operate next ∷ before) (label_count before) ≡ next.by
+issuer_of-operation later before next =
+    ap (λ label. option_map_or (λ (l : Label). l.replica) label 0) (label_at-operation later before next)
 
 issuer-newest : (before : Records) (by n : ℕ) (op : Op) (clock : Option ℕ) → n ≡ label_count before
     → issuer_of (Operate by op clock ∷ before) n ≡ by
 issuer-newest before by n op clock here =
-    ap (issuer_of (Operate by op clock ∷ before)) here ∙ issuer_of-operation [] before by op clock
+    ap (issuer_of (Operate by op clock ∷ before)) here ∙ issuer_of-operation [] before (next_of by op clock)
 
 update-newest : (before : Records) (by n : ℕ) (op : Op) (clock : Option ℕ) → n ≡ label_count before
     → is_update_at (Operate by op clock ∷ before) n ≡ is_update op
 update-newest before by n op clock here =
     ap (is_update_at (Operate by op clock ∷ before)) here
-    ∙ ap (λ label. option_map_or (λ (l : Label). is_update l.op) label false) (label_at-operation [] before by op clock)
+    ∙ ap (λ label. option_map_or (λ (l : Label). is_update l.op) label false) (label_at-operation [] before (next_of by op clock))
 
 place-newest : (before : Records) (by n : ℕ) (op : Op) (clock : Option ℕ) → n ≡ label_count before
     → place_of (Operate by op clock ∷ before) n ≡ updates_issued before by
@@ -50,11 +51,11 @@ place_of-append (Operate by op clock ∷ later) records n below =
     cond-false (eqb n (label_count (later ++ records))) _ _ (ne_eqb _ _ other) ∙ place_of-append later records n below
 place_of-append (_ ∷ later) records n below = place_of-append later records n below
 
-pub place_of-operation : (later before : Records) (by : ℕ) (op : Op) (clock : Option ℕ)
-    → place_of (later ++ Operate by op clock ∷ before) (label_count before) ≡ updates_issued before by
-place_of-operation later before by op clock =
-    place_of-append later (Operate by op clock ∷ before) (label_count before) (omega arith)
-    ∙ place-newest before by (label_count before) op clock refl
+pub place_of-operation : (later before : Records) (next : Next)
+    → place_of (later ++ operate next ∷ before) (label_count before) ≡ updates_issued before next.by
+place_of-operation later before next =
+    place_of-append later (operate next ∷ before) (label_count before) (omega arith)
+    ∙ place-newest before next.by (label_count before) next.op next.clock refl
 
 -- how many updates a replica issued, one operation later
 pub updates-more : (before : Records) (by replica : ℕ) (op : Op) (clock : Option ℕ)
@@ -86,58 +87,58 @@ IsNewest before by op replica n = (n ≡ label_count before) × (is_update op �
 abbrev pub WasThere : Records → ℕ → ℕ → Type 0
 WasThere before replica n = (n < label_count before) × IsUpdateOf before replica n
 
-pub newest_or_older : (before : Records) (by : ℕ) (op : Op) (clock : Option ℕ) (replica n : ℕ)
-    → IsUpdateOf (Operate by op clock ∷ before) replica n → IsNewest before by op replica n ⊎ WasThere before replica n
-newest_or_older before by op clock replica n is = elim (cases_lt n (label_count before)) [
+pub newest_or_older : (before : Records) (next : Next) (replica n : ℕ)
+    → IsUpdateOf (operate next ∷ before) replica n → IsNewest before next.by next.op replica n ⊎ WasThere before replica n
+newest_or_older before next replica n is = elim (cases_lt n (label_count before)) [
   | inl below ↦
       inr (
         below,
         (
-          sym (is_update_at-append (Operate by op clock ∷ []) before n below)
+          sym (is_update_at-append (operate next ∷ []) before n below)
               ∙ is.0,
-          sym (issuer_of-append (Operate by op clock ∷ []) before n below) ∙ is.1,
+          sym (issuer_of-append (operate next ∷ []) before n below) ∙ is.1,
         ),
       )
   | inr above ↦
-      let there = is_update_at-below (Operate by op clock ∷ before) n is.0 in
+      let there = is_update_at-below (operate next ∷ before) n is.0 in
       let here : n ≡ label_count before = omega (arith, there) in
       inl (
         here,
-        sym (update-newest before by n op clock here)
+        sym (update-newest before next.by n next.op next.clock here)
             ∙ is.0,
-        sym (issuer-newest before by n op clock here) ∙ is.1,
+        sym (issuer-newest before next.by n next.op next.clock here) ∙ is.1,
       )
 ]
 
 -- what was there still is
-later_too : (before : Records) (by : ℕ) (op : Op) (clock : Option ℕ) (replica n : ℕ) → IsUpdateOf before replica n
-    → IsUpdateOf (Operate by op clock ∷ before) replica n
-later_too before by op clock replica n is =
+later_too : (before : Records) (next : Next) (replica n : ℕ) → IsUpdateOf before replica n
+    → IsUpdateOf (operate next ∷ before) replica n
+later_too before next replica n is =
     let below = is_update_at-below before n is.0 in (
-      is_update_at-append (Operate by op clock ∷ []) before n below
+      is_update_at-append (operate next ∷ []) before n below
           ∙ is.0,
-      issuer_of-append (Operate by op clock ∷ []) before n below ∙ is.1,
+      issuer_of-append (operate next ∷ []) before n below ∙ is.1,
     )
 
-pub place-older : (before : Records) (by : ℕ) (op : Op) (clock : Option ℕ) (n : ℕ) → n < label_count before
-    → place_of (Operate by op clock ∷ before) n ≡ place_of before n
-place-older before by op clock n below = place_of-append (Operate by op clock ∷ []) before n below
+pub place-older : (before : Records) (next : Next) (n : ℕ) → n < label_count before
+    → place_of (operate next ∷ before) n ≡ place_of before n
+place-older before next n below = place_of-append (operate next ∷ []) before n below
 
-pub place-here : (before : Records) (by : ℕ) (op : Op) (clock : Option ℕ) (replica n : ℕ)
-    → IsNewest before by op replica n → place_of (Operate by op clock ∷ before) n ≡ updates_issued before replica
-place-here before by op clock replica n new = place-newest before by n op clock new.0 ∙ ap (updates_issued before) new.2
+pub place-here : (before : Records) (next : Next) (replica n : ℕ)
+    → IsNewest before next.by next.op replica n → place_of (operate next ∷ before) n ≡ updates_issued before replica
+place-here before next replica n new = place-newest before next.by n next.op next.clock new.0 ∙ ap (updates_issued before) new.2
 
 -- an update's place is below the number of its replica's updates
 pub place-below : (records : Records) (replica n : ℕ) → IsUpdateOf records replica n
     → place_of records n < updates_issued records replica
 place-below [] replica n is = absurd (false≢true is.0)
-place-below (Operate by op clock ∷ before) replica n is = elim (newest_or_older before by op clock replica n is) [
+place-below (Operate by op clock ∷ before) replica n is = elim (newest_or_older before (next_of by op clock) replica n is) [
   | inl new ↦ omega
-      (arith, place-here before by op clock replica n new, updates-one_more before by replica op clock new.2 new.1)
+      (arith, place-here before (next_of by op clock) replica n new, updates-one_more before by replica op clock new.2 new.1)
   | inr old ↦
       omega (
         arith,
-        place-older before by op clock n old.0,
+        place-older before (next_of by op clock) n old.0,
         place-below before replica n old.1,
         updates-more before
             by replica op clock,
@@ -150,31 +151,31 @@ pub place-only : (records : Records) (replica n m : ℕ) → IsUpdateOf records 
     → place_of records n ≡ place_of records m → n ≡ m
 place-only [] replica n m is also same = absurd (false≢true is.0)
 place-only (Operate by op clock ∷ before) replica n m is also same =
-    elim (newest_or_older before by op clock replica n is) [
-      | inl new ↦ elim (newest_or_older before by op clock replica m also) [
+    elim (newest_or_older before (next_of by op clock) replica n is) [
+      | inl new ↦ elim (newest_or_older before (next_of by op clock) replica m also) [
         | inl newer ↦ new.0 ∙ sym newer.0
         | inr older ↦
             absurd (omega (
               arith,
               same,
-              place-here before by op clock replica n new,
-              place-older before by op clock m older.0,
+              place-here before (next_of by op clock) replica n new,
+              place-older before (next_of by op clock) m older.0,
               place-below
                   before replica m older.1,
             ))
       ]
-      | inr old ↦ elim (newest_or_older before by op clock replica m also) [
+      | inr old ↦ elim (newest_or_older before (next_of by op clock) replica m also) [
         | inl newer ↦
             absurd (omega (
               arith,
               same,
-              place-here before by op clock replica m newer,
-              place-older before by op clock n old.0,
+              place-here before (next_of by op clock) replica m newer,
+              place-older before (next_of by op clock) n old.0,
               place-below
                   before replica n old.1,
             ))
         | inr older ↦ place-only before replica n m old.1 older.1
-            (sym (place-older before by op clock n old.0) ∙ same ∙ place-older before by op clock m older.0)
+            (sym (place-older before (next_of by op clock) n old.0) ∙ same ∙ place-older before (next_of by op clock) m older.0)
       ]
     ]
 place-only (_ ∷ before) replica n m is also same = place-only before replica n m is also same
@@ -187,8 +188,8 @@ place-there (Operate by op clock ∷ before) replica k below = elim (cases_lt k 
   | inl older ↦
       let known = place-there before replica k older in (
         known.0,
-        later_too before by op clock replica known.0 known.1,
-        place-older before by op clock known.0
+        later_too before (next_of by op clock) replica known.0 known.1,
+        place-older before (next_of by op clock) known.0
             (is_update_at-below before known.0 known.1.0) ∙ known.2,
       )
   | inr above ↦ elim (cases_Bool (by == replica && is_update op)) [
@@ -204,7 +205,7 @@ place-there (Operate by op clock ∷ before) replica k below = elim (cases_lt k 
             issuer-newest before by n op clock refl
                 ∙ same,
           ),
-          place-here before by op clock replica n (refl, parts.1, same) ∙ sym here,
+          place-here before (next_of by op clock) replica n (refl, parts.1, same) ∙ sym here,
         )
     | inr foreign ↦
         let kept : updates_issued (Operate by op clock ∷ before) replica ≡ updates_issued before replica =
@@ -217,7 +218,7 @@ place-there (_ ∷ before) replica k below = place-there before replica k below
 -- a replica had its own updates
 pub had-own : (records : Records) (replica n : ℕ) → IsUpdateOf records replica n → had records replica n ≡ true
 had-own [] replica n is = absurd (false≢true is.0)
-had-own (Operate by op clock ∷ before) replica n is = elim (newest_or_older before by op clock replica n is) [
+had-own (Operate by op clock ∷ before) replica n is = elim (newest_or_older before (next_of by op clock) replica n is) [
   | inl new ↦
       let place = and_from (by == replica) (n == label_count before) (eq-eqb by replica new.2)
       (eq-eqb n (label_count before) new.0) in
@@ -233,30 +234,30 @@ pub sees-own : (records : Records) (replica n m : ℕ) → IsUpdateOf records re
     → place_of records m < place_of records n → sees records n m ≡ true
 sees-own [] replica n m is also before = absurd (false≢true is.0)
 sees-own (Operate by op clock ∷ before) replica n m is also first =
-    elim (newest_or_older before by op clock replica n is) [
-      | inl new ↦ elim (newest_or_older before by op clock replica m also) [
+    elim (newest_or_older before (next_of by op clock) replica n is) [
+      | inl new ↦ elim (newest_or_older before (next_of by op clock) replica m also) [
         | inl newer ↦
             absurd (omega
-            (arith, first, place-here before by op clock replica n new, place-here before by op clock replica m newer))
+            (arith, first, place-here before (next_of by op clock) replica n new, place-here before (next_of by op clock) replica m newer))
         | inr older ↦
             cond-true (eqb n (label_count before)) (had before by m) (sees before n m)
             (eq-eqb n (label_count before) new.0)
             ∙ subst (λ r. had before r m ≡ true) (sym new.2) (had-own before replica m older.1)
       ]
-      | inr old ↦ elim (newest_or_older before by op clock replica m also) [
+      | inr old ↦ elim (newest_or_older before (next_of by op clock) replica m also) [
         | inl newer ↦
             absurd (omega (
               arith,
               first,
-              place-here before by op clock replica m newer,
-              place-older before by op clock n
+              place-here before (next_of by op clock) replica m newer,
+              place-older before (next_of by op clock) n
                   old.0,
               place-below before replica n old.1,
             ))
         | inr older ↦
             sees-append (Operate by op clock ∷ []) before n m old.0
             ∙ sees-own before replica n m old.1 older.1
-            (omega (arith, first, place-older before by op clock n old.0, place-older before by op clock m older.0))
+            (omega (arith, first, place-older before (next_of by op clock) n old.0, place-older before (next_of by op clock) m older.0))
       ]
     ]
 sees-own (_ ∷ before) replica n m is also first = sees-own before replica n m is also first

@@ -37,7 +37,7 @@ carries_none (op.RgaRead list) given e = refl
 pub no_clock : (kind : Kind) (next : Next) (given : ℕ) → misfit_of kind (operate next) ≡ None
     → identifier_of next.op ≡ Some given → next.clock ≡ None
 no_clock kind next given fits gives =
-    ((forms_that_deserve_no_refusal kind next.by next.op next.clock).0 fits).2.1 (carries_none next.op given gives)
+    ((forms_that_deserve_no_refusal kind next).0 fits).2.1 (carries_none next.op given gives)
 
 -- a stamp was brought exactly where the label has it
 stamps_brought : (records : Records) (by : ℕ) (op : Op) (clock gives : Option ℕ) (stamp : Stamp)

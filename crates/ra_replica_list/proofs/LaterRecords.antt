@@ -79,7 +79,7 @@ unfolding known_other
 query-stays list all edits records replica next stand held query = (
   known_other next None (had (operate next ∷ records) replica) stand held (had_updates-next records replica)
       (had_no_query records next replica query),
-  ap length (a_later_command_leaves_the_updates_that_pass-operation Rga records next.by next.op next.clock held.settled
+  ap length (a_later_command_leaves_the_updates_that_pass-operation Rga records next held.settled
       (not_settled held.kept (label_count records) (had_updates-next records replica))),
 )
 

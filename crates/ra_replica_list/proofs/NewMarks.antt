@@ -90,11 +90,11 @@ module _ {state : State} {marks : List Bool} {waiting : List (ℕ × List ℕ)} 
       → IsListWith state marks waiting later (edits ++ d ∷ []) (operate next ∷ records) test settled
   kept_known later d next kept new counted longer needs =
       let now = operate next ∷ records in
-      let same = a_later_command_leaves_the_updates_that_pass-operation Rga records next.by next.op next.clock settled
+      let same = a_later_command_leaves_the_updates_that_pass-operation Rga records next settled
       (not_settled kept (label_count records) new) in
       record {
         settles =
-            settled_labels_stay_settled-operation records next.by next.op next.clock test settled new kept.settles;
+            settled_labels_stay_settled-operation records next test settled new kept.settles;
         after = ap (state_after Rga) same ∙ kept.after;
         there = record {
           there = λ number known. elim (cases_lt number (length arrivals)) [

@@ -35,7 +35,7 @@ pub newest_is_last : (records : Records) (next : Next) (u : Update) → Makes ne
 newest_is_last records next u makes extended =
     let now = operate next ∷ records in
     let label = label_of records next in
-    let (before, behind, was, is) = a_new_label_leaves_the_order_of_the_others Rga records next.by next.op next.clock in
+    let (before, behind, was, is) = a_new_label_leaves_the_order_of_the_others Rga records next in
     let round : named_sequence Rga now ≡ flat_map parts_of before ++ (parts_of label ++ flat_map parts_of behind) =
     ap (flat_map parts_of) is ∙ flat_map-append parts_of before (label ∷ behind) in
     let all : extends (must_precede now) (flat_map parts_of before ++ (parts_of label ++ flat_map parts_of behind))

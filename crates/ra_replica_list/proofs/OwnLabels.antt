@@ -56,9 +56,9 @@ pub owned : {list : ReplicaList} {old_arrivals arrivals : List Arrival} {old_edi
 owned {records = records} next u later was steps makes after top =
     let now = operate next ∷ records in
     let same : (m : ℕ) → or_label (had records next.by) (label_count records) m ≡ had now next.by m = λ m.
-    sym (a_replica_had_one_more-operation records next.by next.op next.clock m
+    sym (a_replica_had_one_more-operation records next m
     ((an_operation_makes_one_update-exactly next.op).1 (u, makes))) in
-    let older = a_later_command_leaves_the_updates_that_pass-operation Rga records next.by next.op next.clock
+    let older = a_later_command_leaves_the_updates_that_pass-operation Rga records next
     was.settled
     (not_settled was.kept (label_count records) (had_updates-next records next.by)) in (
       record {

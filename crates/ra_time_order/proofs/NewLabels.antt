@@ -83,8 +83,7 @@ put_stands order after past next seen p stands comes is entries stamps =
     let named = named_labels past.kind past.records in
     let new_entry : Label → Entry = entry_of past.kind now in
     let rank = its_rank order past next seen stands comes in
-    let free = (operations_are_accepted_where_nothing_is_taken past.kind past.founders past.records next.by next.op
-    next.clock).0 comes.accepted in
+    let free = (operations_are_accepted_where_nothing_is_taken past.kind past.founders past.records next).0 comes.accepted in
     let kept : map (entry_of past.kind past.records) named ≡ map new_entry named =
     map_same (entry_of past.kind past.records) new_entry named
     (All-weaker (Contains named) (λ l. entry_of past.kind past.records l ≡ new_entry l)
@@ -108,7 +107,7 @@ put_stands order after past next seen p stands comes is entries stamps =
           (omega (arith, free.0, stands.stamps.replicas)));
       stamped = λ l stamp found has. elim (head_or_behind x (labels_of past.records) l found) [
         | inl newest ↦
-            let fits = (forms_that_deserve_no_refusal past.kind next.by next.op next.clock).0 free.1 in
+            let fits = (forms_that_deserve_no_refusal past.kind next).0 free.1 in
             let carries = stamp_carries past.records next.by next.op next.clock stamp fits.2.1
             (ap (λ (m : Label). m.stamp) newest ∙ has) in
             sym (ap (λ (m : Label). is_update m.op) newest) ∙ carrier_updates next.op carries

@@ -11,7 +11,7 @@ use Rattle.ra_labels.specs.declared.command.Command.TheVariants.{Operate}
 use Rattle.ra_labels.specs.Records.{label_count, label_at, next_label}
 use Rattle.ra_labels.specs.Visibility.{had, sees, is_update, is_update_at}
 use Rattle.ra_labels.specs.Places.{issuer_of, place_of, updates_issued}
-use Rattle.ra_labels.specs.Situation.{Past, past_with}
+use Rattle.ra_labels.specs.Situation.{Past, past_with, next_of}
 use Rattle.ra_laws.proofs.TheLaws.{none_had_before_it_joined-operation}
 use Rattle.ra_visibility.specs.declared.row.Row.{Row}
 use Rattle.ra_visibility.specs.Seen.{no_row, is_in}
@@ -184,5 +184,5 @@ stands_issued t by past op clock update kept below stands is =
       issuer = λ n known. issuer_issued t by n past op clock update stands known;
       place = λ n known. place_issued t by n past op clock update below stands known;
       issued = λ q known. updates_with_label t by q past op clock update below stands is (omega (arith, count, known));
-      beyond = none_had_before_it_joined-operation past.founders past.records by op clock (omega (arith, stands.replicas, below)) stands.beyond;
+      beyond = none_had_before_it_joined-operation past.founders past.records (next_of by op clock) (omega (arith, stands.replicas, below)) stands.beyond;
     }

@@ -125,7 +125,7 @@ module _ (all : ElementList) (edits : List (Option Edit)) (records : Records) (a
     decides : AreAdmitted ↔ ((is_there x (updates_of (named_sequence variant.Rga records)) ≡ false)
         × ((anchor ≡ 0) ⊎ WasPutInBelow now own anchor))
     decides =
-        a_new_update_is_admitted_where_a_label_below_it_put_in_what_it_needs-insertion records next.by next.op next.clock
+        a_new_update_is_admitted_where_a_label_below_it_put_in_what_it_needs-insertion records next
         anchor x (makes_after next.op anchor x is) offered.holds.updates
 
     -- the anchor's number and stamp decide
@@ -203,7 +203,7 @@ module _ (all : ElementList) (edits : List (Option Edit)) (records : Records) (a
       -- the removed element is not the root, and was put in by a label below
       decided : AreAdmitted ↔ ((¬ (x ≡ 0)) × WasPutInBelow now own x)
       decided =
-          a_new_update_is_admitted_where_a_label_below_it_put_in_what_it_needs-removal records next.by next.op next.clock
+          a_new_update_is_admitted_where_a_label_below_it_put_in_what_it_needs-removal records next
           x (makes_removal next.op x is) offered.holds.updates
 
       pub removal_admitted : (n : ℕ) → 0 < n → n < length all.arrivals → element_at all.arrivals n ≡ x

@@ -74,7 +74,7 @@ module _ (kind : Kind) (records : Records) (next : Next) where
   before = state_after kind (updates_had kind records next.by)
 
   sees_had : visible_updates now (named_sequence kind now) (label_count records) ≡ updates_had kind records next.by
-  sees_had = a_new_label_leaves_what_the_others_see-own kind records next.by next.op next.clock
+  sees_had = a_new_label_leaves_what_the_others_see-own kind records next
 
   answered_before : (query : Query) → IsAnsweredAfter kind (visible_updates now (named_sequence kind now) (label_count records)) query → answers_in before query ≡ true
   answered_before query (state, led, passes) =
@@ -97,7 +97,7 @@ module _ (kind : Kind) (records : Records) (next : Next) where
   queries_agree : queries_admitted kind records (named_sequence kind records) ≡ true
       → queries_admitted kind now (named_sequence kind now) ≡ list_all (answers_in before) (queries_in (acts_of next.op))
   queries_agree held =
-      let decides = a_new_label_alone_decides-query kind records next.by next.op next.clock held in
+      let decides = a_new_label_alone_decides-query kind records next held in
       bool_same (queries_admitted kind now (named_sequence kind now)) (list_all (answers_in before) (queries_in (acts_of next.op)))
       (λ admitted. from_itself (decides.0 admitted)) (λ pass. decides.1 (to_itself pass))
 
@@ -154,7 +154,7 @@ pub still_admitted : (kind : Kind) (records : Records) (next : Next) → ¬ (kin
     → is_kind kind (kind_of next.op) ≡ true → updates_admitted kind (named_sequence kind (operate next ∷ records)) ≡ true
 still_admitted kind records next not_rga holds of_kind =
     let label = label_of records next in
-    let (before, behind, was, is) = a_new_label_leaves_the_order_of_the_others kind records next.by next.op next.clock in
+    let (before, behind, was, is) = a_new_label_leaves_the_order_of_the_others kind records next in
     let all = updates_of_the_kind_are_admitted-only kind (updates_by (named_labels kind records)) holds.updates in
     let two = and_parts (are_of kind (updates_by before)) (are_of kind (updates_by behind)) (sym (ap (λ ls. are_of kind (updates_by ls)) was ∙ are_of-both kind before behind) ∙ all) in
     let own : are_of kind (updates_by (label ∷ [])) ≡ true =

@@ -39,16 +39,16 @@ asks_only_rising (op.RgaRead list) rising = refl
 
 module _ (past : Past) (next : Next) (label : Label) (offered : IsOffered past next label) where
   pub of_its_kind : kind_of next.op ≡ past.kind
-  of_its_kind = ((forms_that_deserve_no_refusal past.kind next.by next.op next.clock).0 offered.form).0
+  of_its_kind = ((forms_that_deserve_no_refusal past.kind next).0 offered.form).0
 
   pub is_of_kind : is_kind past.kind (kind_of next.op) ≡ true
   is_of_kind = ap (is_kind past.kind) of_its_kind ∙ kind_itself past.kind
 
   pub rising : list_all asks_rising (queries_in (acts_of next.op)) ≡ true
-  rising = asks_only_rising next.op ((forms_that_deserve_no_refusal past.kind next.by next.op next.clock).0 offered.form).1
+  rising = asks_only_rising next.op ((forms_that_deserve_no_refusal past.kind next).0 offered.form).1
 
   pub its_clock : HasItsClock next.op next.clock
-  its_clock = ((forms_that_deserve_no_refusal past.kind next.by next.op next.clock).0 offered.form).2
+  its_clock = ((forms_that_deserve_no_refusal past.kind next).0 offered.form).2
 
   pub its_replica : label.replica ≡ next.by
   its_replica = ap (λ (l : Label). l.replica) offered.becomes

@@ -156,6 +156,6 @@ module _ (all grown : ElementList) (edits : List (Option Edit)) (records : Recor
     once = once_more;
     listed =
         let (list, led) = list_after now admitted in
-        let put = a_new_label_in_the_list_of_all-insertion records next.by next.op next.clock (element_at all.arrivals m) x are.listed.0 list below makes are.listed.1 led not_below_root others_stand in
+        let put = a_new_label_in_the_list_of_all-insertion records next (element_at all.arrivals m) x are.listed.0 list below makes are.listed.1 led not_below_root others_stand in
         (list, led, ap elements_in put ∙ sym (elements below are.listed.0 below_by_stamp are.listed.2));
   }

@@ -147,7 +147,7 @@ adds_nothing all edits records next are asks = record {
   once = are.once;
   listed = (
     are.listed.0,
-    ap (state_after variant.Rga) (an_operation_puts_its_update_among_all-query variant.Rga records next.by next.op next.clock asks) ∙ are.listed.1,
+    ap (state_after variant.Rga) (an_operation_puts_its_update_among_all-query variant.Rga records next asks) ∙ are.listed.1,
     are.listed.2,
   );
 }
@@ -187,6 +187,6 @@ adds_removal all edits records next number are removes within unclocked admitted
   once = are.once;
   listed =
       let (list, led) = list_after (operate next ∷ records) admitted in
-      let hidden = a_new_label_in_the_list_of_all-removal records next.by next.op next.clock (element_at all.arrivals number) are.listed.0 list removes are.listed.1 led in
+      let hidden = a_new_label_in_the_list_of_all-removal records next (element_at all.arrivals number) are.listed.0 list removes are.listed.1 led in
       (list, led, ap elements_in hidden ∙ elements_stay (element_at all.arrivals number) are.listed.0 ∙ are.listed.2);
 }

@@ -66,7 +66,7 @@ pub own-last : (kind : Kind) (records : Records) (next : Next) (update : Update)
 own-last kind records next update makes extended =
     let now = operate next ∷ records in
     let label = label_of records next in
-    let (before, behind, was, is, had_was, had_is) = an_operation_puts_its_update_in-own kind records next.by next.op next.clock update makes in
+    let (before, behind, was, is, had_was, had_is) = an_operation_puts_its_update_in-own kind records next update makes in
     let round : named_sequence kind now ≡ flat_map parts_of before ++ (parts_of label ++ flat_map parts_of behind) =
     ap (flat_map parts_of) is ∙ parts_round before behind label in
     let all : extends (must_precede now) (flat_map parts_of before ++ (parts_of label ++ flat_map parts_of behind)) ≡ true =

@@ -108,7 +108,7 @@ module _ {O : Type 0} (stands_for : O → Past → Type 0) where
       → IsWitnessOf stands_for w past → ComesNext past next label seen → IsPlaceOf past.kind past.records next place
       → place.fits ≡ true → label_count past.records < MOST_LABELS → IsOffered past next label
   is_offered w past next label seen place stands comes is fits few =
-      let free = (operations_are_accepted_where_nothing_is_taken past.kind past.founders past.records next.by next.op next.clock).0 comes.accepted in
+      let free = (operations_are_accepted_where_nothing_is_taken past.kind past.founders past.records next).0 comes.accepted in
       record {
         holds = no_fault_holds past.kind past.records stands.none;
         replica = free.0;

@@ -74,7 +74,7 @@ module _ (updates : List (Option Update)) (states : List State) (past : Past)
       → let now = operate next ∷ past.records in extends_visibility now (named_sequence past.kind now) ≡ true → (o : Option Update) → update_in next.op ≡ o
       → state_after past.kind (updates_had past.kind now next.by) ≡ Some (after_step (state_at states next.by) o)
   own_state next not_rga there of_kind extended None is =
-      ap (state_after past.kind) (an_operation_puts_its_update_in-query past.kind past.records next.by next.op next.clock (makes_none next.op is)) ∙ kept.folded next.by there
+      ap (state_after past.kind) (an_operation_puts_its_update_in-query past.kind past.records next (makes_none next.op is)) ∙ kept.folded next.by there
   own_state next not_rga there of_kind extended (Some u) is =
       let makes = makes_it next.op u is in
       let led = kept.folded next.by there in
@@ -95,7 +95,7 @@ module _ (updates : List (Option Update)) (states : List State) (past : Past)
           | inl same ↦ subst (λ r. state_after past.kind (updates_had past.kind now r) ≡ Some (state_at (states_after states next.by o) r)) (sym same)
               (own_state next not_rga there of_kind extended o refl ∙ ap Some (sym (same_replica states next.by o there)))
           | inr other ↦
-              ap (state_after past.kind) (an_operation_puts_its_update_in-others past.kind past.records next.by next.op next.clock q (λ is. other (sym is)))
+              ap (state_after past.kind) (an_operation_puts_its_update_in-others past.kind past.records next q (λ is. other (sym is)))
               ∙ kept.folded q (omega (arith, length-set states next.by (after_step (state_at states next.by) o), there_q))
               ∙ ap Some (sym (other_replica states next.by q o other))
         ];

@@ -49,7 +49,7 @@ module _ (founders : ℕ) (records : Records) (next : Next) (label : Label) (off
   now = operate next ∷ records
 
   pub query_admitted : is_update next.op ≡ false → updates_admitted variant.Rga (named_sequence variant.Rga now) ≡ true
-  query_admitted asks = ap (is_admitted variant.Rga) (an_operation_puts_its_update_among_all-query variant.Rga records next.by next.op next.clock asks) ∙ offered.holds.updates
+  query_admitted asks = ap (is_admitted variant.Rga) (an_operation_puts_its_update_among_all-query variant.Rga records next asks) ∙ offered.holds.updates
 
   pub query_cause : is_update next.op ≡ false → cause_in (state_after variant.Rga (updates_had variant.Rga records next.by)) (acts_of next.op) ≡ cause_of variant.Rga now
   query_cause asks = sym (cause_where_it_fits variant.Rga records next true offered.holds offered.fits (query_admitted asks))

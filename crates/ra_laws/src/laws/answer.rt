@@ -1,9 +1,8 @@
 //! The refusals and the answers.
 ghost use Rattle.std.specs.Prelude.{◌≡◌, ◌↔◌, ◌⊎◌, ℕ, ◌<◌, ◌≤◌, true, false, List, [], ◌++◌, Option, Some, None};
 ghost use Rattle.ra_labels.specs.declared.kind.Kind.{Kind};
-ghost use Rattle.ra_labels.specs.declared.operation.Op.{Op};
 ghost use Rattle.ra_labels.specs.declared.command.Command.{Command};
-ghost use Rattle.ra_labels.specs.declared.command.Command.TheVariants.{Operate, Deliver, Join, Verdict};
+ghost use Rattle.ra_labels.specs.declared.command.Command.TheVariants.{Deliver, Join, Verdict};
 ghost use Rattle.ra_labels.specs.declared.refusal.Refusal.{Refusal};
 ghost use Rattle.ra_labels.specs.declared.refusal.Refusal.TheVariants.{StampTaken, IdTaken, NotCausal, UnknownReplica, ReplicaThere, TooManyReplicas};
 ghost use Rattle.ra_labels.specs.declared.reply.Fault.{Fault};
@@ -16,6 +15,7 @@ ghost use Rattle.ra_labels.specs.Linearization.{IsRaLinearization};
 ghost use Rattle.ra_labels.specs.Fault.{fault_of};
 ghost use Rattle.ra_labels.specs.Answer.{no_at, kind_of, has_rising_list, misfit_of, comes_with_taken, gives_taken, refusal_of, refusal_of_delivery, refusal_of_join, answer_of, records_after, answers_to, records_after_all};
 ghost use Rattle.ra_labels.specs.Laws.{ReplySays, IsCausalDelivery, IsNewUpdate, IsLeastMissing, HasItsClock, EachLabelFits};
+ghost use Rattle.ra_labels.specs.Situation.{Next, operate};
 
 /// What each reply says of the records that the command meets, and of those that it leaves.
 pub fn what_a_reply_says()
@@ -62,9 +62,9 @@ pub fn answers_in_turn()
 /// What a command's own form deserves is the first refusal of an operation of a known replica. Deliveries, joins and
 /// verdicts have no form of their own that could deserve one, and a verdict is never refused.
 pub fn misfits_are_refused()
-    ensures operation { (kind : Kind) (replicas : ℕ) (records : Records) (by : ℕ) (op : Op) (clock : Option ℕ)
-        (why : Refusal) → by < replica_count replicas records → misfit_of kind (Operate by op clock) ≡ Some why
-        → refusal_of kind replicas records (Operate by op clock) ≡ Some why }
+    ensures operation { (kind : Kind) (replicas : ℕ) (records : Records) (next : Next) (why : Refusal)
+        → next.by < replica_count replicas records → misfit_of kind (operate next) ≡ Some why
+        → refusal_of kind replicas records (operate next) ≡ Some why }
     ensures delivery { (kind : Kind) (to label : ℕ) → misfit_of kind (Deliver to label) ≡ None }
     ensures join { (kind : Kind) (replica from : ℕ) → misfit_of kind (Join replica from) ≡ None }
     ensures verdict { (kind : Kind) (replicas : ℕ) (records : Records)
@@ -121,33 +121,33 @@ pub fn answers_keep_records_causal()
 /// An operation's form deserves no refusal exactly where it is of the kind, its list rises, and a clock came where it
 /// carries a stamp and none where it does not.
 pub fn forms_that_deserve_no_refusal()
-    ensures { (kind : Kind) (by : ℕ) (op : Op) (clock : Option ℕ) → (misfit_of kind (Operate by op clock) ≡ None)
-        ↔ ((kind_of op ≡ kind) × (has_rising_list op ≡ true) × HasItsClock op clock) }
+    ensures { (kind : Kind) (next : Next) → (misfit_of kind (operate next) ≡ None)
+        ↔ ((kind_of next.op ≡ kind) × (has_rising_list next.op ≡ true) × HasItsClock next.op next.clock) }
 {}
 
 /// An operation is refused for its stamp exactly where its replica is there, its form deserves no refusal, and its
 /// stamp is taken.
 pub fn operations_with_a_taken_stamp_are_refused()
-    ensures { (kind : Kind) (replicas : ℕ) (records : Records) (by : ℕ) (op : Op) (clock : Option ℕ)
-        → (refusal_of kind replicas records (Operate by op clock) ≡ Some StampTaken)
-        ↔ ((by < replica_count replicas records) × (misfit_of kind (Operate by op clock) ≡ None)
-        × (comes_with_taken records by clock ≡ true)) }
+    ensures { (kind : Kind) (replicas : ℕ) (records : Records) (next : Next)
+        → (refusal_of kind replicas records (operate next) ≡ Some StampTaken)
+        ↔ ((next.by < replica_count replicas records) × (misfit_of kind (operate next) ≡ None)
+        × (comes_with_taken records next.by next.clock ≡ true)) }
 {}
 
 /// It is refused for its identifier exactly where, besides, its stamp is not taken and its identifier is.
 pub fn operations_with_a_taken_identifier_are_refused()
-    ensures { (kind : Kind) (replicas : ℕ) (records : Records) (by : ℕ) (op : Op) (clock : Option ℕ)
-        → (refusal_of kind replicas records (Operate by op clock) ≡ Some IdTaken)
-        ↔ ((by < replica_count replicas records) × (misfit_of kind (Operate by op clock) ≡ None)
-        × (comes_with_taken records by clock ≡ false) × (gives_taken records op ≡ true)) }
+    ensures { (kind : Kind) (replicas : ℕ) (records : Records) (next : Next)
+        → (refusal_of kind replicas records (operate next) ≡ Some IdTaken)
+        ↔ ((next.by < replica_count replicas records) × (misfit_of kind (operate next) ≡ None)
+        × (comes_with_taken records next.by next.clock ≡ false) × (gives_taken records next.op ≡ true)) }
 {}
 
 /// It is accepted exactly where neither is taken.
 pub fn operations_are_accepted_where_nothing_is_taken()
-    ensures { (kind : Kind) (replicas : ℕ) (records : Records) (by : ℕ) (op : Op) (clock : Option ℕ)
-        → (refusal_of kind replicas records (Operate by op clock) ≡ None)
-        ↔ ((by < replica_count replicas records) × (misfit_of kind (Operate by op clock) ≡ None)
-        × (comes_with_taken records by clock ≡ false) × (gives_taken records op ≡ false)) }
+    ensures { (kind : Kind) (replicas : ℕ) (records : Records) (next : Next)
+        → (refusal_of kind replicas records (operate next) ≡ None)
+        ↔ ((next.by < replica_count replicas records) × (misfit_of kind (operate next) ≡ None)
+        × (comes_with_taken records next.by next.clock ≡ false) × (gives_taken records next.op ≡ false)) }
 {}
 
 /// Each label fits its kind in the records that commands leave, from none on.

@@ -4,13 +4,11 @@ ghost use Rattle.std.specs.Ordering.{is_lt};
 ghost use Rattle.std.specs.declared.cmp.Ordering.TheVariants.{Less};
 ghost use Rattle.ra_labels.specs.declared.kind.Kind.{Kind};
 ghost use Rattle.ra_labels.specs.declared.kind.Kind.TheVariants.{Counter, OrSet, Rga};
-ghost use Rattle.ra_labels.specs.declared.operation.Op.{Op};
 ghost use Rattle.ra_labels.specs.declared.operation.Update.{Update};
 ghost use Rattle.ra_labels.specs.declared.operation.Update.TheVariants.{After, RgaRemove};
 ghost use Rattle.ra_labels.specs.declared.label.Stamp.{Stamp};
 ghost use Rattle.ra_labels.specs.declared.label.Label.{Label};
-ghost use Rattle.ra_labels.specs.declared.command.Command.TheVariants.{Operate};
-ghost use Rattle.ra_labels.specs.Records.{Records, labels_of, next_label};
+ghost use Rattle.ra_labels.specs.Records.{Records, labels_of};
 ghost use Rattle.ra_labels.specs.Visibility.{is_update};
 ghost use Rattle.ra_labels.specs.Rewriting.{parts_of, updates_of};
 ghost use Rattle.ra_labels.specs.Lists.{hide};
@@ -21,6 +19,7 @@ ghost use Rattle.ra_labels.specs.Laws.{elements_in};
 ghost use Rattle.ra_labels.specs.Insertion.{updates_among, Makes};
 ghost use Rattle.ra_labels.specs.Late.{put_after};
 ghost use Rattle.ra_labels.specs.Waiting.{is_there, OnePutsIn, WasPutInBelow};
+ghost use Rattle.ra_labels.specs.Situation.{Next, operate, label_of};
 
 /// In the named order exactly those labels stand before a label that are below it, and exactly those behind it that it
 /// is below. It stands at one place.
@@ -45,16 +44,16 @@ pub fn labels_with_stamps_stand_in_their_order()
 /// One more operation puts its update among those of all labels, at its place in the named order. One that is no update
 /// leaves them as they were.
 pub fn an_operation_puts_its_update_among_all()
-    ensures update { (kind : Kind) (records : Records) (by : ℕ) (op : Op) (clock : Option ℕ) (update : Update)
-        → Makes op update → let now = Operate by op clock ∷ records in (before behind : List Label)
+    ensures update { (kind : Kind) (records : Records) (next : Next) (update : Update)
+        → Makes next.op update → let now = operate next ∷ records in (before behind : List Label)
         × (named_labels kind records ≡ before ++ behind)
-        × (named_labels kind now ≡ before ++ next_label records by op clock ∷ behind)
+        × (named_labels kind now ≡ before ++ label_of records next ∷ behind)
         × (updates_of (named_sequence kind records)
         ≡ updates_of (flat_map parts_of before) ++ updates_of (flat_map parts_of behind))
         × (updates_of (named_sequence kind now)
         ≡ updates_of (flat_map parts_of before) ++ update ∷ updates_of (flat_map parts_of behind)) }
-    ensures query { (kind : Kind) (records : Records) (by : ℕ) (op : Op) (clock : Option ℕ) → is_update op ≡ false
-        → updates_of (named_sequence kind (Operate by op clock ∷ records))
+    ensures query { (kind : Kind) (records : Records) (next : Next) → is_update next.op ≡ false
+        → updates_of (named_sequence kind (operate next ∷ records))
         ≡ updates_of (named_sequence kind records) }
 {}
 
@@ -70,35 +69,35 @@ pub fn what_is_there_a_label_put_in()
 /// put it in: one with a lower stamp. A new removal is exactly where its element is not the root, and a label below
 /// its own put it in. It does not matter what stands behind.
 pub fn a_new_update_is_admitted_where_a_label_below_it_put_in_what_it_needs()
-    ensures insertion { (records : Records) (by : ℕ) (op : Op) (clock : Option ℕ) (anchor x : ℕ)
-        → Makes op (After anchor x) → updates_admitted Rga (named_sequence Rga records) ≡ true
-        → let now = Operate by op clock ∷ records in
+    ensures insertion { (records : Records) (next : Next) (anchor x : ℕ) → Makes next.op (After anchor x)
+        → updates_admitted Rga (named_sequence Rga records) ≡ true
+        → let now = operate next ∷ records in
         (updates_admitted Rga (named_sequence Rga now) ≡ true)
         ↔ ((is_there x (updates_of (named_sequence Rga records)) ≡ false)
-        × ((anchor ≡ 0) ⊎ WasPutInBelow now (next_label records by op clock) anchor)) }
-    ensures removal { (records : Records) (by : ℕ) (op : Op) (clock : Option ℕ) (x : ℕ)
-        → Makes op (RgaRemove x) → updates_admitted Rga (named_sequence Rga records) ≡ true
-        → let now = Operate by op clock ∷ records in
+        × ((anchor ≡ 0) ⊎ WasPutInBelow now (label_of records next) anchor)) }
+    ensures removal { (records : Records) (next : Next) (x : ℕ)
+        → Makes next.op (RgaRemove x) → updates_admitted Rga (named_sequence Rga records) ≡ true
+        → let now = operate next ∷ records in
         (updates_admitted Rga (named_sequence Rga now) ≡ true)
-        ↔ ((¬ (x ≡ 0)) × WasPutInBelow now (next_label records by op clock) x) }
+        ↔ ((¬ (x ≡ 0)) × WasPutInBelow now (label_of records next) x) }
 {}
 
 /// In the list of all labels a new element goes behind its anchor, and past those directly behind it whose labels its
 /// own is below: those with greater stamps. So says `below` of the elements that labels put in, and never of the root.
 /// A removal leaves each element its place.
 pub fn a_new_label_in_the_list_of_all()
-    ensures insertion { (records : Records) (by : ℕ) (op : Op) (clock : Option ℕ) (anchor x : ℕ)
-        (all next : List (ℕ × Bool)) (below : ℕ → ℕ → Bool) → Makes op (After anchor x)
-        → let now = Operate by op clock ∷ records in
+    ensures insertion { (records : Records) (next : Next) (anchor x : ℕ)
+        (all all_now : List (ℕ × Bool)) (below : ℕ → ℕ → Bool) → Makes next.op (After anchor x)
+        → let now = operate next ∷ records in
         state_after Rga (updates_of (named_sequence Rga records)) ≡ Some (Listed all)
-        → state_after Rga (updates_of (named_sequence Rga now)) ≡ Some (Listed next) → below x 0 ≡ false
+        → state_after Rga (updates_of (named_sequence Rga now)) ≡ Some (Listed all_now) → below x 0 ≡ false
         → ((other : Label) (behind y : ℕ) → Contains (labels_of records) other → Makes other.op (After behind y)
-        → below x y ≡ is_lt (label_cmp Rga now (next_label records by op clock) other))
-        → next ≡ put_after below anchor x all }
-    ensures removal { (records : Records) (by : ℕ) (op : Op) (clock : Option ℕ) (x : ℕ) (all next : List (ℕ × Bool))
-        → Makes op (RgaRemove x) → state_after Rga (updates_of (named_sequence Rga records)) ≡ Some (Listed all)
-        → state_after Rga (updates_of (named_sequence Rga (Operate by op clock ∷ records))) ≡ Some (Listed next)
-        → next ≡ hide x all }
+        → below x y ≡ is_lt (label_cmp Rga now (label_of records next) other))
+        → all_now ≡ put_after below anchor x all }
+    ensures removal { (records : Records) (next : Next) (x : ℕ) (all all_now : List (ℕ × Bool))
+        → Makes next.op (RgaRemove x) → state_after Rga (updates_of (named_sequence Rga records)) ≡ Some (Listed all)
+        → state_after Rga (updates_of (named_sequence Rga (operate next ∷ records))) ≡ Some (Listed all_now)
+        → all_now ≡ hide x all }
 {}
 
 /// Between an anchor and its element, in the list of all labels, stand only elements whose labels stand behind its own:

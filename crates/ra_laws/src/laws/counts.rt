@@ -1,18 +1,17 @@
 //! Whose each update is, and what a replica had of another's.
 ghost use Rattle.std.specs.Prelude.{◌≡◌, ℕ, ◌<◌, ◌==◌, ◌&&◌, ◌∷◌, ◌++◌, length, filter, Option};
-ghost use Rattle.ra_labels.specs.declared.operation.Op.{Op};
-ghost use Rattle.ra_labels.specs.declared.command.Command.TheVariants.{Operate};
 ghost use Rattle.ra_labels.specs.Records.{Records, label_count, labels_of};
 ghost use Rattle.ra_labels.specs.Visibility.{had, sees, is_update, IsCausal};
 ghost use Rattle.ra_labels.specs.Places.{issuer_of, updates_issued, place_of};
 ghost use Rattle.ra_labels.specs.Laws.{IsUpdateOf, AreFirstUpdates};
+ghost use Rattle.ra_labels.specs.Situation.{Next, operate};
 
 /// A label keeps the replica that issued it, and its place is how many updates that one had issued before it.
 pub fn an_operation_has_its_place()
-    ensures issuer { (later before : Records) (by : ℕ) (op : Op) (clock : Option ℕ)
-        → issuer_of (later ++ Operate by op clock ∷ before) (label_count before) ≡ by }
-    ensures place { (later before : Records) (by : ℕ) (op : Op) (clock : Option ℕ)
-        → place_of (later ++ Operate by op clock ∷ before) (label_count before) ≡ updates_issued before by }
+    ensures issuer { (later before : Records) (next : Next)
+        → issuer_of (later ++ operate next ∷ before) (label_count before) ≡ next.by }
+    ensures place { (later before : Records) (next : Next)
+        → place_of (later ++ operate next ∷ before) (label_count before) ≡ updates_issued before next.by }
     ensures count { (records : Records) (replica : ℕ) → updates_issued records replica
         ≡ length (filter (λ label. label.replica == replica && is_update label.op) (labels_of records)) }
 {}

@@ -1,9 +1,8 @@
 //! What a replica has that joins, and that nobody had anything before it joined.
 ghost use Rattle.std.specs.Prelude.{◌≡◌, ℕ, ◌<◌, ◌∷◌, List, [], Option};
 ghost use Rattle.ra_labels.specs.declared.kind.Kind.{Kind};
-ghost use Rattle.ra_labels.specs.declared.operation.Op.{Op};
 ghost use Rattle.ra_labels.specs.declared.command.Command.{Command};
-ghost use Rattle.ra_labels.specs.declared.command.Command.TheVariants.{Operate, Deliver, Join};
+ghost use Rattle.ra_labels.specs.declared.command.Command.TheVariants.{Deliver, Join};
 ghost use Rattle.ra_labels.specs.Records.{Records, replica_count};
 ghost use Rattle.ra_labels.specs.Visibility.{had};
 ghost use Rattle.ra_labels.specs.Places.{updates_issued};
@@ -11,13 +10,14 @@ ghost use Rattle.ra_labels.specs.NamedOrder.{named_labels};
 ghost use Rattle.ra_labels.specs.Answer.{records_after, records_after_all};
 ghost use Rattle.ra_labels.specs.Laws.{NoneHadBeyond};
 ghost use Rattle.ra_labels.specs.Insertion.{updates_had};
+ghost use Rattle.ra_labels.specs.Situation.{Next, operate};
 
 /// In the records that commands leave, from none on, no replica had anything before it joined: an operation or a
 /// delivery at one that is there, and a join with the next number, leave it so.
 pub fn none_had_before_it_joined()
-    ensures operation { (founders : ℕ) (records : Records) (by : ℕ) (op : Op) (clock : Option ℕ)
-        → by < replica_count founders records → NoneHadBeyond founders records
-        → NoneHadBeyond founders (Operate by op clock ∷ records) }
+    ensures operation { (founders : ℕ) (records : Records) (next : Next)
+        → next.by < replica_count founders records → NoneHadBeyond founders records
+        → NoneHadBeyond founders (operate next ∷ records) }
     ensures delivery { (founders : ℕ) (records : Records) (to n : ℕ) → to < replica_count founders records
         → NoneHadBeyond founders records → NoneHadBeyond founders (Deliver to n ∷ records) }
     ensures join { (founders : ℕ) (records : Records) (from : ℕ) → NoneHadBeyond founders records

@@ -2,12 +2,11 @@
 ghost use Rattle.std.specs.Prelude.{◌≡◌, true, false, ℕ, Bool, List, ◌∷◌, ◌++◌, Contains, Option, Some};
 ghost use Rattle.ra_labels.specs.declared.kind.Kind.{Kind};
 ghost use Rattle.ra_labels.specs.declared.kind.Kind.TheVariants.{Counter, Register, LwwSet, OrSet};
-ghost use Rattle.ra_labels.specs.declared.operation.Op.{Op};
 ghost use Rattle.ra_labels.specs.declared.operation.Op.TheVariants.{OrAdd, OrRemove};
 ghost use Rattle.ra_labels.specs.declared.operation.Update.{Update};
 ghost use Rattle.ra_labels.specs.declared.operation.Update.TheVariants.{Write};
 ghost use Rattle.ra_labels.specs.declared.label.Label.{Label};
-ghost use Rattle.ra_labels.specs.declared.command.Command.TheVariants.{Operate, Deliver};
+ghost use Rattle.ra_labels.specs.declared.command.Command.TheVariants.{Deliver};
 ghost use Rattle.ra_labels.specs.Records.{Records, labels_of};
 ghost use Rattle.ra_labels.specs.Visibility.{had, sees, IsCausal};
 ghost use Rattle.ra_labels.specs.Specification.{state_after, is_admitted};
@@ -16,6 +15,7 @@ ghost use Rattle.ra_labels.specs.Fault.{Holds};
 ghost use Rattle.ra_labels.specs.Laws.{acts_on, IdentifiersAreOneLabels};
 ghost use Rattle.ra_labels.specs.Insertion.{updates_passing, or_label, updates_had, Makes};
 ghost use Rattle.ra_labels.specs.Commuting.{then_step, last_written, last_on};
+ghost use Rattle.ra_labels.specs.Situation.{Next, operate};
 
 /// Where records hold and no two additions give one identifier, a removal sees each addition that it takes out.
 pub fn a_removal_sees_what_it_takes_out()
@@ -82,9 +82,9 @@ pub fn a_label_behind_all_that_pass_is_one_step()
 
 /// An operation of an OR-Set is one step from where those lead that its replica had before: it stands behind them.
 pub fn an_operation_of_an_or_set_is_one_step()
-    ensures { (records : Records) (by : ℕ) (op : Op) (clock : Option ℕ) (update : Update) → Makes op update
-        → state_after OrSet (updates_had OrSet (Operate by op clock ∷ records) by)
-        ≡ then_step (state_after OrSet (updates_had OrSet records by)) update }
+    ensures { (records : Records) (next : Next) (update : Update) → Makes next.op update
+        → state_after OrSet (updates_had OrSet (operate next ∷ records) next.by)
+        ≡ then_step (state_after OrSet (updates_had OrSet records next.by)) update }
 {}
 
 /// The label behind which none passes, or none on its element, has the last update.

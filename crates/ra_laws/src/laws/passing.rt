@@ -2,10 +2,9 @@
 ghost use Rattle.std.specs.Prelude.{◌≡◌, true, false, ◌||◌, ℕ, Bool, ◌+◌, ◌≤◌, List, ◌∷◌, ◌++◌, length, Contains, Option};
 ghost use Rattle.ra_labels.specs.declared.kind.Kind.{Kind};
 ghost use Rattle.ra_labels.specs.declared.kind.Kind.TheVariants.{Rga};
-ghost use Rattle.ra_labels.specs.declared.operation.Op.{Op};
 ghost use Rattle.ra_labels.specs.declared.operation.Update.{Update};
 ghost use Rattle.ra_labels.specs.declared.label.Label.{Label};
-ghost use Rattle.ra_labels.specs.declared.command.Command.TheVariants.{Operate, Deliver, Join};
+ghost use Rattle.ra_labels.specs.declared.command.Command.TheVariants.{Deliver, Join};
 ghost use Rattle.ra_labels.specs.Records.{Records, label_count, labels_of};
 ghost use Rattle.ra_labels.specs.Visibility.{is_update, is_update_at, had, sees};
 ghost use Rattle.ra_labels.specs.Specification.{is_admitted};
@@ -13,6 +12,7 @@ ghost use Rattle.ra_labels.specs.Linearization.{visible_updates, updates_admitte
 ghost use Rattle.ra_labels.specs.NamedOrder.{named_labels, named_sequence};
 ghost use Rattle.ra_labels.specs.Insertion.{updates_among, updates_passing, or_label, updates_had, Makes};
 ghost use Rattle.ra_labels.specs.Waiting.{puts_in, is_there};
+ghost use Rattle.ra_labels.specs.Situation.{Next, operate};
 
 /// So stand the updates that a replica had, and those that a label sees.
 pub fn updates_had_or_seen_are_those_that_pass()
@@ -48,8 +48,8 @@ pub fn updates_that_pass_are_admitted_where_all_are()
 pub fn a_replica_had_one_more()
     ensures delivery { (records : Records) (to n m : ℕ) → is_update_at records n ≡ true
         → had (Deliver to n ∷ records) to m ≡ or_label (had records to) n m }
-    ensures operation { (records : Records) (by : ℕ) (op : Op) (clock : Option ℕ) (m : ℕ) → is_update op ≡ true
-        → had (Operate by op clock ∷ records) by m ≡ or_label (had records by) (label_count records) m }
+    ensures operation { (records : Records) (next : Next) (m : ℕ) → is_update next.op ≡ true
+        → had (operate next ∷ records) next.by m ≡ or_label (had records next.by) (label_count records) m }
 {}
 
 /// A later command leaves the updates of the labels before it that pass as they were.
@@ -58,9 +58,9 @@ pub fn a_later_command_leaves_the_updates_that_pass()
         → updates_passing kind (Deliver to n ∷ records) passes ≡ updates_passing kind records passes }
     ensures join { (kind : Kind) (records : Records) (joined from : ℕ) (passes : ℕ → Bool)
         → updates_passing kind (Join joined from ∷ records) passes ≡ updates_passing kind records passes }
-    ensures operation { (kind : Kind) (records : Records) (by : ℕ) (op : Op) (clock : Option ℕ) (passes : ℕ → Bool)
+    ensures operation { (kind : Kind) (records : Records) (next : Next) (passes : ℕ → Bool)
         → passes (label_count records) ≡ false
-        → updates_passing kind (Operate by op clock ∷ records) passes ≡ updates_passing kind records passes }
+        → updates_passing kind (operate next ∷ records) passes ≡ updates_passing kind records passes }
 {}
 
 /// With one more label that passes its update is put in, at its place in the named order. So there is one update more,

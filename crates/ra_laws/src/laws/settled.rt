@@ -2,16 +2,16 @@
 //! are admitted, as they are in records that hold.
 ghost use Rattle.std.specs.Prelude.{◌≡◌, ◌↔◌, ◌⊎◌, true, false, ℕ, Bool, ◌+◌, ◌≤◌, List, [], ◌∷◌, ◌++◌, length, Contains, Option};
 ghost use Rattle.ra_labels.specs.declared.kind.Kind.TheVariants.{Rga};
-ghost use Rattle.ra_labels.specs.declared.operation.Op.{Op};
 ghost use Rattle.ra_labels.specs.declared.operation.Update.{Update};
 ghost use Rattle.ra_labels.specs.declared.label.Label.{Label};
-ghost use Rattle.ra_labels.specs.declared.command.Command.TheVariants.{Operate, Deliver, Join};
+ghost use Rattle.ra_labels.specs.declared.command.Command.TheVariants.{Deliver, Join};
 ghost use Rattle.ra_labels.specs.Records.{Records, label_count, labels_of};
 ghost use Rattle.ra_labels.specs.Specification.{is_admitted};
 ghost use Rattle.ra_labels.specs.Linearization.{updates_admitted};
 ghost use Rattle.ra_labels.specs.NamedOrder.{named_labels, named_sequence};
 ghost use Rattle.ra_labels.specs.Insertion.{updates_among, updates_passing, or_label, Makes};
 ghost use Rattle.ra_labels.specs.Waiting.{puts_in, is_there, needed_by, OnePutsIn, NoneWaits, OthersWait, put_in_by, AllSettled, IsSettled, IsSettling};
+ghost use Rattle.ra_labels.specs.Situation.{Next, operate};
 
 /// What an update needs is the root, or is put in by a label that stands before it in the named order.
 pub fn what_an_update_needs_was_put_in_before_it()
@@ -53,9 +53,9 @@ pub fn settled_labels_stay_settled()
         → IsSettled (Deliver to n ∷ records) had settled }
     ensures join { (records : Records) (joined from : ℕ) (had settled : ℕ → Bool) → IsSettled records had settled
         → IsSettled (Join joined from ∷ records) had settled }
-    ensures operation { (records : Records) (by : ℕ) (op : Op) (clock : Option ℕ) (had settled : ℕ → Bool)
+    ensures operation { (records : Records) (next : Next) (had settled : ℕ → Bool)
         → had (label_count records) ≡ false → IsSettled records had settled
-        → IsSettled (Operate by op clock ∷ records) had settled }
+        → IsSettled (operate next ∷ records) had settled }
     ensures alike { (records : Records) (had more settled others : ℕ → Bool) → ((n : ℕ) → had n ≡ more n)
         → ((n : ℕ) → settled n ≡ others n) → IsSettled records had settled → IsSettled records more others }
 {}

@@ -14,7 +14,7 @@ use Rattle.ra_laws.proofs.TheLaws.{operations_are_accepted_where_nothing_is_take
 pub keep-requires : goal.keep-requires
 keep-requires c =
     let r = c.requires in
-    let free = (operations_are_accepted_where_nothing_is_taken r.past.kind r.past.founders r.past.records r.next.by r.next.op r.next.clock).0 r.newest.accepted in
+    let free = (operations_are_accepted_where_nothing_is_taken r.past.kind r.past.founders r.past.records r.next).0 r.newest.accepted in
     subst (CanKeep c.args.self.now.taken) (sym r.newest.brings) (can_keep c.args.self.now.taken r.next r.room (omega (arith, free.0, r.newest.places)))
 
 pub returns-in-None-clause-answered : goal.returns-in-None-clause-answered
@@ -26,7 +26,7 @@ returns-in-None-clause-answered c = λ past next newest.
     let comes = comes_next self past next label brought c.vis-seen.result newest c.vis-seen.ensures.seen in
     let because : None ≡ cause_of past.kind (operate next ∷ past.records) = sym c.in-None.is ∙ c.in_ok-cause.ensures.cause past next newest.witness comes in
     let witness = c.in_ok-cause.ensures.taken past next newest.witness comes (ap Ok c.in-None.is) in
-    let free = (operations_are_accepted_where_nothing_is_taken past.kind past.founders past.records next.by next.op next.clock).0 newest.accepted in
+    let free = (operations_are_accepted_where_nothing_is_taken past.kind past.founders past.records next).0 newest.accepted in
     let taken = taken_more past.kind self.taken c.keep.new.self past.records next free.1
     (λ stamp. c.keep.ensures.stamps stamp ∙ ap (λ (b : Brought). has_brought b stamp || is_stamp_in self.taken stamp) newest.brings)
     (λ identifier. c.keep.ensures.identifiers identifier ∙ ap (λ (b : Brought). gives_brought b identifier || is_identifier_in self.taken identifier) newest.brings)
