@@ -9,7 +9,7 @@ use ra_desk::Desk;
 use ra_labels::{Command, Refusal, Reply};
 use ra_monitor::Monitor;
 use ra_ticket::Pass;
-use std::alloc::{AllocError, Global};
+use std::alloc::AllocError;
 use std::process::Abort;
 use std::sync::Wait;
 use std::sync::atomic::AtomicUsize;

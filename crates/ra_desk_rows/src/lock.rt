@@ -281,7 +281,7 @@ fn use_and_drop<R: Abort + Wait>(
 }
 
 // A tally whose steps halt, and the flags of the halt.
-fn halted(rt: &impl Abort, alloc: Global) -> (Tally, Flag, Flag)
+fn halting_tally(rt: &impl Abort, alloc: Global) -> (Tally, Flag, Flag)
     ensures { result.0.log.items ≡ [] }
 {
     let inside = lowered(rt, alloc);
@@ -295,7 +295,7 @@ fn halted(rt: &impl Abort, alloc: Global) -> (Tally, Flag, Flag)
 
 #[test]
 fn a_call_under_way_keeps_others_out_and_lets_them_glance(rt: HostRuntime) {
-    let (tally, inside, go_on) = halted(&rt, rt.alloc());
+    let (tally, inside, go_on) = halting_tally(&rt, rt.alloc());
     let (lock, mut passes) = opened(&rt, rt.alloc(), tally, 2, 10);
     let other = last_pass(&rt, &lock, &mut passes);
     let pass = last_pass(&rt, &lock, &mut passes);
@@ -338,7 +338,7 @@ fn last_caller(rt: &impl Abort, callers: &mut Vec<Caller<Tally>>) -> Caller<Tall
 // The same of callers, which have their lock with them.
 #[test]
 fn a_caller_finds_a_call_under_way(rt: HostRuntime) {
-    let (tally, inside, go_on) = halted(&rt, rt.alloc());
+    let (tally, inside, go_on) = halting_tally(&rt, rt.alloc());
     let (mut caller, mut other) = two_callers(&rt, rt.alloc(), tally);
     let (reply, found) = thread::join(
         &rt,

@@ -25,6 +25,7 @@ use Rattle.ra_labels.specs.Rewriting.{Part, Act, Does, Asks, QueryHalf, UpdateHa
 use Rattle.ra_labels.specs.Linearization.{visible_updates}
 use Rattle.ra_labels.specs.Fault.{Holds, cause_of, fault_of, fault_at}
 use Rattle.ra_labels.specs.Answer.{kind_of, has_rising_list, carries_stamp, refusal_of, records_after}
+use Rattle.ra_labels.specs.Situation.{Next, operate}
 
 -- the kind that a state, an update or a query is of
 abbrev pub kind_of_state : State → Kind
@@ -127,8 +128,8 @@ NoneHadBeyond founders records =
 -- label n was issued at a replica that had label m before
 abbrev pub WasIssuedHaving : Records → ℕ → ℕ → Type 0
 WasIssuedHaving records n m =
-    (later before : Records) × (by : ℕ) × (op : Op) × (clock : Option ℕ)
-    × (records ≡ later ++ Operate by op clock ∷ before) × (n ≡ label_count before) × (had before by m ≡ true)
+    (later before : Records) × (next : Next) × (records ≡ later ++ operate next ∷ before)
+    × (n ≡ label_count before) × (had before next.by m ≡ true)
 
 -- label n was new to the replica, which had all that it sees
 abbrev pub IsCausalDelivery : Records → ℕ → ℕ → Type 0
@@ -246,7 +247,7 @@ abbrev pub StandsBefore : {A : Type 0} → A → A → List A → Type 0
 StandsBefore {A} p q list = (before between after : List A) × (list ≡ before ++ p ∷ between ++ q ∷ after)
 
 abbrev pub IsOperation : Command → Type 0
-IsOperation command = (by : ℕ) × (op : Op) × (clock : Option ℕ) × (command ≡ Operate by op clock)
+IsOperation command = (next : Next) × (command ≡ operate next)
 
 abbrev pub IsDeliveryOf : ℕ → Command → Type 0
 IsDeliveryOf n command = (to : ℕ) × (command ≡ Deliver to n)

@@ -21,6 +21,7 @@ use Rattle.ra_labels.specs.Rewriting.{Half, Whole, QueryHalf, UpdateHalf, Act, D
 use Rattle.ra_labels.specs.Linearization.{are_halves, is_visible_to, is_earlier_there, is_query_half_of, must_precede}
 use Rattle.ra_labels.specs.Linearization.{visible_updates, updates_admitted, is_query_admitted, queries_admitted}
 use Rattle.ra_labels.specs.Laws.{WasIssuedAt, WasDeliveredTo, WasJoinedHaving, WasIssuedHaving, IsUpdateSeenBy, IsEarlierAtReplica, AreHalvesOfOneLabel, EachQueryIsAnswered}
+use Rattle.ra_labels.specs.Situation.{next_of, operate}
 use Rattle.ra_laws.proofs.SeenLabels.{had-append, sees-append}
 use Rattle.ra_labels.proofs.InLists.{list_all-from_contains}
 
@@ -104,24 +105,24 @@ had-exactly records replica n = (had-came records replica n, came-had records re
 
 issued_later : (command : Command) (records : Records) (n m : ℕ) → WasIssuedHaving records n m
     → WasIssuedHaving (command ∷ records) n m
-issued_later command records n m (later, before, by, op, clock, is, number, had_it) =
-    (command ∷ later, before, by, op, clock, ap (λ rs. command ∷ rs) is, number, had_it)
+issued_later command records n m (later, before, next, is, number, had_it) =
+    (command ∷ later, before, next, ap (λ rs. command ∷ rs) is, number, had_it)
 
 sees-issued : (records : Records) (n m : ℕ) → sees records n m ≡ true → WasIssuedHaving records n m
 sees-issued [] n m seen = absurd (false≢true seen)
 sees-issued (Operate by op clock ∷ before) n m seen =
     cond_both (eqb n (label_count before)) (had before by m) (sees before n m)
     (λ test. test ≡ true → WasIssuedHaving (Operate by op clock ∷ before) n m)
-    (λ is had_it. ([], before, by, op, clock, refl, eqb-true n (label_count before) is, had_it))
+    (λ is had_it. ([], before, next_of by op clock, refl, eqb-true n (label_count before) is, had_it))
     (λ other older. issued_later (Operate by op clock) before n m (sees-issued before n m older))
     seen
 sees-issued (command ∷ before) n m seen = issued_later command before n m (sees-issued before n m seen)
 
 issued-sees : (records : Records) (n m : ℕ) → WasIssuedHaving records n m → sees records n m ≡ true
-issued-sees records n m (later, before, by, op, clock, is, number, had_it) =
-    let here : n < label_count (Operate by op clock ∷ before) = omega arith in
+issued-sees records n m (later, before, next, is, number, had_it) =
+    let here : n < label_count (operate next ∷ before) = omega arith in
     subst (λ rs. sees rs n m ≡ true) (sym is)
-    (sees-append later (Operate by op clock ∷ before) n m here
+    (sees-append later (operate next ∷ before) n m here
     ∙ cond-true (eqb n (label_count before)) _ _ (eq-eqb n (label_count before) number) ∙ had_it)
 
 -- what a label sees is what its replica had before it

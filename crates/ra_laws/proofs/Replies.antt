@@ -54,7 +54,7 @@ operation_says : (kind : Kind) (replicas : ℕ) (records : Records) (next : Next
     (fault : Option Fault) → fault_of kind (operate next ∷ records) ≡ fault
     → records_after kind replicas records (operate next) ≡ operate next ∷ records
     → ReplySays kind replicas records (operate next) (option_map_or no_at fault (reply.Ok (label_count records)))
-operation_says kind replicas records next None is after = (refl, after, is, (next.by, next.op, next.clock, refl))
+operation_says kind replicas records next None is after = (refl, after, is, (next, refl))
 operation_says kind replicas records next (Some fault) is after = ap (fault_of kind) after ∙ is
 
 -- the answer to an accepted command

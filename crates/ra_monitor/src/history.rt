@@ -139,10 +139,9 @@ impl History {
 
     // The first refusal that an operation of the replica deserves which brings this, if any.
     fn refusal_of(&self, replica: u8, misfit: Option<Refusal>, brought: Brought) -> Option<Refusal>
-        ensures { (past : Past) (op : Op) (clock : Option ℕ) → IsTakenIn past.records self.now.taken
-            → self.now.replicas ≡ replicas_of past → let command = Command.Operate replica op clock in
-            misfit ≡ misfit_of past.kind command → brought ≡ brought_by (next_of replica op clock)
-            → result ≡ refusal_of past.kind past.founders past.records command }
+        ensures { (past : Past) (next : Next) → IsTakenIn past.records self.now.taken
+            → self.now.replicas ≡ replicas_of past → next.by ≡ replica → misfit ≡ misfit_of past.kind (operate next)
+            → brought ≡ brought_by next → result ≡ refusal_of past.kind past.founders past.records (operate next) }
     {
         if replica >= self.replicas {
             return Some(Refusal::UnknownReplica);

@@ -1,12 +1,11 @@
 -- A tracker after a change: what is kept, what is left when the change is taken back, and the visibility.
 use Rattle.std.proofs.Common.{◌≡◌, ℕ, ◌+◌, ◌<◌, Bool, Option, None, sym, ap, ◌∙◌, subst, arith}
 use Rattle.std.specs.Prelude.{is_none}
-use Rattle.ra_labels.specs.declared.operation.Op.{Op}
 use Rattle.ra_labels.specs.declared.command.Command.TheVariants.{Operate, Deliver}
 use Rattle.ra_labels.specs.declared.command.Command.TheVariants as command
 use Rattle.ra_labels.specs.declared.limits.TheConstants.{MOST_REPLICAS}
 use Rattle.ra_labels.specs.Visibility.{is_update}
-use Rattle.ra_labels.specs.Situation.{Past, past_with}
+use Rattle.ra_labels.specs.Situation.{Past, past_with, Next, operate}
 use Rattle.ra_visibility.specs.declared.last_change.LastChange.TheVariants.{Issue, Delivery, Join}
 use Rattle.ra_visibility.specs.declared.stored.Stored.{Stored}
 use Rattle.ra_visibility.specs.declared.limits.TheConstants.{MOST_LABELS}
@@ -53,10 +52,12 @@ issue_keeps old new by update was_stored is = record {
 }
 
 pub issue_stands : (old new : Tracked) (by : ℕ) (update was_stored : Bool) → Issues old new by update was_stored
-    → (past : Past) (op : Op) (clock : Option ℕ) → IsVisibilityOf old past → is_update op ≡ update
-    → IsVisibilityOf new (past_with past (Operate by op clock))
-issue_stands old new by update was_stored is past op clock stands kind =
-    subst (λ t. IsVisibilityOf t (past_with past (Operate by op clock))) (sym is.made) (stands_issued old by past op clock update is.kept is.replica stands kind)
+    → (past : Past) (next : Next) → IsVisibilityOf old past → next.by ≡ by → is_update next.op ≡ update
+    → IsVisibilityOf new (past_with past (operate next))
+issue_stands old new by update was_stored is past next stands same kind =
+    subst (λ r. IsVisibilityOf new (past_with past (Operate r next.op next.clock))) (sym same)
+    (subst (λ t. IsVisibilityOf t (past_with past (Operate by next.op next.clock))) (sym is.made)
+    (stands_issued old by past next.op next.clock update is.kept is.replica stands kind))
 
 -- the tracked before and after a delivery that is not refused
 pub record Delivers (old new : Tracked) (to label from : ℕ) (at : Option Stored) : Type 0 where

@@ -2,11 +2,10 @@
 ghost use Rattle.std.specs.Prelude.{◌≡◌, ℕ, ◌+◌, ◌<◌, ◌≤◌, ◌∷◌, IfOk, IfErr, OnErr, OnOk, IsSome, Option, Some, None};
 ghost use Rattle.ra_labels.specs.Visibility.{is_update, IsCausal};
 ghost use Rattle.ra_labels.specs.declared.kind.Kind.{Kind};
-ghost use Rattle.ra_labels.specs.declared.operation.Op.{Op};
-ghost use Rattle.ra_labels.specs.declared.command.Command.TheVariants.{Operate, Deliver as Delivered, Join};
+ghost use Rattle.ra_labels.specs.declared.command.Command.TheVariants.{Deliver as Delivered, Join};
 ghost use Rattle.ra_labels.specs.declared.limits.TheConstants.{MOST_REPLICAS};
 ghost use Rattle.ra_labels.specs.declared.refusal.Refusal.{Refusal};
-ghost use Rattle.ra_labels.specs.Situation.{Past, nothing_yet, past_with};
+ghost use Rattle.ra_labels.specs.Situation.{Past, nothing_yet, past_with, Next, operate};
 ghost use Rattle.ra_visibility.specs.declared.fault.DeliverFault.TheVariants.{Refused};
 ghost use Rattle.ra_visibility.specs.Seen.{count_in};
 ghost use Rattle.ra_visibility.specs.Kept.{issued_count};
@@ -61,8 +60,9 @@ impl Tracker {
         requires replica { replica < replicas_in self.old.now }
         requires room { labels_in self.old.now < MOST_LABELS }
         ensures number { IfOk result (λ label. label ≡ labels_in self.old.now) }
-        ensures stands { OnOk result ((past : Past) (op : Op) (clock : Option ℕ) → IsVisibilityOf self.old.now past
-            → is_update op ≡ update → IsVisibilityOf self.new.now (past_with past (Operate replica op clock))) }
+        ensures stands { OnOk result ((past : Past) (next : Next) → IsVisibilityOf self.old.now past
+            → next.by ≡ replica → is_update next.op ≡ update
+            → IsVisibilityOf self.new.now (past_with past (operate next))) }
         ensures before { OnOk result (self.new.before ≡ Some self.old.now) }
         ensures labels { OnOk result (labels_in self.new.now ≡ labels_in self.old.now + 1) }
         ensures replicas { replicas_in self.new.now ≡ replicas_in self.old.now }

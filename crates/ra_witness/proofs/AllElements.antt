@@ -57,7 +57,7 @@ rga_like a b founders records same_elements same_arrivals same_edits same_lists 
 abbrev with_edits : Rga → Vec (Option Edit) Global → Rga
 with_edits rga edits = record { edits = edits; all = rga.all; lists = rga.lists }
 
--- also with room for one more edit
+-- whatever room the edits have
 pub rga_reserved : (rga : Rga) (edits : Vec (Option Edit) Global) (founders : ℕ) (records : Records)
     → edits.items ≡ rga.edits.items → IsRgaOf rga founders records → IsRgaOf (with_edits rga edits) founders records
 rga_reserved rga edits founders records same stands =

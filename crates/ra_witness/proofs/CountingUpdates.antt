@@ -66,8 +66,8 @@ rank_is kind records label s sorts is = sorts records label ∙ a_timestamp_is_t
 module _ (kind : Kind) (writes : List (Option Written)) (number_of : ℕ → Option ℕ) (records : Records) (to c k : ℕ)
     (sorts : IsByTimestamp kind) (kept : updates_written writes ≡ updates_by_number records) (are : AreWritesOf writes number_of records)
     (last : IsLastOn writes records to c k) where
-  own_stamp : last.label.stamp ≡ Some last.write.stamp
-  own_stamp = are.stamps last.label last.write last.there (ap (write_at writes) last.number ∙ last.found)
+  last_stamp : last.label.stamp ≡ Some last.write.stamp
+  last_stamp = are.stamps last.label last.write last.there (ap (write_at writes) last.number ∙ last.found)
 
   -- none that stands behind the last label is on its element
   pub none_behind : (before behind : List Label) → named_labels kind records ≡ before ++ last.label ∷ behind → (other : Label) (v : Written) → Contains behind other
@@ -76,7 +76,7 @@ module _ (kind : Kind) (writes : List (Option Written)) (number_of : ℕ → Opt
       let named : Contains (named_labels kind records) other = subst (λ ls. Contains ls other) (sym is) (Contains-append_right before (last.label ∷ behind) other (behind_head last.label behind other late)) in
       let there = Contains-permutation (named_labels kind records) (labels_of records) other (IsPermutation-sym (labels_of records) (named_labels kind records) (named_labels_are_sorted-same kind records)) named in
       let less = (a_label_stands_before_those_that_it_is_below-behind kind records before behind last.label other is there).0 late in
-      let own = rank_is kind records last.label last.write.stamp sorts own_stamp in
+      let own = rank_is kind records last.label last.write.stamp sorts last_stamp in
       let its = rank_is kind records other v.stamp sorts (are.stamps other v there at) in
       by own its ((labels_by_rank_and_then_by_number kind records last.label other).0 less) (last.above other v there h at on)
     where
@@ -138,17 +138,19 @@ numbered number_of e x number is known = subst (λ o. IsNumberOf number_of o num
 unnumbered : (number_of : ℕ → Option ℕ) (e : Option ℕ) (number : ℕ) → e ≡ None → IsNumberOf number_of e number → number ≡ 0
 unnumbered number_of e number is known = subst (λ o. IsNumberOf number_of o number) is known
 
+-- both kinds rank by timestamps
 pub by_timestamp : (kind : Kind) → (kind ≡ Register) ⊎ (kind ≡ LwwSet) → IsByTimestamp kind
 by_timestamp kind (inl is) = subst IsByTimestamp (sym is) (λ rs l. refl)
 by_timestamp kind (inr is) = subst IsByTimestamp (sym is) (λ rs l. refl)
 
--- what is kept of a register or an LWW set is that of the past, and the replica is there
+-- what is kept of a register or an LWW set is that of the past, which holds and where each stamp is one label's; and the
+-- replica is there
 pub record WritesStand (writes : List (Option Written)) (lasts : List (List (Option ℕ))) (number_of : ℕ → Option ℕ)
     (states : List State) (past : Past) (to : ℕ) : Type 0 where
-  pub one : (past.kind ≡ Register) ⊎ (past.kind ≡ LwwSet)
+  pub of_two : (past.kind ≡ Register) ⊎ (past.kind ≡ LwwSet)
   pub kept : AreStatesOf (updates_written writes) states past
   pub are : AreWritesOf writes number_of past.records
-  pub lastof : AreLastOf writes lasts past.records
+  pub are_last : AreLastOf writes lasts past.records
   pub once : StampsAreOneLabels past.records
   pub holds : Holds past.kind past.records
   pub within : to < length lasts
@@ -158,17 +160,17 @@ module _ {writes : List (Option Written)} {lasts : List (List (Option ℕ))} {nu
     {states : List State} {past : Past} {to n : ℕ}
     (given : WritesStand writes lasts number_of states past to) (it : IsNewWrite writes past.records to n) where
   sorts : IsByTimestamp past.kind
-  sorts = by_timestamp past.kind given.one
+  sorts = by_timestamp past.kind given.of_two
 
   not_rga : ¬ (past.kind ≡ Rga)
-  not_rga = not_rga-overriding past.kind given.one
+  not_rga = not_rga-overriding past.kind given.of_two
 
   abbrev now : Records
   now = Deliver to n ∷ past.records
 
-  -- the records with the delivery, by the label's own number
-  abbrev named_so : Records
-  named_so = Deliver to it.label.number ∷ past.records
+  -- the records with the delivery, told by the label's own number
+  abbrev by_own_number : Records
+  by_own_number = Deliver to it.label.number ∷ past.records
 
   abbrev counts : ℕ
   counts = counting writes lasts to n it.write
@@ -177,7 +179,7 @@ module _ {writes : List (Option Written)} {lasts : List (List (Option ℕ))} {nu
   are_now = record { stamps = given.are.stamps; numbers = given.are.numbers; one = given.are.one }
 
   abbrev last : IsLastOn writes now to it.write.on counts
-  last = counting-last writes lasts number_of past.records to n given.are given.lastof given.once given.within it
+  last = counting-last writes lasts number_of past.records to n given.are given.are_last given.once given.within it
 
   its_makes : Makes it.label.op it.write.update
   its_makes = written_made writes past.records it.label it.write given.kept.labels it.there
@@ -193,7 +195,7 @@ module _ {writes : List (Option Written)} {lasts : List (List (Option ℕ))} {nu
   its_kind : is_kind past.kind (kind_of_update it.write.update) ≡ true
   its_kind = of_kind it.label it.write.update it.there its_makes
 
-  admitted : is_admitted past.kind (updates_had past.kind named_so to) ≡ true
+  admitted : is_admitted past.kind (updates_had past.kind by_own_number to) ≡ true
   admitted = admitted_delivered past.kind past.records to it.label it.write.update (state_at states to) not_rga
       it.there its_makes its_new (given.kept.folded to given.there) its_kind
 
@@ -211,7 +213,7 @@ module _ {writes : List (Option Written)} {lasts : List (List (Option ℕ))} {nu
 
   -- the state then: that before with the update that counts
   abbrev IsOneStep : Type 0
-  IsOneStep = state_after past.kind (updates_had past.kind named_so to)
+  IsOneStep = state_after past.kind (updates_had past.kind by_own_number to)
       ≡ then_step (state_after past.kind (updates_had past.kind past.records to)) last.write.update
 
   -- once the update that counts is made
@@ -357,7 +359,7 @@ module _ {writes : List (Option Written)} {lasts : List (List (Option ℕ))} {nu
       (past_of kind past.founders (Deliver to n ∷ past.records))
 
   pub kept-overriding : AreKeptAs past.kind
-  kept-overriding = elim given.one [
+  kept-overriding = elim given.of_two [
     | inl is ↦ subst AreKeptAs (sym is) (kept-register (subst StandsAs is given) it)
     | inr is ↦ subst AreKeptAs (sym is) (kept-lww_set (subst StandsAs is given) it)
   ]

@@ -172,8 +172,8 @@ module _ (writes : List (Option Written)) (lasts : List (List (Option ℕ))) (nu
     | inr other ↦ ap (λ b. cond (b && c == it.write.on) (Some later) (last_label lasts q c)) (ne_eqb q to other)
   ]
 
-  pub lasts-kept : (next : List (List (Option ℕ))) → length next ≡ length lasts → ((q c : ℕ) → last_label next q c ≡ last_with lasts to it.write.on later q c) → AreLastOf writes next now
-  lasts-kept next same says = record {
+  pub lasts-kept : (lasts_now : List (List (Option ℕ))) → length lasts_now ≡ length lasts → ((q c : ℕ) → last_label lasts_now q c ≡ last_with lasts to it.write.on later q c) → AreLastOf writes lasts_now now
+  lasts-kept lasts_now same says = record {
     some = λ q c k below is. elim (where_is q c) [
       | inl here ↦
           let one : later ≡ k = same_Some later k (sym (says q c ∙ here_with q c here.0 here.1) ∙ is) in

@@ -70,10 +70,10 @@ module _ (kept : Overriding) (past : Past) (stands : IsOverridingOf kept past) (
   pub states_brought : AreStatesOf (updates_written writes) next_states (past_with past (Deliver to n))
   states_brought = kept-overriding
       (record {
-        one = stands.one;
+        of_two = stands.one;
         kept = stands.states;
         are = stands.writes;
-        lastof = stands.lasts;
+        are_last = stands.lasts;
         once = told.stamps;
         holds = told.holds;
         within = within;

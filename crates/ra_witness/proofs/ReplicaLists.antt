@@ -32,11 +32,11 @@ use Rattle.ra_witness.specs.Offered.{IsOffered, IsJoinedFrom}
 use Rattle.ra_witness.proofs.Forms.{its_replica}
 use Rattle.ra_witness.proofs.NumberedLabels.{update_found, makes_it, makes_none}
 
--- the list of the replica that the next label is of is read at that label's replica
-pub own_list : (rga : Rga) (founders : ℕ) (records : Records) (next : Next) (label : Label) (list : ReplicaList)
+-- the list that is read at the next label's replica is that of the replica it comes at
+pub list_read : (rga : Rga) (founders : ℕ) (records : Records) (next : Next) (label : Label) (list : ReplicaList)
     → IsRgaOf rga founders records → IsOffered (past_of variant.Rga founders records) next label
     → list ≡ get_or rga.lists.items label.replica list → slice_get rga.lists.items next.by ≡ Some list
-own_list rga founders records next label list stands offered read =
+list_read rga founders records next label list stands offered read =
     let by = its_replica (past_of variant.Rga founders records) next label offered in
     sym (ap (slice_get rga.lists.items) by)
     ∙ slice_get_read rga.lists.items (length rga.lists.items) label.replica list refl

@@ -142,10 +142,10 @@ lasts-query writes lasts records next kept last = record {
 }
 
 -- the numbers of elements, with that of the next write
-module _ (number_of : ℕ → Option ℕ) (next : ℕ) (e : Option ℕ) (one : (x y number : ℕ) → number_of x ≡ Some number → number_of y ≡ Some number → x ≡ y)
-    (below : AreBelow number_of next) where
+module _ (number_of : ℕ → Option ℕ) (count : ℕ) (e : Option ℕ) (one : (x y number : ℕ) → number_of x ≡ Some number → number_of y ≡ Some number → x ≡ y)
+    (below : AreBelow number_of count) where
   abbrev number : ℕ
-  number = number_in number_of next e
+  number = number_in number_of count e
 
   abbrev with_it : ℕ → Option ℕ
   with_it = number_with number_of e number
@@ -161,7 +161,7 @@ module _ (number_of : ℕ → Option ℕ) (next : ℕ) (e : Option ℕ) (one : (
       by None none = ap (λ p. number_with number_of p number y) none ∙ is
       by (Some x) some = elim (cases_eq x y) [
         | inl same ↦
-            let own : number ≡ k = ap (number_in number_of next) some ∙ ap (λ z. unwrap_or (number_of z) next) same ∙ ap (λ q. unwrap_or q next) is in
+            let own : number ≡ k = ap (number_in number_of count) some ∙ ap (λ z. unwrap_or (number_of z) count) same ∙ ap (λ q. unwrap_or q count) is in
             ap (λ p. number_with number_of p number y) some ∙ ap (λ b. cond b (Some number) (number_of y)) (eq-eqb x y same) ∙ ap Some own
         | inr differ ↦ ap (λ p. number_with number_of p number y) some ∙ ap (λ b. cond b (Some number) (number_of y)) (ne_eqb x y differ) ∙ is
       ]
@@ -174,19 +174,19 @@ module _ (number_of : ℕ → Option ℕ) (next : ℕ) (e : Option ℕ) (one : (
   own_number = by e refl
     where
       by : (p : Option ℕ) → e ≡ p → IsNumberOf with_it e number
-      by None none = subst (λ p. IsNumberOf with_it p number) (sym none) (ap (number_in number_of next) none)
+      by None none = subst (λ p. IsNumberOf with_it p number) (sym none) (ap (number_in number_of count) none)
       by (Some x) some = subst (λ p. IsNumberOf with_it p number) (sym some) (known_in x some)
 
   -- where a number comes from
   abbrev ComesFrom : ℕ → ℕ → Type 0
-  ComesFrom y k = (number_of y ≡ Some k) ⊎ ((e ≡ Some y) × (number ≡ k) × (number_of y ≡ None) × (k ≡ next))
+  ComesFrom y k = (number_of y ≡ Some k) ⊎ ((e ≡ Some y) × (number ≡ k) × (number_of y ≡ None) × (k ≡ count))
 
   known_or_next : (x y k : ℕ) → e ≡ Some x → x ≡ y → number ≡ k → (q : Option ℕ) → number_of y ≡ q → ComesFrom y k
   known_or_next x y k some same is (Some j) at =
-      let own : number ≡ j = ap (number_in number_of next) some ∙ ap (λ z. unwrap_or (number_of z) next) same ∙ ap (λ q. unwrap_or q next) at in
+      let own : number ≡ j = ap (number_in number_of count) some ∙ ap (λ z. unwrap_or (number_of z) count) same ∙ ap (λ q. unwrap_or q count) at in
       inl (at ∙ ap Some (sym own ∙ is))
   known_or_next x y k some same is None at =
-      let own : number ≡ next = ap (number_in number_of next) some ∙ ap (λ z. unwrap_or (number_of z) next) same ∙ ap (λ q. unwrap_or q next) at in
+      let own : number ≡ count = ap (number_in number_of count) some ∙ ap (λ z. unwrap_or (number_of z) count) same ∙ ap (λ q. unwrap_or q count) at in
       inr (some ∙ ap Some same, is, at, sym is ∙ own)
 
   comes_from : (y k : ℕ) → with_it y ≡ Some k → ComesFrom y k
@@ -212,7 +212,7 @@ module _ (number_of : ℕ → Option ℕ) (next : ℕ) (e : Option ℕ) (one : (
     ]
   ]
 
-  pub still_below : AreBelow with_it (next + 1)
+  pub still_below : AreBelow with_it (count + 1)
   still_below x k is = elim (comes_from x k is) [
     | inl old ↦ let lower = below x k old in omega (arith, lower)
     | inr new ↦ let at = new.3 in omega (arith, at)

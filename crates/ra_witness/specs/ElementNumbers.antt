@@ -11,8 +11,8 @@ element_of _ = None
 
 -- the number of an element, or of a register's one value; the next one where none is known
 abbrev pub number_in : (ℕ → Option ℕ) → ℕ → Option ℕ → ℕ
-number_in number_of next None = 0
-number_in number_of next (Some x) = unwrap_or (number_of x) next
+number_in number_of count None = 0
+number_in number_of count (Some x) = unwrap_or (number_of x) count
 
 -- the elements' numbers, once this one is known
 abbrev pub number_with : (ℕ → Option ℕ) → Option ℕ → ℕ → ℕ → Option ℕ

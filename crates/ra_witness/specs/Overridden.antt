@@ -49,11 +49,11 @@ pub record AreLastOf (writes : List (Option Written)) (lasts : List (List (Optio
   pub none : (replica element : ℕ) → replica < length lasts → last_label lasts replica element ≡ None
       → NoneIsOn writes records replica element
 
--- each number that is given is below the next one
+-- each number that is given is below the count
 abbrev pub AreBelow : (ℕ → Option ℕ) → ℕ → Type 0
-AreBelow number_of next = (x number : ℕ) → number_of x ≡ Some number → number < next
+AreBelow number_of count = (x number : ℕ) → number_of x ≡ Some number → number < count
 
--- what is kept of the label that comes next: its stamp and the number of its element
+-- what is kept of the label that comes next: its update, its stamp and the number of its element
 pub record IsNextWrite (write : Written) (number_of : ℕ → Option ℕ) (count : ℕ) (next : Next) : Type 0 where
   pub update : update_in next.op ≡ Some write.update
   pub stamp : option_map (stamp_at next.by) next.clock ≡ Some write.stamp

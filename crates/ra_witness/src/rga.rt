@@ -1,10 +1,9 @@
 //! Of an RGA: an element that comes late comes in behind the nearest one before it that is there.
 ghost use Rattle.std.specs.Prelude.{◌≡◌, ◌↔◌, ℕ, ◌<◌, ◌≤◌, ◌^◌, ◌∷◌, [], true, length, Option, Some, None, vec_len, vec_capacity, IsTrue, IsSome, IfOk, OnOk, OnErr, if◌then◌else◌};
 ghost use Rattle.ra_labels.specs.declared.kind.Kind.TheVariants as kinds;
-ghost use Rattle.ra_labels.specs.declared.operation.Op.{Op};
 ghost use Rattle.ra_labels.specs.declared.operation.Op.TheVariants as ops;
 ghost use Rattle.ra_labels.specs.declared.label.Label.{Label};
-ghost use Rattle.ra_labels.specs.declared.command.Command.TheVariants.{Operate, Deliver, Join};
+ghost use Rattle.ra_labels.specs.declared.command.Command.TheVariants.{Deliver, Join};
 ghost use Rattle.ra_labels.specs.Records.{Records, replica_count};
 ghost use Rattle.ra_labels.specs.Visibility.{had};
 ghost use Rattle.ra_labels.specs.Rewriting.{acts_of};
@@ -14,7 +13,7 @@ ghost use Rattle.ra_labels.specs.Linearization.{updates_admitted};
 ghost use Rattle.ra_labels.specs.Fault.{cause_of};
 ghost use Rattle.ra_labels.specs.Specification.{state_after, is_admitted};
 ghost use Rattle.ra_labels.specs.Insertion.{updates_had};
-ghost use Rattle.ra_labels.specs.Situation.{past_of, Next, next_of, operate};
+ghost use Rattle.ra_labels.specs.Situation.{past_of, Next, operate};
 ghost use Rattle.ra_rewrite.specs.Parts.{acts_in};
 ghost use Rattle.ra_seqspec.specs.Asked.{asks_rising};
 ghost use Rattle.std.specs.List.{list_all};
@@ -94,11 +93,10 @@ impl Rga {
     // Is it known, of all labels, that the element comes before its removal by this replica?
     fn admits_removal(&self, replica: u8, element: u32) -> bool
         requires { replica < vec_len self.now.lists }
-        ensures { (founders : ℕ) (records : Records) (op : Op) (clock : Option ℕ) (label : Label)
-            → IsRgaOf self.now founders records
-            → IsOffered (past_of kinds.Rga founders records) (next_of replica op clock) label
-            → op ≡ ops.RgaRemove element → IsTrue result
-            ↔ (updates_admitted kinds.Rga (named_sequence kinds.Rga (Operate replica op clock ∷ records)) ≡ true) }
+        ensures { (founders : ℕ) (records : Records) (next : Next) (label : Label) → IsRgaOf self.now founders records
+            → IsOffered (past_of kinds.Rga founders records) next label → next.by ≡ replica
+            → next.op ≡ ops.RgaRemove element → IsTrue result
+            ↔ (updates_admitted kinds.Rga (named_sequence kinds.Rga (operate next ∷ records)) ≡ true) }
     {
         let Some(number) = self.all.number_of(element) else {
             return false;

@@ -1,4 +1,4 @@
-//! A halt of a step: it tells that it stands there, and waits until it may go on.
+//! Where a step halts: it tells that it is there, and waits until it may go on.
 
 use std::alloc::Global;
 use std::hint;

@@ -1,5 +1,5 @@
 //! One more label among all labels, and in the list of all labels of an RGA.
-ghost use Rattle.std.specs.Prelude.{◌≡◌, ◌↔◌, ◌⊎◌, true, false, ℕ, Bool, List, ◌∷◌, ◌++◌, flat_map, Contains, Option, Some};
+ghost use Rattle.std.specs.Prelude.{◌≡◌, ◌↔◌, ◌⊎◌, true, false, ℕ, Bool, List, ◌∷◌, ◌++◌, flat_map, Contains, Some};
 ghost use Rattle.std.specs.Ordering.{is_lt};
 ghost use Rattle.std.specs.declared.cmp.Ordering.TheVariants.{Less};
 ghost use Rattle.ra_labels.specs.declared.kind.Kind.{Kind};

@@ -1,5 +1,5 @@
 //! Whose each update is, and what a replica had of another's.
-ghost use Rattle.std.specs.Prelude.{◌≡◌, ℕ, ◌<◌, ◌==◌, ◌&&◌, ◌∷◌, ◌++◌, length, filter, Option};
+ghost use Rattle.std.specs.Prelude.{◌≡◌, ℕ, ◌<◌, ◌==◌, ◌&&◌, ◌∷◌, ◌++◌, length, filter};
 ghost use Rattle.ra_labels.specs.Records.{Records, label_count, labels_of};
 ghost use Rattle.ra_labels.specs.Visibility.{had, sees, is_update, IsCausal};
 ghost use Rattle.ra_labels.specs.Places.{issuer_of, updates_issued, place_of};

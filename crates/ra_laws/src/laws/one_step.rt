@@ -1,5 +1,5 @@
 //! One delivery, or one operation, is one step.
-ghost use Rattle.std.specs.Prelude.{◌≡◌, true, false, ℕ, Bool, List, ◌∷◌, ◌++◌, Contains, Option, Some};
+ghost use Rattle.std.specs.Prelude.{◌≡◌, true, false, ℕ, Bool, List, ◌∷◌, ◌++◌, Contains, Some};
 ghost use Rattle.ra_labels.specs.declared.kind.Kind.{Kind};
 ghost use Rattle.ra_labels.specs.declared.kind.Kind.TheVariants.{Counter, Register, LwwSet, OrSet};
 ghost use Rattle.ra_labels.specs.declared.operation.Op.TheVariants.{OrAdd, OrRemove};

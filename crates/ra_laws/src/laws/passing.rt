@@ -1,5 +1,5 @@
 //! The updates of the labels that pass a test, in the named order.
-ghost use Rattle.std.specs.Prelude.{◌≡◌, true, false, ◌||◌, ℕ, Bool, ◌+◌, ◌≤◌, List, ◌∷◌, ◌++◌, length, Contains, Option};
+ghost use Rattle.std.specs.Prelude.{◌≡◌, true, false, ◌||◌, ℕ, Bool, ◌+◌, ◌≤◌, List, ◌∷◌, ◌++◌, length, Contains};
 ghost use Rattle.ra_labels.specs.declared.kind.Kind.{Kind};
 ghost use Rattle.ra_labels.specs.declared.kind.Kind.TheVariants.{Rga};
 ghost use Rattle.ra_labels.specs.declared.operation.Update.{Update};

@@ -5,6 +5,6 @@ pub returns : goal.returns
 returns c = record {
   counting = λ writes lasts number_of records to n write are last once within is new found.
       counting-last writes lasts number_of records to n are last once within (is_new_write writes records to n write is new found);
-  kept = λ writes lasts next number_of records to n write are last once within is new found same says.
-      lasts-kept writes lasts number_of records to n are last once within (is_new_write writes records to n write is new found) next same says;
+  kept = λ writes lasts lasts_now number_of records to n write are last once within is new found same says.
+      lasts-kept writes lasts number_of records to n are last once within (is_new_write writes records to n write is new found) lasts_now same says;
 }

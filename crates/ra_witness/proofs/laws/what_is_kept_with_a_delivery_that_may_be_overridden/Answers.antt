@@ -6,10 +6,10 @@ pub returns : goal.returns
 returns c = λ writes lasts number_of states past to n write one kept are last once holds within there is new found.
     kept-overriding
     (record {
-      one = one;
+      of_two = one;
       kept = kept;
       are = are;
-      lastof = last;
+      are_last = last;
       once = once;
       holds = holds;
       within = within;

@@ -27,7 +27,7 @@ answer_newest-answer-requires c =
       past = r.past;
       next = next_of c.args.replica c.args.op.now c.args.clock;
       newest = newest_stands self with_label r.past (next_of c.args.replica c.args.op.now c.args.clock) c.label_of-label.result c.args.brought r.stands r.none
-          (c.in_ok-issue.ensures.stands r.past c.args.op.now c.args.clock r.stands.tracker (sym c.is_update.ensures))
+          (c.in_ok-issue.ensures.stands r.past (next_of c.args.replica c.args.op.now c.args.clock) r.stands.tracker refl (sym c.is_update.ensures))
           (c.label_of-label.ensures.next r.past.records r.stands.labels ∙ ap (λ (o : Op). next_label r.past.records c.args.replica o c.args.clock) c.replace.ensures.value) r.brings refl refl refl refl
           (taken_alike r.past.records self.taken c.reserve.new.self c.reserve.ensures.stamps c.reserve.ensures.identifiers (taken_known self r.past r.stands r.none))
           c.reserve.ensures.replicas r.accepted;
@@ -48,7 +48,7 @@ returns-in-Ok-clause-taken c = λ past stands none accepted.
     } in
     c.in-Ok.ensures.answered past (next_of c.args.replica c.args.op.now c.args.clock)
     (newest_stands self with_label past (next_of c.args.replica c.args.op.now c.args.clock) c.label_of-label.result c.args.brought stands none
-    (c.in_ok-issue.ensures.stands past c.args.op.now c.args.clock stands.tracker (sym c.is_update.ensures))
+    (c.in_ok-issue.ensures.stands past (next_of c.args.replica c.args.op.now c.args.clock) stands.tracker refl (sym c.is_update.ensures))
     (c.label_of-label.ensures.next past.records stands.labels ∙ ap (λ (o : Op). next_label past.records c.args.replica o c.args.clock) c.replace.ensures.value) c.requires.brings refl refl refl refl
     (taken_alike past.records self.taken c.reserve.new.self c.reserve.ensures.stamps c.reserve.ensures.identifiers (taken_known self past stands none))
     c.reserve.ensures.replicas accepted)

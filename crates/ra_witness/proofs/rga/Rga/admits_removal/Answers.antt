@@ -1,10 +1,10 @@
 use Rattle.std.proofs.Common.{◌≡◌, ◌∙◌, length, refl, sym, ap, arith}
 use Rattle.std.specs.Prelude.{not}
+use Rattle.std.specs.List.{slice_get}
 use Rattle.std.specs.Ordering.{is_le}
 use Rattle.std.proofs.lemmas.Bool.{true≢false, false≢true, eq-eqb}
 use Rattle.std.proofs.lemmas.Option.{slice_get_read}
 use Rattle.ra_labels.specs.NamedOrder.{stamp_cmp}
-use Rattle.ra_labels.specs.Situation.{next_of}
 use Rattle.ra_element_list.specs.ElementList.{Arrival, arrival_at}
 use Rattle.ra_replica_list.specs.Edits.{element_at}
 use Rattle.ra_replica_list.proofs.TheLaws.{the_greatest_stamp_ranks_the_next_label}
@@ -12,9 +12,8 @@ use Rattle.ra_witness.proofs.AdmittedElements.{removal_admitted, removal_needs, 
 use Rattle.ra_witness.proofs.rga.Rga.admits_removal.Goals as goal
 
 pub returns-in_default : goal.returns-in_default
-returns-in_default c = λ founders records op clock label stands offered is.
-    let self = c.args.self.now in
-    let next = next_of c.args.replica op clock in (
+returns-in_default c = λ founders records next label stands offered by is.
+    let self = c.args.self.now in (
       (λ passes. absurd (false≢true passes)),
       λ admitted.
           let needs = removal_needs self.all self.edits.items records stands.elements founders next label offered c.args.element
@@ -26,17 +25,16 @@ pub stamp-requires : goal.stamp-requires
 stamp-requires c = ((c.in-Some.ensures c.in-Some.number).0 refl).0
 
 pub returns-then-number-ne-ROOT : goal.returns-then-number-ne-ROOT
-returns-then-number-ne-ROOT c = λ founders records op clock label stands offered is.
+returns-then-number-ne-ROOT c = λ founders records next label stands offered by is.
     let self = c.args.self.now in
-    let by = c.args.replica in
-    let next = next_of by op clock in
     let edits = self.edits.items in
     let lists = self.lists.items in
     let list = c.index.result.now in
     let n = c.in-Some.number in
-    let there = slice_get_read lists (length lists) by list refl (omega (arith, c.requires, self.lists.ok.0)) c.index.ensures in
+    let there = ap (slice_get lists) by
+    ∙ slice_get_read lists (length lists) c.args.replica list refl (omega (arith, c.requires, self.lists.ok.0)) c.index.ensures in
     let no_clock = unclocked self.all edits records stands.elements founders next label offered c.args.element is in
-    let ranks = the_greatest_stamp_ranks_the_next_label list self.all.arrivals edits records next (stands.lists by list there)
+    let ranks = the_greatest_stamp_ranks_the_next_label list self.all.arrivals edits records next (stands.lists next.by list there)
     no_clock in
     let known = (c.in-Some.ensures n).0 refl in
     let said : c.is_up_to.result ≡ is_le (stamp_cmp (arrival_at self.all.arrivals n).stamp list.greatest) =
@@ -54,10 +52,9 @@ returns-then-number-ne-ROOT c = λ founders records op clock label stands offere
     )
 
 pub returns-else-number-ne-ROOT : goal.returns-else-number-ne-ROOT
-returns-else-number-ne-ROOT c = λ founders records op clock label stands offered is.
+returns-else-number-ne-ROOT c = λ founders records next label stands offered by is.
     let self = c.args.self.now in
     let n = c.in-Some.number in
-    let next = next_of c.args.replica op clock in
     let known = (c.in-Some.ensures n).0 refl in
     let zero_is : n ≡ 0 = c.if-number-ne-ROOT.false in (
       (λ passes. absurd (true≢false (sym passes ∙ ap not (eq-eqb n 0 zero_is)))),

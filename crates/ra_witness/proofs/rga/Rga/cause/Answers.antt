@@ -1,15 +1,10 @@
-use Rattle.std.proofs.Common.{◌≡◌, ◌∙◌, ◌∷◌, true, refl, sym, ap, subst}
-use Rattle.std.specs.Prelude.{◌↔◌}
+use Rattle.std.proofs.Common.{◌∙◌, refl, sym, ap}
 use Rattle.ra_labels.specs.declared.kind.Kind.TheVariants as variant
-use Rattle.ra_labels.specs.declared.command.Command.TheVariants.{Operate}
 use Rattle.ra_labels.specs.Rewriting.{acts_of}
-use Rattle.ra_labels.specs.NamedOrder.{named_sequence}
-use Rattle.ra_labels.specs.Linearization.{updates_admitted}
 use Rattle.ra_rewrite.specs.Parts.{acts_in}
-use Rattle.ra_witness.specs.Offered.{IsOffered}
 use Rattle.ra_labels.specs.Specification.{state_after}
 use Rattle.ra_labels.specs.Insertion.{updates_had}
-use Rattle.ra_labels.specs.Situation.{past_of, next_of}
+use Rattle.ra_labels.specs.Situation.{past_of}
 use Rattle.ra_witness.specs.Labels.{cause_in}
 use Rattle.ra_witness.proofs.Forms.{of_its_kind, its_replica, its_op}
 use Rattle.ra_witness.proofs.RgaCauses.{asks_only, query_cause, update_cause}
@@ -40,5 +35,4 @@ returns-in-RgaRemove c = λ founders records next stands offered acts.
     let replica = its_replica (past_of variant.Rga founders records) next label offered in
     c.update_unless-in-RgaRemove.ensures
     ∙ update_cause founders records next label offered c.admits_removal.result (λ o. ap (λ p. cause_in o (acts_of p)) is)
-    (subst (λ r. (c.admits_removal.result ≡ true) ↔ (updates_admitted variant.Rga (named_sequence variant.Rga (Operate r next.op next.clock ∷ records)) ≡ true)) replica
-    (c.admits_removal.ensures founders records next.op next.clock label stands (subst (λ r. IsOffered (past_of variant.Rga founders records) (next_of r next.op next.clock) label) (sym replica) offered) is))
+    (c.admits_removal.ensures founders records next label stands offered (sym replica) is)

@@ -14,7 +14,7 @@ use Rattle.ra_witness.specs.declared.rga.Rga.{Rga}
 use Rattle.ra_witness.proofs.Forms.{its_replica}
 use Rattle.ra_witness.proofs.AdmittedElements.{makes_after}
 use Rattle.ra_witness.proofs.AllElements.{rga_like}
-use Rattle.ra_witness.proofs.ReplicaLists.{own_list, rga_same, settles_more}
+use Rattle.ra_witness.proofs.ReplicaLists.{list_read, rga_same, settles_more}
 use Rattle.ra_witness.proofs.TakenElements.{rga_put}
 use Rattle.ra_witness.proofs.rga.Rga.put_in.Goals as goal
 
@@ -73,7 +73,7 @@ returns-clause-taken c = λ founders records next stands offered admitted is.
     let list = c.index_mut-list.result.now in
     let by = its_replica (past_of variant.Rga founders records) next label offered in
     let was = there_still.lists next.by list
-    (own_list self founders records next label list stands offered c.index_mut-list.ensures.value) in
+    (list_read self founders records next label list stands offered c.index_mut-list.ensures.value) in
     let known = (c.in-Some.ensures m).0 refl in
     let count = ap length room.arrivals in
     let m_within : m < length all.arrivals = omega (arith, known.0, count) in

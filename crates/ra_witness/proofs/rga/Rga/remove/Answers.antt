@@ -9,7 +9,7 @@ use Rattle.ra_labels.specs.Situation.{past_of}
 use Rattle.ra_witness.specs.declared.rga.Rga.{Rga}
 use Rattle.ra_witness.proofs.Forms.{its_replica}
 use Rattle.ra_witness.proofs.AdmittedElements.{makes_removal, unclocked}
-use Rattle.ra_witness.proofs.ReplicaLists.{own_list, rga_same, settles_more}
+use Rattle.ra_witness.proofs.ReplicaLists.{list_read, rga_same, settles_more}
 use Rattle.ra_witness.proofs.TakenElements.{rga_removed}
 use Rattle.ra_witness.proofs.rga.Rga.remove.Goals as goal
 
@@ -42,7 +42,7 @@ returns-clause-taken c = λ founders records next stands offered admitted is.
     let list = c.index_mut-list.result.now in
     let by = its_replica (past_of variant.Rga founders records) next label offered in
     let was = stands.lists next.by list
-    (own_list self founders records next label list stands offered c.index_mut-list.ensures.value) in
+    (list_read self founders records next label list stands offered c.index_mut-list.ensures.value) in
     let known = (c.in-Some.ensures number).0 refl in
     let removes = subst (λ y. Makes next.op (RgaRemove y)) (sym known.1) (makes_removal next.op x is) in
     let no_clock = unclocked self.all self.edits.items records stands.elements founders next label offered x is in

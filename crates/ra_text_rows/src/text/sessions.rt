@@ -5,7 +5,6 @@ use super::{REPLIES, SETS, is_fault};
 use ra_history_text::{CheckFault, Session};
 use ra_labels::Kind;
 use ra_monitor::Report;
-use ra_report::report_json;
 use std::alloc::Global;
 use std::process::Abort;
 

@@ -1,5 +1,0 @@
-//! The bench, its replicas, and a replica that does it wrong.
-
-mod gates;
-mod lies;
-mod replicas;
