@@ -138,10 +138,10 @@ pub fn the_last_labels_with_a_delivery()
         → is_update_at records n ≡ true → had records to n ≡ false → write_at writes n ≡ Some write
         → IsLastOn writes (Deliver to n ∷ records) to write.on (counting writes lasts to n write) }
     ensures kept { (writes : List (Option Written)) (lasts lasts_now : List (List (Option ℕ)))
-        (number_of : ℕ → Option ℕ) (records : Records) (to n : ℕ) (write : Written) → AreWritesOf writes number_of records
-        → AreLastOf writes lasts records → StampsAreOneLabels records → to < length lasts
-        → is_update_at records n ≡ true → had records to n ≡ false → write_at writes n ≡ Some write
-        → length lasts_now ≡ length lasts
+        (number_of : ℕ → Option ℕ) (records : Records) (to n : ℕ) (write : Written)
+        → AreWritesOf writes number_of records → AreLastOf writes lasts records → StampsAreOneLabels records
+        → to < length lasts → is_update_at records n ≡ true → had records to n ≡ false
+        → write_at writes n ≡ Some write → length lasts_now ≡ length lasts
         → ((q c : ℕ) → last_label lasts_now q c ≡ last_with lasts to write.on (counting writes lasts to n write) q c)
         → AreLastOf writes lasts_now (Deliver to n ∷ records) }
 {}
