@@ -1,7 +1,9 @@
-//! Tests of what goes through the lock: the lock over a toy journal, desks, and reporters on threads of their own. The
-//! bench is tested in `ra_bench_rows`. There is nothing else here.
+//! Tests of what goes through the lock: the lock over a toy journal, desks, reporters on threads of their own, and the
+//! bench. There is nothing else here.
 #![tactic(auto)]
 
+#[cfg(test)]
+mod bench;
 #[cfg(test)]
 mod callers;
 #[cfg(test)]

@@ -1,6 +1,6 @@
-//! Tests that cross the libraries: worked histories as lists of commands, the two lists of an RGA, and each public call
-//! with ample memory. The text is tested in `ra_text_rows`, what goes through the lock in `ra_desk_rows`, the bench in
-//! `ra_bench_rows`. There is nothing else here.
+//! Tests that cross the libraries: worked histories as lists of commands, the text of a history, the two lists of an
+//! RGA, and each public call with ample memory. What goes through the lock is tested in `ra_desk_rows`. There is
+//! nothing else here.
 #![tactic(auto)]
 
 #[cfg(test)]
@@ -27,6 +27,8 @@ mod room;
 mod rows;
 #[cfg(test)]
 mod sizes;
+#[cfg(test)]
+mod text;
 #[cfg(test)]
 mod timestamps;
 #[cfg(test)]
