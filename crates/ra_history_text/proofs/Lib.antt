@@ -6,6 +6,8 @@ pub mod Lines
 pub mod Runs
 pub mod Halts
 pub mod Texts
+pub mod Endings
+pub mod StoppedBytes
 pub mod Prefixes
 pub mod NewNames
 pub mod TheLaws

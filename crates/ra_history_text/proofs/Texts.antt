@@ -29,7 +29,7 @@ use Rattle.ra_history_text.proofs.TakenBytes.{byte_cases, taken_then, taken_line
 -- ---- lines, one after another
 
 -- these lines lead from what the lines before say to this
-abbrev Leads : Said → List (List ℕ) → Said → Type 0
+abbrev pub Leads : Said → List (List ℕ) → Said → Type 0
 Leads said [] last = said ≡ last
 Leads said (line ∷ lines) last = (next : Said) × (said_behind said line ≡ Some next) × (is_full said ≡ false)
     × Leads next lines last
@@ -52,13 +52,13 @@ taken_as_found said (Some next) q e =
 -- ---- from lines to bytes
 
 -- a whole line, from its first byte to its line feed
-taken_whole : (said : Said) (line : List ℕ) → IsLine line
+pub taken_whole : (said : Said) (line : List ℕ) → IsLine line
     → taken (line_start said) (line ++ 10 ∷ []) ≡ line_taken said line
 taken_whole said line is =
     taken_line (line_start said) (record { said = said; partial = line }) line
     (taken_part (line_start said) line is.one (omega (arith, is.short)))
 
-taken_lines : (said last : Said) (lines : List (List ℕ)) → AllByRecursion IsLine lines → Leads said lines last
+pub taken_lines : (said last : Said) (lines : List (List ℕ)) → AllByRecursion IsLine lines → Leads said lines last
     → taken (line_start said) (bytes_of lines) ≡ Ok (line_start last)
 taken_lines said last [] are leads = ap (λ (s : Said). Ok (line_start s)) leads
 taken_lines said last (line ∷ lines) are leads =
@@ -72,7 +72,7 @@ records_more : (kind : Kind) (first : List (List ℕ)) (before : List Command) (
 records_more kind first before c = answers_in_turn-records kind (length first) [] before (c ∷ [])
 
 -- the lines of commands
-leads_commands : (format : Format) (kind : Kind) (first joined all lines : List (List ℕ)) (records : Records)
+pub leads_commands : (format : Format) (kind : Kind) (first joined all lines : List (List ℕ)) (records : Records)
     (before commands : List Command)
     → records ≡ records_in kind first before
     → SpellEach format kind first records joined lines commands all
@@ -132,21 +132,22 @@ taken_text text format kind first joined commands says =
 -- ---- from bytes to lines
 
 -- bytes that were taken: whole lines, which lead to what is said now, and what is there of the next
-record AreLines (p q : Progress) (bytes : List ℕ) : Type 0 where
+pub record AreLines (p q : Progress) (bytes : List ℕ) : Type 0 where
   pub lines : List (List ℕ)
   pub are_lines : AllByRecursion IsLine lines
   pub leads : Leads p.said lines q.said
   pub parts : p.partial ++ bytes ≡ bytes_of lines ++ q.partial
+  pub is_line : IsLine q.partial
 
-no_bytes : IsLine []
+pub no_bytes : IsLine []
 no_bytes = record { one = λ k d below. absurd (omega (arith, below)); short = omega arith }
 
-one_byte : (byte : ℕ) → byte ≢ 10 → All (λ b. b ≢ 10) (byte ∷ [])
+pub one_byte : (byte : ℕ) → byte ≢ 10 → All (λ b. b ≢ 10) (byte ∷ [])
 one_byte byte none zero d below = none
 one_byte byte none (suc k) d below = absurd (omega (arith, below))
 
 -- a line and its line feed in front of other lines, with what stands behind these
-line_in_front : (line lines behind bytes : List ℕ) (byte : ℕ) → byte ≡ 10 → bytes ≡ lines ++ behind
+pub line_in_front : (line lines behind bytes : List ℕ) (byte : ℕ) → byte ≡ 10 → bytes ≡ lines ++ behind
     → line ++ byte ∷ bytes ≡ ((line ++ 10 ∷ []) ++ lines) ++ behind
 line_in_front line lines behind bytes byte feed parts =
     ap (λ (b : ℕ). line ++ b ∷ bytes) feed ∙ ap (λ (bs : List ℕ). line ++ 10 ∷ bs) parts
@@ -158,7 +159,7 @@ pub going_on : (r : Result Progress Stop) (q : Progress) (f : Progress → Resul
 going_on (Ok p) q f e = (p, refl, e)
 going_on (Err stop) q f e = absurd cc
 
-line_push : (line : List ℕ) (byte : ℕ) → IsLine line → byte ≢ 10 → length line < 1048576 → IsLine (line ++ byte ∷ [])
+pub line_push : (line : List ℕ) (byte : ℕ) → IsLine line → byte ≢ 10 → length line < 1048576 → IsLine (line ++ byte ∷ [])
 line_push line byte is none room = record {
   one = All-append (λ b. b ≢ 10) line (byte ∷ []) is.one (one_byte byte none);
   short = omega (arith, length_push line byte, room);
@@ -180,6 +181,7 @@ byte_found p q byte bytes is = byte_cases p byte (λ r. unless_stopped r (λ nex
       are_lines = (is, rest.are_lines);
       leads = (made.0, made.1, made.2, rest.leads);
       parts = line_in_front p.partial (bytes_of rest.lines) q.partial bytes byte feed rest.parts;
+      is_line = rest.is_line;
     })
     (λ other room e later.
     let next : Progress = record { said = p.said; partial = p.partial ++ byte ∷ [] } in
@@ -189,10 +191,11 @@ byte_found p q byte bytes is = byte_cases p byte (λ r. unless_stopped r (λ nex
       are_lines = rest.are_lines;
       leads = rest.leads;
       parts = sym (append_assoc p.partial (byte ∷ []) bytes) ∙ rest.parts;
+      is_line = rest.is_line;
     })
     (λ other full e later. absurd cc)
 
-lines_found : (bytes : List ℕ) (p q : Progress) → IsLine p.partial → taken p bytes ≡ Ok q → AreLines p q bytes
+pub lines_found : (bytes : List ℕ) (p q : Progress) → IsLine p.partial → taken p bytes ≡ Ok q → AreLines p q bytes
 lines_found [] p q is e =
     let same : p ≡ q = cc in
     record {
@@ -201,6 +204,7 @@ lines_found [] p q is e =
       leads = ap (λ (r : Progress). r.said) same;
       parts = append-nil p.partial
           ∙ ap (λ (r : Progress). r.partial) same;
+      is_line = subst (λ (r : Progress). IsLine r.partial) same is;
     }
 lines_found (byte ∷ bytes) p q is e =
     byte_found p q byte bytes is e (λ next line is_taken. lines_found bytes next q line is_taken)
@@ -208,15 +212,15 @@ lines_found (byte ∷ bytes) p q is e =
 -- ---- from lines to a history
 
 -- what lines of commands lead to
-record AreFound (format : Format) (kind : Kind) (first joined lines : List (List ℕ)) (records : Records)
+pub record AreFound (format : Format) (kind : Kind) (first joined lines : List (List ℕ)) (records : Records)
     (before : List Command) (last : Said) : Type 0 where
-  commands : List Command
-  all : List (List ℕ)
-  is : OfHistory format kind first all (before ++ commands) ≡ last
-  spell : SpellEach format kind first records joined lines commands all
-  few : length before + length commands ≤ 1048576
+  pub commands : List Command
+  pub all : List (List ℕ)
+  pub is : OfHistory format kind first all (before ++ commands) ≡ last
+  pub spell : SpellEach format kind first records joined lines commands all
+  pub few : length before + length commands ≤ 1048576
 
-commands_found : (format : Format) (kind : Kind) (first joined lines : List (List ℕ)) (records : Records)
+pub commands_found : (format : Format) (kind : Kind) (first joined lines : List (List ℕ)) (records : Records)
     (before : List Command) (last : Said) → records ≡ records_in kind first before → length before ≤ 1048576
     → Leads (OfHistory format kind first joined before) lines last
     → AreFound format kind first joined lines records before last

@@ -1,5 +1,6 @@
 pub mod Text
 pub mod Output
+pub mod Endings
 pub mod Written
 pub mod Faults
 pub mod Recording

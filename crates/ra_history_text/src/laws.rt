@@ -8,7 +8,9 @@ ghost use Rattle.ra_lines.specs.Fields.{BeginsWith};
 ghost use Rattle.ra_history_text.specs.Laws.{IsOfReader, GrowsByPart, GrowsByReplies, AnswersEach};
 ghost use Rattle.ra_history_text.specs.Output.{replies_of, output_of};
 ghost use Rattle.ra_history_text.specs.Run.{StopsCheck};
-ghost use Rattle.ra_history_text.specs.Text.{OfHistory, Regular, ending_of, said_by, does_not_stop};
+ghost use Rattle.ra_history_text.specs.Endings.{HasSyntaxFault, IsTruncated, HasLongLine, HasCommandTooMany};
+ghost use Rattle.ra_history_text.specs.Text.{Said, OfHistory, Regular, Syntax, Truncated, LineTooLong, Full};
+ghost use Rattle.ra_history_text.specs.Text.{ending_of, said_by, does_not_stop};
 ghost use Rattle.ra_history_text.specs.declared.fault.CheckFault.{CheckFault};
 ghost use Rattle.ra_history_text.specs.declared.fault.CheckFault.TheVariants.{NoMemory};
 ghost use Rattle.ra_history_text.specs.declared.limits.TheConstants.{MOST_READS, PIECE};
@@ -60,4 +62,32 @@ pub fn a_stop_leaves_something_unwritten()
 pub fn missing_memory_leaves_whole_lines()
     ensures { (text left old new : List ℕ) → StopsCheck text (Some left) (Some old) (Some new) NoMemory →
         GrowsByReplies old new }
+{}
+
+/// A text has a syntax fault exactly where, behind whole lines that begin a history, a whole line spells nothing that
+/// may follow. The fault has the number of that line, and the text says what the lines before it say.
+pub fn syntax_iff_a_line_spells_nothing()
+    ensures { (text : List ℕ) (said : Said) (number : ℕ) →
+        ((ending_of text ≡ Syntax number) × (said_by text ≡ said)) ↔ HasSyntaxFault text said number }
+{}
+
+/// A text is truncated exactly where it ends inside a line, behind whole lines that begin a history, or before its
+/// first two lines.
+pub fn truncated_iff_it_ends_early()
+    ensures { (text : List ℕ) (said : Said) (number : ℕ) →
+        ((ending_of text ≡ Truncated number) × (said_by text ≡ said)) ↔ IsTruncated text said number }
+{}
+
+/// A line of a text is too long exactly where, behind whole lines that begin a history, one byte more than the longest
+/// line may have comes before any line feed.
+pub fn too_long_iff_a_line_has_a_byte_too_many()
+    ensures { (text : List ℕ) (said : Said) (number : ℕ) →
+        ((ending_of text ≡ LineTooLong number) × (said_by text ≡ said)) ↔ HasLongLine text said number }
+{}
+
+/// A text is full exactly where, behind the lines of as many commands as a text may have, a whole line spells another
+/// one.
+pub fn full_iff_a_command_is_too_many()
+    ensures { (text : List ℕ) (said : Said) (number : ℕ) →
+        ((ending_of text ≡ Full number) × (said_by text ≡ said)) ↔ HasCommandTooMany text said number }
 {}
