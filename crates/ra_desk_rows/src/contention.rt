@@ -2,14 +2,15 @@
 ghost use Rattle.std.specs.Prelude.{All, IfOk, IfSome};
 ghost use Rattle.ra_ticket.specs.Passes.{IsPassOf};
 
-use crate::desks::{Answer, Outcome, are_found, counted, outcome_of};
+use crate::desks::{Answer, Outcome, are_found, counted, is_told, outcome_of, reply_in};
 use crate::lock::GREATEST;
-use crate::lock::threads::start_together;
+use crate::lock::threads::{last_pass, start_together};
 use ra_desk::Desk;
+use ra_journal::Entry;
 use ra_labels::{Command, Refusal, Reply};
 use ra_monitor::Monitor;
 use ra_ticket::Pass;
-use std::alloc::AllocError;
+use std::alloc::{AllocError, Global};
 use std::process::Abort;
 use std::sync::Wait;
 use std::sync::atomic::AtomicUsize;
@@ -154,16 +155,59 @@ fn told_to(asked: &[Option<Asked>]) -> AnswerCounts {
     all
 }
 
-// The first of the passes.
-fn first_of(rt: &impl Abort, desk: &Desk, asked: Vec<Option<Asked>>) -> Pass<Monitor>
+// The first of the passes, and the others.
+fn first_of(
+    rt: &impl Abort,
+    desk: &Desk,
+    mut asked: Vec<Option<Asked>>,
+) -> (Pass<Monitor>, Vec<Option<Asked>>)
     requires { All (λ one. IfSome one (λ a. IsPassOf desk.now a.pass)) asked.items }
-    ensures { IsPassOf desk.now result }
+    ensures first { IsPassOf desk.now result.0 }
+    ensures others { All (λ one. IfSome one (λ a. IsPassOf desk.now a.pass)) result.1.items }
 {
-    let mut asked = asked;
     assert!(rt; !asked.is_empty());
     match asked.remove(0) {
-        Some(Asked { pass, .. }) => pass,
+        Some(Asked { pass, .. }) => (pass, asked),
         None => panic!(rt; "the first was dropped"),
+    }
+}
+
+// The pass meets each of the others, and finds this many calls each time.
+fn meet_each(
+    rt: &impl Abort,
+    desk: &Desk,
+    first: Pass<Monitor>,
+    others: Vec<Option<Asked>>,
+    calls: u32,
+) -> Pass<Monitor>
+    requires { IsPassOf desk.now first × All (λ one. IfSome one (λ a. IsPassOf desk.now a.pass)) others.items }
+    ensures { IsPassOf desk.now result }
+{
+    let mut first = first;
+    for other in others {
+        first = meet_one(rt, desk, first, other, calls);
+    }
+    first
+}
+
+// The pass meets this one, unless it was dropped.
+fn meet_one(
+    rt: &impl Abort,
+    desk: &Desk,
+    first: Pass<Monitor>,
+    other: Option<Asked>,
+    calls: u32,
+) -> Pass<Monitor>
+    requires { IsPassOf desk.now first × IfSome other (λ a. IsPassOf desk.now a.pass) }
+    ensures { IsPassOf desk.now result }
+{
+    match other {
+        Some(Asked { pass, .. }) => {
+            let (first, _other, found) = desk.meet(first, pass);
+            assert!(rt; found == calls, "{found} calls");
+            first
+        }
+        None => first,
     }
 }
 
@@ -248,10 +292,14 @@ fn passes_on_threads_have_their_calls(rt: HostRuntime) {
             Err(_) => panic!(rt; "no memory"),
         };
         assert_eq!(rt; told_to(asked.as_slice()), told);
-        let mut pass = first_of(&rt, &desk, asked);
+        let (mut pass, others) = first_of(&rt, &desk, asked);
         are_found(&rt, desk.glance(&mut pass), told.replied(), None);
+        let pass = meet_each(&rt, &desk, pass, others, told.replied());
         match desk.close(pass) {
-            Ok(monitor) => is_left(&rt, &monitor, told),
+            Ok(monitor) => {
+                is_left(&rt, &monitor, told);
+                has_entries_of_each(&rt, monitor.log(), callers, calls);
+            }
             Err(_) => panic!(rt; "not settled"),
         }
     }
@@ -265,4 +313,59 @@ fn is_left(rt: &impl Abort, monitor: &Monitor, told: AnswerCounts) {
         u32::from(monitor.replicas()),
         told.joined.saturating_add(3)
     );
+}
+
+// Where each call was replied to, each of these passes has an entry of each of its calls, and else no more.
+fn has_entries_of_each(rt: &impl Abort, log: &[Entry<Command, Reply>], passes: u8, calls: u32) {
+    let is_each = log.len() == usize::from(passes).saturating_mul(calls as usize);
+    for pass in 0..passes {
+        let own = log.iter().filter(|entry| entry.pass == pass).count();
+        assert!(rt;
+            own == calls as usize || (!is_each && own < calls as usize),
+            "pass {pass}"
+        );
+    }
+}
+
+// Each pass in turn tries a verdict, which is replied to.
+fn try_in_turn(
+    rt: &impl Abort,
+    alloc: Global,
+    desk: &Desk,
+    passes: Vec<Pass<Monitor>>,
+) -> Vec<Pass<Monitor>>
+    requires { All (IsPassOf desk.now) passes.items }
+    ensures { All (IsPassOf desk.now) result.items }
+{
+    let mut tried = Vec::new(alloc);
+    for pass in passes {
+        let mut pass = pass;
+        let reply = reply_in(desk.try_submit(&mut pass, Command::Verdict));
+        is_told(rt, reply, Reply::Yes(0));
+        match tried.push(pass) {
+            Ok(()) => {}
+            Err(_) => panic!(rt; "no memory"),
+        }
+    }
+    tried
+}
+
+// On one thread, as the log has room for: the entries have the tickets 0 to 127.
+#[test]
+fn passes_try_in_turn_twice_round(rt: HostRuntime) {
+    let (desk, passes) = counted(&rt, rt.alloc(), 128, 64, 0);
+    let passes = try_in_turn(&rt, rt.alloc(), &desk, passes);
+    let mut passes = try_in_turn(&rt, rt.alloc(), &desk, passes);
+    let pass = last_pass(&rt, &desk, &mut passes);
+    match desk.close(pass) {
+        Ok(monitor) => are_in_turn(&rt, monitor.log()),
+        Err(_) => panic!(rt; "not settled"),
+    }
+}
+
+fn are_in_turn(rt: &impl Abort, log: &[Entry<Command, Reply>]) {
+    assert_eq!(rt; log.len(), 128);
+    for (place, entry) in log.iter().enumerate() {
+        assert!(rt; entry.ticket == place as u64 && usize::from(entry.pass) == place % 64);
+    }
 }

@@ -3,8 +3,8 @@
 ghost use Rattle.ra_ticket.specs.Passes.{IsPassOf};
 
 use crate::desks::{
-    are_found, got_the_first, is_full, is_told, is_worn, last, opened, opened_again, reply_in,
-    write,
+    are_found, count, counted, got_the_first, increment, is_full, is_told, is_worn, last, opened,
+    opened_again, reply_in, write,
 };
 use crate::lock::GREATEST;
 use crate::lock::threads::last_pass;
@@ -56,7 +56,7 @@ fn a_desk_answers_as_the_monitor(rt: HostRuntime) {
 
 #[test]
 fn one_pass_fills_a_desk_at_once(rt: HostRuntime) {
-    let (desk, mut passes) = opened(&rt, rt.alloc(), 2, 1, 0);
+    let (desk, mut passes) = counted(&rt, rt.alloc(), 2, 1, 0);
     let mut pass = last_pass(&rt, &desk, &mut passes);
     let first = attempted(&desk, &mut pass, Command::Verdict);
     let second = attempted(&desk, &mut pass, Command::Verdict);
@@ -68,7 +68,7 @@ fn one_pass_fills_a_desk_at_once(rt: HostRuntime) {
 // The third pass never calls, so only a look can tell it and the first one of the second one's calls.
 #[test]
 fn passes_that_meet_see_what_neither_had_seen(rt: HostRuntime) {
-    let (desk, mut passes) = opened(&rt, rt.alloc(), 100, 3, 0);
+    let (desk, mut passes) = counted(&rt, rt.alloc(), 100, 3, 0);
     let third = last_pass(&rt, &desk, &mut passes);
     let mut second = last_pass(&rt, &desk, &mut passes);
     let mut first = last_pass(&rt, &desk, &mut passes);
@@ -86,7 +86,7 @@ fn one_call_and_a_glance<R: Abort + Wait>(rt: &R, desk: &Desk, pass: &mut Pass<M
     requires { IsPassOf desk.now pass.old }
     ensures { IsPassOf desk.now pass.new }
 {
-    is_told(rt, submitted(rt, desk, pass, write(0, 7)), Reply::Ok(0));
+    is_told(rt, submitted(rt, desk, pass, increment(0)), Reply::Ok(0));
     are_found(rt, desk.glance(pass), 1, None);
 }
 
@@ -94,7 +94,7 @@ fn two_attempts(rt: &impl Abort, desk: &Desk, pass: &mut Pass<Monitor>)
     requires { IsPassOf desk.now pass.old }
 {
     let first = attempted(desk, pass, got_the_first(1));
-    let second = attempted(desk, pass, last(1, 7));
+    let second = attempted(desk, pass, count(1, 1));
     is_told(rt, first, Reply::Got(0));
     is_told(rt, second, Reply::Ok(1));
 }
@@ -102,7 +102,7 @@ fn two_attempts(rt: &impl Abort, desk: &Desk, pass: &mut Pass<Monitor>)
 // A worn desk answers a glance as ever.
 #[test]
 fn a_desk_is_worn_after_the_greatest_ticket(rt: HostRuntime) {
-    let (desk, mut passes) = opened(&rt, rt.alloc(), 100, 3, GREATEST);
+    let (desk, mut passes) = counted(&rt, rt.alloc(), 100, 3, GREATEST);
     let mut pass = last_pass(&rt, &desk, &mut passes);
     let reply = submitted(&rt, &desk, &mut pass, Command::Verdict);
     is_told(&rt, reply, Reply::Yes(0));

@@ -21,9 +21,24 @@ pub fn write(replica: u8, clock: u32) -> Command {
 
 /// A read.
 pub fn last(replica: u8, value: u32) -> Command {
+    bare(replica, Op::Last(Some(value)))
+}
+
+/// An increment of a counter.
+pub fn increment(replica: u8) -> Command {
+    bare(replica, Op::Inc)
+}
+
+/// A read of a counter.
+pub fn count(replica: u8, value: i32) -> Command {
+    bare(replica, Op::Count(value))
+}
+
+// An operation without a clock.
+fn bare(replica: u8, op: Op) -> Command {
     Command::Operate {
         replica,
-        op: Op::Last(Some(value)),
+        op,
         stamp: None,
     }
 }

@@ -15,6 +15,7 @@ use std::process::Abort;
 use std::sync::Wait;
 use std::sync::atomic::{AtomicU64, Ordering};
 use std::thread;
+use std::thread::Threads;
 use tally::Tally;
 use threads::{Found, call_and_look_on, counted, last_pass, replies, replies_of_threads};
 
@@ -122,10 +123,39 @@ fn threads_that_start_together_take_turns(rt: HostRuntime) {
     for count in [2, 4, 8] {
         let tally = tally_of(&rt, rt.alloc(), 1_048_576);
         let (lock, passes) = opened(&rt, rt.alloc(), tally, count, 7);
-        match replies_of_threads(&rt, rt.alloc(), &lock, passes, 25_000) {
-            Ok(answers) => are_in_turn(&rt, rt.alloc(), answers, u32::from(count) * 25_000),
-            Err(_) => panic!(rt; "no memory"),
-        }
+        take_turns(
+            &rt,
+            rt.alloc(),
+            &lock,
+            passes,
+            25_000,
+            u32::from(count) * 25_000,
+        );
+    }
+}
+
+// The replies, sorted, are 1 to 200, each once.
+#[test]
+fn two_threads_make_a_hundred_calls_each(rt: HostRuntime) {
+    let tally = tally_of(&rt, rt.alloc(), 1_000);
+    let (lock, passes) = opened(&rt, rt.alloc(), tally, 2, 0);
+    take_turns(&rt, rt.alloc(), &lock, passes, 100, 200);
+}
+
+// Each pass makes this many calls on a thread of its own, and each call is replied to in its turn, up to the last one.
+fn take_turns<R: Abort + Threads + Wait + Sync>(
+    rt: &R,
+    alloc: Global,
+    lock: &TicketLock<Tally>,
+    passes: Vec<Pass<Tally>>,
+    calls: u32,
+    last: u32,
+)
+    requires { All (IsPassOf lock.now) passes.items }
+{
+    match replies_of_threads(rt, alloc, lock, passes, calls) {
+        Ok(answers) => are_in_turn(rt, alloc, answers, last),
+        Err(_) => panic!(rt; "no memory"),
     }
 }
 
@@ -143,10 +173,11 @@ fn are_in_turn(rt: &impl Abort, alloc: Global, answers: Vec<Vec<u32>>, last: u32
 #[test]
 fn the_greatest_ticket_is_served_and_then_the_lock_is_worn(rt: HostRuntime) {
     let tally = tally_of(&rt, rt.alloc(), 1_000);
-    let (lock, mut passes) = opened(&rt, rt.alloc(), tally, 1, GREATEST);
+    let (lock, mut passes) = opened(&rt, rt.alloc(), tally, 2, GREATEST);
+    let mut other = last_pass(&rt, &lock, &mut passes);
     let mut pass = last_pass(&rt, &lock, &mut passes);
     is_answered(&rt, &lock, &mut pass, 5, Ok(5));
-    is_answered(&rt, &lock, &mut pass, 6, Err(CallFault::Worn(6)));
+    is_answered(&rt, &lock, &mut other, 6, Err(CallFault::Worn(6)));
     is_answered(&rt, &lock, &mut pass, 7, Err(CallFault::Worn(7)));
 }
 
@@ -311,7 +342,7 @@ fn a_call_under_way_keeps_others_out_and_lets_them_glance(rt: HostRuntime) {
     };
     let afterwards = Found {
         call: Ok(12),
-        calls: 2,
+        calls: 1,
     };
     assert_eq!(rt; (reply, found, then), (Ok(5), Some(meanwhile), afterwards));
 }

@@ -39,6 +39,7 @@ fn replicas_are_one_to_sixty_four_and_tested_first(rt: HostRuntime) {
         (0, 0, Some(NewFault::BadReplicas)),
         (65, 1, Some(NewFault::BadReplicas)),
         (255, 1, Some(NewFault::BadReplicas)),
+        (16, 1_048_577, Some(NewFault::BadLimit)),
         (64, 0, Some(NewFault::BadLimit)),
         (64, 1_048_577, Some(NewFault::BadLimit)),
         (1, 1, None),

@@ -48,6 +48,16 @@ fn what_is_reserved_is_answered(rt: HostRuntime) {
     }
 }
 
+// Two entries are reserved at three replicas. A verdict and a command of an unknown replica then need no memory.
+#[test]
+fn two_reserved_entries_are_answered(rt: HostRuntime) {
+    let mut reporter = reporter_of(&rt, rt.alloc(), Kind::Counter, 3, 100);
+    reserve(&rt, &mut reporter, 2);
+    is_answered(&rt, &mut reporter, Command::Verdict, Reply::Yes(0));
+    let unknown = Reply::Refused(Refusal::UnknownReplica);
+    is_answered(&rt, &mut reporter, increment(3), unknown);
+}
+
 // What docs/USING.md says that an entry costs, in bytes.
 #[test]
 fn an_entry_has_its_size(rt: HostRuntime) {

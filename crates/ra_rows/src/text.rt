@@ -14,7 +14,7 @@ mod writers;
 use ra_history_text::CheckFault;
 use std::process::Abort;
 
-const TEXT: &str = "RAH 1 counter\nreplicas a b\na inc\nb got 0\nb read 1\n";
+const TEXT: &str = "RAH 1 counter\nreplicas a b c\na inc\nb got 0\nb read 1\n";
 
 const WRITTEN: &str = "ok 0\ngot 0\nok 1\nend yes 2\n";
 

@@ -1,7 +1,7 @@
 //! Gates that hold a replica back, or stop it.
 
 use super::lies::is_answered;
-use ra_bench::{BenchFault, BenchReport, Gate, Lie, run_bench, run_bench_with};
+use ra_bench::{BenchFault, BenchReport, Gate, Lie, OpenGate, run_bench, run_bench_with};
 use ra_labels::{Cause, Kind, Reply};
 use std::sync::atomic::{AtomicU32, Ordering};
 use std::thread;
@@ -133,14 +133,33 @@ impl Gate for Closed {
     fn left(&self, _replica: u8, _round: u32) {}
 }
 
-// The lowest of those that are not let in is told, in each round.
+// The lowest of those that are not let in is told, in each round, and one replica alone at once.
 #[test]
 fn a_closed_gate_stalls(rt: HostRuntime) {
+    let alone = Closed { round: 0, from: 0 };
+    let answer = run_bench(&rt, rt.alloc(), Kind::Counter, 1, 1, &alone);
+    is_answered(&rt, answer, Err(BenchFault::Stalled { replica: 0 }));
     for round in [0, 3, 4, 5] {
         for from in [0, 1, 2] {
             let gate = Closed { round, from };
             let answer = run_bench(&rt, rt.alloc(), Kind::Register, 3, 4, &gate);
             is_answered(&rt, answer, Err(BenchFault::Stalled { replica: from }));
         }
+    }
+}
+
+// A number of replicas that is out of bounds is told before a number of rounds.
+#[test]
+fn bad_replicas_and_bad_rounds_are_told_apart(rt: HostRuntime) {
+    for (replicas, rounds, fault) in [
+        (0, 1, BenchFault::BadReplicas),
+        (17, 1, BenchFault::BadReplicas),
+        (1, 0, BenchFault::BadRounds),
+        (1, 1_001, BenchFault::BadRounds),
+        (16, 0, BenchFault::BadRounds),
+        (0, 0, BenchFault::BadReplicas),
+    ] {
+        let answer = run_bench(&rt, rt.alloc(), Kind::Counter, replicas, rounds, &OpenGate);
+        is_answered(&rt, answer, Err(fault));
     }
 }

@@ -68,7 +68,7 @@ fn look_on(
     Some(Found { call, calls })
 }
 
-/// One pass calls, and another one looks on meanwhile, and tries and glances once more when the call is over.
+/// One pass calls, and another one looks on meanwhile, and glances and then tries once more when the call is over.
 pub fn call_and_look_on<R: Threads + Wait + Sync>(
     rt: &R,
     lock: &TicketLock<Tally>,
@@ -92,8 +92,8 @@ pub fn call_and_look_on<R: Threads + Wait + Sync>(
             (other, found)
         },
     );
-    let call = lock.try_submit(&mut other, 7);
     let calls = lock.glance(&mut other).calls;
+    let call = lock.try_submit(&mut other, 7);
     (reply, found, Found { call, calls })
 }
 
