@@ -93,11 +93,12 @@ export class Speller {
 
   #answer(value) {
     if (this.kind === "counter") {
-      const number = Number(value);
-      if (!Number.isInteger(number) || number < LEAST_COUNT || number > GREATEST_COUNT) {
+      const isWhole = typeof value === "bigint" || Number.isInteger(value);
+      if (!isWhole || value < LEAST_COUNT || value > GREATEST_COUNT) {
         throw new CannotTell(`a counter's read of ${inspect(value)} is no whole number of 32 bits`);
       }
-      return String(number + 0);
+      // The sum makes 0 of -0.
+      return String(Number(value) + 0);
     }
     if (this.kind === "register") return this.#isNothing(value) ? "none" : this.#values.of(value);
     if (typeof value?.[Symbol.iterator] !== "function") {

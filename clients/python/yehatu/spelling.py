@@ -94,7 +94,8 @@ class Speller:
 
     def _answer(self, value: Any) -> str:
         if self.kind == "counter":
-            if not isinstance(value, int) or not LEAST_COUNT <= value <= GREATEST_COUNT:
+            is_whole = isinstance(value, int) and not isinstance(value, bool)
+            if not is_whole or not LEAST_COUNT <= value <= GREATEST_COUNT:
                 raise CannotTell(f"a counter's read of {value!r} is no whole number of 32 bits")
             return str(int(value))
         if self.kind == "register":
