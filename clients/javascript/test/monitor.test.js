@@ -61,7 +61,7 @@ test("lines in flight keep their order", async () => {
   assert.equal((await monitor.close()).labels, 1001);
 });
 
-test("calls that are not awaited one by one keep their order too", async () => {
+test("many callers report to one monitor", async () => {
   const monitor = new Monitor("counter", ["a"]);
   const replies = await Promise.all(Array.from({ length: 400 }, () => monitor.tell("a inc")));
   assert.deepEqual(replies, Array.from({ length: 400 }, (_, number) => `ok ${number}`));
@@ -107,7 +107,7 @@ test("it ends while lines are in flight", async () => {
   await assert.rejects(work(), gone(/status 2, and said "tired"/));
 });
 
-test("those who wait are all told", async () => {
+test("all callers that wait are told", async () => {
   const monitor = new Monitor("counter", ["a"], { program: script("read a; sleep 0.1; exit 2") });
   const told = await Promise.allSettled([monitor.tell("a inc"), monitor.tell("a inc"), monitor.settle()]);
   assert.deepEqual(told.map((it) => it.reason?.name), Array(3).fill("MonitorGone"));
@@ -117,16 +117,19 @@ test("a fault of the text is told", async () => {
   await assert.rejects(new Monitor("counter", ["a"]).tell("a increments"), gone(/line 3: syntax/));
 });
 
-test("a stopped and a closed monitor take nothing more", async () => {
-  const stopped = new Monitor("counter", ["a"]);
-  await stopped.stop();
-  assert.throws(() => stopped.post("a inc", "ok 0"), MonitorGone);
-  const closed = new Monitor("counter", ["a"]);
-  await closed.close();
-  assert.throws(() => closed.post("a inc", "ok 0"), gone(/was closed/));
+test("a stopped monitor takes nothing more", async () => {
+  const monitor = new Monitor("counter", ["a"]);
+  await monitor.stop();
+  assert.throws(() => monitor.post("a inc", "ok 0"), MonitorGone);
 });
 
-test("a monitor that is left open does not keep Node from ending, once its replies are there", () => {
+test("a closed monitor takes nothing more", async () => {
+  const monitor = new Monitor("counter", ["a"]);
+  await monitor.close();
+  assert.throws(() => monitor.post("a inc", "ok 0"), gone(/was closed/));
+});
+
+test("a monitor that is left open does not keep the process from ending", () => {
   const code = `
     import { Monitor } from ${JSON.stringify(new URL("../index.js", import.meta.url).href)};
     const monitor = new Monitor("counter", ["a"]);
@@ -135,7 +138,8 @@ test("a monitor that is left open does not keep Node from ending, once its repli
     await monitor.settle();`;
   const words = ["--input-type=module", "--eval", code];
   const ran = spawnSync(process.execPath, words, { encoding: "utf8", timeout: 20_000 });
-  assert.deepEqual([ran.stdout, ran.status], ["ok 0\n", 0]);
+  // Once the replies are there.
+  assert.deepEqual([ran.stdout, ran.stderr, ran.status], ["ok 0\n", "", 0]);
 });
 
 test("the environment names the program", async () => {

@@ -123,19 +123,27 @@ function isSmallAndFailsAgain(failed) {
   assert.equal(checkText(findForMany(), text).status, 1);
 }
 
-for (const [kind, Replica] of Object.entries(RIGHT)) {
-  test(`all runs of a right ${kind} are right`, async () => {
-    assert.equal(await checkRandom(made(Replica), kind, 3, 30, RUNS), RUNS);
-  });
+/** Runs this for each bug in each kind. */
+async function forEachBug(t, bugs, act) {
+  for (const [bug, kinds] of Object.entries(bugs)) {
+    for (const [kind, Replica] of Object.entries(kinds)) await t.test(`${kind}, ${bug}`, () => act(kind, Replica));
+  }
 }
 
-test("states that are merged, by methods that are awaited", async () => {
-  assert.equal(await checkRandom(made(MergedCounter), "counter", 3, 30, RUNS), RUNS);
-  isSmallAndFailsAgain(await checkRandom(made(SummingCounter), "counter").catch((fault) => fault));
+test("all runs of each kind are right", async (t) => {
+  for (const [kind, Replica] of Object.entries(RIGHT)) {
+    await t.test(kind, async () => assert.equal(await checkRandom(made(Replica), kind, 3, 30, RUNS), RUNS));
+  }
 });
 
-test("replicas with names of their own, and seeds of one's own", async () => {
-  assert.equal(await checkRandom(made(RIGHT.register), "register", ["Ann", "Bob", "Carol", "Dave"], 20, [7, 9]), 2);
+// Some of the methods are awaited.
+test("states that are merged", async () => {
+  assert.equal(await checkRandom(made(MergedCounter), "counter", 3, 30, RUNS), RUNS);
+});
+
+test("replicas with names of their own", async () => {
+  const names = ["Ann", "Bob", "Carol", "Dave"];
+  assert.equal(await checkRandom(made(RIGHT.register), "register", names, 20, [7, 9]), 2);
 });
 
 test("a seed makes one plan", () => {
@@ -144,11 +152,11 @@ test("a seed makes one plan", () => {
   assert.notDeepEqual(one, other);
 });
 
-for (const [kind, Replica] of Object.entries(RIGHT)) {
-  test(`all runs of a right ${kind} whose replicas join are right`, async () => {
-    assert.equal(await checkRandom(made(forking(Replica)), kind, 4, 30, RUNS), RUNS);
-  });
-}
+test("all runs of each kind with joins are right", async (t) => {
+  for (const [kind, Replica] of Object.entries(RIGHT)) {
+    await t.test(kind, async () => assert.equal(await checkRandom(made(forking(Replica)), kind, 4, 30, RUNS), RUNS));
+  }
+});
 
 test("states that are merged, and replicas that join", async () => {
   assert.equal(await checkRandom(made(forking(MergedCounter)), "counter", 4, 30, RUNS), RUNS);
@@ -169,13 +177,15 @@ test("some replicas are there at first, and others join", () => {
 });
 
 const FORKS = { counter: ForksWithNothing, lwwset: ForksShareTheirState, register: ForksForgetTheClock };
-for (const [kind, Bug] of Object.entries(FORKS)) {
-  test(`of replicas that join: ${Bug.name}`, async () => {
-    const failed = await checkRandom(made(Bug), kind, 3, 30, FOUND_WITHIN).catch((fault) => fault);
-    isSmallAndFailsAgain(failed);
-    assert.match(failed.message, /joins with all that/);
-  });
-}
+test("bugs of a copy are found and shrunk", async (t) => {
+  for (const [kind, Bug] of Object.entries(FORKS)) {
+    await t.test(Bug.name, async () => {
+      const failed = await checkRandom(made(Bug), kind, 3, 30, FOUND_WITHIN).catch((fault) => fault);
+      isSmallAndFailsAgain(failed);
+      assert.match(failed.message, /joins with all that/);
+    });
+  }
+});
 
 test("a bug that has nothing to do with joins is shrunk to none", async () => {
   const Bug = forking(SEEN["children stand in rising order"].rga);
@@ -189,35 +199,33 @@ test("a copy has a name of its own", async () => {
   await assert.rejects(checkRandom(made(ForksKeepTheName), "register"), wanted);
 });
 
-test("a copy that throws is told", async () => {
+test("a copy that fails is told", async () => {
   const failed = await checkRandom(made(ForksThrow), "counter").catch((fault) => fault);
   assert.ok(failed instanceof ReplicaRaised);
   assert.match(failed.operation, /^'a': fork\('([bc])'\) threw RangeError: \1$/);
 });
 
-for (const [bug, kinds] of Object.entries(SEEN)) {
-  for (const [kind, Replica] of Object.entries(kinds)) {
-    test(`of a ${kind}: ${bug}`, async () => {
-      isSmallAndFailsAgain(await checkRandom(made(Replica), kind, 3, 30, FOUND_WITHIN).catch((fault) => fault));
-    });
-  }
-}
+test("each bug that shows is found and shrunk", (t) =>
+  forEachBug(t, SEEN, async (kind, Replica) => {
+    isSmallAndFailsAgain(await checkRandom(made(Replica), kind, 3, 30, FOUND_WITHIN).catch((fault) => fault));
+  }));
 
-test("an old state that overwrites is found", async () => {
+test("a merge that counts twice", async () => {
+  isSmallAndFailsAgain(await checkRandom(made(SummingCounter), "counter").catch((fault) => fault));
+});
+
+test("an old state that overwrites", async () => {
   const failed = await checkRandom(made(ForgetfulCounter), "counter", 3, 30, FOUND_WITHIN).catch((fault) => fault);
   isSmallAndFailsAgain(failed);
   assert.match(failed.message, /merges the state of/);
 });
 
-for (const [bug, kinds] of Object.entries(NEVER_SEEN)) {
-  for (const [kind, Replica] of Object.entries(kinds)) {
-    test(`of a ${kind}, where it changes no answer: ${bug}`, async () => {
-      assert.equal(await checkRandom(made(Replica), kind, 3, 30, RUNS >> 1), RUNS >> 1);
-    });
-  }
-}
+test("other bugs change no answer", (t) =>
+  forEachBug(t, NEVER_SEEN, async (kind, Replica) => {
+    assert.equal(await checkRandom(made(Replica), kind, 3, 30, RUNS >> 1), RUNS >> 1);
+  }));
 
-test("an error of a replica is shrunk too", async () => {
+test("a replica that fails is shrunk too", async () => {
   const failed = await checkRandom(made(RaisingRga), "rga").catch((fault) => fault);
   assert.ok(failed instanceof ReplicaRaised && failed.cause instanceof RangeError);
   assert.match(failed.message, /too many children/);

@@ -2,11 +2,13 @@
 import assert from "node:assert/strict";
 import { existsSync, readFileSync } from "node:fs";
 import { test } from "node:test";
+import { inspect } from "node:util";
 import { CannotTell, MonitorGone, NotLinearizable, Recorder, Refused, write } from "../index.js";
 import { EXPLAINS, checkText, find } from "../src/program.js";
 
 const NOW = 1_764_076_489_000; // A clock of milliseconds since 1970.
 const commands = (recorder) => recorder.history().split("\n").slice(2, -1);
+const needsExplanations = { skip: !existsSync(EXPLAINS) };
 const cannot = (message) => (fault) => fault instanceof CannotTell && message.test(fault.message);
 
 test("replicas and values have any names", async () => {
@@ -25,7 +27,7 @@ test("good names stay", async () => {
   await recorder.close();
 });
 
-test("a list is read back in its order, and a set in any", async () => {
+test("a list is read back in its order", async () => {
   const list = new Recorder("rga", ["ann", "bob"]);
   await list.insertAfter("ann", null, "h", [1, "ann"], { message: 1 });
   await list.insertAfter("ann", "h", "i", 2, { message: 2 });
@@ -35,11 +37,15 @@ test("a list is read back in its order, and a set in any", async () => {
   assert.equal((await list.close()).verdict, "yes");
   const rest = ["bob got 0", "bob got 1", "bob remove 1", "bob read 2"];
   assert.deepEqual(commands(list), ["ann after 0 1 @1", "ann after 1 2 @2", ...rest]);
+});
+
+test("a set may be read in any order", async () => {
   const set = new Recorder("lwwset", ["a"]);
   for (const [at, element] of ["x", "y", "z"].entries()) await set.add("a", element, { stamp: at + 1 });
   await set.remove("a", "y", { stamp: 4 });
   await set.read("a", new Set(["z", "x"]));
   assert.equal((await set.close()).verdict, "yes");
+  assert.equal(commands(set).at(-1), "a read 1,3");
 });
 
 test("what nothing written reads as can be named", async () => {
@@ -119,7 +125,7 @@ test("an act that is awaited is one step with its report", async () => {
   assert.equal((await recorder.close()).verdict, "yes");
 });
 
-test("an act that throws is not reported", async () => {
+test("an act that fails is not reported", async () => {
   const recorder = new Recorder("counter", ["a"]);
   const broken = [() => { throw new RangeError("sync"); }, async () => { throw new RangeError("awaited"); }];
   for (const act of broken) await assert.rejects(recorder.increment("a", { act }), RangeError);
@@ -147,33 +153,70 @@ test("a merge is all that the other had seen at that moment", async () => {
   assert.equal((await recorder.close()).verdict, "yes");
 });
 
-test("identifiers that the type does not tell, and those that it tells", async () => {
-  const hidden = new Recorder("orset", ["a", "b"]);
-  await hidden.add("a", "milk", { message: 1 });
-  await hidden.deliver("b", 1);
-  await hidden.add("b", "milk", { message: 2 });
-  await hidden.remove("a", "milk", { message: 3 });
-  await hidden.deliver("b", 3);
-  await hidden.deliver("a", 2);
-  for (const replica of ["a", "b"]) await hidden.read(replica, ["milk"]);
-  assert.equal((await hidden.close()).verdict, "yes");
-  const told = new Recorder("orset", ["a"], { window: 1 });
-  await told.add("a", "milk", { identifier: ["a", 1] });
-  await told.add("a", "milk", { identifier: ["a", 2] });
-  const removal = told.remove("a", "milk", { identifiers: [["a", 2]] });
-  await assert.rejects(removal, (it) => it instanceof NotLinearizable && it.message.includes("under [ 'a', 2 ]"));
-  await told.stop();
+test("identifiers that the type does not tell", async () => {
+  const recorder = new Recorder("orset", ["a", "b"]);
+  await recorder.add("a", "milk", { message: 1 });
+  await recorder.deliver("b", 1);
+  await recorder.add("b", "milk", { message: 2 });
+  await recorder.remove("a", "milk", { message: 3 });
+  await recorder.deliver("b", 3);
+  await recorder.deliver("a", 2);
+  for (const replica of ["a", "b"]) await recorder.read(replica, ["milk"]);
+  assert.equal((await recorder.close()).verdict, "yes");
+  assert.ok(commands(recorder).includes("a remove 1 #1"));
 });
 
-test("what has no words cannot be told", async () => {
+test("identifiers that the type tells", async () => {
+  const recorder = new Recorder("orset", ["a"], { window: 1 });
+  await recorder.add("a", "milk", { identifier: ["a", 1] });
+  await recorder.add("a", "milk", { identifier: ["a", 2] });
+  const removal = recorder.remove("a", "milk", { identifiers: [["a", 2]] });
+  await assert.rejects(removal, (it) => it instanceof NotLinearizable && it.message.includes("under [ 'a', 2 ]"));
+  await recorder.stop();
+});
+
+test("many callers with a replica each", async () => {
+  const names = ["a", "b", "c", "d"];
+  const counters = Object.fromEntries(names.map((name) => [name, 0]));
+  const inboxes = Object.fromEntries(names.map((name) => [name, []]));
+  const recorder = new Recorder("counter", names);
+  // The others can receive a message of `a` before its act has ended, unless that is one step with its report.
+  const increment = async (name, number) => {
+    counters[name] += 1;
+    for (const inbox of Object.values(inboxes)) inbox.push([name, number]);
+    if (name === "a") await new Promise((resolve) => setImmediate(resolve));
+  };
+  const receive = (name) => {
+    const message = inboxes[name].shift();
+    counters[name] += message[0] === name ? 0 : 1;
+    return message;
+  };
+  const work = async (name) => {
+    for (let number = 0; number < 100; number += 1) {
+      await recorder.increment(name, { act: () => increment(name, number), message: [name, number] });
+      await recorder.deliver(name, (message) => message, { act: () => receive(name) });
+      await recorder.read(name, () => counters[name]);
+    }
+  };
+  await Promise.all(names.map(work));
+  const report = await recorder.close();
+  assert.deepEqual([report.verdict, report.refused], ["yes", 0]);
+});
+
+test("a message of no update cannot be told", async () => {
   const recorder = new Recorder("counter", ["a"]);
   await assert.rejects(recorder.deliver("a", 5), cannot(/no message 5/));
   await recorder.stop();
-  const other = new Recorder("counter", ["a"]);
-  await assert.rejects(other.write("a", 5, 1), cannot(/write is no operation of the kind counter/));
-  await other.stop();
-  assert.throws(() => new Recorder("counter", []), cannot(/1 to 64 replicas/));
-  assert.throws(() => new Recorder("map", ["a"]), cannot(/no kind map/));
+});
+
+test("an operation of another kind cannot be told", async () => {
+  const recorder = new Recorder("counter", ["a"]);
+  await assert.rejects(recorder.write("a", 5, 1), cannot(/write is no operation of the kind counter/));
+  await recorder.stop();
+});
+
+test("a kind that does not exist is rejected", () => {
+  assert.throws(() => new Recorder("map", ["a"]), cannot(/there is no kind map, but counter, /));
 });
 
 test("who joins has what its source had", async () => {
@@ -193,27 +236,43 @@ test("who joins has what its source had", async () => {
   await recorder.read(["a", "pair"], 3);
   await recorder.deliver("Carol", 2);
   await recorder.read("Carol", 3);
-  await recorder.join("dave", "Ann");
-  await recorder.join("r1", "dave");
   assert.equal((await recorder.close()).verdict, "yes");
   const first = ["r0 inc", "bob got 0", "r0 inc", "join r1 bob", "r1 read 1", "r1 inc", "r0 got 3"];
-  const then = ["join r2 r0", "r2 read 3", "r1 got 1", "r1 read 3", "join dave r0", "join r3 dave"];
+  const then = ["join r2 r0", "r2 read 3", "r1 got 1", "r1 read 3"];
   assert.deepEqual(commands(recorder), [...first, ...then]);
   assert.match(recorder.history(), /^RAH 2 counter\nreplicas r0 bob\n/);
 });
 
-test("who joins has the identifiers that its source had", async () => {
-  const recorder = new Recorder("orset", ["a"]);
-  await recorder.add("a", ["milk"]);
-  await recorder.join("b", "a");
-  await recorder.add("a", ["milk"], { message: 2 });
-  await recorder.remove("b", ["milk"], { message: 3 });
-  await recorder.deliver("a", 3);
-  await recorder.read("a", [["milk"]]);
-  await recorder.deliver("b", 2);
-  await recorder.read("b", [["milk"]]);
+test("a good name stays where it is free", async () => {
+  const recorder = new Recorder("counter", ["Ann"]);
+  await recorder.join("carol", "Ann");
+  await recorder.join("r0", "carol");
   assert.equal((await recorder.close()).verdict, "yes");
-  assert.ok(commands(recorder).includes("b remove 1 #1"));
+  assert.deepEqual(commands(recorder), ["join carol r0", "join r1 carol"]);
+});
+
+test("who joins has a copy of the identifiers that its source had", async (t) => {
+  for (const element of ["milk", 7, ["a", "pair"]]) {
+    await t.test(inspect(element), async () => {
+      const recorder = new Recorder("orset", ["a"], { window: 1 });
+      await recorder.add("a", element);
+      await recorder.join("b", "a");
+      // What either of them adds or removes now is no concern of the other one.
+      await recorder.add("a", element, { message: 2 });
+      await recorder.remove("b", element, { message: 3 });
+      await recorder.deliver("a", 3);
+      await recorder.read("a", [element]);
+      await recorder.join("c", "a");
+      await recorder.remove("a", element, { message: 4 });
+      await recorder.read("c", [element]);
+      await recorder.remove("c", element);
+      await recorder.deliver("b", 2);
+      await recorder.read("b", [element]);
+      assert.equal((await recorder.close()).verdict, "yes");
+      const removals = commands(recorder).filter((it) => it.includes("remove"));
+      assert.deepEqual(removals, ["b remove 1 #1", "a remove 1 #2", "c remove 1 #2"]);
+    });
+  }
 });
 
 test("at one clock who joined is the latest", async () => {
@@ -240,17 +299,17 @@ test("as many replicas as there can be, and no more", async () => {
   assert.throws(() => new Recorder("counter", numbers), cannot(/1 to 64 replicas/));
 });
 
-for (const [replica, source, said] of [["a", "b", /a replica 'a' already/], ["c", "d", /no replica 'd'/]]) {
-  test(`${replica} cannot join from ${source}, which is told before the act, and the history goes on`, async () => {
-    const recorder = new Recorder("counter", ["a", "b"]);
-    const act = () => assert.fail("the act was run");
+test("who cannot join is told before the act, and the history goes on", async () => {
+  const recorder = new Recorder("counter", ["a", "b"]);
+  const act = () => assert.fail("the act was run");
+  for (const [replica, source, said] of [["a", "b", /a replica 'a' already/], ["c", "d", /no replica 'd'/]]) {
     await assert.rejects(recorder.join(replica, source, { act }), cannot(said));
-    await recorder.join("c", "b");
-    await recorder.read("c", 0);
-    assert.equal((await recorder.close()).verdict, "yes");
-    assert.deepEqual(commands(recorder), ["join c b", "c read 0"]);
-  });
-}
+  }
+  await recorder.join("c", "b");
+  await recorder.read("c", 0);
+  assert.equal((await recorder.close()).verdict, "yes");
+  assert.deepEqual(commands(recorder), ["join c b", "c read 0"]);
+});
 
 test("a no after a join is told in the user's words", async () => {
   const recorder = new Recorder("counter", ["Ann", "Bob"], { window: 1 });
@@ -264,25 +323,34 @@ test("a no after a join is told in the user's words", async () => {
   await recorder.stop();
 });
 
-for (const window of [1, 2, 4096]) {
-  test(`a no is told in the user's words with its file, with a window of ${window}`, async () => {
-    const recorder = new Recorder("lwwset", ["Ann", "Bob"], { window });
-    const work = async () => {
-      await recorder.add("Ann", "milk", { stamp: [NOW, "Ann"], message: "m" });
-      await recorder.deliver("Bob", "m");
-      await recorder.read("Bob", []);
-      await recorder.settle();
-    };
-    const failed = await work().catch((fault) => fault);
-    assert.ok(failed instanceof NotLinearizable);
-    assert.deepEqual([failed.operation, failed.cause], ["'Bob' reads []", "query"]);
-    assert.ok(failed.message.includes(`'Ann' adds 'milk' at clock ${NOW}`));
-    assert.ok(failed.message.includes("'Bob' gets message 'm', label 0 ('Ann' adds 'milk'"));
-    assert.equal(checkText(find(), readFileSync(failed.history)).status, 1);
-    await assert.rejects(recorder.read("Ann", ["milk"]), NotLinearizable);
-    await assert.rejects(recorder.close(), NotLinearizable);
-  });
+/** The failure of a history in which a read does not show what was added, with this window. */
+async function failed(window) {
+  const recorder = new Recorder("lwwset", ["Ann", "Bob"], { window });
+  const work = async () => {
+    await recorder.add("Ann", "milk", { stamp: [NOW, "Ann"], message: "m" });
+    await recorder.deliver("Bob", "m");
+    await recorder.read("Bob", []);
+    await recorder.settle();
+  };
+  const failure = await work().catch((fault) => fault);
+  assert.ok(failure instanceof NotLinearizable, failure);
+  await assert.rejects(recorder.read("Ann", ["milk"]), NotLinearizable);
+  await assert.rejects(recorder.close(), NotLinearizable);
+  return failure;
 }
+
+test("a no is told in the user's words with its file", async (t) => {
+  for (const window of [1, 2, 4096]) {
+    await t.test(`window ${window}`, async () => {
+      const { message, operation, cause, history } = await failed(window);
+      assert.deepEqual([operation, cause], ["'Bob' reads []", "query"]);
+      assert.ok(message.includes(`'Ann' adds 'milk' at clock ${NOW}`));
+      assert.ok(message.includes("'Bob' gets message 'm', label 0 ('Ann' adds 'milk'"));
+      const { status, replies } = checkText(find(), readFileSync(history));
+      assert.deepEqual([status, replies.at(-1)], [1, "end no 1 query"]);
+    });
+  }
+});
 
 test("an arrival before its cause is refused", async () => {
   const recorder = new Recorder("counter", ["a", "b", "c"]);
@@ -292,7 +360,8 @@ test("an arrival before its cause is refused", async () => {
   await recorder.deliver("c", 2);
   const failed = await recorder.settle().catch((fault) => fault);
   assert.ok(failed instanceof Refused && failed.cause === "not-causal 0");
-  assert.match(failed.message, /its replica lacks message 1, label 0 \('a' increments\), which the delivered one had seen/);
+  const lacking = "its replica lacks message 1, label 0 ('a' increments), which the delivered one had seen";
+  assert.ok(failed.message.includes(lacking), failed.message);
   await recorder.stop();
 });
 
@@ -306,15 +375,20 @@ test("a merge is told by the state that came", async () => {
   await recorder.stop();
 });
 
-test("a no is told with what would have been right", { skip: !existsSync(EXPLAINS) }, async () => {
+test("a no is told with what would have been right", needsExplanations, async () => {
+  const { message } = await failed(1);
+  assert.ok(message.includes("\nright is: 'Bob' reads ['milk']\n"), message);
+  const without = "it would be right without this: 'Bob' gets message 'm', label 0 ('Ann' adds 'milk'";
+  assert.ok(message.includes(without), message);
+});
+
+test("a delivery that was not reported is told", needsExplanations, async () => {
   const recorder = new Recorder("counter", ["Ann", "Bob"], { window: 1 });
   await recorder.increment("Ann", { message: "up" });
   await recorder.increment("Bob");
-  await assert.rejects(recorder.read("Bob", 2), (error) => {
-    assert.match(error.message, /\nright is: 'Bob' reads 1\n/);
-    assert.match(error.message, /had its replica got message 'up', label 0 \('Ann' increments\) before\n/);
-    return true;
-  });
+  const { message } = await recorder.read("Bob", 2).catch((fault) => fault);
+  assert.ok(message.includes("\nright is: 'Bob' reads 1\n"), message);
+  assert.ok(message.includes("had its replica got message 'up', label 0 ('Ann' increments) before\n"), message);
   await recorder.stop();
 });
 
@@ -326,9 +400,10 @@ test("a removal that names too few is told", async () => {
   await recorder.stop();
 });
 
-test("what is not reported ends the history, and its end says so", async () => {
+test("what is not reported ends the history", async () => {
   const recorder = new Recorder("register", ["a"]);
   await assert.rejects(recorder.write("a", 1, "noon"), CannotTell);
+  await assert.rejects(recorder.read("a", 1), CannotTell);
   await assert.rejects(recorder.close(), CannotTell);
 });
 

@@ -71,7 +71,7 @@ class Replies(unittest.TestCase):
         self.assertEqual(monitor.unexpected, (0, "no 0 query"))
         monitor.close()
 
-    def test_many_threads_report_to_one_monitor(self) -> None:
+    def test_many_callers_report_to_one_monitor(self) -> None:
         monitor = Monitor("counter", ["a"])
         replies = []
 
@@ -128,7 +128,7 @@ class Gone(unittest.TestCase):
         with self.assertRaisesRegex(MonitorGone, "was closed"):
             monitor.post("a inc", "ok 0")
 
-    def test_threads_that_wait_are_told_too(self) -> None:
+    def test_all_callers_that_wait_are_told(self) -> None:
         program = script(self.folder.name, "read a; read b; read c; sleep 0.1; exit 2")
         monitor = Monitor("counter", ["a"], program=program)
         told = []
@@ -145,6 +145,21 @@ class Gone(unittest.TestCase):
         for thread in threads:
             thread.join(20)
         self.assertEqual(len(told), 4)
+
+    def test_a_monitor_that_is_left_open_does_not_keep_the_process_from_ending(self) -> None:
+        code = """
+from yehatu import Monitor
+monitor = Monitor("counter", ["a"])
+print(monitor.tell("a inc"))
+monitor.post("a inc", "ok 1")
+monitor.settle()
+"""
+        environment = {**os.environ, "PYTHONPATH": str(Path(yehatu.__file__).parent.parent)}
+        ran = subprocess.run(
+            [sys.executable, "-c", code], cwd=self.folder.name, env=environment, capture_output=True, text=True,
+            timeout=20,
+        )
+        self.assertEqual((ran.stdout, ran.stderr, ran.returncode), ("ok 0\n", "", 0))
 
     def test_the_environment_names_the_program(self) -> None:
         before = os.environ.get("RA_MONITOR")

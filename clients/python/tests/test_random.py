@@ -147,19 +147,19 @@ class RightReplicas(unittest.TestCase):
 
 
 class ReplicasThatJoin(unittest.TestCase):
-    def test_all_runs_of_each_kind_are_right(self) -> None:
+    def test_all_runs_of_each_kind_with_joins_are_right(self) -> None:
         for kind, make in RIGHT.items():
             with self.subTest(kind=kind):
                 self.assertEqual(check_random(forking(make), kind, 4, seeds=RUNS), RUNS)
 
-    def test_states_that_are_merged(self) -> None:
+    def test_states_that_are_merged_and_replicas_that_join(self) -> None:
         self.assertEqual(check_random(forking(MergedCounter), "counter", 4, seeds=RUNS), RUNS)
 
     def test_many_replicas(self) -> None:
         self.assertEqual(check_random(forking(Rga), "rga", 64, 40, 3), 3)
         self.assertEqual(check_random(Rga, "rga", 20, 40, 3), 3)
 
-    def test_some_are_there_at_first_and_others_join(self) -> None:
+    def test_some_replicas_are_there_at_first_and_others_join(self) -> None:
         joins = []
         for seed in range(20):
             plan = Planner("rga", 4, 30, seed, False, True).plan()
@@ -174,7 +174,7 @@ class ReplicasThatJoin(unittest.TestCase):
                     check_random(make, kind, seeds=FOUND_WITHIN)
                 is_small_and_fails_again(self, caught.exception)
 
-    def test_bugs_that_have_nothing_to_do_with_joins_are_shrunk_to_none(self) -> None:
+    def test_a_bug_that_has_nothing_to_do_with_joins_is_shrunk_to_none(self) -> None:
         with self.assertRaises(NotLinearizable) as caught:
             check_random(forking(planted.SEEN["children stand in rising order"]["rga"]), "rga", seeds=FOUND_WITHIN)
         is_small_and_fails_again(self, caught.exception)
@@ -184,7 +184,7 @@ class ReplicasThatJoin(unittest.TestCase):
         with self.assertRaisesRegex(CannotTell, "of another replica than"):
             check_random(ForksKeepTheName, "register")
 
-    def test_a_copy_that_raises_is_told(self) -> None:
+    def test_a_copy_that_fails_is_told(self) -> None:
         with self.assertRaises(ReplicaRaised) as caught:
             check_random(ForksRaise, "counter")
         self.assertRegex(caught.exception.operation, r"^'a': fork\('([bc])'\) raised KeyError\('\1'\)$")
@@ -230,7 +230,7 @@ class OtherFailures(unittest.TestCase):
             with self.subTest(seeds=seeds), self.assertRaisesRegex(ValueError, "nothing was tried"):
                 check_random(Counter, "counter", seeds=seeds)
 
-    def test_an_exception_of_a_replica_is_shrunk_too(self) -> None:
+    def test_a_replica_that_fails_is_shrunk_too(self) -> None:
         with self.assertRaises(ReplicaRaised) as caught:
             check_random(RaisingRga, "rga")
         self.assertIsInstance(caught.exception.__cause__, IndexError)
@@ -248,7 +248,7 @@ class OtherFailures(unittest.TestCase):
         with self.assertRaisesRegex(TypeError, r"lacks \['write'\]"):
             check_random(Counter, "register")
 
-    def test_a_fork_that_answers_none_is_told(self) -> None:
+    def test_a_fork_that_answers_nothing_is_told(self) -> None:
         with self.assertRaisesRegex(ReplicaRaised, r"fork\('[bc]'\) raised TypeError\(.*answers None"):
             check_random(ForksIntoNone, "counter", seeds=FOUND_WITHIN)
 

@@ -84,7 +84,7 @@ class Clocks(unittest.TestCase):
                 recorder.read("a", None)
             recorder.stop()
 
-    def test_what_cannot_be_told_says_so(self) -> None:
+    def test_clocks_that_cannot_be_told_say_so(self) -> None:
         for clocks, said in [
             ([NOW, NOW - (1 << 28)], "too early"),
             ([NOW, NOW + (1 << 32)], "too late"),
@@ -115,7 +115,7 @@ class Steps(unittest.TestCase):
             recorder.deliver("b", lambda sent: sent["id"], act=lambda: sent)
             self.assertEqual(recorder.read("b", lambda: 3), 3)
 
-    def test_an_act_that_raises_is_not_reported(self) -> None:
+    def test_an_act_that_fails_is_not_reported(self) -> None:
         with Recorder("counter", ["a"]) as recorder:
             with self.assertRaises(ZeroDivisionError):
                 recorder.increment("a", act=lambda: 1 // 0)
@@ -136,6 +136,10 @@ class Steps(unittest.TestCase):
         said = "write is no operation of the kind counter"
         with self.assertRaisesRegex(CannotTell, said), Recorder("counter", ["a"]) as recorder:
             recorder.write("a", 5, 1)
+
+    def test_a_kind_that_does_not_exist_is_rejected(self) -> None:
+        with self.assertRaisesRegex(CannotTell, "there is no kind 'map', but counter, "):
+            Recorder("map", ["a"])
 
     def test_a_merge_is_all_that_the_other_had_seen_at_that_moment(self) -> None:
         with Recorder("counter", ["a", "b", "c"]) as recorder:
@@ -167,7 +171,7 @@ class Steps(unittest.TestCase):
             recorder.remove("a", "milk", identifiers=[("a", 2)])
         recorder.stop()
 
-    def test_threads_with_a_replica_each(self) -> None:
+    def test_many_callers_with_a_replica_each(self) -> None:
         names = ["a", "b", "c", "d"]
         counters = dict.fromkeys(names, 0)
         inboxes: Dict[str, List[Any]] = {name: [] for name in names}
@@ -223,17 +227,24 @@ class Joins(unittest.TestCase):
             recorder.join("r0", "carol")
         self.assertEqual(lines(recorder), "join carol r0\njoin r1 carol\n")
 
-    def test_identifiers_that_the_type_does_not_tell(self) -> None:
-        with Recorder("orset", ["a"]) as recorder:
-            recorder.add("a", "milk")
-            recorder.join("b", "a")
-            recorder.add("a", "milk", message=2)
-            recorder.remove("b", "milk", message=3)
-            recorder.deliver("a", 3)
-            recorder.read("a", ["milk"])
-            recorder.deliver("b", 2)
-            recorder.read("b", ["milk"])
-        self.assertIn("b remove 1 #1\n", recorder.history())
+    def test_who_joins_has_a_copy_of_the_identifiers_that_its_source_had(self) -> None:
+        for element in ("milk", 7, ("a", "pair")):
+            with self.subTest(element=element), Recorder("orset", ["a"], window=1) as recorder:
+                recorder.add("a", element)
+                recorder.join("b", "a")
+                # What either of them adds or removes now is no concern of the other one.
+                recorder.add("a", element, message=2)
+                recorder.remove("b", element, message=3)
+                recorder.deliver("a", 3)
+                recorder.read("a", [element])
+                recorder.join("c", "a")
+                recorder.remove("a", element, message=4)
+                recorder.read("c", [element])
+                recorder.remove("c", element)
+                recorder.deliver("b", 2)
+                recorder.read("b", [element])
+                removals = re.findall("[abc] remove.*", recorder.history())
+                self.assertEqual(removals, ["b remove 1 #1", "a remove 1 #2", "c remove 1 #2"])
 
     def test_at_one_clock_who_joined_is_the_latest(self) -> None:
         with Recorder("register", ["z"]) as recorder:
@@ -243,7 +254,7 @@ class Joins(unittest.TestCase):
             recorder.deliver("z", 1)
             recorder.read("z", 1)
 
-    def test_as_many_as_there_can_be(self) -> None:
+    def test_as_many_replicas_as_there_can_be_and_no_more(self) -> None:
         with Recorder("counter", range(63)) as recorder:
             recorder.increment(0, message=1)
             recorder.join(63, 0)
@@ -314,8 +325,10 @@ class Failures(unittest.TestCase):
         recorder = Recorder("counter", ["Ann", "Bob"], window=1)
         recorder.increment("Ann", message="up")
         recorder.increment("Bob")
-        with self.assertRaisesRegex(NotLinearizable, "had its replica got message 'up', label 0 .'Ann' increments. before"):
+        with self.assertRaises(NotLinearizable) as caught:
             recorder.read("Bob", 2)
+        self.assertIn("\nright is: 'Bob' reads 1\n", str(caught.exception))
+        self.assertIn("had its replica got message 'up', label 0 ('Ann' increments) before\n", str(caught.exception))
         recorder.stop()
 
     def test_an_arrival_before_its_cause_is_refused(self) -> None:
