@@ -113,6 +113,30 @@ test("all callers that wait are told", async () => {
   assert.deepEqual(told.map((it) => it.reason?.name), Array(3).fill("MonitorGone"));
 });
 
+test("as many commands as the window are in flight", { timeout: 60_000 }, async () => {
+  for (const [window, least] of [[0, 1], [1, 1], [3, 3]]) {
+    // It answers the first command once there are as many as the window.
+    const program = script(`${"read line; ".repeat(2 + least)}echo other; exec cat >&2`);
+    const monitor = new Monitor("counter", ["a"], { program, window });
+    const seen = [];
+    for (let number = 0; number < least; number += 1) {
+      seen.push(monitor.unexpected);
+      // A call that waits too soon waits for ever.
+      await monitor.post("a inc", "ok 0");
+    }
+    assert.deepEqual([...seen, monitor.unexpected], [...Array(least).fill(null), { command: 0, reply: "other" }]);
+    await monitor.stop();
+  }
+});
+
+test("the end of what a program says is kept", async () => {
+  const monitor = new Monitor("counter", ["a"], { program: script("seq 100000 105000 >&2; exit 7") });
+  const { message } = await monitor.tell("a inc").catch((fault) => fault);
+  // The last 10,000 bytes, in lines of 7.
+  const kept = Array.from({ length: 1428 }, (_, at) => at + 103_573).join("\n");
+  assert.ok(message.endsWith(`status 7, and said ${JSON.stringify(`572\n${kept}`)}`), message);
+});
+
 test("a fault of the text is told", async () => {
   await assert.rejects(new Monitor("counter", ["a"]).tell("a increments"), gone(/line 3: syntax/));
 });

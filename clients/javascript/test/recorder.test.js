@@ -400,6 +400,17 @@ test("a removal that names too few is told", async () => {
   await recorder.stop();
 });
 
+test("the last sixteen lines are shown", async () => {
+  for (const before of [14, 15, 16, 40]) {
+    const recorder = new Recorder("counter", ["a"], { window: 1 });
+    for (let number = 0; number < before; number += 1) await recorder.increment("a");
+    const { message } = await recorder.read("a", 0).catch((fault) => fault);
+    const shown = message.split("; the last lines:\n")[1].split("\n").map((it) => it.split("  ")[2]);
+    assert.deepEqual(shown, [...Array(Math.min(before, 15)).fill("a inc"), "a read 0"]);
+    await recorder.stop();
+  }
+});
+
 test("what is not reported ends the history", async () => {
   const recorder = new Recorder("register", ["a"]);
   await assert.rejects(recorder.write("a", 1, "noon"), CannotTell);

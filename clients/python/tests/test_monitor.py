@@ -111,6 +111,36 @@ class Gone(unittest.TestCase):
                 monitor.post("a inc", f"ok {number}")
             monitor.settle()
 
+    def test_as_many_commands_as_the_window_are_in_flight(self) -> None:
+        for window, least in ((0, 1), (1, 1), (3, 3)):
+            # It answers the first command once there are as many as the window.
+            reads = "read line; " * (2 + least)
+            program = script(self.folder.name, f"{reads}echo other; exec cat >&2")
+            seen = []
+
+            def work(monitor: Monitor, least: int) -> None:
+                for _ in range(least):
+                    seen.append(monitor.unexpected)
+                    monitor.post("a inc", "ok 0")
+                seen.append(monitor.unexpected)
+
+            with self.subTest(window=window):
+                monitor = Monitor("counter", ["a"], program=program, window=window)
+                # A call that waits too soon waits for ever.
+                thread = threading.Thread(target=work, args=(monitor, least), daemon=True)
+                thread.start()
+                thread.join(20)
+                monitor.stop()
+                self.assertEqual(seen, [*[None] * least, (0, "other")])
+
+    def test_the_end_of_what_a_program_says_is_kept(self) -> None:
+        monitor = Monitor("counter", ["a"], program=script(self.folder.name, "seq 100000 105000 >&2; exit 7"))
+        with self.assertRaises(MonitorGone) as caught:
+            monitor.tell("a inc")
+        # The last 50 lines.
+        kept = "\\n".join(map(str, range(104951, 105001)))
+        self.assertTrue(str(caught.exception).endswith(f"status 7, and said '{kept}'"), caught.exception)
+
     def test_a_fault_of_the_text_is_told(self) -> None:
         monitor = Monitor("counter", ["a"])
         with self.assertRaisesRegex(MonitorGone, "line 3: syntax"):

@@ -344,6 +344,18 @@ class Failures(unittest.TestCase):
         self.assertIn(lacking, str(caught.exception))
         recorder.stop()
 
+    def test_the_last_sixteen_lines_are_shown(self) -> None:
+        for before in (14, 15, 16, 40):
+            recorder = Recorder("counter", ["a"], window=1)
+            for _ in range(before):
+                recorder.increment("a")
+            with self.subTest(before=before):
+                with self.assertRaises(NotLinearizable) as caught:
+                    recorder.read("a", 0)
+                shown = str(caught.exception).partition("; the last lines:\n")[2].splitlines()
+                self.assertEqual([it.split("  ")[2] for it in shown], [*["a inc"] * min(before, 15), "a read 0"])
+            recorder.stop()
+
     def test_what_is_not_reported_ends_the_history(self) -> None:
         recorder = Recorder("register", ["a"])
         with self.assertRaises(CannotTell):
