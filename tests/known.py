@@ -1,7 +1,7 @@
 """Histories of any size whose every reply is known beforehand, from how they are made.
 
-All of them are honest, so that each line is accepted; what a read answers is kept beside, by a few plain lines of each
-kind, and is neither the program's nor the model's.
+All that are made here are honest, so that each line is accepted; what a read answers is kept beside, by a few plain
+lines of each kind, and is neither the program's nor the model's. `behind.py` makes others.
 """
 import json
 
@@ -11,6 +11,10 @@ TURNS = 8
 ROUNDS_OF_A_READ = {"counter": 1, "register": 1, "lwwset": 1, "orset": 1, "rga": 128}
 # Where elements are put in, one replica reads when there are so many.
 READ_AT = (1, 255, 256, 257, 3_000, 4_096, 4_300, 65_535, 65_536, 65_537, 70_000)
+# A replica joins where another one has made so many updates: about the numbers that bytes and 16 bits hold, and more
+# than some round numbers at which a body might give up. Up to here the line of a read can hold all of them.
+JOIN_AT = (1, 255, 256, 257, 4_096, 10_001, 50_001, 65_535, 65_536, 65_537, 100_001, 200_001, 524_289)
+MOST_READ = 100_001
 # The body of an update, with a number that rises.
 UPDATES = {
     "counter": "inc",
@@ -21,8 +25,8 @@ UPDATES = {
 }
 
 
-# So many replicas there can be, in a text RAH 2.
-MOST_REPLICAS = 64
+# The greatest number of replicas, in a text RAH 2, and of commands of a text.
+MOST_REPLICAS, MOST_COMMANDS = 64, 1_048_576
 
 
 class History:
@@ -31,6 +35,8 @@ class History:
     def __init__(self, kind, names="abc", form=1):
         self.kind, self.labels, self.replies = kind, 0, []
         self.lines, self.replicas = [f"RAH {form} {kind}", " ".join(["replicas", *names])], len(names)
+        # How many commands are refused, and the label and the cause of a violation.
+        self.refused, self.violation = 0, None
 
     def does(self, name, body):
         """An operation, which becomes the label that this gives."""
@@ -48,14 +54,45 @@ class History:
         self.replies.append(f"joined {self.replicas}")
         self.replicas += 1
 
+    def asks(self):
+        """A verdict before any violation."""
+        self.lines.append("verdict")
+        self.replies.append(f"yes {self.labels}")
+
+    def refuses(self, line, why):
+        """A line that is refused."""
+        self.lines.append(line)
+        self.replies.append(f"refused {why}")
+        self.refused += 1
+
+    def violates(self, name, body, cause):
+        """An operation that becomes the first violating label."""
+        self.lines.append(f"{name} {body}")
+        self.violation = self.labels, cause
+        self.replies.append(f"no {self.labels} {cause}")
+        self.labels += 1
+
+    def goes_on(self, line):
+        """A line behind the violation, whose reply is that of the violation, whatever it says."""
+        self.lines.append(line)
+        self.replies.append(f"no {self.violation[0]} {self.violation[1]}")
+
     def text(self):
         return "".join(f"{it}\n" for it in self.lines).encode()
 
     def answer(self):
-        """What is written, what is said and the status, where all holds."""
-        says = {"calls": len(self.replies), "kind": self.kind, "labels": self.labels, "refused": 0, "verdict": "yes"}
-        lines = [*self.replies, f"end yes {self.labels}", json.dumps(says, separators=(",", ":"))]
-        return "".join(f"{it}\n" for it in lines).encode(), b"", 0
+        """What is written to standard output and to standard error, and the exit status."""
+        says = {"calls": len(self.replies), "kind": self.kind, "labels": self.labels, "refused": self.refused}
+        if self.violation:
+            label, cause = self.violation
+            is_final = self.kind in ("counter", "orset")
+            says, end = {**says, "cause": cause, "final": is_final, "label": label}, f"no {label} {cause}"
+        else:
+            end = f"yes {self.labels}"
+        says["verdict"] = end.split()[0]
+        report = json.dumps(says, separators=(",", ":"), sort_keys=True)
+        written = "".join(f"{it}\n" for it in [*self.replies, f"end {end}", report]).encode()
+        return written, b"", 1 if self.violation else 3 if self.refused else 0
 
 
 def listed(numbers):
@@ -279,4 +316,35 @@ def crowd(kind, first, count):
     for replica in range(len(had)):
         gets_all(replica)
         reads_now(replica)
+    return history
+
+
+# The update of a replica that joined, which needs the last one of the replica from which it joined. The other number is
+# a new one.
+NEEDS_LAST = {
+    "counter": "inc",
+    "register": "write {1} @{1}",
+    "lwwset": "remove {0} @{1}",
+    "orset": "remove {0} #{0}",
+    "rga": "after {0} {1} @{1}",
+}
+
+
+def joined(kind, count):
+    """a makes so many updates. Now and then, and at the end, a replica joins from it, reads, makes an update that needs
+    the last one, and gets the next one."""
+    history, missing = History(kind, "a", 2), None
+    update = "after {1} {0} @{0}" if kind == "rga" else UPDATES[kind]
+    for number in range(1, count + 1):
+        label = history.does("a", update.format(number, number - 1))
+        if missing:
+            history.gets(missing, [label])
+            missing = None
+        if number in JOIN_AT or number == count:
+            missing = f"n{history.replicas}"
+            history.joins(missing, "a")
+            if number <= MOST_READ:
+                shown = number if kind in ("counter", "register") else listed(range(1, number + 1))
+                history.does(missing, f"read {shown}")
+            history.does(missing, NEEDS_LAST[kind].format(number, count + history.replicas))
     return history
