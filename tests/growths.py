@@ -28,7 +28,7 @@ class Asked(NamedTuple):
     writes: int
 
 
-def asked(made, words, given):
+def asked(made, words, given, seconds=SECONDS):
     """What a run writes, what it says and its status, and what it asked for."""
     heard, told = os.pipe()
     counting = {"LD_PRELOAD": str(made), "COUNTED_TO": str(told)}
@@ -38,8 +38,10 @@ def asked(made, words, given):
         text.seek(0)
         try:
             run = subprocess.run(
-                words, stdin=text, capture_output=True, timeout=SECONDS, env=counting, pass_fds=(told,)
+                words, stdin=text, capture_output=True, timeout=seconds, env=counting, pass_fds=(told,)
             )
+        except subprocess.TimeoutExpired:
+            raise ValueError(f"it does not end within {seconds} seconds") from None
         finally:
             os.close(told)
             numbers = os.read(heard, 100).split()

@@ -11,8 +11,12 @@ use std::env::Env;
 pub enum Word {
     /// The lock beside a Mutex.
     Lock,
-    /// What each of several threads gets done at the lock.
+    /// What each of several threads gets done at the lock and at a Mutex.
     Asked(Asked),
+    /// The order in which callers that wait are served.
+    Order,
+    /// The room that a monitor makes.
+    Room,
     /// The check of a text beside a plain loop.
     Text,
     /// That loop, on standard input.
@@ -24,7 +28,9 @@ pub fn word_of<R: Env + AllocGlobal>(rt: &R) -> Result<Option<Word>> {
     match env::args(rt)?.nth(1) {
         Some(word) => match named(word.as_str()) {
             Some(word) => Ok(Some(word)),
-            None => bail!("ra_measure lock|calls|attempts|glances|text|loop"),
+            None => bail!(
+                "ra_measure lock|calls|yields|alone|attempts|glances|order|room|text|loop"
+            ),
         },
         None => Ok(None),
     }
@@ -34,8 +40,12 @@ fn named(word: &str) -> Option<Word> {
     Some(match word {
         "lock" => Word::Lock,
         "calls" => Word::Asked(Asked::Calls),
+        "yields" => Word::Asked(Asked::Yields),
+        "alone" => Word::Asked(Asked::Alone),
         "attempts" => Word::Asked(Asked::Attempts),
         "glances" => Word::Asked(Asked::Glances),
+        "order" => Word::Order,
+        "room" => Word::Room,
         "text" => Word::Text,
         "loop" => Word::Loop,
         _ => return None,

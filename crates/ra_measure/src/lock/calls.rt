@@ -12,10 +12,10 @@ use std::thread::Threads;
 use std::time::{Clock, Duration, Instant};
 
 /// A lock over an empty log, and so many passes.
-pub fn opened(alloc: Global, passes: u8) -> Result<(TicketLock<Log>, Vec<Pass<Log>>)>
+pub fn opened(alloc: Global, passes: u8, yields: bool) -> Result<(TicketLock<Log>, Vec<Pass<Log>>)>
     ensures { IfOk result (λ opened. All (IsPassOf opened.0) opened.1.items) }
 {
-    match TicketLock::open(alloc, Log::new(alloc), passes, 0) {
+    match TicketLock::open(alloc, Log::new(alloc, yields), passes, 0) {
         Ok(opened) => Ok(opened),
         Err(OpenFault::BadPasses(_)) => bail!("bad passes"),
         Err(OpenFault::NoMemory) => bail!("no memory"),
@@ -30,7 +30,7 @@ pub fn by_lock<R: Threads + Wait + Clock + Sync>(
     calls: u32,
 ) -> Result<Duration> {
     // The lock is let go at one place: a proof goes through its parts at each.
-    let (lock, passes) = opened(alloc, threads)?;
+    let (lock, passes) = opened(alloc, threads, false)?;
     time_of(rt, &lock, passes, calls)
 }
 

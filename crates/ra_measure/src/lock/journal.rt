@@ -4,6 +4,7 @@ ghost use Rattle.ra_journal.specs.declared.journal.TheConstants.{MOST_ENTRIES};
 
 use ra_ticket::{Entry, Journal, MOST_ENTRIES, StepFault};
 use std::alloc::Global;
+use std::thread;
 
 /// What is logged at a call.
 pub type Call = Entry<u32, u32>;
@@ -12,16 +13,19 @@ pub type Call = Entry<u32, u32>;
 #[derive(Drop)]
 pub struct Log {
     entries: Vec<Call>,
+    // Whether a step leaves its processor to others, who then find the lock held.
+    yields: bool,
     ghost within: { length entries.items ≤ MOST_ENTRIES },
 }
 
 impl Log {
-    /// No call.
-    pub fn new(alloc: Global) -> Log
+    /// No call. Of a log that `yields`, each step leaves its processor to others.
+    pub fn new(alloc: Global, yields: bool) -> Log
         ensures { result.entries.items ≡ [] }
     {
         Log {
             entries: Vec::new(alloc),
+            yields,
         }
     }
 }
@@ -60,6 +64,9 @@ impl Journal for Log {
     }
 
     fn step(&mut self, pass: u8, ticket: u64, command: u32) -> Result<u32, StepFault<u32>> {
+        if self.yields {
+            thread::yield_now();
+        }
         let reply = self.entries.len() as u32;
         if reply == MOST_ENTRIES {
             return Err(StepFault::Full(command));

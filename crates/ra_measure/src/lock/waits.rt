@@ -15,9 +15,8 @@ use std::{hint, thread};
 // How often a thread looks whether all have started.
 const MOST_LOOKS: u32 = 1_000_000;
 
-// Waits until so many threads stand here, or for so long that some cannot run beside this one. It does not yield: who
-// counts how often threads do counts the lock's waiting alone.
-fn start_together(started: &AtomicUsize, count: usize) {
+/// Waits until this many threads stand here, or for so long that some cannot run beside this one.
+pub fn start_together(started: &AtomicUsize, count: usize) {
     started.fetch_add(1, Ordering::SeqCst);
     for _ in 0..MOST_LOOKS {
         if started.load(Ordering::SeqCst) >= count {
@@ -38,14 +37,16 @@ pub enum Way {
     Glance,
 }
 
-/// A thread for each of these ways asks for this time: how often each was answered, also by a full log.
+/// A thread for each of these ways asks for this time: how often each was answered, also by a full log. Of a log that
+/// `yields`, each step leaves its processor to others.
 pub fn answered_of_each<R: Threads + Wait + Clock + Sync>(
     rt: &R,
     alloc: Global,
     ways: &[Way],
+    yields: bool,
     time: Duration,
 ) -> Result<Vec<u32>> {
-    let (lock, passes) = opened(alloc, u8::try_from(ways.len())?)?;
+    let (lock, passes) = opened(alloc, u8::try_from(ways.len())?, yields)?;
     let started = AtomicUsize::new(0);
     let (shared, count) = (&lock, passes.len());
     let answered = thread::map_vec(
