@@ -3,7 +3,7 @@ import os
 import shutil
 import subprocess
 
-from house import CRATES, KIT, PROGRAM, ALL, House, built, check, is_built_again, is_left_alone, wait_until
+from house import ALL, CRATES, KIT, PROGRAM, SECONDS, House, built, check, is_built_again, is_left_alone, wait_until
 from required import require
 
 
@@ -152,10 +152,11 @@ def a_program_that_another_one_overwrote(house):
 
 @check
 def what_changes_meanwhile_belongs_to_the_next(house):
-    house.slow(0.3)
+    house.hold(PROGRAM)
     run = house.start("check")
-    wait_until(lambda: house.told.exists() and f"begin {PROGRAM}" in house.told.read_text())
+    wait_until(lambda: house.is_at_work_on(PROGRAM))
     house.write(f"crates/{PROGRAM}/src/main.rt", "second text")
-    require(run.communicate("given\n")[0].startswith("first text"))
+    house.release()
+    require(run.communicate("given\n", timeout=SECONDS)[0].startswith("first text"))
     house.proved()
     is_built_again(house, [PROGRAM], "second text")
