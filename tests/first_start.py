@@ -75,7 +75,7 @@ def its_start_runs_three_programs_at_most(house):
 
 @check
 def its_start_takes_no_more_than_what_it_runs(house):
-    """Four times as much at most as a script that runs the same programs and does nothing else, in one of some turns."""
+    """At most four times as much as a script that runs the same programs and nothing else, in one of some turns."""
     built(house)
     program, front = house.top / "crates" / PROGRAM / "out" / PROGRAM, house.top / "ra_monitor"
     like = house.folder / "like"

@@ -13,7 +13,7 @@ CHECK, WHOLE, EXPLAIN = (
     TOP / "crates" / name / "out" / name for name in ("ra_check_cli", "ra_monitor_cli", "ra_explain_cli")
 )
 PROGRAM = WHOLE if "--whole" in sys.argv else CHECK
-# A run that has not ended by then is stuck, and is ended: many times what the longest one takes on a machine that is busy.
+# A run that has not ended by then is stuck, and is ended: many times what the longest one takes on a busy machine.
 SECONDS = 120
 
 
@@ -31,7 +31,7 @@ def chosen():
 
 
 class Watch:
-    """Ends the run in progress once its time is over, whichever `Program` started it. There is one for the module, since a
+    """Ends the run in progress once its time is over, whichever `Program` started it. There is one for the module: a
     process has one alarm, and one handler for it."""
 
     def __init__(self):

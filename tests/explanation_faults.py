@@ -1,0 +1,215 @@
+"""The explanation of a text with a fault: the line, the field that cannot be read, and each byte that is shown of them.
+
+A broken line holds any bytes, and every page shows some of them: as words, in a document and in an object. These are
+the only bytes of a text in a page that the grammar does not limit to small letters, digits, spaces and `,@#-`.
+"""
+import json
+import re
+
+import model
+from explanation_drawings import require_document_of_a_fault
+from explanation_words import HEAD, cut, headed
+from required import require
+
+FORMS = ([], ["--json"], ["--html"], ["--svg"], ["--sequence"])
+# So many bytes of a line or field are shown, and behind those of a longer one two points.
+SHOWN = 60
+# What may stand behind the front of a line.
+TAILS = ("", " inc", " 1", " 1 1", " -", " zz", " zz zz", " 1 counter", " counter")
+SENTENCES = {
+    "syntax": " cannot be read.",
+    "too long": " has more than 1048576 bytes.",
+    "full": " is one command more than a text may have, which has at most 1048576.",
+}
+NOTES = {
+    "carriage return": headed("note", r"\x0d is a carriage return: lines end with a line feed alone"),
+    "tab": headed("note", r"\x09 is a tab: fields are separated by one space"),
+}
+# What a browser, a parser of XML, or an object would take for its own, and where an escape may go wrong.
+HOSTILE = ["<script>alert(1)</script>", "&amp;", "&lt;b&gt;", "&#60;b&#62;", "<!--", "-->", "<![CDATA["]
+HOSTILE += ["]]>", "<?x?>", "</pre><b>", "</title><b>", "</svg>", '"><b', "'><b", '"', "'", "\\"]
+HOSTILE += ['\\"', r"\u003c", "</style>", "<", "&", ">", "<b", "&b", "&;", "a<b&c>d", "\x00<"]
+HOSTILE += ["\x1b[31m", "\x7f", "\xc3\xaf", "\xff", "<br/onload=x>", "&&"]
+# A line of each form, with a place in each of its fields for such bytes.
+FIRST_LINES = ["{} 1 counter", "RAH {} counter", "RAH 1 {}", "RAH 1 counter {}"]
+SECOND_LINES = ["{} a b", "replicas {} b", "replicas a {}", "replicas a b {}"]
+COMMANDS = ["{}", "{} inc", "a {}", "a inc {}", "a got {}", "a got 0 {}", "a read {}", "a read 0 {}", "a write {} @1"]
+COMMANDS += ["a write 1 {}", "a write 1 @{}", "a add {} @1", "a add 1 #{}", "a add 1 #1 {}", "a remove {}"]
+COMMANDS += ["a remove 1 #{}", "a after {} 1 @1", "a after 0 {} @1", "a after 0 1 {}", "a after 0 1 @{}", "verdict {}"]
+COMMANDS += ["join {} a", "join n9 {}", "join n9 a {}", "{}a inc", "a{} inc", "a inc{}"]
+
+
+def shown(text):
+    """The front of a text in ASCII: quotation marks, backslashes and what is no letter, digit or sign as numbers."""
+    marks = (it if " " <= it <= "~" and it not in '"\\' else f"\\x{ord(it):02x}" for it in text[:SHOWN])
+    return "".join(marks) + (" .." if len(text) > SHOWN else "")
+
+
+def bytes_of(words):
+    """The text that these words show."""
+    return re.sub(r"\\x([0-9a-f]{2})", lambda it: chr(int(it[1], 16)), words)
+
+
+def begins(reader, fields):
+    """Does a line of the grammar begin with these fields?"""
+    for tail in TAILS if fields else []:
+        try:
+            reader(" ".join(fields) + tail)
+            return True
+        except model.NotOfTheGrammar:
+            pass
+    return not fields
+
+
+class Stop:
+    """Where the text stops, as the check says it on standard error, and what there is of its line."""
+
+    def __init__(self, text, said, replies=()):
+        line, self.why = said.decode().removeprefix("line ").strip().split(": ")
+        self.line, self.lines = int(line), text.decode("latin-1").split("\n")
+        self.says = self.lines[self.line - 1]
+        # What was answered before, where that was a violation.
+        self.before = next((it for it in replies if it.startswith("no ")), None)
+
+    def reader(self):
+        """What reads the line by the grammar."""
+        if self.line == 1:
+            return model.form_and_kind_of
+        form, kind = model.form_and_kind_of(self.lines[0])
+        if self.line == 2:
+            return lambda it: model.names_of(form, it)
+        return lambda it: model.command_of(form, kind, it)
+
+    def require_object(self, told):
+        """Is this what the object says? Of a field: none before it is one that cannot be read, and it is."""
+        text = self.says[:SHOWN] + (" .." if len(self.says) > SHOWN else "")
+        wanted = ("fault", self.line, self.why, text)
+        require((told["answer"], told["line"], told["why"], told["text"]) == wanted, told, wanted)
+        require(("field" in told) == (self.why == "syntax") == ("wanted" in told), told)
+        if self.why == "syntax":
+            reader, fields, number = self.reader(), self.says.split(" "), told["field"]
+            require(begins(reader, fields[: number - 1]), "a field before it cannot be read", told)
+            require(number == len(fields) + 1 or not begins(reader, fields[:number]), "it can be read", told)
+
+    def words(self, told):
+        """The page, whose field is that of the object."""
+        sentence = SENTENCES.get(self.why, " has no end: the text ends before its line feed.")
+        if self.why == "truncated" and not self.says:
+            sentence = " is not there: the text ends before it."
+        yield f"line {self.line}{sentence}"
+        yield ""
+        if self.says:
+            yield headed("it says", shown(self.says))
+        if self.why == "syntax":
+            yield from self.words_on_field(told["field"], told["wanted"])
+        if self.says.endswith("\r"):
+            yield NOTES["carriage return"]
+        if "\t" in self.says:
+            yield NOTES["tab"]
+        if self.before:
+            behind = "already: without this line and what follows, that is explained"
+            yield headed("before it", f"the answer was {self.before} {behind}")
+
+    def words_on_field(self, number, wanted):
+        fields = self.says.split(" ")
+        field = fields[number - 1] if number <= len(fields) else None
+        says = "is not there" if field is None else shown(field)
+        yield headed(f"field {number}", says if says else "is empty: a space too many stands beside it")
+        yield headed("may stand there", wanted)
+
+    def page(self, told):
+        return "".join(f"{cut(it)}\n" for it in self.words(told))
+
+
+def look_at_stop(program, text, said, replies):
+    """Explains a text with a fault in each form."""
+    runs = [program(["explain", *it], text) for it in FORMS]
+    require(all(run[1:] == (said, 2) for run in runs), "what is said, and the status", runs)
+    page, told, document, drawing, sequence = (run[0].decode() for run in runs)
+    require(drawing == sequence == "", "something is drawn", drawing, sequence)
+    stop = Stop(text, said, replies)
+    stop.require_object(json.loads(told))
+    wanted = stop.page(json.loads(told))
+    require(page == wanted, "the words of a fault", page, wanted)
+    require(page.isascii() and page.replace("\n", "").isprintable(), "characters", page)
+    require_shown(stop, page)
+    require_document_of_a_fault(document, f"line {stop.line}: {stop.why}", wanted)
+
+
+def require_shown(stop, page):
+    """Are the bytes that a page shows the text's own, as far as the width of the page goes?"""
+    for line in page.splitlines():
+        if line.startswith("it says"):
+            # A line may be cut within the number of a byte.
+            words = re.sub(r"(\\(x[0-9a-f]?)?)?$", "", re.sub(r" ?\.{0,2}$", "", line[HEAD:]))
+            require(stop.says.startswith(bytes_of(words)), "bytes that are not the text's", words, stop.says)
+
+
+def answered(text):
+    """The line of the fault of a text that has one, and the replies before it; else None."""
+    replies = []
+    try:
+        model.run(text, replies)
+    except model.Fault as why:
+        return f"{why}\n".encode(), replies
+    return None
+
+
+def hostile_lines(form, kind, hostile):
+    """The texts that have these bytes in each field of each line."""
+    head = f"RAH {form} {kind}\n"
+    for line in FIRST_LINES:
+        yield f"{line.format(hostile)}\nreplicas a b\n"
+    for line in SECOND_LINES:
+        yield f"{head}{line.format(hostile)}\n"
+    for line in COMMANDS:
+        yield f"{head}replicas a b\n{line.format(hostile)}\n"
+
+
+def hostile_texts():
+    """Some such bytes in each field of each line; all of them in some, across the last byte shown, and cut off."""
+    for hostile in HOSTILE[:4] + ['"', "'"]:
+        yield from hostile_lines("2", "orset", hostile)
+    head = "RAH 1 counter\n"
+    for hostile in HOSTILE:
+        for before in {SHOWN - len(hostile), SHOWN - len(hostile) // 2, SHOWN - 1}:
+            yield f"{head}replicas a b\n{'x' * before}{hostile}{'y' * 9}\n"
+        for line in ("a {}", "{} inc", "a\t{}", "a got {}\r", "a read 7\n{} inc"):
+            yield f"{head}replicas a b\n{line.format(hostile)}\n"
+        yield from (f"{hostile} 1 counter\n", f"{head}replicas {hostile}\n")
+        yield from (hostile, f"{head}{hostile}", f"{head}replicas a\n{hostile}")
+
+
+def widths_of_a_fault():
+    """Lines and fields of about as many bytes as are shown, and that end about where a page does."""
+    for count in range(SHOWN - 2, SHOWN + 4):
+        for line in ["x" * count, f"a {'9' * count}", f"a got {'0' * count}", f"a add 1 #{'1' * count}"]:
+            yield f"RAH 1 counter\nreplicas a b\n{line}\n"
+        yield f"{'R' * count}\nreplicas a b\n"
+        yield f"RAH 1 counter\n{'r' * count}\n"
+        yield f"RAH 1 counter\nreplicas {'r' * count}\n"
+    # A byte that is no letter takes four characters, and the facts of a line have 84.
+    for odd in (14, 20, 21, 22):
+        for plain in range(80 - 4 * odd, 89 - 4 * odd):
+            if 0 < odd + plain <= SHOWN and plain >= 0:
+                yield f"RAH 1 counter\nreplicas a b\na {'x' * plain}{chr(1) * odd}\n"
+
+
+def look_at_texts(program, texts):
+    """Explains those of the texts that have a fault. There have to be some of them."""
+    count = 0
+    for text in texts:
+        given = text.encode("latin-1")
+        stopped = answered(given)
+        if stopped:
+            count += 1
+            look_at_stop(program, given, *stopped)
+    require(count > 0, "no text has a fault")
+
+
+def look_at_hostile_texts(program):
+    look_at_texts(program, hostile_texts())
+
+
+def look_at_widths_of_a_fault(program):
+    look_at_texts(program, widths_of_a_fault())
