@@ -1,10 +1,10 @@
 """The tests of the two clients by name, and which of them only one of the two has.
 
 A test is named by its file and its own name: test_F.py of clients/python goes with F.test.js of clients/javascript,
-and within them `def test_NAME` with `test("name", ..)`. A name of JavaScript is normalized by one rule: small letters,
-no apostrophes, and one underscore for each run of characters that are neither letters nor digits. So "the bounds of a
-counter's read" goes with `test_the_bounds_of_a_counters_read`. Python's classes play no part, and cases within a test
-(`subTest`, `t.test`) neither.
+and within them `def test_NAME` with `test("name", ..)`. A name of JavaScript is normalized by one rule: lower-case
+letters, no apostrophes, and one underscore for each run of characters that are neither letters nor digits. So "the
+bounds of a counter's read" goes with `test_the_bounds_of_a_counters_read`. Python's classes, and cases within a test
+(`subTest`, `t.test`), are ignored.
 """
 import ast
 import re
@@ -22,7 +22,7 @@ JAVASCRIPT_ALONE = {
     ("limits", "a_clock_that_no_number_holds_exactly_is_a_bigint"): "Python has whole numbers of any size",
 }
 
-# A call that makes a test; one whose name can be read, which is one plain text; and what a file may take from Node.
+# A call that makes a test; one whose name can be read, which is one plain text; and what a file may import from Node.
 ANY_CALL = re.compile(r"(?<![.\w])test(?:\.\w+)*\(")
 NAMED_CALL = re.compile(r'test(?:\.(?:skip|todo))?\(\s*"([^"\\]+)"')
 IMPORTS = re.compile(r'^import \{([^}]*)\} from "node:test"', re.MULTILINE)
@@ -53,7 +53,7 @@ def python_tests(clients=CLIENTS):
 
 
 def javascript_tests(clients=CLIENTS):
-    """The same of JavaScript. A test whose name cannot be read has None for it."""
+    """The same of JavaScript. A test whose name cannot be read has the name None."""
     for path in sorted((clients / "javascript" / "test").glob("*.test.js")):
         file, text = path.name[: -len(".test.js")], path.read_text()
         imported = {it.strip() for names in IMPORTS.findall(text) for it in names.split(",")}
@@ -66,7 +66,7 @@ def javascript_tests(clients=CLIENTS):
 
 
 def faults_of(client, tests):
-    """What is wrong with the names of one client's tests: none at all, one that cannot be read, or one twice."""
+    """What is wrong with the names of one client's tests: no tests, an unreadable name, or a duplicate."""
     if not tests:
         yield f"clients/{client} has no tests"
     for file in sorted({file for file, name in tests if name is None}):
