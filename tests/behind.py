@@ -62,7 +62,7 @@ REFUSED_JOINS = {"join z y": "unknown-replica", "join a b": "replica-there", "jo
 
 
 def many(kind, labels, names="abc", form=1):
-    """c reads, and a makes so many updates, the first of which reaches b."""
+    """c reads, and a makes this number of updates, the first of which reaches b."""
     history = History(kind, names, form)
     history.does("c", f"read {NOTHING[kind]}")
     for number in range(1, labels + 1):
@@ -72,7 +72,7 @@ def many(kind, labels, names="abc", form=1):
 
 
 def many_refused(history, count, reasons):
-    """So many lines that are refused, of these by turns."""
+    """This number of rejected lines, taken from these in turns."""
     newest = history.labels - 1
     lines = [(line.format(newest, newest + 1), why) for line, why in reasons.items()]
     for number in range(count):
@@ -81,7 +81,7 @@ def many_refused(history, count, reasons):
 
 
 def asked_often(kind, labels, count):
-    """So many verdicts behind so many labels."""
+    """The given number of verdicts behind the given number of labels."""
     history = many(kind, labels)
     for _ in range(count):
         history.asks()
@@ -89,7 +89,7 @@ def asked_often(kind, labels, count):
 
 
 def violated(kind, labels, count):
-    """So many lines behind a violation, which a read brings that shows nothing behind so many labels."""
+    """The given number of lines behind a violation: a read that shows nothing behind the given number of labels."""
     history = many(kind, labels)
     history.violates("a", f"read {NOTHING[kind]}", "query")
     lines = [f"a {UPDATES[kind].format(labels + 1)}", "b got 2", f"b read {NOTHING[kind]}", "verdict", "z got 1"]
@@ -111,8 +111,8 @@ def refused_joins(kind, labels, count):
     return many_refused(many(kind, labels, names, 2), count, REFUSED_JOINS)
 
 
-# What there may be behind many labels that changes nothing, and what makes such a history: of a kind, with so many
-# labels and then so many lines.
+# What may follow many labels and changes nothing, and the function that makes such a history: of a kind, with a number
+# of labels and then a number of lines.
 BEHIND_LABELS = {
     "verdicts": asked_often,
     "lines behind a violation": violated,

@@ -10,7 +10,7 @@ from explanation_defects import BEGINS_ABOVE_A_FIRST_JOIN, TRIMS_WORDS
 from explanation_pictures import Picture
 from required import require
 
-# So many letters of a row's words are shown in a drawing, and two points behind those of a longer one.
+# The number of letters of a row's words that a drawing shows; two points follow those of a longer one.
 LETTERS = 24
 # The most rows that show an event, and the most bytes of a document.
 MOST_ROWS, MOST_BYTES = 24, 200_000

@@ -12,7 +12,7 @@ from explanation_words import HEAD, cut, headed
 from required import require
 
 FORMS = ([], ["--json"], ["--html"], ["--svg"], ["--sequence"])
-# So many bytes of a line or field are shown, and behind those of a longer one two points.
+# The number of bytes of a line or field that are shown; two points follow those of a longer one.
 SHOWN = 60
 # What may stand behind the front of a line.
 TAILS = ("", " inc", " 1", " 1 1", " -", " zz", " zz zz", " 1 counter", " counter")

@@ -5,7 +5,7 @@ from explanation_case import element_of
 from explanation_defects import DRAWS_WHAT_WAS_NOT_DELIVERED
 from explanation_words import MOST_REMEDIES, answer_of, words_of
 
-# A short history has at most so many entries up to the violating one, all of which are drawn; of a longer one so many.
+# The most entries of a short history up to the violating one, all of which are drawn; and those of a longer one.
 MOST_ENTRIES, FEW_ENTRIES = 19, 16
 # The latest updates of an element at which the answers differ that are drawn, and the most replicas with a column.
 MOST_NAMING, MOST_COLUMNS = 2, 8

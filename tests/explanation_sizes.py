@@ -18,7 +18,7 @@ from required import require
 
 # The labels of long histories, the deliveries of the longest, and the labels of those whose memory is measured.
 LABELS, DELIVERIES, OF_EACH = 100_000, 500_000, 300_000
-# An explanation may take so many times the time of its check and so many times its memory; one of so many turns has to.
+# How many times the time and the memory of its check an explanation may take; one of this number of turns has to.
 TIMES, TIMES_MEMORY, TURNS = 4, 1.5, 5
 # What no read of these histories answers.
 WRONG = {"counter": "-77777", "register": "none", "lwwset": "-", "orset": "-", "rga": "-"}
@@ -40,7 +40,7 @@ sys.exit(0 if os.waitstatus_to_exitcode(status) == 1 else 1)
 
 
 def read_of_a_front(kind, count):
-    """The answer of a read that sees the first updates of a replica, so many of them."""
+    """The answer of a read that sees this number of first updates of a replica."""
     if kind in ("counter", "register"):
         return str(count) if count or kind == "counter" else "none"
     return listed(range(count, 0, -1) if kind == "rga" else range(1, count + 1))
@@ -48,7 +48,7 @@ def read_of_a_front(kind, count):
 
 def late_read(kind, count, lacks, commands):
     """One replica makes updates, another one gets them all and reads what it would without the latest ones of them. The
-    history has so many commands."""
+    history has this number of commands."""
     made = History(kind, "ab")
     update = "after 0 {0} @{0}" if kind == "rga" else UPDATES[kind]
     for number in range(1, count + 1):

@@ -9,13 +9,13 @@ from explanation_defects import CUTS_WHAT_FITS
 
 # A line has at most 100 characters; of a longer one the first 98 are printed and two points.
 WIDEST, CUT = 100, 98
-# The facts of a line begin behind so many characters.
+# The number of characters before the facts of a line.
 HEAD = 16
 # The most bytes of a command's line, elements of a list, labels above a clock, and remedies that are printed.
 MOST_BYTES_OF_A_LINE, MOST_ELEMENTS, MOST_ABOVE, MOST_REMEDIES = 72, 8, 3, 5
 # The most replicas that have a line each: at a violation, and of a pass. And the most rejected lines.
 MOST_SEEN, MOST_LACKING, MOST_REJECTED = 8, 10, 10
-# Behind so many equal elements of two lists, both are printed once more from so many elements before the difference.
+# From this number of equal elements on, two lists are printed once more, from this number before the difference.
 FAR, BEFORE = 8, 3
 REASONS = {
     "query": "what it sees does not lead to its answer.",

@@ -44,7 +44,7 @@ class Watch:
             os.kill(self.running, signal.SIGKILL)
 
     def wait(self, process, seconds):
-        """Waits until this process has ended, for at most so many seconds. Returns its status and what it used."""
+        """Waits until this process has ended, for at most this number of seconds. Returns its status and what it used."""
         self.running = process
         signal.setitimer(signal.ITIMER_REAL, seconds)
         # Until it is waited for below, its number belongs to no other process, so that no alarm ends another one.
