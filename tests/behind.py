@@ -8,7 +8,7 @@ from known import MOST_REPLICAS, UPDATES, History
 # What a read shows before any update.
 NOTHING = {"counter": "0", "register": "none", "lwwset": "-", "orset": "-", "rga": "-"}
 # Operations that are refused behind updates of a, of which one has the clock 1 or the identifier 1, with the reasons.
-# The number stands for one that is above those of the updates.
+# {0} is a number above those of the updates.
 REFUSED_OPERATIONS = {
     "counter": {
         "z inc": "unknown-replica",
