@@ -6,7 +6,6 @@ one; and in a document no `<` and no `&` stands that a parser does not read as a
 from html.parser import HTMLParser
 from xml.etree import ElementTree
 
-from explanation_defects import BEGINS_ABOVE_A_FIRST_JOIN, TRIMS_WORDS
 from explanation_pictures import Picture
 from required import require
 
@@ -92,7 +91,7 @@ def require_head(reader, title, words):
     require(not reader.odd, "something of a document that is not its own", reader.odd)
     require(reader.begun()[: len(HEAD)] == HEAD, "the elements of a document", reader.begun()[: len(HEAD) + 1])
     require([reader.text_of(it) for it in ("title", "h1")] == [title] * 2, "the title", reader.texts)
-    words = words.strip() if TRIMS_WORDS else words.strip("\n")
+    words = words.strip("\n")
     require(reader.text_of("pre") == words, "the words of the document", reader.text_of("pre"), words)
 
 
@@ -224,8 +223,6 @@ def require_row(drawn, columns, group, row, height):
 def require_columns(picture, columns, heights):
     """Does each column begin above all rows, or at the row of its replica's join, and end below all of them?"""
     joins = {it.target: height for it, height in zip(picture.rows, heights) if getattr(it, "words", "") == "joins"}
-    if BEGINS_ABOVE_A_FIRST_JOIN:
-        joins = {name: height for name, height in joins.items() if picture.begins(name) > 0}
     for name, group in columns.items():
         start, end = numbers(group.find(f"{SVG}line"), "y1", "y2")
         begins = start == joins[name] if name in joins else start < heights[0]

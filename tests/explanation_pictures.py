@@ -2,7 +2,6 @@
 from collections import namedtuple
 
 from explanation_case import element_of
-from explanation_defects import DRAWS_WHAT_WAS_NOT_DELIVERED
 from explanation_words import MOST_REMEDIES, answer_of, words_of
 
 # The most entries of a short history up to the violating one, all of which are drawn; and those of a longer one.
@@ -81,7 +80,7 @@ class Choice:
         case = self.case
         for at in range(case.place)[::-1]:
             words = case.fields(at)
-            if case.is_got(at, case.name) or (DRAWS_WHAT_WAS_NOT_DELIVERED and words[:2] == [case.name, "got"]):
+            if case.is_got(at, case.name):
                 label = int(words[2])
                 self.add([at, *case.places[label : label + 1]])
             elif words[0] == case.name or words[:2] == ["join", case.name]:

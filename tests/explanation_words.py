@@ -5,7 +5,6 @@ here from the text, so that each fact that a page states is compared.
 """
 import model
 from explanation_case import element_of
-from explanation_defects import CUTS_WHAT_FITS
 
 # A line has at most 100 characters; of a longer one the first 98 are printed and two points.
 WIDEST, CUT = 100, 98
@@ -47,8 +46,6 @@ def counted(count, one, several):
 
 
 def cut(line):
-    if CUTS_WHAT_FITS and CUT < len(line) <= WIDEST:
-        return f"{line[:CUT]}{'.' * (len(line) - CUT)}"
     return line if len(line) <= WIDEST else f"{line[:CUT]}.."
 
 

@@ -20,8 +20,22 @@ pub fn put_start(out: &mut Vec<u8>, title: &[u8], words: &[u8]) -> Result<(), No
     put(out, "</title>\n</head>\n<body>\n<h1>")?;
     put_escaped(out, title)?;
     put(out, "</h1>\n<pre>")?;
-    put_escaped(out, words.trim_ascii())?;
+    put_escaped(out, without_line_feeds(words))?;
     put(out, "</pre>\n")
+}
+
+// The words without the line feeds at their ends. A space there may belong to a line that is quoted.
+fn without_line_feeds(words: &[u8]) -> &[u8] {
+    let mut front: usize = 0;
+    let mut end: usize = 0;
+    for (at, byte) in words.iter().enumerate() {
+        if *byte != b'\n' {
+            end = at.saturating_add(1);
+        } else if end == 0 {
+            front = at.saturating_add(1);
+        }
+    }
+    words.get(front..end).unwrap_or(b"")
 }
 
 /// Puts the end of the document.

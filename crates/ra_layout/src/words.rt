@@ -2,7 +2,7 @@
 use ra_labels::NoMemory;
 use ra_lines::number::put_number;
 
-/// How many characters a line has at most, and how many of them where it is cut: two points stand behind these.
+/// The most bytes of a line, and how many of a longer one are kept: two points stand behind these.
 const WIDEST: usize = 100;
 
 const CUT: usize = 98;
@@ -41,19 +41,25 @@ pub fn small(number: usize) -> u32 {
     }
 }
 
-/// Puts the lines, of which long ones are cut.
+/// Appends the lines, and cuts those longer than 100 bytes.
 pub fn put_cut(out: &mut Vec<u8>, lines: &[u8]) -> Result<(), NoMemory> {
-    let mut column: usize = 0;
-    for byte in lines {
+    let mut start: usize = 0;
+    for (at, byte) in lines.iter().enumerate() {
         if *byte == b'\n' {
+            put_cut_line(out, lines.get(start..at).unwrap_or(b""))?;
             out.push(b'\n')?;
-            column = 0;
-        } else {
-            if column < WIDEST {
-                out.push(if column < CUT { *byte } else { b'.' })?;
-            }
-            column = column.saturating_add(1);
+            start = at.saturating_add(1);
         }
     }
-    Ok(())
+    put_cut_line(out, lines.get(start..).unwrap_or(b""))
+}
+
+fn put_cut_line(out: &mut Vec<u8>, line: &[u8]) -> Result<(), NoMemory> {
+    match line.get(..CUT) {
+        Some(front) if line.len() > WIDEST => {
+            out.extend_from_slice(front)?;
+            put(out, "..")
+        }
+        _ => Ok(out.extend_from_slice(line)?),
+    }
 }

@@ -1,5 +1,6 @@
 //! Which entries of a log stand in a picture.
 use ra_explain::{Change, LabelsWith, labels_with};
+use ra_journal::Entry;
 use ra_labels::{Command, NoMemory, Op, Reply};
 use ra_pages::{Case, No, delivery_of, elements_between, needed_by};
 use std::alloc::Global;
@@ -42,12 +43,13 @@ fn add_entry(places: &mut Vec<u32>, case: &Case<'_>, at: u32, most: usize) -> Re
 }
 
 fn is_drawn(case: &Case<'_>, at: u32) -> bool {
-    match case.entry(at) {
-        Some(entry) => match entry.reply {
-            Reply::Ok(_) | Reply::Got(_) | Reply::Joined(_) => true,
-            Reply::Yes(_) | Reply::No { .. } | Reply::Refused(_) => false,
-        },
-        None => false,
+    case.entry(at).is_some_and(is_accepted)
+}
+
+fn is_accepted(entry: &Entry<Command, Reply>) -> bool {
+    match entry.reply {
+        Reply::Ok(_) | Reply::Got(_) | Reply::Joined(_) => true,
+        Reply::Yes(_) | Reply::No { .. } | Reply::Refused(_) => false,
     }
 }
 
@@ -158,7 +160,7 @@ fn add_latest(places: &mut Vec<u32>, case: &Case<'_>, no: &No<'_>) -> Result<(),
     for entry in before.iter().rev() {
         at = at.saturating_sub(1);
         match &entry.command {
-            Command::Deliver { replica, label } if *replica == no.replica => {
+            Command::Deliver { replica, label } if *replica == no.replica && is_accepted(entry) => {
                 add_entry(places, case, at, FEW_ENTRIES)?;
                 add_label(places, case, *label)?;
             }

@@ -28,13 +28,13 @@ pub enum Row {
     Asked,
 }
 
-/// A column: a replica, and the place of the entry from which on it is there.
+/// A column: a replica, and the place of its join.
 #[derive(Clone, Copy)]
 pub struct Column {
     /// The replica.
     pub replica: u8,
-    /// The place of its join, or 0.
-    pub begins: u32,
+    /// The place of its join; `None` for an initial replica.
+    pub begins: Option<u32>,
 }
 
 /// A picture of what led to a label that is wrong.
@@ -151,17 +151,17 @@ fn add_replica(replicas: &mut Vec<u8>, replica: Option<u8>) -> Result<(), NoMemo
     Ok(())
 }
 
-// The place of the replica's join; 0 where it was there from the start.
-fn join_of(case: &Case<'_>, replica: u8) -> u32 {
+// The place of the replica's join; `None` for an initial replica.
+fn join_of(case: &Case<'_>, replica: u8) -> Option<u32> {
     let mut place: u32 = 0;
     for entry in case.log {
         match entry.reply {
-            Reply::Joined(joined) if joined == replica => return place,
+            Reply::Joined(joined) if joined == replica => return Some(place),
             _ => {}
         }
         place = place.saturating_add(1);
     }
-    0
+    None
 }
 
 /// Where an entry is drawn: from the replica that a label or a state comes from, if any, to the one that has it then.

@@ -98,7 +98,7 @@ fn put_event(
 fn draw_columns(line: &mut Vec<u8>, picture: &Picture, place: u32) {
     let mut start = MARGIN;
     for column in &picture.columns {
-        if column.begins <= place {
+        if column.begins.unwrap_or(0) <= place {
             write_at(line, start, b"|", 1);
         }
         start = start.saturating_add(width_of(picture));

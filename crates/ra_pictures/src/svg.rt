@@ -148,7 +148,7 @@ fn start_of(picture: &Picture, column: Column) -> u32 {
     let mut y = TOP;
     for row in &picture.rows {
         match row {
-            Row::Entry(place) if *place == column.begins && *place > 0 => return y,
+            Row::Entry(place) if Some(*place) == column.begins => return y,
             _ => {}
         }
         y = y.saturating_add(HEIGHT);
