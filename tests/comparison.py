@@ -36,8 +36,9 @@ def first_differing(ran, wanted):
     longest = max(map(len, written))
     for number, (one, other) in enumerate(zip(*(it + ["nothing"] * (longest - len(it)) for it in written)), 1):
         if one != other:
-            return f"line {number} is {one[:SHOWN]!r}, and by the model {other[:SHOWN]!r}"
-    return f"said {ran[1][:SHOWN]!r} with status {ran[2]}, and by the model {wanted[1]!r} with status {wanted[2]}"
+            return f"line {number} is {one[:SHOWN]!r}, expected {other[:SHOWN]!r}"
+    expected = f"expected {wanted[1]!r} with status {wanted[2]}"
+    return f"standard error is {ran[1][:SHOWN]!r} with status {ran[2]}, {expected}"
 
 
 def told(program, text):
