@@ -201,7 +201,7 @@ export class Monitor {
 
   #throwGone() {
     if (this.#isClosing && (this.#report !== null || !this.#hasEnded)) throw new MonitorGone("the monitor was closed");
-    throw new MonitorGone(programs.howItEnded(this.program, this.status, this.#said));
+    throw new MonitorGone(programs.howItEnded(this.program, this.status, this.#said, this.history()));
   }
 }
 

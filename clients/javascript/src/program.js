@@ -13,6 +13,8 @@ export const EXPLAINS = join(REPOSITORY, "crates", "ra_explain_cli", "out", "ra_
 const PATIENCE = 60_000;
 // The statuses of a run that read its whole input: yes, no, and yes with a refused report.
 export const WHOLE = [0, 1, 3];
+// What a run says of a text that it cannot read.
+const FAULT = /^line \d+: (syntax|truncated|too long|full)\n?$/;
 
 /** The program: the one that is given, else that of RA_MONITOR, else the repository's own `ra_monitor`. */
 export function find(program) {
@@ -40,25 +42,32 @@ export function findForMany(program) {
 export function checkText(program, text) {
   const ran = spawnSync(program, ["check"], { input: text, encoding: "utf8", maxBuffer: 1 << 30 });
   if (ran.error) throw new MonitorGone(`${program} could not be started: ${ran.error.message}`);
-  if (!WHOLE.includes(ran.status)) throw new MonitorGone(howItEnded(program, ran.status ?? ran.signal, ran.stderr));
+  if (!WHOLE.includes(ran.status)) {
+    throw new MonitorGone(howItEnded(program, ran.status ?? ran.signal, ran.stderr, text));
+  }
   return { replies: ran.stdout.split("\n").slice(0, -1), status: ran.status };
 }
 
-/**
- * What there is to say of a history that is answered no: `ra_monitor explain --json`. Null where the program does not
- * explain: the repository's own is not built for it here, since that takes minutes.
- */
+/** The explanation of a violation as a JSON object, or null. */
 export function explained(program, text) {
   if (program === undefined) return null;
-  const explains = [OWN, BUILT].includes(pathOf(program)) ? EXPLAINS : program;
-  const how = { input: text, encoding: "utf8", maxBuffer: 1 << 30, timeout: PATIENCE };
-  const ran = spawnSync(explains, ["explain", "--json"], how);
+  const ran = explain(program, text, "--json");
   try {
     const told = ran.status === 1 ? JSON.parse(ran.stdout) : null;
     return told?.answer === "no" ? told : null;
   } catch {
     return null;
   }
+}
+
+/**
+ * A run of `ra_monitor explain`. It has no output where the program does not explain: the repository's own is not built
+ * for it here, since that takes minutes.
+ */
+function explain(program, text, ...form) {
+  const explains = [OWN, BUILT].includes(pathOf(program)) ? EXPLAINS : program;
+  const how = { input: text, encoding: "utf8", maxBuffer: 1 << 30, timeout: PATIENCE };
+  return spawnSync(explains, ["explain", ...form], how);
 }
 
 function pathOf(program) {
@@ -69,10 +78,12 @@ function pathOf(program) {
   }
 }
 
-/** How a run ended that should not have, with what it said. */
-export function howItEnded(program, status, said) {
+/** How a run on this text ended that should not have: what it said and, where it could not read the text, why. */
+export function howItEnded(program, status, said, text) {
   const words = said.trim();
-  return `${program} ended with status ${status}, and said ${words ? JSON.stringify(words) : "nothing"}`;
+  const how = `${program} ended with status ${status}, and said ${words ? JSON.stringify(words) : "nothing"}`;
+  const ran = status === 2 && FAULT.test(said) ? explain(program, text) : null;
+  return ran?.status === 2 && ran.stdout ? `${how}\n\n${ran.stdout.trim()}` : how;
 }
 
 function isProgram(path) {

@@ -141,6 +141,17 @@ test("a fault of the text is told", async () => {
   await assert.rejects(new Monitor("counter", ["a"]).tell("a increments"), gone(/line 3: syntax/));
 });
 
+test("a fault of the text is explained", async () => {
+  const explains = "if [ $1 = explain ]; then cat; echo is no command; exit 2; fi";
+  for (const fault of ["syntax", "truncated", "too long", "full"]) {
+    const program = script(explains, `read one; read two; read three; echo line 3: ${fault} >&2; exit 2`);
+    const { message } = await new Monitor("counter", ["a"], { program }).tell("a increments").catch((it) => it);
+    const [said, page] = [message.slice(0, message.indexOf("\n\n")), message.slice(message.indexOf("\n\n") + 2)];
+    assert.ok(said.endsWith(`ended with status 2, and said "line 3: ${fault}"`), message);
+    assert.equal(page, "RAH 2 counter\nreplicas a\na increments\nis no command");
+  }
+});
+
 test("a stopped monitor takes nothing more", async () => {
   const monitor = new Monitor("counter", ["a"]);
   await monitor.stop();

@@ -146,6 +146,17 @@ class Gone(unittest.TestCase):
         with self.assertRaisesRegex(MonitorGone, "line 3: syntax"):
             monitor.tell("a increments")
 
+    def test_a_fault_of_the_text_is_explained(self) -> None:
+        explains = "if [ $1 = explain ]; then cat; echo is no command; exit 2; fi"
+        for fault in ("syntax", "truncated", "too long", "full"):
+            lines = (explains, f"read one; read two; read three; echo line 3: {fault} >&2; exit 2")
+            monitor = Monitor("counter", ["a"], program=script(self.folder.name, *lines))
+            with self.assertRaises(MonitorGone) as caught:
+                monitor.tell("a increments")
+            said, _, page = str(caught.exception).partition("\n\n")
+            self.assertTrue(said.endswith(f"ended with status 2, and said 'line 3: {fault}'"), said)
+            self.assertEqual(page, "RAH 2 counter\nreplicas a\na increments\nis no command")
+
     def test_a_stopped_monitor_takes_nothing_more(self) -> None:
         monitor = Monitor("counter", ["a"])
         monitor.stop()

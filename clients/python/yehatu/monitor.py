@@ -113,7 +113,7 @@ class Monitor:
     def history(self, commands: Optional[int] = None) -> str:
         """The text so far, or that of so many commands."""
         with self._lock:
-            text = b"".join(self._written).decode() + "".join(self._lines)
+            text = self._text()
         return text if commands is None else "".join(text.splitlines(True)[: commands + 2])
 
     def close(self) -> Report:
@@ -144,6 +144,9 @@ class Monitor:
             self.close()
         else:
             self.stop()
+
+    def _text(self) -> str:
+        return b"".join(self._written).decode() + "".join(self._lines)
 
     # The caller's side: under the lock.
 
@@ -190,7 +193,9 @@ class Monitor:
             raise MonitorGone("the monitor was closed")
         self._process.wait()
         self._listener.join()
-        raise MonitorGone(programs.how_it_ended(self.program, self._process.returncode, b"".join(self._said)))
+        # The caller may hold the lock.
+        text, said = self._text().encode(), b"".join(self._said)
+        raise MonitorGone(programs.how_it_ended(self.program, self._process.returncode, said, text))
 
     # The threads: one reads replies, one hears what is said, one writes lines that wait for company.
 

@@ -1,6 +1,7 @@
 """Finds the program, and has it check whole histories."""
 import json
 import os
+import re
 import shutil
 import subprocess
 from pathlib import Path
@@ -15,6 +16,8 @@ EXPLAINS = REPOSITORY / "crates" / "ra_explain_cli" / "out" / "ra_explain_cli"
 PATIENCE = 60
 # The statuses of a run that read its whole input: yes, no, and yes with a refused report.
 WHOLE = (0, 1, 3)
+# What a run says of a text that it cannot read.
+FAULT = re.compile(rb"line \d+: (syntax|truncated|too long|full)\n?")
 
 Program = Union[str, "os.PathLike[str]", None]
 
@@ -55,29 +58,37 @@ def check_text(program: str, text: bytes) -> Answer:
     except OSError as fault:
         raise MonitorGone(f"{program} could not be started: {fault}") from fault
     if ran.returncode not in WHOLE:
-        raise MonitorGone(how_it_ended(program, ran.returncode, ran.stderr))
+        raise MonitorGone(how_it_ended(program, ran.returncode, ran.stderr, text))
     return Answer(ran.stdout.decode("ascii", "replace").splitlines(), ran.returncode)
 
 
 def explained(program: Optional[str], text: str) -> Optional[Dict[str, Any]]:
-    """What there is to say of a history that is answered no: `ra_monitor explain --json`. None where the program does not
-    explain: the repository's own is not built for it here, since that takes minutes."""
-    if program is None:
+    """The explanation of a violation as a JSON object, or None."""
+    ran = None if program is None else _explain(program, text.encode(), "--json")
+    if ran is None or ran.returncode != 1:
         return None
+    try:
+        told = json.loads(ran.stdout)
+    except ValueError:
+        return None
+    return told if isinstance(told, dict) and told.get("answer") == "no" else None
+
+
+def how_it_ended(program: str, status: Optional[int], said: bytes, text: bytes = b"") -> str:
+    """How a run on this text ended that should not have: what it said and, where it could not read the text, why."""
+    words = said.decode("utf-8", "replace").strip()
+    how = f"{program} ended with status {status}, and said {repr(words) if words else 'nothing'}"
+    ran = _explain(program, text) if status == 2 and FAULT.fullmatch(said) else None
+    page = ran.stdout.decode("utf-8", "replace").strip() if ran and ran.returncode == 2 else ""
+    return f"{how}\n\n{page}" if page else how
+
+
+def _explain(program: str, text: bytes, *form: str) -> Optional["subprocess.CompletedProcess[bytes]"]:
+    """A run of `ra_monitor explain`. None where the program does not explain: the repository's own is not built for it
+    here, since that takes minutes."""
     if Path(program).resolve() in (REPOSITORY / "ra_monitor", BUILT):
         program = str(EXPLAINS)
     try:
-        words = [program, "explain", "--json"]
-        ran = subprocess.run(words, input=text.encode(), capture_output=True, timeout=PATIENCE)
-        told = json.loads(ran.stdout)
-    except (OSError, ValueError, subprocess.TimeoutExpired):
+        return subprocess.run([program, "explain", *form], input=text, capture_output=True, timeout=PATIENCE)
+    except (OSError, subprocess.TimeoutExpired):
         return None
-    return told if ran.returncode == 1 and isinstance(told, dict) and told.get("answer") == "no" else None
-
-
-def how_it_ended(program: str, status: Optional[int], said: bytes) -> str:
-    """How a run ended that should not have, with what it said."""
-    words = said.decode("utf-8", "replace").strip()
-    return f"{program} ended with status {status}, and said {words!r}" if words else (
-        f"{program} ended with status {status}, and said nothing"
-    )
