@@ -21,9 +21,50 @@ SENTENCES = {
     "too long": " has more than 1048576 bytes.",
     "full": " is one command more than a text may have, which has at most 1048576.",
 }
-NOTES = {
-    "carriage return": headed("note", r"\x0d is a carriage return: lines end with a line feed alone"),
-    "tab": headed("note", r"\x09 is a tab: fields are separated by one space"),
+EMPTY = "the text is empty: its first line is RAH 2 and a kind, as RAH 2 counter"
+# What is noted of the bytes of a line that cannot be read.
+NOTES_ON_BYTES = [
+    (lambda it: it.startswith("\xef\xbb\xbf"), r"\xef\xbb\xbf is a byte order mark: save the text as UTF-8 without one"),
+    (lambda it: it[:2] in ("\xff\xfe", "\xfe\xff"), "the text is UTF-16: save it as UTF-8"),
+    (lambda it: it.endswith("\r"), r"\x0d is a carriage return (CRLF): save the text with LF line ends"),
+    (lambda it: "\t" in it, r"\x09 is a tab: fields are separated by one space"),
+    (lambda it: it.endswith(" "), "the line ends with a space: remove it"),
+    (lambda it: it == "", "a history has no empty lines: remove it"),
+    (lambda it: it.startswith(("#", "//")), "a history has no comments: remove the line"),
+]
+NEWER = "this program reads the formats 1 and 2: a newer format needs a newer program"
+KINDS = "README.md says which kind fits which data type"
+MOST_NAMES = {
+    1: (16, "RAH 1 has at most 16 replicas: with RAH 2 in line 1 there may be 64"),
+    2: (64, "a history has at most 64 replicas"),
+}
+SMALL = "words and names are written in small letters"
+# What people write first, each with the beginning of the note on it.
+HEADER = "RAH 1 counter\nreplicas a b\n"
+FIRST_TRIES = {
+    "RAH 1 counter\r\nreplicas a b\r\n": r"\x0d is a carriage return",
+    f"{HEADER}a inc\r\n": r"\x0d is a carriage return",
+    f"\xef\xbb\xbf{HEADER}": r"\xef\xbb\xbf is a byte order mark",
+    "\xff\xfeR\x00A\x00H\x00\n\x00": "the text is UTF-16",
+    "\xfe\xff\x00R\x00A\x00H\x00\n": "the text is UTF-16",
+    f"{HEADER}a\tinc\n": r"\x09 is a tab",
+    f"{HEADER}a inc \n": "the line ends with a space",
+    f"{HEADER}\na inc\n": "a history has no empty lines",
+    f"{HEADER}# one more\n": "a history has no comments",
+    f"{HEADER}// one more\n": "a history has no comments",
+    "rah 1 counter\n": "RAH is written in capital letters",
+    "Rah 2 rga\n": "RAH is written in capital letters",
+    "RAH 1 Counter\n": SMALL,
+    "RAH 1 counter\nReplicas a b\n": SMALL,
+    "RAH 1 counter\nreplicas Ann\n": SMALL,
+    f"{HEADER}a INC\n": SMALL,
+    "RAH 1 list\n": KINDS,
+    "RAH 1 or-set\n": KINDS,
+    "RAH 3 counter\n": NEWER,
+    "RAH 10 rga\n": NEWER,
+    f"RAH 1 counter\nreplicas {' '.join(f'r{it}' for it in range(17))}\n": MOST_NAMES[1][1],
+    f"RAH 2 counter\nreplicas {' '.join(f'r{it}' for it in range(65))}\n": MOST_NAMES[2][1],
+    "": "the text is empty",
 }
 # What a browser, a parser of XML, or an object would take for its own, and where an escape may go wrong.
 HOSTILE = ["<script>alert(1)</script>", "&amp;", "&lt;b&gt;", "&#60;b&#62;", "<!--", "-->", "<![CDATA["]
@@ -102,10 +143,9 @@ class Stop:
             yield headed("it says", shown(self.says))
         if self.why == "syntax":
             yield from self.words_on_field(told["field"], told["wanted"])
-        if self.says.endswith("\r"):
-            yield NOTES["carriage return"]
-        if "\t" in self.says:
-            yield NOTES["tab"]
+            yield from (headed("note", it) for it in self.notes(told["field"]))
+        if self.why == "truncated" and self.line == 1 and not self.says:
+            yield headed("note", EMPTY)
         if self.before:
             behind = "already: without this line and what follows, that is explained"
             yield headed("before it", f"the answer was {self.before} {behind}")
@@ -114,8 +154,31 @@ class Stop:
         fields = self.says.split(" ")
         field = fields[number - 1] if number <= len(fields) else None
         says = "is not there" if field is None else shown(field)
-        yield headed(f"field {number}", says if says else "is empty: a space too many stands beside it")
+        empty = "is empty: a space too many stands beside it" if self.says else "is empty"
+        yield headed(f"field {number}", says if says else empty)
         yield headed("may stand there", wanted)
+
+    def notes(self, number):
+        """The likely causes, where this field of the line is at fault."""
+        fields = self.says.split(" ")
+        field = fields[number - 1] if number <= len(fields) else None
+        yield from (note for is_so, note in NOTES_ON_BYTES if is_so(self.says))
+        if self.line == 1 and field is not None:
+            yield from self.notes_on_first_line(number, field)
+        if self.line == 2:
+            most, note = MOST_NAMES[int(self.lines[0].split()[1])]
+            yield from [note] if number > most + 1 else []
+        if re.search("[A-Z]", field or "") and (self.line, number) != (1, 1):
+            yield SMALL
+
+    @staticmethod
+    def notes_on_first_line(number, field):
+        if number == 1 and field.upper() == "RAH":
+            yield "RAH is written in capital letters"
+        if number == 2 and re.fullmatch("[1-9][0-9]*", field) and 2 < int(field) < 2**32:
+            yield NEWER
+        if number == 3 and re.fullmatch("[a-z_-]*", field):
+            yield KINDS
 
     def page(self, told):
         return "".join(f"{cut(it)}\n" for it in self.words(told))
@@ -213,3 +276,11 @@ def look_at_hostile_texts(program):
 
 def look_at_widths_of_a_fault(program):
     look_at_texts(program, widths_of_a_fault())
+
+
+def look_at_first_tries(program):
+    """Each is explained by the note that names its cause."""
+    look_at_texts(program, FIRST_TRIES)
+    for text, note in FIRST_TRIES.items():
+        page = program(["explain"], text.encode("latin-1"))[0].decode()
+        require(headed("note", note) in page, text, page)

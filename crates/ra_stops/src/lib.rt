@@ -7,6 +7,7 @@
 #![tactic(auto)]
 
 mod field;
+mod hint;
 mod stop;
 
 pub use stop::Stop;

@@ -1,5 +1,6 @@
 //! A text that stops with a fault.
 use crate::field::{Trouble, in_command, in_first_line, in_names};
+use crate::hint::{Line, Place, put_hints};
 use ra_history_text::{CheckFault, Session};
 use ra_labels::{Fault, NoMemory};
 use ra_layout::{put, put_cut, put_end, put_head, put_start};
@@ -16,6 +17,7 @@ const MOST_SHOWN: usize = 60;
 pub struct Stop<'a> {
     line: u32,
     why: Why,
+    place: Place,
     // What is there of the line.
     text: &'a [u8],
     trouble: Option<Trouble>,
@@ -55,6 +57,7 @@ impl<'a> Stop<'a> {
         Ok(Some(Stop {
             line,
             why,
+            place: place_in(session),
             text,
             trouble,
             before: session.monitor().and_then(|monitor| monitor.report().fault),
@@ -120,7 +123,7 @@ impl<'a> Stop<'a> {
         if let Some(trouble) = self.trouble {
             put_trouble(out, self.text, trouble)?;
         }
-        put_note(out, self.text)?;
+        put_note(out, self)?;
         put_before(out, self.before)
     }
 }
@@ -133,6 +136,15 @@ impl Why {
             Why::LineTooLong => "too long",
             Why::Full => "full",
         }
+    }
+}
+
+// The place of the line at which the session is.
+fn place_in(session: &Session) -> Place {
+    match (session.format(), session.monitor()) {
+        (None, _) => Place::First,
+        (Some(format), None) => Place::Names(format),
+        (Some(_), Some(_)) => Place::Command,
     }
 }
 
@@ -157,6 +169,7 @@ fn put_trouble(out: &mut Vec<u8>, text: &[u8], trouble: Trouble) -> Result<(), N
     }
     out.extend_from_slice(&head)?;
     match field_of(text, trouble.field) {
+        Some([]) if text.is_empty() => put(out, "is empty")?,
         Some([]) => put(out, "is empty: a space too many stands beside it")?,
         Some(field) => put_shown(out, field, "\\x")?,
         None => put(out, "is not there")?,
@@ -167,20 +180,29 @@ fn put_trouble(out: &mut Vec<u8>, text: &[u8], trouble: Trouble) -> Result<(), N
     put(out, "\n")
 }
 
-// What editors and other systems put into lines.
-fn put_note(out: &mut Vec<u8>, text: &[u8]) -> Result<(), NoMemory> {
-    if text.ends_with(b"\r") {
-        put_head(out, "note")?;
-        put(
+// The likely causes of a syntax fault, and what an empty text lacks.
+fn put_note(out: &mut Vec<u8>, stop: &Stop<'_>) -> Result<(), NoMemory> {
+    match (stop.why, stop.place) {
+        (Why::Syntax, place) => put_hints(
             out,
-            "\\x0d is a carriage return: lines end with a line feed alone\n",
-        )?;
+            Line {
+                place,
+                text: stop.text,
+                trouble: stop.trouble,
+                field: stop
+                    .trouble
+                    .and_then(|trouble| field_of(stop.text, trouble.field)),
+            },
+        ),
+        (Why::Truncated, Place::First) if stop.text.is_empty() => {
+            put_head(out, "note")?;
+            put(
+                out,
+                "the text is empty: its first line is RAH 2 and a kind, as RAH 2 counter\n",
+            )
+        }
+        (Why::Truncated | Why::LineTooLong | Why::Full, _) => Ok(()),
     }
-    if text.contains(&b'\t') {
-        put_head(out, "note")?;
-        put(out, "\\x09 is a tab: fields are separated by one space\n")?;
-    }
-    Ok(())
 }
 
 fn put_before(out: &mut Vec<u8>, before: Option<Fault>) -> Result<(), NoMemory> {
