@@ -28,8 +28,12 @@ export type Key =
 /** A value, or what makes it of what the act returned. */
 export type Told<Value, Done = any> = Value | ((done: Done) => Value);
 
-export class MonitorGone extends Error {}
-export class CannotTell extends Error {}
+export class MonitorExited extends Error {}
+export class NotRepresentable extends Error {}
+/** @deprecated Use MonitorExited. */
+export { MonitorExited as MonitorGone };
+/** @deprecated Use NotRepresentable. */
+export { NotRepresentable as CannotTell };
 
 export class ReportFailed extends Error {
   /** What the replica did, in the user's words. */

@@ -3,7 +3,7 @@ import { mkdtempSync, writeFileSync } from "node:fs";
 import { tmpdir } from "node:os";
 import { join } from "node:path";
 import { inspect } from "node:util";
-import { MonitorGone, NotLinearizable, Refused } from "./errors.js";
+import { MonitorExited, NotLinearizable, Refused } from "./errors.js";
 import { explained } from "./program.js";
 import { isOperation } from "./spelling.js";
 
@@ -109,7 +109,7 @@ export function failure(account, text, reply, path, program) {
   const last = account.commands.length - 1;
   if (!/^(no|refused) /.test(reply)) {
     const command = JSON.stringify(account.commands[last]);
-    return new MonitorGone(`${JSON.stringify(reply)} is no reply to ${command}: this program is no monitor`);
+    return new MonitorExited(`${JSON.stringify(reply)} is no reply to ${command}: this program is no monitor`);
   }
   const kept = keptHistory(text, path);
   const operation = account.words(last);

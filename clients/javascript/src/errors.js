@@ -1,13 +1,13 @@
 // What can go wrong, as one class for each cause.
 
 /** The program could not be started, or ended before its input did. The message has what it said. */
-export class MonitorGone extends Error {
-  name = "MonitorGone";
+export class MonitorExited extends Error {
+  name = "MonitorExited";
 }
 
 /** The text of a history has no words for this: the message says which, and what to do instead. */
-export class CannotTell extends Error {
-  name = "CannotTell";
+export class NotRepresentable extends Error {
+  name = "NotRepresentable";
 }
 
 /** A report that was not answered as right: what the replica did, what was answered, and the file with the history. */

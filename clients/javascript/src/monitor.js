@@ -1,6 +1,6 @@
 // The program behind a pipe: lines in, replies out.
 import { spawn } from "node:child_process";
-import { MonitorGone } from "./errors.js";
+import { MonitorExited } from "./errors.js";
 import * as programs from "./program.js";
 
 // How many lines are written at once. Fewer are written when the event loop turns.
@@ -200,8 +200,10 @@ export class Monitor {
   }
 
   #throwGone() {
-    if (this.#isClosing && (this.#report !== null || !this.#hasEnded)) throw new MonitorGone("the monitor was closed");
-    throw new MonitorGone(programs.howItEnded(this.program, this.status, this.#said, this.history()));
+    if (this.#isClosing && (this.#report !== null || !this.#hasEnded)) {
+      throw new MonitorExited("the monitor was closed");
+    }
+    throw new MonitorExited(programs.describeExit(this.program, this.status, this.#said, this.history()));
   }
 }
 

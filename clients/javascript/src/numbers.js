@@ -1,6 +1,6 @@
 // Numbers of the text for what the user names, and back.
 import { inspect } from "node:util";
-import { CannotTell } from "./errors.js";
+import { NotRepresentable } from "./errors.js";
 
 // The greatest number of the text.
 const GREATEST = 4_294_967_295;
@@ -63,16 +63,20 @@ export class Clocks {
 
   of(clock) {
     if (typeof clock !== "bigint" && !Number.isSafeInteger(clock)) {
-      throw new CannotTell(`the clock ${inspect(clock)} is no whole number: make it one, in the same order`);
+      throw new NotRepresentable(`the clock ${inspect(clock)} is no whole number: make it one, in the same order`);
     }
     if (this.#less === undefined) this.#less = clock > GREATEST ? BigInt(clock) - BigInt(FIRST_GREAT_CLOCK) : 0n;
     const number = this.#less === 0n ? Number(clock) : Number(BigInt(clock) - this.#less);
     if (number < 1) {
-      throw new CannotTell(`the clock ${clock} is too early: ${this.#less + 1n} is the first one that can be told`);
+      throw new NotRepresentable(
+        `the clock ${clock} is too early: ${this.#less + 1n} is the first one that can be told`,
+      );
     }
     if (number > GREATEST) {
       const last = this.#less + BigInt(GREATEST);
-      throw new CannotTell(`the clock ${clock} is too late: ${last} is the last one that can be told in this history`);
+      throw new NotRepresentable(
+        `the clock ${clock} is too late: ${last} is the last one that can be told in this history`,
+      );
     }
     return number;
   }
@@ -101,7 +105,7 @@ export class Replicas {
     const areDistinct = this.given.every((it, place) => this.#places.get(it) === place);
     if (this.given.length < 1 || this.given.length > MOST_REPLICAS || !areDistinct) {
       const told = inspect(this.given);
-      throw new CannotTell(`there are 1 to ${MOST_REPLICAS} replicas with names of their own, and not ${told}`);
+      throw new NotRepresentable(`there are 1 to ${MOST_REPLICAS} replicas with names of their own, and not ${told}`);
     }
     const free = freeNames(this.given);
     this.names = this.given.map((it) => (isName(it) ? it : free.shift()));
@@ -111,11 +115,11 @@ export class Replicas {
   /** Throws what tells why it cannot join, if it cannot. */
   lookForRoom(replica) {
     if (this.#places.get(replica) !== undefined) {
-      throw new CannotTell(`there is a replica ${inspect(replica)} already: who joins has a name of its own`);
+      throw new NotRepresentable(`there is a replica ${inspect(replica)} already: who joins has a name of its own`);
     }
     if (this.given.length === MOST_REPLICAS) {
       const told = `there are ${MOST_REPLICAS} replicas, and no more can be told`;
-      throw new CannotTell(`${inspect(replica)} cannot join: ${told}`);
+      throw new NotRepresentable(`${inspect(replica)} cannot join: ${told}`);
     }
   }
 
@@ -131,7 +135,7 @@ export class Replicas {
   place(replica) {
     const place = this.#places.get(replica);
     if (place !== undefined) return place;
-    throw new CannotTell(`there is no replica ${inspect(replica)}, but ${inspect(this.given)}`);
+    throw new NotRepresentable(`there is no replica ${inspect(replica)}, but ${inspect(this.given)}`);
   }
 
   back(name) {

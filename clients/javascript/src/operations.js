@@ -1,5 +1,5 @@
 // The operations of the five kinds, in the user's own names.
-import { CannotTell } from "./errors.js";
+import { NotRepresentable } from "./errors.js";
 
 /** The operations that each kind has. */
 export const OPERATIONS = {
@@ -13,7 +13,7 @@ export const OPERATIONS = {
 /** The operations of this kind. */
 export function ofKind(kind) {
   if (Object.hasOwn(OPERATIONS, kind)) return OPERATIONS[kind];
-  throw new CannotTell(`there is no kind ${kind}, but ${Object.keys(OPERATIONS).join(", ")}`);
+  throw new NotRepresentable(`there is no kind ${kind}, but ${Object.keys(OPERATIONS).join(", ")}`);
 }
 
 /** A counter: one more. */

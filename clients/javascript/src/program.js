@@ -3,7 +3,7 @@ import { spawnSync } from "node:child_process";
 import { accessSync, constants, realpathSync, statSync } from "node:fs";
 import { delimiter, join } from "node:path";
 import { fileURLToPath } from "node:url";
-import { MonitorGone } from "./errors.js";
+import { MonitorExited } from "./errors.js";
 
 const REPOSITORY = fileURLToPath(new URL("../../..", import.meta.url));
 const OWN = join(REPOSITORY, "ra_monitor");
@@ -21,7 +21,7 @@ export function find(program) {
   const chosen = program || process.env.RA_MONITOR || OWN;
   const places = chosen.includes("/") ? [chosen] : process.env.PATH.split(delimiter).map((it) => join(it, chosen));
   const found = places.find(isProgram);
-  if (found === undefined) throw new MonitorGone(`${chosen} is no program: give its path, or set RA_MONITOR to it`);
+  if (found === undefined) throw new MonitorExited(`${chosen} is no program: give its path, or set RA_MONITOR to it`);
   return found;
 }
 
@@ -34,16 +34,16 @@ export function findForMany(program) {
     input: "RAH 2 counter\nreplicas a\n",
     stdio: ["pipe", "ignore", "inherit"],
   });
-  if (ran.status !== 0) throw new MonitorGone(`${found} ended with status ${ran.status}, before it read anything`);
+  if (ran.status !== 0) throw new MonitorExited(`${found} ended with status ${ran.status}, before it read anything`);
   return BUILT;
 }
 
 /** The replies of the program to a whole history, one for each command and the `end` line, and its status. */
 export function checkText(program, text) {
   const ran = spawnSync(program, ["check"], { input: text, encoding: "utf8", maxBuffer: 1 << 30 });
-  if (ran.error) throw new MonitorGone(`${program} could not be started: ${ran.error.message}`);
+  if (ran.error) throw new MonitorExited(`${program} could not be started: ${ran.error.message}`);
   if (!WHOLE.includes(ran.status)) {
-    throw new MonitorGone(howItEnded(program, ran.status ?? ran.signal, ran.stderr, text));
+    throw new MonitorExited(describeExit(program, ran.status ?? ran.signal, ran.stderr, text));
   }
   return { replies: ran.stdout.split("\n").slice(0, -1), status: ran.status };
 }
@@ -79,7 +79,7 @@ function pathOf(program) {
 }
 
 /** How a run on this text ended that should not have: what it said and, where it could not read the text, why. */
-export function howItEnded(program, status, said, text) {
+export function describeExit(program, status, said, text) {
   const words = said.trim();
   const how = `${program} ended with status ${status}, and said ${words ? JSON.stringify(words) : "nothing"}`;
   const ran = status === 2 && FAULT.test(said) ? explain(program, text) : null;

@@ -4,7 +4,7 @@ import { keptHistory } from "./account.js";
 import { NotLinearizable, Refused, ReplicaRaised } from "./errors.js";
 import { plan } from "./plans.js";
 import * as programs from "./program.js";
-import { failureOf, lookAt } from "./runs.js";
+import { failureOf, capabilitiesOf } from "./runs.js";
 import { shrunk } from "./shrinking.js";
 
 // How long nothing is said, in milliseconds.
@@ -48,7 +48,7 @@ class Progress {
 export async function checkRandom(makeReplica, kind, replicas = 3, operations = 30, seeds = 100, { program } = {}) {
   const names = typeof replicas === "number" ? namesOf(replicas) : [...replicas];
   const setting = { makeReplica, kind, replicas: names, program: programs.findForMany(program) };
-  const { merges, forks } = lookAt(setting);
+  const { merges, forks } = capabilitiesOf(setting);
   const chosen = typeof seeds === "number" ? Array.from({ length: seeds }, (_, seed) => seed) : seeds;
   const progress = new Progress(`checkRandom ${kind}`);
   let runs = 0;

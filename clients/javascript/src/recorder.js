@@ -1,7 +1,7 @@
 // Reports what replicas do, in the user's own names.
 import { inspect } from "node:util";
 import { Account, failure } from "./account.js";
-import { CannotTell } from "./errors.js";
+import { NotRepresentable } from "./errors.js";
 import { Monitor } from "./monitor.js";
 import { Keys } from "./numbers.js";
 import { Observed } from "./observed.js";
@@ -129,7 +129,7 @@ export class Recorder {
 
   /**
    * Ends the history, and answers what all came to. Rejects with what the replies say, if they say no, and once more
-   * with a `CannotTell`: of what follows that nothing was judged.
+   * with a `NotRepresentable`: of what follows that nothing was judged.
    */
   async close() {
     await this.#last;
@@ -188,7 +188,7 @@ export class Recorder {
       isFull = report(place, done);
     } catch (fault) {
       // The act was made and is not reported, so what follows would be judged wrongly.
-      if (fault instanceof CannotTell) this.#failure = fault;
+      if (fault instanceof NotRepresentable) this.#failure = fault;
       throw fault;
     }
     if (isFull === undefined) return done;
@@ -210,7 +210,7 @@ export class Recorder {
 
   #update(place, given, message) {
     if (message !== undefined && this.#messages.get(message) !== undefined) {
-      throw new CannotTell(`there was a message ${inspect(message)} before: give each its own key`);
+      throw new NotRepresentable(`there was a message ${inspect(message)} before: give each its own key`);
     }
     const label = this.#labels;
     const operation = this.#observed === null ? given : this.#identified(place, given);
@@ -291,7 +291,7 @@ export class Recorder {
   #sent(message) {
     const sent = this.#messages.get(message);
     if (sent === undefined) {
-      throw new CannotTell(`there was no message ${inspect(message)}: report the update that sends it first`);
+      throw new NotRepresentable(`there was no message ${inspect(message)}: report the update that sends it first`);
     }
     return sent;
   }

@@ -1,5 +1,5 @@
 // Runs of a plan on the user's own replicas, judged by the program.
-import { CannotTell } from "./errors.js";
+import { NotRepresentable } from "./errors.js";
 import * as operations from "./operations.js";
 import { COPIES, Reach } from "./plans.js";
 import { checkText } from "./program.js";
@@ -51,7 +51,7 @@ class Run {
       try {
         if (!(await takers[step.what](step))) continue;
       } catch (fault) {
-        if (fault instanceof CannotTell) throw fault;
+        if (fault instanceof NotRepresentable) throw fault;
         this.taken.push(step);
         return { fault };
       }
@@ -153,7 +153,7 @@ export async function failureOf(setting, steps) {
 }
 
 /** Does the user's class merge states, rather than receive messages, and do its replicas fork? Throws what it lacks. */
-export function lookAt(setting) {
+export function capabilitiesOf(setting) {
   const words = operations.ofKind(setting.kind);
   const replica = setting.makeReplica(setting.replicas[0]);
   const has = (it) => typeof replica[it] === "function";

@@ -1,6 +1,6 @@
 // Spells what replicas do as lines of the text, and reads lines back in the user's words.
 import { inspect } from "node:util";
-import { CannotTell } from "./errors.js";
+import { NotRepresentable } from "./errors.js";
 import { Clocks, Numbers, Replicas } from "./numbers.js";
 import { ofKind } from "./operations.js";
 
@@ -39,7 +39,7 @@ export class Speller {
   operation(place, operation) {
     if (!this.#words.includes(operation.word)) {
       const has = this.#words.join(" and ");
-      throw new CannotTell(`${operation.word} is no operation of the kind ${this.kind}, which has ${has}`);
+      throw new NotRepresentable(`${operation.word} is no operation of the kind ${this.kind}, which has ${has}`);
     }
     return `${this.replicas.names[place]} ${this.#bodies[operation.word](place, operation)}`;
   }
@@ -63,7 +63,7 @@ export class Speller {
   #write(place, operation) {
     if (this.#isNothing(operation.value)) {
       const value = inspect(operation.value);
-      throw new CannotTell(`${value} is what is read where nothing was written: name another \`nothing\``);
+      throw new NotRepresentable(`${value} is what is read where nothing was written: name another \`nothing\``);
     }
     return `write ${this.#values.of(operation.value)}${this.#clock(place, operation.stamp)}`;
   }
@@ -81,12 +81,14 @@ export class Speller {
 
   #clock(place, stamp) {
     if (stamp === undefined || stamp === null) {
-      throw new CannotTell("there is no stamp: give the clock, or the clock and the replica, under which it counts");
+      throw new NotRepresentable(
+        "there is no stamp: give the clock, or the clock and the replica, under which it counts",
+      );
     }
     if (!Array.isArray(stamp)) return ` @${this.#clocks.of(stamp)}`;
     if (this.replicas.place(stamp[1]) !== place) {
       const replica = inspect(this.replicas.given[place]);
-      throw new CannotTell(`the stamp ${inspect(stamp)} is of another replica than ${replica}`);
+      throw new NotRepresentable(`the stamp ${inspect(stamp)} is of another replica than ${replica}`);
     }
     return ` @${this.#clocks.of(stamp[0])}`;
   }
@@ -95,14 +97,14 @@ export class Speller {
     if (this.kind === "counter") {
       const isWhole = typeof value === "bigint" || Number.isInteger(value);
       if (!isWhole || value < LEAST_COUNT || value > GREATEST_COUNT) {
-        throw new CannotTell(`a counter's read of ${inspect(value)} is no whole number of 32 bits`);
+        throw new NotRepresentable(`a counter's read of ${inspect(value)} is no whole number of 32 bits`);
       }
       // The sum makes 0 of -0.
       return String(Number(value) + 0);
     }
     if (this.kind === "register") return this.#isNothing(value) ? "none" : this.#values.of(value);
     if (typeof value?.[Symbol.iterator] !== "function") {
-      throw new CannotTell(`a read of ${inspect(value)} lists nothing: answer an array of what is shown`);
+      throw new NotRepresentable(`a read of ${inspect(value)} lists nothing: answer an array of what is shown`);
     }
     const numbers = Array.from(value, (it) => this.#values.of(it));
     return joined(this.kind === "rga" ? numbers : rising(numbers));

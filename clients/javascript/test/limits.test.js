@@ -1,13 +1,13 @@
 // Each limit at its bound: the last value that the text has, which the program accepts, and the first one beyond it.
 import assert from "node:assert/strict";
 import { test } from "node:test";
-import { CannotTell, NotLinearizable, Recorder, checkRandom } from "../index.js";
+import { NotRepresentable, NotLinearizable, Recorder, checkRandom } from "../index.js";
 
 const GREATEST = 4_294_967_295;
 const FIRST_GREAT = 268_435_456;
 const LONGEST = "abcdefghijklmnop";
 const commands = (recorder) => recorder.history().split("\n").slice(2, -1);
-const cannot = (message) => (fault) => fault instanceof CannotTell && fault.message.includes(message);
+const cannot = (message) => (fault) => fault instanceof NotRepresentable && fault.message.includes(message);
 const numbers = (count) => Array.from({ length: count }, (_, number) => number);
 const oneByOne = { window: 1 };
 

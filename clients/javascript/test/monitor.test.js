@@ -6,7 +6,8 @@ import { tmpdir } from "node:os";
 import { join } from "node:path";
 import { after, test } from "node:test";
 import { fileURLToPath, pathToFileURL } from "node:url";
-import { Monitor, MonitorGone } from "../index.js";
+import * as yehatu from "../index.js";
+import { Monitor, MonitorExited } from "../index.js";
 import { find } from "../src/program.js";
 
 const { cpSync, mkdirSync, mkdtempSync, realpathSync, renameSync, rmSync, symlinkSync, writeFileSync } = files;
@@ -22,7 +23,7 @@ function script(...lines) {
   return path;
 }
 
-const gone = (message) => (fault) => fault instanceof MonitorGone && message.test(fault.message);
+const gone = (message) => (fault) => fault instanceof MonitorExited && message.test(fault.message);
 
 test("each line has its reply", async () => {
   const monitor = new Monitor("counter", ["a", "b"]);
@@ -110,7 +111,7 @@ test("it ends while lines are in flight", async () => {
 test("all callers that wait are told", async () => {
   const monitor = new Monitor("counter", ["a"], { program: script("read a; sleep 0.1; exit 2") });
   const told = await Promise.allSettled([monitor.tell("a inc"), monitor.tell("a inc"), monitor.settle()]);
-  assert.deepEqual(told.map((it) => it.reason?.name), Array(3).fill("MonitorGone"));
+  assert.deepEqual(told.map((it) => it.reason?.name), Array(3).fill("MonitorExited"));
 });
 
 test("as many commands as the window are in flight", { timeout: 60_000 }, async () => {
@@ -152,10 +153,16 @@ test("a fault of the text is explained", async () => {
   }
 });
 
+test("the former names of exceptions", () => {
+  assert.equal(yehatu.MonitorGone, MonitorExited);
+  assert.equal(yehatu.CannotTell, yehatu.NotRepresentable);
+  assert.equal(yehatu.MonitorWent, undefined);
+});
+
 test("a stopped monitor takes nothing more", async () => {
   const monitor = new Monitor("counter", ["a"]);
   await monitor.stop();
-  assert.throws(() => monitor.post("a inc", "ok 0"), MonitorGone);
+  assert.throws(() => monitor.post("a inc", "ok 0"), MonitorExited);
 });
 
 test("a closed monitor takes nothing more", async () => {

@@ -3,7 +3,7 @@ import assert from "node:assert/strict";
 import { spawnSync } from "node:child_process";
 import { readFileSync } from "node:fs";
 import { test } from "node:test";
-import { CannotTell, NotLinearizable, Refused, ReplicaRaised, checkRandom } from "../index.js";
+import { NotRepresentable, NotLinearizable, Refused, ReplicaRaised, checkRandom } from "../index.js";
 import { plan } from "../src/plans.js";
 import { checkText, findForMany } from "../src/program.js";
 import { NEVER_SEEN, SEEN } from "./planted.js";
@@ -195,7 +195,7 @@ test("a bug that has nothing to do with joins is shrunk to none", async () => {
 });
 
 test("a copy has a name of its own", async () => {
-  const wanted = (fault) => fault instanceof CannotTell && /of another replica than/.test(fault.message);
+  const wanted = (fault) => fault instanceof NotRepresentable && /of another replica than/.test(fault.message);
   await assert.rejects(checkRandom(made(ForksKeepTheName), "register"), wanted);
 });
 

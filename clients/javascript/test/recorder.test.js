@@ -3,13 +3,13 @@ import assert from "node:assert/strict";
 import { existsSync, readFileSync } from "node:fs";
 import { test } from "node:test";
 import { inspect } from "node:util";
-import { CannotTell, MonitorGone, NotLinearizable, Recorder, Refused, write } from "../index.js";
+import { NotRepresentable, MonitorExited, NotLinearizable, Recorder, Refused, write } from "../index.js";
 import { EXPLAINS, checkText, find } from "../src/program.js";
 
 const NOW = 1_764_076_489_000; // A clock of milliseconds since 1970.
 const commands = (recorder) => recorder.history().split("\n").slice(2, -1);
 const needsExplanations = { skip: !existsSync(EXPLAINS) };
-const cannot = (message) => (fault) => fault instanceof CannotTell && message.test(fault.message);
+const cannot = (message) => (fault) => fault instanceof NotRepresentable && message.test(fault.message);
 
 test("replicas and values have any names", async () => {
   const recorder = new Recorder("register", ["Ann's phone", 7, ["a", "pair"]]);
@@ -95,7 +95,7 @@ test("clocks that cannot be told say so", async () => {
       for (const [number, clock] of clocks.entries()) await recorder.write("a", number, clock);
     };
     await assert.rejects(work(), cannot(said));
-    await assert.rejects(recorder.read("a", 1), CannotTell);
+    await assert.rejects(recorder.read("a", 1), NotRepresentable);
     await recorder.stop();
   }
 });
@@ -413,14 +413,14 @@ test("the last sixteen lines are shown", async () => {
 
 test("what is not reported ends the history", async () => {
   const recorder = new Recorder("register", ["a"]);
-  await assert.rejects(recorder.write("a", 1, "noon"), CannotTell);
-  await assert.rejects(recorder.read("a", 1), CannotTell);
-  await assert.rejects(recorder.close(), CannotTell);
+  await assert.rejects(recorder.write("a", 1, "noon"), NotRepresentable);
+  await assert.rejects(recorder.read("a", 1), NotRepresentable);
+  await assert.rejects(recorder.close(), NotRepresentable);
 });
 
 test("a program that is no monitor", async () => {
   const recorder = new Recorder("counter", ["a"], { program: "cat" });
   await recorder.increment("a");
-  await assert.rejects(recorder.settle(), MonitorGone);
+  await assert.rejects(recorder.settle(), MonitorExited);
   await recorder.stop();
 });

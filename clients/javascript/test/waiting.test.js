@@ -7,7 +7,7 @@ import { mkdtempSync, rmSync, writeFileSync } from "node:fs";
 import { tmpdir } from "node:os";
 import { join } from "node:path";
 import { test } from "node:test";
-import { Monitor, MonitorGone } from "../index.js";
+import { Monitor, MonitorExited } from "../index.js";
 import { checkText, findForMany } from "../src/program.js";
 
 const ROUNDS = 5;
@@ -79,7 +79,7 @@ test("a program that is gone is reported at once", async () => {
   const folder = mkdtempSync(join(tmpdir(), "yehatu_"));
   const program = join(folder, "program");
   writeFileSync(program, "#!/bin/sh\necho out of luck >&2\nexit 7\n", { mode: 0o755 });
-  const isGone = (fault) => fault instanceof MonitorGone && fault.message.includes("out of luck");
+  const isGone = (fault) => fault instanceof MonitorExited && fault.message.includes("out of luck");
   const act = async () => {
     const monitor = new Monitor("counter", ["a"], { program });
     await assert.rejects(monitor.tell("a inc"), isGone);

@@ -3,7 +3,7 @@ import unittest
 from typing import Any, Sequence
 from unittest import mock
 
-from yehatu import CannotTell, NotLinearizable, Recorder
+from yehatu import NotRepresentable, NotLinearizable, Recorder
 from yehatu.random_runs import check_random
 
 GREATEST = 4_294_967_295
@@ -29,7 +29,8 @@ class Counts(unittest.TestCase):
             recorder.stop()
         for value in (2_147_483_648, -2_147_483_649):
             recorder = Recorder("counter", ["a"], window=1)
-            with self.subTest(value=value), self.assertRaisesRegex(CannotTell, f"read of {value} is no whole number"):
+            wrong = f"read of {value} is no whole number"
+            with self.subTest(value=value), self.assertRaisesRegex(NotRepresentable, wrong):
                 recorder.read("a", value)
             self.assertEqual(lines(recorder), "")
             recorder.stop()
@@ -37,7 +38,7 @@ class Counts(unittest.TestCase):
     def test_a_counters_read_that_is_no_whole_number(self) -> None:
         for value in (None, True, 1.5, float("nan"), "7", "", []):
             recorder = Recorder("counter", ["a"], window=1)
-            with self.subTest(value=value), self.assertRaisesRegex(CannotTell, "no whole number of 32 bits"):
+            with self.subTest(value=value), self.assertRaisesRegex(NotRepresentable, "no whole number of 32 bits"):
                 recorder.read("a", value)
             recorder.stop()
 
@@ -59,7 +60,7 @@ class Clocks(unittest.TestCase):
             ([1, GREATEST + 1], f"{GREATEST + 1} is too late: {GREATEST} is the last one"),
             ([GREATEST, GREATEST + 1], f"{GREATEST + 1} is too late: {GREATEST} is the last one"),
         ]:
-            with self.subTest(clocks=clocks), self.assertRaisesRegex(CannotTell, said):
+            with self.subTest(clocks=clocks), self.assertRaisesRegex(NotRepresentable, said):
                 self.written(clocks)
 
     def test_the_bounds_of_clocks_that_are_counted_from_the_first_one(self) -> None:
@@ -72,7 +73,7 @@ class Clocks(unittest.TestCase):
             ([first, early - 1], f"{early - 1} is too early: {early} is the first one"),
             ([first, late + 1], f"{late + 1} is too late: {late} is the last one"),
         ]:
-            with self.subTest(clocks=clocks), self.assertRaisesRegex(CannotTell, said):
+            with self.subTest(clocks=clocks), self.assertRaisesRegex(NotRepresentable, said):
                 self.written(clocks)
 
 
@@ -113,9 +114,9 @@ class Replicas(unittest.TestCase):
                     recorder.read(count - 1, 0)
                 self.assertEqual(lines(recorder), f"r{count - 1} read 0\n")
         for count in (0, 65):
-            with self.subTest(count=count), self.assertRaisesRegex(CannotTell, "1 to 64 replicas"):
+            with self.subTest(count=count), self.assertRaisesRegex(NotRepresentable, "1 to 64 replicas"):
                 Recorder("counter", range(count))
-        with self.assertRaisesRegex(CannotTell, "replicas with names of their own"):
+        with self.assertRaisesRegex(NotRepresentable, "replicas with names of their own"):
             Recorder("counter", ["a", "b", "a"])
 
     def test_the_names_of_the_replicas_of_a_random_run(self) -> None:

@@ -10,7 +10,7 @@ import unittest
 from pathlib import Path
 
 import yehatu.program
-from yehatu import Monitor, MonitorGone, Report
+from yehatu import Monitor, MonitorExited, Report
 
 
 def script(folder: str, *lines: str) -> str:
@@ -93,20 +93,20 @@ class Gone(unittest.TestCase):
         self.addCleanup(self.folder.cleanup)
 
     def test_there_is_no_program(self) -> None:
-        with self.assertRaisesRegex(MonitorGone, "nowhere/program is no program"):
+        with self.assertRaisesRegex(MonitorExited, "nowhere/program is no program"):
             Monitor("counter", ["a"], program="/nowhere/program")
 
     def test_it_ends_at_once_and_says_why(self) -> None:
         monitor = Monitor("counter", ["a"], program=script(self.folder.name, "echo out of luck >&2", "exit 7"))
-        with self.assertRaisesRegex(MonitorGone, "status 7, and said 'out of luck'"):
+        with self.assertRaisesRegex(MonitorExited, "status 7, and said 'out of luck'"):
             monitor.tell("a inc")
-        with self.assertRaisesRegex(MonitorGone, "out of luck"):
+        with self.assertRaisesRegex(MonitorExited, "out of luck"):
             monitor.close()
 
     def test_it_ends_while_lines_are_in_flight(self) -> None:
         program = script(self.folder.name, "read a; read b; read c; echo ok 0; echo tired >&2; exit 2")
         monitor = Monitor("counter", ["a"], program=program)
-        with self.assertRaisesRegex(MonitorGone, "status 2, and said 'tired'"):
+        with self.assertRaisesRegex(MonitorExited, "status 2, and said 'tired'"):
             for number in range(100_000):
                 monitor.post("a inc", f"ok {number}")
             monitor.settle()
@@ -135,7 +135,7 @@ class Gone(unittest.TestCase):
 
     def test_the_end_of_what_a_program_says_is_kept(self) -> None:
         monitor = Monitor("counter", ["a"], program=script(self.folder.name, "seq 100000 105000 >&2; exit 7"))
-        with self.assertRaises(MonitorGone) as caught:
+        with self.assertRaises(MonitorExited) as caught:
             monitor.tell("a inc")
         # The last 50 lines.
         kept = "\\n".join(map(str, range(104951, 105001)))
@@ -143,7 +143,7 @@ class Gone(unittest.TestCase):
 
     def test_a_fault_of_the_text_is_told(self) -> None:
         monitor = Monitor("counter", ["a"])
-        with self.assertRaisesRegex(MonitorGone, "line 3: syntax"):
+        with self.assertRaisesRegex(MonitorExited, "line 3: syntax"):
             monitor.tell("a increments")
 
     def test_a_fault_of_the_text_is_explained(self) -> None:
@@ -151,22 +151,29 @@ class Gone(unittest.TestCase):
         for fault in ("syntax", "truncated", "too long", "full"):
             lines = (explains, f"read one; read two; read three; echo line 3: {fault} >&2; exit 2")
             monitor = Monitor("counter", ["a"], program=script(self.folder.name, *lines))
-            with self.assertRaises(MonitorGone) as caught:
+            with self.assertRaises(MonitorExited) as caught:
                 monitor.tell("a increments")
             said, _, page = str(caught.exception).partition("\n\n")
             self.assertTrue(said.endswith(f"ended with status 2, and said 'line 3: {fault}'"), said)
             self.assertEqual(page, "RAH 2 counter\nreplicas a\na increments\nis no command")
 
+    def test_the_former_names_of_exceptions(self) -> None:
+        for former, name in (("MonitorGone", "MonitorExited"), ("CannotTell", "NotRepresentable")):
+            with self.assertWarnsRegex(DeprecationWarning, f"{former} is now called {name}"):
+                self.assertIs(getattr(yehatu, former), getattr(yehatu, name))
+        with self.assertRaises(AttributeError):
+            getattr(yehatu, "MonitorWent")
+
     def test_a_stopped_monitor_takes_nothing_more(self) -> None:
         monitor = Monitor("counter", ["a"])
         monitor.stop()
-        with self.assertRaises(MonitorGone):
+        with self.assertRaises(MonitorExited):
             monitor.tell("a inc")
 
     def test_a_closed_monitor_takes_nothing_more(self) -> None:
         monitor = Monitor("counter", ["a"])
         monitor.close()
-        with self.assertRaisesRegex(MonitorGone, "was closed"):
+        with self.assertRaisesRegex(MonitorExited, "was closed"):
             monitor.post("a inc", "ok 0")
 
     def test_all_callers_that_wait_are_told(self) -> None:
@@ -177,7 +184,7 @@ class Gone(unittest.TestCase):
         def work() -> None:
             try:
                 monitor.tell("a inc")
-            except MonitorGone as gone:
+            except MonitorExited as gone:
                 told.append(gone)
 
         threads = [threading.Thread(target=work) for _ in range(4)]
@@ -206,7 +213,7 @@ monitor.settle()
         before = os.environ.get("RA_MONITOR")
         os.environ["RA_MONITOR"] = script(self.folder.name, "echo of the environment >&2; exit 3")
         try:
-            with self.assertRaisesRegex(MonitorGone, "of the environment"):
+            with self.assertRaisesRegex(MonitorExited, "of the environment"):
                 Monitor("counter", ["a"]).tell("a inc")
         finally:
             os.environ.pop("RA_MONITOR")

@@ -9,7 +9,7 @@ from unittest import mock
 
 import planted
 from replicas import RIGHT, Counter, LwwSet, Message, Register, Rga, forking
-from yehatu import CannotTell, NotLinearizable, Refused, ReplicaRaised, check_random, program, random_runs
+from yehatu import NotRepresentable, NotLinearizable, Refused, ReplicaRaised, check_random, program, random_runs
 from yehatu.plans import Planner
 
 # How many runs of right replicas: a thousand were tried, and the gate tries fewer.
@@ -181,7 +181,7 @@ class ReplicasThatJoin(unittest.TestCase):
         self.assertNotIn("joins with all that", str(caught.exception))
 
     def test_a_copy_has_a_name_of_its_own(self) -> None:
-        with self.assertRaisesRegex(CannotTell, "of another replica than"):
+        with self.assertRaisesRegex(NotRepresentable, "of another replica than"):
             check_random(ForksKeepTheName, "register")
 
     def test_a_copy_that_fails_is_told(self) -> None:
@@ -253,7 +253,7 @@ class OtherFailures(unittest.TestCase):
             check_random(ForksIntoNone, "counter", seeds=FOUND_WITHIN)
 
     def test_a_kind_that_is_none_is_told(self) -> None:
-        with self.assertRaisesRegex(CannotTell, "there is no kind 'list', but counter, "):
+        with self.assertRaisesRegex(NotRepresentable, "there is no kind 'list', but counter, "):
             check_random(Counter, "list")
 
     def test_long_runs_say_how_far_they_are(self) -> None:

@@ -5,7 +5,7 @@ import threading
 import unittest
 from typing import Any, Dict, List
 
-from yehatu import CannotTell, MonitorGone, NotLinearizable, Recorder, Refused, program, write
+from yehatu import NotRepresentable, MonitorExited, NotLinearizable, Recorder, Refused, program, write
 
 NOW = 1_764_076_489_000  # A clock of milliseconds since 1970.
 
@@ -51,10 +51,10 @@ class Names(unittest.TestCase):
         self.assertIn("a read 1,3\n", recorder.history())
 
     def test_what_is_no_key_cannot_be_told(self) -> None:
-        with self.assertRaises(CannotTell), Recorder("register", ["a"]) as recorder:
-            with self.assertRaisesRegex(CannotTell, "no key of a dictionary"):
+        with self.assertRaises(NotRepresentable), Recorder("register", ["a"]) as recorder:
+            with self.assertRaisesRegex(NotRepresentable, "no key of a dictionary"):
                 recorder.write("a", ["a", "list"], 1)
-            with self.assertRaisesRegex(CannotTell, "no key of a dictionary"):
+            with self.assertRaisesRegex(NotRepresentable, "no key of a dictionary"):
                 recorder.read("a", None)
 
     def test_what_nothing_written_reads_as_can_be_named(self) -> None:
@@ -63,7 +63,7 @@ class Names(unittest.TestCase):
             recorder.write("a", None, 1)
             recorder.read("a", None)
         recorder = Recorder("register", ["a"])
-        with self.assertRaisesRegex(CannotTell, "name another `nothing`"):
+        with self.assertRaisesRegex(NotRepresentable, "name another `nothing`"):
             recorder.write("a", None, 1)
         recorder.stop()
 
@@ -80,7 +80,7 @@ class Clocks(unittest.TestCase):
     def test_a_read_that_lists_nothing_says_so(self) -> None:
         for kind in ("lwwset", "orset", "rga"):
             recorder = Recorder(kind, ["a", "b"])
-            with self.subTest(kind=kind), self.assertRaisesRegex(CannotTell, "a read of None lists nothing"):
+            with self.subTest(kind=kind), self.assertRaisesRegex(NotRepresentable, "a read of None lists nothing"):
                 recorder.read("a", None)
             recorder.stop()
 
@@ -96,7 +96,7 @@ class Clocks(unittest.TestCase):
             ([None], "there is no stamp"),
         ]:
             recorder = Recorder("register", ["a", "b"])
-            with self.subTest(said=said), self.assertRaisesRegex(CannotTell, said):
+            with self.subTest(said=said), self.assertRaisesRegex(NotRepresentable, said):
                 for number, clock in enumerate(clocks):
                     recorder.write("a", number, clock)
             recorder.stop()
@@ -129,16 +129,16 @@ class Steps(unittest.TestCase):
         self.assertEqual(lines(recorder), "a inc\nb got 0\n")
 
     def test_a_message_of_no_update_cannot_be_told(self) -> None:
-        with self.assertRaisesRegex(CannotTell, "no message 5"), Recorder("counter", ["a"]) as recorder:
+        with self.assertRaisesRegex(NotRepresentable, "no message 5"), Recorder("counter", ["a"]) as recorder:
             recorder.deliver("a", 5)
 
     def test_an_operation_of_another_kind_cannot_be_told(self) -> None:
         said = "write is no operation of the kind counter"
-        with self.assertRaisesRegex(CannotTell, said), Recorder("counter", ["a"]) as recorder:
+        with self.assertRaisesRegex(NotRepresentable, said), Recorder("counter", ["a"]) as recorder:
             recorder.write("a", 5, 1)
 
     def test_a_kind_that_does_not_exist_is_rejected(self) -> None:
-        with self.assertRaisesRegex(CannotTell, "there is no kind 'map', but counter, "):
+        with self.assertRaisesRegex(NotRepresentable, "there is no kind 'map', but counter, "):
             Recorder("map", ["a"])
 
     def test_a_merge_is_all_that_the_other_had_seen_at_that_moment(self) -> None:
@@ -260,17 +260,17 @@ class Joins(unittest.TestCase):
             recorder.join(63, 0)
             recorder.read(63, 1)
             recorder.read(62, 0)
-        with self.assertRaisesRegex(CannotTell, "1 to 64 replicas"):
+        with self.assertRaisesRegex(NotRepresentable, "1 to 64 replicas"):
             Recorder("counter", range(65))
         with Recorder("counter", range(64)) as recorder:
-            with self.assertRaisesRegex(CannotTell, "64 cannot join: there are 64 replicas"):
+            with self.assertRaisesRegex(NotRepresentable, "64 cannot join: there are 64 replicas"):
                 recorder.join(64, 0, act=self.fail)
             recorder.read(63, 0)
 
     def test_who_cannot_join_is_told_before_the_act_and_the_history_goes_on(self) -> None:
         with Recorder("counter", ["a", "b"]) as recorder:
             for new, source, said in [("a", "b", "a replica 'a' already"), ("c", "d", "no replica 'd'")]:
-                with self.subTest(said=said), self.assertRaisesRegex(CannotTell, said):
+                with self.subTest(said=said), self.assertRaisesRegex(NotRepresentable, said):
                     recorder.join(new, source, act=self.fail)
             recorder.join("c", "b")
             recorder.read("c", 0)
@@ -358,11 +358,11 @@ class Failures(unittest.TestCase):
 
     def test_what_is_not_reported_ends_the_history(self) -> None:
         recorder = Recorder("register", ["a"])
-        with self.assertRaises(CannotTell):
+        with self.assertRaises(NotRepresentable):
             recorder.write("a", 1, "noon", act=lambda: None)
-        with self.assertRaises(CannotTell):
+        with self.assertRaises(NotRepresentable):
             recorder.read("a", 1)
-        with self.assertRaises(CannotTell):
+        with self.assertRaises(NotRepresentable):
             recorder.close()
 
     def test_a_merge_is_told_by_the_state_that_came(self) -> None:
@@ -387,7 +387,7 @@ class Failures(unittest.TestCase):
 
     def test_a_program_that_is_no_monitor(self) -> None:
         recorder = Recorder("counter", ["a"], program="cat")
-        with self.assertRaises(MonitorGone):
+        with self.assertRaises(MonitorExited):
             recorder.increment("a")
             recorder.settle()
         recorder.stop()

@@ -11,7 +11,7 @@ import unittest
 from pathlib import Path
 from typing import Callable
 
-from yehatu import Monitor, MonitorGone, program
+from yehatu import Monitor, MonitorExited, program
 
 ROUNDS = 5
 # A client's run takes 2 to 5 times what a plain run does; one that sleeps for two seconds takes some hundred times.
@@ -84,9 +84,9 @@ class Waiting(unittest.TestCase):
 
             def act() -> None:
                 monitor = Monitor("counter", ["a"], program=os.fspath(path))
-                with self.assertRaisesRegex(MonitorGone, "out of luck"):
+                with self.assertRaisesRegex(MonitorExited, "out of luck"):
                     monitor.tell("a inc")
-                with self.assertRaisesRegex(MonitorGone, "out of luck"):
+                with self.assertRaisesRegex(MonitorExited, "out of luck"):
                     monitor.close()
 
             self.takes_as_long(act, lambda: subprocess.run([path], capture_output=True))

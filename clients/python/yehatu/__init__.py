@@ -3,17 +3,20 @@
 `Monitor` is the program behind a pipe, `Recorder` speaks to it in the user's own names, and `check_random` drives a
 replicated data type through random runs and shrinks the first one that is answered no.
 """
-from .errors import CannotTell, MonitorGone, NotLinearizable, Refused, ReplicaRaised
+import warnings as _warnings
+from typing import Any as _Any
+
+from .errors import MonitorExited, NotLinearizable, NotRepresentable, Refused, ReplicaRaised
 from .monitor import Monitor, Report
 from .operations import Operation, add, decrement, increment, insert_after, remove, write
 from .random_runs import check_random
 from .recorder import Recorder
 
 __all__ = [
-    "CannotTell",
     "Monitor",
-    "MonitorGone",
+    "MonitorExited",
     "NotLinearizable",
+    "NotRepresentable",
     "Operation",
     "Recorder",
     "Refused",
@@ -27,3 +30,14 @@ __all__ = [
     "remove",
     "write",
 ]
+
+# The names that exceptions had in the version before; they go with the next one.
+_FORMER_NAMES = {"CannotTell": NotRepresentable, "MonitorGone": MonitorExited}
+
+
+def __getattr__(name: str) -> _Any:
+    if name not in _FORMER_NAMES:
+        raise AttributeError(f"module {__name__!r} has no attribute {name!r}")
+    found = _FORMER_NAMES[name]
+    _warnings.warn(f"{name} is now called {found.__name__}", DeprecationWarning, stacklevel=2)
+    return found

@@ -4,7 +4,7 @@ import tempfile
 from typing import Any, Dict, Hashable, List, Optional, Sequence
 
 from . import program as programs
-from .errors import MonitorGone, NotLinearizable, Refused
+from .errors import MonitorExited, NotLinearizable, Refused
 from .spelling import Speller, is_operation
 
 # How many of a history's last lines a message shows.
@@ -100,7 +100,7 @@ def failure(account: Account, text: str, reply: str, path: Optional[str], progra
     """The exception for a history whose last command had this reply, which the program explains if it can."""
     last = len(account.commands) - 1
     if reply.split(" ")[0] not in ("no", "refused"):
-        return MonitorGone(f"{reply!r} is no reply to {account.commands[last]!r}: this program is no monitor")
+        return MonitorExited(f"{reply!r} is no reply to {account.commands[last]!r}: this program is no monitor")
     kept = kept_history(text, path)
     operation = account.words(last)
     first = max(0, last + 1 - SHOWN_LINES)

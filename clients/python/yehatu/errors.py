@@ -2,11 +2,11 @@
 from typing import Optional
 
 
-class MonitorGone(RuntimeError):
+class MonitorExited(RuntimeError):
     """The program could not be started, or ended before its input did. The message has what it said."""
 
 
-class CannotTell(ValueError):
+class NotRepresentable(ValueError):
     """The text of a history has no words for this: the message says which, and what to do instead."""
 
 

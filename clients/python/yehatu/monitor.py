@@ -9,7 +9,7 @@ from collections import deque
 from typing import Any, Deque, List, NamedTuple, NoReturn, Optional, Sequence
 
 from . import program as programs
-from .errors import MonitorGone
+from .errors import MonitorExited
 
 # How many lines are written at once, and how long the last ones wait for company, in seconds.
 LINES_AT_ONCE = 64
@@ -190,12 +190,12 @@ class Monitor:
 
     def _raise_gone(self) -> NoReturn:
         if self._closing and self._report is not None:
-            raise MonitorGone("the monitor was closed")
+            raise MonitorExited("the monitor was closed")
         self._process.wait()
         self._listener.join()
         # The caller may hold the lock.
         text, said = self._text().encode(), b"".join(self._said)
-        raise MonitorGone(programs.how_it_ended(self.program, self._process.returncode, said, text))
+        raise MonitorExited(programs.describe_exit(self.program, self._process.returncode, said, text))
 
     # The threads: one reads replies, one hears what is said, one writes lines that wait for company.
 
@@ -205,7 +205,7 @@ class Monitor:
         try:
             self._process = subprocess.Popen(words, stdin=pipe, stdout=pipe, stderr=pipe, bufsize=0)
         except OSError as fault:
-            raise MonitorGone(f"{self.program} could not be started: {fault}") from fault
+            raise MonitorExited(f"{self.program} could not be started: {fault}") from fault
         self._input = self._process.stdin.fileno()  # type: ignore[union-attr]
         self._bell = threading.Lock()
         self._bell.acquire()

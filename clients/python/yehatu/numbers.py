@@ -1,7 +1,7 @@
 """Numbers of the text for what the user names, and back."""
 from typing import Any, Dict, Hashable, Iterator, List, Optional, Sequence, Set
 
-from .errors import CannotTell
+from .errors import NotRepresentable
 
 # The greatest number of the text.
 GREATEST = 4_294_967_295
@@ -26,7 +26,7 @@ class Numbers:
         try:
             number = self._number_of.get(thing)
         except TypeError:
-            raise CannotTell(f"{thing!r} is no {self._what}: it can be no key of a dictionary") from None
+            raise NotRepresentable(f"{thing!r} is no {self._what}: it can be no key of a dictionary") from None
         if number is None:
             self._seen.append(thing)
             number = self._number_of[thing] = len(self._seen)
@@ -51,15 +51,19 @@ class Clocks:
     def of(self, clock: Any) -> int:
         """The number of this clock."""
         if not isinstance(clock, int) or isinstance(clock, bool):
-            raise CannotTell(f"the clock {clock!r} is no whole number: make it one, in the same order")
+            raise NotRepresentable(f"the clock {clock!r} is no whole number: make it one, in the same order")
         if self._less is None:
             self._less = clock - FIRST_GREAT_CLOCK if clock > GREATEST else 0
         number = clock - self._less
         if number < 1:
-            raise CannotTell(f"the clock {clock} is too early: {self._less + 1} is the first one that can be told")
+            raise NotRepresentable(
+                f"the clock {clock} is too early: {self._less + 1} is the first one that can be told"
+            )
         if number > GREATEST:
             last = self._less + GREATEST
-            raise CannotTell(f"the clock {clock} is too late: {last} is the last one that can be told in this history")
+            raise NotRepresentable(
+                f"the clock {clock} is too late: {last} is the last one that can be told in this history"
+            )
         return number
 
     def back(self, number: int) -> int:
@@ -74,7 +78,9 @@ class Replicas:
     def __init__(self, replicas: Sequence[Hashable]) -> None:
         self.given = list(replicas)
         if not 1 <= len(self.given) <= MOST_REPLICAS or len(set(self.given)) != len(self.given):
-            raise CannotTell(f"there are 1 to {MOST_REPLICAS} replicas with names of their own, and not {self.given!r}")
+            raise NotRepresentable(
+                f"there are 1 to {MOST_REPLICAS} replicas with names of their own, and not {self.given!r}"
+            )
         taken = {it for it in self.given if _is_name(it)}
         free = _free_names(taken)
         self.names = [str(it) if it in taken else next(free) for it in self.given]
@@ -84,9 +90,11 @@ class Replicas:
     def look_for_room(self, replica: Hashable) -> None:
         """Raises what tells why it cannot join, if it cannot."""
         if replica in self._places:
-            raise CannotTell(f"there is a replica {replica!r} already: who joins has a name of its own")
+            raise NotRepresentable(f"there is a replica {replica!r} already: who joins has a name of its own")
         if len(self.given) == MOST_REPLICAS:
-            raise CannotTell(f"{replica!r} cannot join: there are {MOST_REPLICAS} replicas, and no more can be told")
+            raise NotRepresentable(
+                f"{replica!r} cannot join: there are {MOST_REPLICAS} replicas, and no more can be told"
+            )
 
     def join(self, replica: Hashable) -> None:
         """One more replica."""
@@ -100,7 +108,7 @@ class Replicas:
         """The replica's number."""
         place = self._places.get(replica)
         if place is None:
-            raise CannotTell(f"there is no replica {replica!r}, but {self.given!r}")
+            raise NotRepresentable(f"there is no replica {replica!r}, but {self.given!r}")
         return place
 
     def back(self, name: str) -> Hashable:

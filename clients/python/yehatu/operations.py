@@ -1,7 +1,7 @@
 """The operations of the five kinds, in the user's own names."""
 from typing import Any, Collection, Dict, Hashable, Iterable, NamedTuple, Optional, Tuple, Union
 
-from .errors import CannotTell
+from .errors import NotRepresentable
 
 Stamp = Union[int, Tuple[int, Hashable]]
 
@@ -18,7 +18,7 @@ OPERATIONS: Dict[str, Tuple[str, ...]] = {
 def of_kind(kind: str) -> Tuple[str, ...]:
     """The operations of this kind."""
     if kind not in OPERATIONS:
-        raise CannotTell(f"there is no kind {kind!r}, but {', '.join(OPERATIONS)}")
+        raise NotRepresentable(f"there is no kind {kind!r}, but {', '.join(OPERATIONS)}")
     return OPERATIONS[kind]
 
 

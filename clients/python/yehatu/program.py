@@ -7,7 +7,7 @@ import subprocess
 from pathlib import Path
 from typing import Any, Dict, List, NamedTuple, Optional, Union
 
-from .errors import MonitorGone
+from .errors import MonitorExited
 
 REPOSITORY = Path(__file__).resolve().parents[3]
 BUILT = REPOSITORY / "crates" / "ra_check_cli" / "out" / "ra_check_cli"
@@ -35,7 +35,7 @@ def find(program: Program = None) -> str:
     chosen = os.fspath(program or os.environ.get("RA_MONITOR") or REPOSITORY / "ra_monitor")
     found = shutil.which(chosen)
     if found is None:
-        raise MonitorGone(f"{chosen} is no program: give its path, or set RA_MONITOR to it")
+        raise MonitorExited(f"{chosen} is no program: give its path, or set RA_MONITOR to it")
     return found
 
 
@@ -47,7 +47,7 @@ def find_for_many(program: Program = None) -> str:
     # Not captured, so that a first build says how far it is.
     ran = subprocess.run([found, "check"], input=b"RAH 2 counter\nreplicas a\n", stdout=subprocess.DEVNULL)
     if ran.returncode != 0:
-        raise MonitorGone(f"{found} ended with status {ran.returncode}, before it read anything")
+        raise MonitorExited(f"{found} ended with status {ran.returncode}, before it read anything")
     return str(BUILT)
 
 
@@ -56,9 +56,9 @@ def check_text(program: str, text: bytes) -> Answer:
     try:
         ran = subprocess.run([program, "check"], input=text, capture_output=True)
     except OSError as fault:
-        raise MonitorGone(f"{program} could not be started: {fault}") from fault
+        raise MonitorExited(f"{program} could not be started: {fault}") from fault
     if ran.returncode not in WHOLE:
-        raise MonitorGone(how_it_ended(program, ran.returncode, ran.stderr, text))
+        raise MonitorExited(describe_exit(program, ran.returncode, ran.stderr, text))
     return Answer(ran.stdout.decode("ascii", "replace").splitlines(), ran.returncode)
 
 
@@ -74,7 +74,7 @@ def explained(program: Optional[str], text: str) -> Optional[Dict[str, Any]]:
     return told if isinstance(told, dict) and told.get("answer") == "no" else None
 
 
-def how_it_ended(program: str, status: Optional[int], said: bytes, text: bytes = b"") -> str:
+def describe_exit(program: str, status: Optional[int], said: bytes, text: bytes = b"") -> str:
     """How a run on this text ended that should not have: what it said and, where it could not read the text, why."""
     words = said.decode("utf-8", "replace").strip()
     how = f"{program} ended with status {status}, and said {repr(words) if words else 'nothing'}"

@@ -8,7 +8,7 @@ from .account import kept_history
 from .errors import NotLinearizable, Refused, ReplicaRaised, ReportFailed
 from .plans import Planner, Step
 from .program import Program
-from .runs import Failure, Setting, failure_of, look_at
+from .runs import Failure, Setting, failure_of, capabilities_of
 from .shrinking import shrunk
 
 # How long nothing is said, in seconds.
@@ -56,7 +56,7 @@ def check_random(
     """
     names: List[Hashable] = _names(replicas) if isinstance(replicas, int) else list(replicas)
     setting = Setting(make_replica, kind, names, programs.find_for_many(program))
-    ways = look_at(setting)
+    ways = capabilities_of(setting)
     chosen = range(seeds) if isinstance(seeds, int) else seeds
     progress = _Progress(f"check_random {kind}")
     runs = 0

@@ -16,7 +16,7 @@ from typing import (
 )
 
 from . import account, operations
-from .errors import CannotTell
+from .errors import NotRepresentable
 from .monitor import Monitor, Report
 from .observed import Effect, Observed
 from .operations import Operation, Stamp
@@ -182,7 +182,7 @@ class Recorder:
     def close(self) -> Report:
         """Ends the history, and answers what all came to. Raises what the replies say, if they say no.
 
-        An act that could not be told (`CannotTell`) is raised once more: of what follows it nothing was judged.
+        An act that could not be told (`NotRepresentable`) is raised once more: of what follows it nothing was judged.
         """
         try:
             report = self._monitor.close()
@@ -232,7 +232,7 @@ class Recorder:
             done = None if act is None else act()
             try:
                 report(place, *[it(done) if callable(it) else it for it in given])
-            except CannotTell as fault:
+            except NotRepresentable as fault:
                 # The act was made and is not reported, so what follows would be judged wrongly.
                 self._failure = fault
                 raise
@@ -256,7 +256,7 @@ class Recorder:
 
     def _update(self, place: int, operation: Operation, message: Hashable) -> None:
         if message is not None and message in self._messages:
-            raise CannotTell(f"there was a message {message!r} before: give each its own key")
+            raise NotRepresentable(f"there was a message {message!r} before: give each its own key")
         label, effect = self._labels, None
         if self._observed is not None:
             operation, effect = self._identified(place, operation)
@@ -329,7 +329,7 @@ class Recorder:
     def _sent(self, message: Hashable) -> Tuple[int, int, int]:
         sent = self._messages.get(message)
         if sent is None:
-            raise CannotTell(f"there was no message {message!r}: report the update that sends it first")
+            raise NotRepresentable(f"there was no message {message!r}: report the update that sends it first")
         return sent
 
 

@@ -3,7 +3,7 @@ from collections.abc import Mapping
 from typing import Any, Callable, Dict, Hashable, List, NamedTuple, Optional, Sequence, Set, Tuple
 
 from . import operations, program
-from .errors import CannotTell
+from .errors import NotRepresentable
 from .operations import Operation
 from .plans import COPIES, Reach, Step
 from .recorder import Recorder
@@ -67,7 +67,7 @@ class _Run:
                 continue
             try:
                 is_taken = takers[step.what](step)
-            except CannotTell:
+            except NotRepresentable:
                 raise
             except Exception as fault:  # Whatever the user's class raises is a failure of it.
                 self.taken.append(step)
@@ -165,14 +165,14 @@ def failure_of(setting: Setting, steps: Sequence[Step]) -> Optional[Failure]:
     return None
 
 
-class Ways(NamedTuple):
+class Capabilities(NamedTuple):
     """What the user's class offers: does it merge states, rather than receive messages, and do its replicas fork?"""
 
     merges: bool
     forks: bool
 
 
-def look_at(setting: Setting) -> Ways:
+def capabilities_of(setting: Setting) -> Capabilities:
     """What the user's class offers. Raises what it lacks."""
     words = operations.of_kind(setting.kind)
     replica = setting.make_replica(setting.replicas[0])
@@ -181,7 +181,7 @@ def look_at(setting: Setting) -> Ways:
     lacking = [it for it in wanted if not callable(getattr(replica, it, None))]
     if lacking:
         raise TypeError(f"a replica of the kind {setting.kind} has the methods {wanted}, and this one lacks {lacking}")
-    return Ways(merges, callable(getattr(replica, "fork", None)))
+    return Capabilities(merges, callable(getattr(replica, "fork", None)))
 
 
 def _operation(kind: str, step: Step, message: Any) -> Operation:

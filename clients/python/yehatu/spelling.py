@@ -1,7 +1,7 @@
 """Spells what replicas do as lines of the text, and reads lines back in the user's words."""
 from typing import Any, Callable, Collection, Dict, Hashable, Iterable, List, Sequence
 
-from .errors import CannotTell
+from .errors import NotRepresentable
 from .numbers import Clocks, Numbers, Replicas
 from .operations import Operation, Stamp, of_kind
 
@@ -42,7 +42,7 @@ class Speller:
         body = self._bodies.get(operation.word)
         if body is None:
             has = " and ".join(self._bodies)
-            raise CannotTell(f"{operation.word} is no operation of the kind {self.kind}, which has {has}")
+            raise NotRepresentable(f"{operation.word} is no operation of the kind {self.kind}, which has {has}")
         return f"{self.replicas.names[place]} {body(place, operation)}"
 
     def join(self, replica: Hashable, source: int) -> str:
@@ -62,7 +62,9 @@ class Speller:
 
     def _write(self, place: int, operation: Operation) -> str:
         if _is_same(operation.value, self._nothing):
-            raise CannotTell(f"{operation.value!r} is what is read where nothing was written: name another `nothing`")
+            raise NotRepresentable(
+                f"{operation.value!r} is what is read where nothing was written: name another `nothing`"
+            )
         return f"write {self._values.of(operation.value)} {self._clock(place, operation.stamp)}"
 
     def _add(self, place: int, operation: Operation) -> str:
@@ -86,24 +88,26 @@ class Speller:
         if isinstance(stamp, (tuple, list)) and len(stamp) == 2:
             clock, replica = stamp
             if self.replicas.place(replica) != place:
-                raise CannotTell(f"the stamp {stamp!r} is of another replica than {self.replicas.given[place]!r}")
+                raise NotRepresentable(f"the stamp {stamp!r} is of another replica than {self.replicas.given[place]!r}")
             return f"@{self._clocks.of(clock)}"
         if stamp is None:
-            raise CannotTell("there is no stamp: give the clock, or the clock and the replica, under which it counts")
+            raise NotRepresentable(
+                "there is no stamp: give the clock, or the clock and the replica, under which it counts"
+            )
         return f"@{self._clocks.of(stamp)}"
 
     def _answer(self, value: Any) -> str:
         if self.kind == "counter":
             is_whole = isinstance(value, int) and not isinstance(value, bool)
             if not is_whole or not LEAST_COUNT <= value <= GREATEST_COUNT:
-                raise CannotTell(f"a counter's read of {value!r} is no whole number of 32 bits")
+                raise NotRepresentable(f"a counter's read of {value!r} is no whole number of 32 bits")
             return str(int(value))
         if self.kind == "register":
             return "none" if _is_same(value, self._nothing) else str(self._values.of(value))
         try:
             shown = iter(value)
         except TypeError:
-            raise CannotTell(f"a read of {value!r} lists nothing: answer a list of what is shown") from None
+            raise NotRepresentable(f"a read of {value!r} lists nothing: answer a list of what is shown") from None
         numbers = [self._values.of(it) for it in shown]
         return _joined(numbers if self.kind == "rga" else _rising(numbers))
 
