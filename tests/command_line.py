@@ -207,9 +207,9 @@ def a_trial_runs_without_a_proof(house):
                                (["bench", *BENCH], WHOLE, "|".join(["bench", *BENCH]))):
         ran = house.run("trial", *words, given="a line\n")
         require((ran.wrote, ran.status) == (f"{crate} without proof, told {told}\na line\n", 1), words, ran)
-        [note, said] = ran.said.splitlines()
+        note, *said = ran.said.splitlines()
         require("nothing is proved" in note and f"`./ra_monitor {words[0]}` proves it" in note, ran)
-        require(said == "line 7: syntax", ran)
+        require(said == ["line 7: syntax"], ran)
     require(house.proved() == [])
 
 
