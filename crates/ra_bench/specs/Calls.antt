@@ -1,4 +1,4 @@
--- What a call of the desk comes to.
+-- The result of a call to the desk.
 use Rattle.std.specs.Prelude.{◌≡◌, ℕ, Result, Ok, Err, Some}
 use Rattle.ra_labels.specs.declared.command.Command.{Command}
 use Rattle.ra_labels.specs.declared.reply.Reply.{Reply}
@@ -8,14 +8,14 @@ use Rattle.ra_bench.specs.declared.fault.RunFault.{RunFault}
 use Rattle.ra_bench.specs.declared.fault.RunFault.TheVariants.{Answered, Lock, NoMemory}
 use Rattle.ra_bench.specs.Faults.{label_of}
 
--- the fault of a report that the desk did not answer, made by the reporter of this number
+-- holds if the fault is that of a report which the desk did not answer, made by the reporter with this number
 abbrev pub IsOfDesk : ℕ → RunFault → Type 0
 IsOfDesk number NoMemory = Unit {0}
 IsOfDesk number (Lock replica) = replica ≡ number
 IsOfDesk number _ = ⊥
 
--- the report is in the log with a reply that has this label number, or with the reply that the fault tells of; or the
--- desk did not answer it
+-- Holds if the report is in the log with a reply that has this label number, or with the reply that the fault states,
+-- or if the desk did not answer the report.
 abbrev pub IsReported : DeskReporter → DeskReporter → Command → Result ℕ RunFault → Type 0
 IsReported r s command (Ok label) = (reply : Reply) × (IsLogged r s command reply × (label_of reply ≡ Some label))
 IsReported r s command (Err (Answered replica unwanted)) =

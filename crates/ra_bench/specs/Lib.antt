@@ -2,6 +2,6 @@ pub mod Calls
 pub mod Faults
 pub mod Lies
 pub mod Limits
-pub mod Post
+pub mod Mailbox
 pub mod Report
 pub mod RunFaults

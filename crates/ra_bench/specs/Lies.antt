@@ -1,14 +1,14 @@
--- What a lie makes of a read.
+-- The operation that a lie reports in place of a read.
 use Rattle.std.specs.Prelude.{◌≡◌, ℕ, List, [], ◌∷◌, ◌++◌, Some, pos, ◌+ℤ◌}
 use Rattle.std.specs.Int.{w32, saturate_signed}
 use Rattle.ra_labels.specs.declared.operation.Op.{Op}
 use Rattle.ra_labels.specs.declared.operation.Op.TheVariants.{Count, Last, LwwRead, OrRead, RgaRead}
 
--- with 4,294,967,295 at the end, which no replica puts in
+-- the list with 4,294,967,295 at the end, which no replica inserts
 abbrev pub falsified_list : List ℕ → List ℕ
 falsified_list list = list ++ 4294967295 ∷ []
 
--- the second is what a lie makes of the first: what is no read stays
+-- holds if the second operation is the lie about the first; an operation that is no read is unchanged
 abbrev pub IsFalsified : Op → Op → Type 0
 IsFalsified (Count value) told = told ≡ Count (saturate_signed w32 (value +ℤ pos 1))
 IsFalsified (Last value) told = told ≡ Last (Some 4294967295)

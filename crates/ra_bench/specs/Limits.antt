@@ -1,4 +1,4 @@
--- How many replicas and rounds a bench may have.
+-- The allowed numbers of replicas and rounds of a bench.
 use Rattle.std.specs.Prelude.{ℕ, ◌≤◌}
 use Rattle.ra_bench.specs.declared.limits.TheConstants.{MOST_BENCH_REPLICAS, MOST_ROUNDS}
 

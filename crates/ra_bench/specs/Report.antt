@@ -1,4 +1,4 @@
--- What a report says of the log of a closed desk.
+-- What a report states about the log of a closed desk.
 use Rattle.std.specs.Prelude.{◌≡◌, ℕ, Bool, true, false, List, [], ◌∷◌, ◌++◌, length, count_by}
 use Rattle.ra_journal.specs.Log.{entry}
 use Rattle.ra_labels.specs.declared.command.Command.TheVariants.{Verdict}
@@ -14,16 +14,16 @@ abbrev pub is_got : Reply → Bool
 is_got (Got label) = true
 is_got _ = false
 
--- how many deliveries were accepted
+-- the number of accepted deliveries
 abbrev pub deliveries_in : List MonitorEntry → ℕ
 deliveries_in log = count_by (λ e. is_got e.reply) log
 
--- the last call asked for the verdict, and got this reply
+-- holds if the last call requested the verdict, and received this reply
 abbrev pub EndsInVerdict : List MonitorEntry → Reply → Type 0
 EndsInVerdict log reply =
     (before : List MonitorEntry) × ((pass ticket : ℕ) × (log ≡ before ++ entry pass ticket Verdict reply ∷ []))
 
--- the report is that of this log
+-- holds if the report is that of this log, in which no command is rejected
 pub record IsReportOf (setup : Setup) (log : List MonitorEntry) (report : BenchReport) : Type 0 where
   pub labels : report.labels ≡ label_count (records_of setup log)
   pub deliveries : report.deliveries ≡ deliveries_in log
@@ -31,7 +31,7 @@ pub record IsReportOf (setup : Setup) (log : List MonitorEntry) (report : BenchR
   pub none_refused : refused_count log ≡ 0
   pub verdict : EndsInVerdict log report.verdict
 
--- the report is that of a legal log of a monitor of this kind, at so many replicas
+-- holds if the report is that of a legal log of a monitor of this kind with this number of replicas
 pub record IsReportOfRun (kind : Kind) (replicas : ℕ) (report : BenchReport) : Type 0 where
   pub setup : Setup
   pub log : List MonitorEntry

@@ -1,10 +1,10 @@
--- What is told of a run's fault.
+-- The faults of a bench that report those of its run.
 use Rattle.ra_bench.specs.declared.fault.BenchFault.{BenchFault}
 use Rattle.ra_bench.specs.declared.fault.BenchFault.TheVariants as told
 use Rattle.ra_bench.specs.declared.fault.RunFault.{RunFault}
 use Rattle.ra_bench.specs.declared.fault.RunFault.TheVariants.{Stalled, Answered, Lock, NoMemory, Thread}
 
--- as the bench tells it
+-- the fault as the bench reports it
 abbrev pub told_of : RunFault → BenchFault
 told_of (Stalled replica) = told.Stalled replica
 told_of (Answered replica unwanted) = told.Answered replica unwanted.reply

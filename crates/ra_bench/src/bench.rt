@@ -1,7 +1,7 @@
 //! A run of bench replicas, from the first round to the verdict.
 ghost use Rattle.std.specs.Prelude.{◌≡◌, ◌↔◌, ◌<◌, All, Some, IfOk, IfErr, IsErrOf};
 ghost use Rattle.ra_desk.specs.Reports.{setup_of};
-ghost use Rattle.ra_bench.specs.Faults.{TellsUnwanted};
+ghost use Rattle.ra_bench.specs.Faults.{IsUnexpectedReply};
 ghost use Rattle.ra_bench.specs.Limits.{AreBenchReplicas, AreRounds};
 ghost use Rattle.ra_bench.specs.Report.{IsReportOfRun};
 
@@ -10,27 +10,33 @@ use crate::fault::{BenchFault, RunFault};
 use crate::gate::Gate;
 use crate::lie::Lie;
 use crate::limits::{MOST_BENCH_REPLICAS, MOST_ROUNDS};
-use crate::post::Post;
+use crate::mailbox::Mailbox;
 use crate::report::BenchReport;
 use crate::round::Round;
 use crate::threads::run_round;
 use crate::worker::Worker;
+use ra_bench_replicas::Replica;
 use ra_desk::DeskReporter;
 use ra_labels::Kind;
 use ra_monitor::Monitor;
-use ra_replicas::Replica;
 use ra_ticket::MOST_ENTRIES;
 use std::alloc::Global;
 use std::sync::Wait;
 use std::thread::Threads;
 
-/// Runs this many replicas of this kind through this many rounds, and two more in which all that is on its way
-/// arrives. In a round each replica, on a thread of its own, applies and reports what reached it, makes an update and
-/// reports it, and reads and reports the read; the next round begins when all are joined. Each waits for the desk where
+/// Runs this many replicas of this kind for this many rounds, and for two more in which all messages arrive. In a round
+/// each replica works on a thread of its own. It applies and reports what reached it, makes and reports an update, and
+/// reads and reports the read. The next round begins when all threads are joined. A replica waits for the desk while
 /// others report.
 ///
-/// `BadReplicas` comes where there are not 1 to 16 replicas, and else `BadRounds` where there are not 1 to 1,000
-/// rounds. Costs a thread for each replica and round, and memory for the log and the replicas' states.
+/// # Errors
+///
+/// `BadReplicas` if and only if the number of replicas is not 1 to 16. Otherwise `BadRounds` if and only if the number
+/// of rounds is not 1 to 1,000. Other errors report why the run stopped.
+///
+/// # Complexity
+///
+/// One thread for each replica and round, and memory for the log and the replicas' states.
 pub fn run_bench<R: Threads + Wait + Sync, G: Gate + Sync>(
     rt: &R,
     alloc: Global,
@@ -42,15 +48,19 @@ pub fn run_bench<R: Threads + Wait + Sync, G: Gate + Sync>(
     ensures bad_replicas { IsErrOf result BenchFault.BadReplicas ↔ (AreBenchReplicas replicas → ⊥) }
     ensures bad_rounds { IsErrOf result BenchFault.BadRounds
         ↔ (AreBenchReplicas replicas × (AreRounds rounds → ⊥)) }
-    // What the closed desk's log says.
+    // The report is that of the closed desk's log.
     ensures report { IfOk result (λ report. IsReportOfRun kind replicas report) }
-    // The answer that a fault tells of is none that honest replicas get.
-    ensures answered { IfErr result TellsUnwanted }
+    // The reply that an error carries is none that honest replicas receive.
+    ensures answered { IfErr result IsUnexpectedReply }
 {
     run_bench_with(rt, alloc, kind, replicas, rounds, None, gate)
 }
 
-/// As `run_bench`, and one read is reported falsely, if a lie is given. Costs the same.
+/// Runs the bench as `run_bench` does, at the same cost. If a lie is given, one read is reported falsely.
+///
+/// # Errors
+///
+/// Those of `run_bench`.
 pub fn run_bench_with<R: Threads + Wait + Sync, G: Gate + Sync>(
     rt: &R,
     alloc: Global,
@@ -64,7 +74,7 @@ pub fn run_bench_with<R: Threads + Wait + Sync, G: Gate + Sync>(
     ensures bad_rounds { IsErrOf result BenchFault.BadRounds
         ↔ (AreBenchReplicas replicas × (AreRounds rounds → ⊥)) }
     ensures report { IfOk result (λ report. IsReportOfRun kind replicas report) }
-    ensures answered { IfErr result TellsUnwanted }
+    ensures answered { IfErr result IsUnexpectedReply }
 {
     if replicas < 1 || replicas > MOST_BENCH_REPLICAS {
         return Err(BenchFault::BadReplicas);
@@ -83,7 +93,7 @@ pub fn run_bench_with<R: Threads + Wait + Sync, G: Gate + Sync>(
     }
 }
 
-// All rounds and the verdict.
+// Runs all rounds and asks for the verdict.
 fn run<R: Threads + Wait + Sync, G: Gate + Sync>(
     rt: &R,
     alloc: Global,
@@ -104,7 +114,7 @@ fn run<R: Threads + Wait + Sync, G: Gate + Sync>(
     conclude(rt, last)
 }
 
-// A desk with a reporter for each replica and one more.
+// Opens a desk with a reporter for each replica and one more.
 fn open(alloc: Global, kind: Kind, replicas: u8) -> Result<Vec<DeskReporter>, RunFault>
     requires { AreBenchReplicas replicas }
     ensures { IfOk result
@@ -119,7 +129,7 @@ fn open(alloc: Global, kind: Kind, replicas: u8) -> Result<Vec<DeskReporter>, Ru
     }
 }
 
-// A worker for each replica, with the reporter of the same number.
+// Creates a worker for each replica, with the reporter of the same number.
 fn workers_of(
     alloc: Global,
     kind: Kind,
@@ -134,7 +144,7 @@ fn workers_of(
     Ok(workers)
 }
 
-// All rounds, one after the other. The workers' reporters are let go at the end.
+// Runs all rounds, one after the other. The workers' reporters are dropped at the end.
 fn run_rounds<R: Threads + Wait + Sync, G: Gate + Sync>(
     rt: &R,
     alloc: Global,
@@ -145,7 +155,7 @@ fn run_rounds<R: Threads + Wait + Sync, G: Gate + Sync>(
     requires { AreRounds first.rounds }
 {
     let mut workers = workers;
-    let mut post = Post::new(alloc);
+    let mut post = Mailbox::new(alloc);
     for number in 0..=first.rounds + 1 {
         let round = Round { number, ..first };
         workers = run_round(rt, alloc, gate, workers, &mut post, round)?;

@@ -10,12 +10,12 @@ use ra_desk::DeskReporter;
 use ra_labels::Command;
 use std::sync::Wait;
 
-/// Asks for the verdict and closes the desk, of which no other reporter is left.
+/// Asks for the verdict and closes the desk, which must have no other reporter.
 pub fn conclude<R: Wait>(rt: &R, last: DeskReporter) -> Result<BenchReport, RunFault>
     ensures { IfOk result (IsReportOfRun (setup_of last).kind (setup_of last).replicas) }
 {
     let mut last = last;
-    // The answer stands in the log, and is read there.
+    // The reply is read from the log, so it is not needed here.
     tell(rt, &mut last, Command::Verdict)?;
     let closed = RunFault::Lock {
         replica: last.number(),

@@ -1,15 +1,15 @@
-//! Why a bench gives no report.
+//! The errors of a bench.
 ghost use Rattle.std.specs.Prelude.{◌≡◌};
-ghost use Rattle.ra_bench.specs.Faults.{TellsUnwanted, IsOfRun};
+ghost use Rattle.ra_bench.specs.Faults.{IsUnexpectedReply, IsOfRun};
 ghost use Rattle.ra_bench.specs.RunFaults.{told_of};
 
-use crate::unwanted::Unwanted;
+use crate::unexpected_reply::UnexpectedReply;
 use ra_labels::{NoMemory, Reply};
 use std::alloc::{AllocError, AllocFailed};
 use thiserror::Error;
 
-/// Why a bench gives no report. Where several replicas fail in one round, the fault is the lowest one's; `Thread` comes
-/// before all of them.
+/// Why a bench returns no report. If several replicas fail in one round, the error is that of the lowest one; `Thread`
+/// precedes all of them.
 #[derive(Clone, Copy, Debug, PartialEq, Eq, Error)]
 pub enum BenchFault {
     /// The number of replicas is not 1 to 16.
@@ -18,56 +18,63 @@ pub enum BenchFault {
     /// The number of rounds is not 1 to 1,000.
     #[error("bench fault")]
     BadRounds,
-    /// The gate did not let the replica in.
+    /// The gate did not admit the replica.
     #[error("bench fault")]
     Stalled {
         /// The replica's number.
         replica: u8,
     },
-    /// What the replica reported was answered neither by a label number nor by a taken delivery.
+    /// The reply to a report of the replica was neither `Ok` nor `Got`.
     #[error("bench fault")]
     Answered {
         /// The replica's number.
         replica: u8,
-        /// The answer: a no, mostly.
+        /// The reply, in most cases a violation.
         reply: Reply,
     },
-    /// The desk took no report any more: its log is full, or its tickets are at their end. After the last round the
-    /// number is that of the pass behind all replicas.
+    /// The desk accepts no more reports: its log is full, or its tickets are all drawn. After the last round the number
+    /// is that of the additional pass.
     #[error("bench fault")]
     Lock {
         /// The number of the replica, which is that of its pass.
         replica: u8,
     },
-    /// A growth was refused for want of memory.
+    /// An allocation failed.
     #[error("bench fault")]
     NoMemory,
-    /// A thread could not be started. Those that had been are joined.
+    /// A thread could not be started. The started ones are joined.
     #[error("bench fault")]
     Thread,
 }
 
-/// Why a run came to no end.
+/// Why a run did not finish.
 #[derive(Clone, Copy)]
 pub enum RunFault {
-    /// The gate did not let the replica in.
-    Stalled { replica: u8 },
-    /// The replica got this answer.
-    Answered { replica: u8, unwanted: Unwanted },
-    /// The desk took no report of this pass any more.
-    Lock { replica: u8 },
-    /// A growth was refused.
+    /// The gate did not admit the replica.
+    Stalled {
+        replica: u8,
+    },
+    /// The replica received this reply.
+    Answered {
+        replica: u8,
+        unwanted: UnexpectedReply,
+    },
+    /// The desk accepts no more reports of this pass.
+    Lock {
+        replica: u8,
+    },
+    /// An allocation failed.
     NoMemory,
     /// A thread could not be started.
     Thread,
 }
 
 impl RunFault {
-    /// As the bench tells it.
+    /// Returns the error as the bench reports it.
     pub fn told(self) -> BenchFault
         ensures same { result ≡ told_of self }
         ensures of_run { IsOfRun result }
-        ensures answered { TellsUnwanted result }
+        ensures answered { IsUnexpectedReply result }
     {
         match self {
             RunFault::Stalled { replica } => BenchFault::Stalled { replica },

@@ -1,12 +1,14 @@
-//! Who decides when a replica goes on.
+//! The gate that decides when a replica proceeds.
 
-/// Lets replicas go on, one round at a time. A test holds one back by it, to have the others go first.
+/// A gate that admits replicas, one round at a time. A test uses it to hold one back while others proceed.
 pub trait Gate {
-    /// Called once by the replica's thread before its first call of the round. Where it answers false, the replica
-    /// makes no call any more, and the run ends in `Stalled` when the others' threads have ended.
+    /// Returns `true` if the replica may begin the round. The replica's thread calls it once, before its first call of
+    /// the round. After `false` the replica makes no further call, and the run ends with `Stalled` when the other
+    /// threads have ended.
     fn enter(&self, replica: u8, round: u32) -> bool;
 
-    /// Called once by the replica's thread after its last call of the round was answered; not where one failed.
+    /// Receives the notice that the replica has finished the round. The replica's thread calls it once, after the reply
+    /// to its last call of the round, unless a call failed.
     fn left(&self, replica: u8, round: u32);
 }
 
@@ -15,11 +17,11 @@ pub trait Gate {
 pub struct OpenGate;
 
 impl Gate for OpenGate {
-    /// True at once.
+    /// Returns `true` at once.
     fn enter(&self, _replica: u8, _round: u32) -> bool {
         true
     }
 
-    /// Nothing.
+    /// Does nothing.
     fn left(&self, _replica: u8, _round: u32) {}
 }

@@ -1,27 +1,29 @@
-//! Bench replicas: a running system of up to 16 replicas, each on a thread of its own, that the monitor watches.
+//! A bench: a running system of up to 16 replicas, each on a thread of its own, that the monitor watches.
 //!
-//! `run_bench` has replicas (`ra_replicas`) exchange their updates round by round, and report each operation and each
-//! delivery to one desk, while a `Gate` decides who goes on. `run_bench_with` has one of them tell a lie. The crate's
-//! contract is that of these two: they answer with what the closed desk's log says, or with the first fault. That
-//! honest replicas are answered yes is shown by tests.
+//! In `run_bench` replicas (`ra_bench_replicas`) exchange their updates round by round, and report each operation and
+//! each delivery to one desk, while a `Gate` decides who proceeds. In `run_bench_with` one of them may report a false
+//! read.
 //!
-//! Who has a data type of their own begins with `worker`: a worker owns a replica and a reporter, and tells the desk of
-//! each step that its replica takes.
+//! The contract is that of these two calls: they return the report of the closed desk's log, or an error. No clause
+//! states that honest replicas receive the verdict `yes`; tests show it.
+//!
+//! To connect a data type of your own, begin with `worker`: a worker owns a replica and a reporter, and reports each
+//! step of its replica to the desk.
 #![tactic(auto)]
 
 mod bench;
 mod conclude;
 mod fault;
 mod gate;
-pub mod laws;
 mod lie;
 mod limits;
-mod post;
+mod mailbox;
 mod report;
 mod round;
 mod tell;
+pub mod theorems;
 mod threads;
-mod unwanted;
+mod unexpected_reply;
 mod worker;
 
 pub use bench::{run_bench, run_bench_with};

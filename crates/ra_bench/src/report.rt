@@ -1,4 +1,4 @@
-//! What a run amounts to, read off the log of its closed desk.
+//! The summary of a run, computed from the log of its closed desk.
 ghost use Rattle.std.specs.Prelude.{◌≡◌, ◌≤◌, IfSome, length};
 ghost use Rattle.ra_bench.specs.Report.{deliveries_in, EndsInVerdict, IsReportOf};
 ghost use Rattle.ra_journal.specs.declared.journal.TheConstants.{MOST_ENTRIES};
@@ -7,20 +7,21 @@ use ra_journal::Entry;
 use ra_labels::{Command, Reply};
 use ra_monitor::Monitor;
 
-/// What a run amounts to.
+/// The summary of a run.
 #[derive(Clone, Copy, Debug, PartialEq, Eq)]
 pub struct BenchReport {
-    /// How many operations were accepted.
+    /// The number of accepted operations.
     pub labels: u32,
-    /// How many deliveries were accepted.
+    /// The number of accepted deliveries.
     pub deliveries: u32,
-    /// How many calls the desk answered, the one for the verdict included.
+    /// The number of calls that the desk answered, including the one for the verdict.
     pub calls: u32,
-    /// What the last call was answered, which asked for the verdict.
+    /// The reply to the last call, which asked for the verdict.
     pub verdict: Reply,
 }
 
-/// What the log says, where no call was refused and the last one asked for the verdict. Costs a look at each entry.
+/// Returns the summary of the log, or `None` if a call was rejected or the last one did not ask for the verdict. O(n)
+/// for n entries.
 pub fn report_of(monitor: &Monitor) -> Option<BenchReport>
     ensures { IfSome result (λ report. IsReportOf monitor.now.setup monitor.now.log report) }
 {
@@ -37,7 +38,7 @@ pub fn report_of(monitor: &Monitor) -> Option<BenchReport>
     })
 }
 
-// What the last call was answered, where it asked for the verdict.
+// Returns the reply to the last call, if it asked for the verdict.
 fn verdict_in(log: &[Entry<Command, Reply>]) -> Option<Reply>
     ensures { IfSome result (λ reply. EndsInVerdict log.now reply) }
 {
@@ -51,7 +52,7 @@ fn verdict_in(log: &[Entry<Command, Reply>]) -> Option<Reply>
     }
 }
 
-// How many deliveries were accepted.
+// Returns the number of accepted deliveries.
 fn deliveries_of(log: &[Entry<Command, Reply>]) -> u32
     requires { length log.now ≤ MOST_ENTRIES }
     ensures { result ≡ deliveries_in log.now }

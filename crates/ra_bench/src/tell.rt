@@ -9,7 +9,7 @@ use ra_labels::{Command, Reply};
 use ra_ticket::CallFault;
 use std::sync::Wait;
 
-/// Tells the desk, and gives its answer.
+/// Reports the command to the desk, and returns its reply.
 pub fn tell<R: Wait>(
     rt: &R,
     reporter: &mut DeskReporter,
@@ -25,7 +25,7 @@ pub fn tell<R: Wait>(
     }
 }
 
-// What the reporter of this number tells of the fault. The command that it hands back is let go here, once.
+// Returns the error of the reporter with this number. The command that the fault carries is dropped here, once.
 fn fault_of(fault: CallFault<Command>, replica: u8) -> RunFault
     ensures { IsOfDesk replica result }
 {

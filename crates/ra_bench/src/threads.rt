@@ -1,23 +1,23 @@
-//! The threads of a round: each worker on one of its own, all joined before the next round begins.
+//! The threads of a round: each worker has one of its own, and all are joined before the next round begins.
 use crate::fault::RunFault;
 use crate::gate::Gate;
-use crate::post::Post;
+use crate::mailbox::Mailbox;
 use crate::round::Round;
 use crate::worker::{Done, Worker};
+use ra_bench_replicas::Message;
 use ra_labels::NoMemory;
-use ra_replicas::Message;
 use std::alloc::Global;
 use std::sync::Wait;
 use std::thread;
 use std::thread::{JoinHandle, Threads};
 
-/// Has all workers do the round, and gives them back. What they sent is on its way then.
+/// Runs the round on all workers, and returns them. Their messages are handed to the post.
 pub fn run_round<R: Threads + Wait + Sync, G: Gate + Sync>(
     rt: &R,
     alloc: Global,
     gate: &G,
     workers: Vec<Worker>,
-    post: &mut Post,
+    post: &mut Mailbox,
     round: Round,
 ) -> Result<Vec<Worker>, RunFault> {
     let inboxes = inboxes_of(alloc, &workers, post, round.number)?;
@@ -34,11 +34,11 @@ pub fn run_round<R: Threads + Wait + Sync, G: Gate + Sync>(
     Ok(workers)
 }
 
-// What reaches each of the workers.
+// Returns the messages that reach each of the workers.
 fn inboxes_of(
     alloc: Global,
     workers: &[Worker],
-    post: &Post,
+    post: &Mailbox,
     round: u32,
 ) -> Result<Vec<Vec<Message>>, NoMemory> {
     let mut inboxes = Vec::with_capacity(alloc, workers.len())?;
@@ -48,7 +48,7 @@ fn inboxes_of(
     Ok(inboxes)
 }
 
-// Each worker does the round on a thread. All that were started have ended when this returns.
+// Runs the round of each worker on a thread. All started threads have ended when this returns.
 fn in_threads<R: Threads + Wait + Sync, G: Gate + Sync>(
     rt: &R,
     alloc: Global,
@@ -70,7 +70,7 @@ fn in_threads<R: Threads + Wait + Sync, G: Gate + Sync>(
     })
 }
 
-// What each thread gives, in their order.
+// Joins the threads, and returns their results in order.
 fn joined<R: Threads + Wait>(
     rt: &R,
     alloc: Global,

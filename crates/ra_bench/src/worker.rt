@@ -1,4 +1,4 @@
-//! One replica with its reporter, on a thread of its own: what a data type of one's own would do.
+//! One replica with its reporter, on a thread of its own: a model for data types of other libraries.
 ghost use Rattle.ra_bench.specs.Calls.{IsReported};
 
 use crate::fault::RunFault;
@@ -6,10 +6,10 @@ use crate::gate::Gate;
 use crate::lie::falsified;
 use crate::round::Round;
 use crate::tell::tell;
-use crate::unwanted::label_in;
+use crate::unexpected_reply::label_in;
+use ra_bench_replicas::{Message, Replica};
 use ra_desk::DeskReporter;
 use ra_labels::{Command, Op};
-use ra_replicas::{Message, Replica};
 use std::alloc::Global;
 use std::sync::Wait;
 
@@ -20,27 +20,27 @@ pub struct Worker {
     reporter: DeskReporter,
 }
 
-/// What comes back from a worker's thread.
+/// The result of a worker's thread.
 #[derive(Drop)]
 pub struct Done {
-    /// The worker itself.
+    /// The worker.
     pub worker: Worker,
-    /// The update that it made, if it made one, or why it stopped.
+    /// The update that it made, if it made one, or the error at which it stopped.
     pub sent: Result<Option<Message>, RunFault>,
 }
 
 impl Worker {
-    /// A replica that reports by this reporter.
+    /// Creates the worker of this replica, which reports through this reporter.
     pub fn new(replica: Replica, reporter: DeskReporter) -> Worker {
         Worker { replica, reporter }
     }
 
-    /// The replica's number.
+    /// Returns the replica's number.
     pub fn number(&self) -> u8 {
         self.replica.number()
     }
 
-    /// Takes the worker and its inbox to a thread, and gives them back with what was sent.
+    /// Runs a round with this inbox on the current thread, and returns the worker with its message.
     pub fn work<R: Wait, G: Gate>(
         self,
         rt: &R,
@@ -54,7 +54,7 @@ impl Worker {
         Done { worker, sent }
     }
 
-    // One round, between the gate's two calls.
+    // Runs one round between the gate's two calls.
     fn pass_gate<R: Wait, G: Gate>(
         &mut self,
         rt: &R,
@@ -72,7 +72,7 @@ impl Worker {
         Ok(sent)
     }
 
-    // What comes, then an update, then a read.
+    // Applies what arrived, then makes an update, then reads.
     fn take_part<R: Wait>(
         &mut self,
         rt: &R,
@@ -94,7 +94,7 @@ impl Worker {
         Ok(sent)
     }
 
-    // Applies what can be, and reports each.
+    // Applies each message that can be applied, and reports it.
     fn deliver<R: Wait>(&mut self, rt: &R) -> Result<(), RunFault> {
         for _ in 0..self.replica.held() {
             let Some(label) = self.replica.apply_next()? else {
@@ -106,7 +106,7 @@ impl Worker {
         Ok(())
     }
 
-    // Makes the round's update and reports it. The message is for the others.
+    // Makes the round's update and reports it. Returns the message for the other replicas.
     fn update<R: Wait>(&mut self, rt: &R, round: u32) -> Result<Message, RunFault> {
         let made = self.replica.update(round)?;
         let op = made.op.clone()?;
@@ -118,7 +118,7 @@ impl Worker {
         })
     }
 
-    // Reads, and reports what was read or a lie.
+    // Reads, and reports the read or a lie.
     fn read<R: Wait>(&mut self, rt: &R, is_lie: bool) -> Result<(), RunFault> {
         let read = self.replica.read()?;
         let told = if is_lie { falsified(read)? } else { read };
@@ -136,7 +136,7 @@ impl Worker {
         self.report(rt, Command::Operate { replica, op, stamp })
     }
 
-    // Tells the desk, and gives the label that it answers with.
+    // Reports the command to the desk, and returns the label of its reply.
     fn report<R: Wait>(&mut self, rt: &R, command: Command) -> Result<u32, RunFault>
         ensures { IsReported self.old.reporter self.new.reporter command result }
     {

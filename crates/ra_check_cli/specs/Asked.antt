@@ -1,10 +1,10 @@
--- What words ask of a program that checks and has no bench.
+-- What the arguments request of a program that checks and has no bench.
 use Rattle.std.specs.Prelude.{Bool, Option, Some, None, option_and_then}
-use Rattle.ra_words.specs.Words.{Words, asked_by}
-use Rattle.ra_words.specs.declared.words.Run.{Run}
-use Rattle.ra_words.specs.declared.words.Run.TheVariants.{Check, Bench}
+use Rattle.ra_cli_common.specs.Arguments.{Words, asked_by}
+use Rattle.ra_cli_common.specs.declared.arguments.Run.{Run}
+use Rattle.ra_cli_common.specs.declared.arguments.Run.TheVariants.{Check, Bench}
 
--- is the report asked for, where a check is?
+-- whether a check has to print the report; none for a bench
 abbrev pub report_of : Run → Option Bool
 report_of (Check report) = Some report
 report_of (Bench kind replicas rounds) = None

@@ -1,11 +1,11 @@
-//! Checks histories of replicated data types, given as a text on standard input: of the whole program what `check`
-//! asks for, which has not to wait until the bench is proved.
+//! The program that checks histories of replicated data types, given as a text on standard input. It is the whole
+//! program without the bench, so that it can be built before the bench is proved.
 #![tactic(auto)]
 
 mod run;
 
 use crate::run::run;
-use ra_words::words_of;
+use ra_cli_common::words_of;
 use std::io;
 use std::process::ExitCode;
 

@@ -1,4 +1,4 @@
--- What the lock says of a call, in the words of a report.
+-- Lemmas that restate the result of a call of the lock in the terms of a report.
 use Rattle.std.proofs.Common.{◌≡◌, ℕ, ◌-◌, List, [], ◌∷◌, ◌++◌, length, take, Option, Some, IfSome, sym, ap, ◌∙◌, subst, length-append, arith}
 use Rattle.std.specs.Prelude.{IfOk, All, map}
 use Rattle.std.proofs.lemmas.List.Elements.{All-nil, All-cons, All-head, All-tail}
@@ -17,7 +17,7 @@ before_last-push log e =
     let long : length (log ++ e ∷ []) - 1 ≡ length log = omega (arith, length-append log (e ∷ [])) in
     ap (λ n. take n (log ++ e ∷ [])) long ∙ take-append_seam log (e ∷ [])
 
--- of a log that ends with an entry
+-- the entries before the last one
 pub before_last-of : (log before : List MonitorEntry) (e : MonitorEntry) → log ≡ before ++ e ∷ []
     → before_last log ≡ before
 before_last-of log before e is = ap before_last is ∙ before_last-push before e
@@ -30,7 +30,7 @@ ends_with log before number ticket command reply is = (
       (sym (before_last-of log before (entry number ticket command reply) is)),
 )
 
--- what is said of each reply in a legal log is said of its last one
+-- a property of each reply in a legal log holds of its last reply
 told : (setup : Setup) (P : List MonitorEntry → Reply → Type 0)
     → ((before after : List MonitorEntry) (e : MonitorEntry) → IsLegalLog setup (before ++ e ∷ after)
     → P (before ++ e ∷ []) e.reply)
@@ -39,13 +39,13 @@ told : (setup : Setup) (P : List MonitorEntry → Reply → Type 0)
 told setup P law log before e is legal =
     subst (λ (l : List MonitorEntry). P l e.reply) (sym is) (law before [] e (subst (IsLegalLog setup) is legal))
 
--- a log that is legal under a setup that is known
+-- a log that is legal under a known setup
 pub legal_under : (found : Option Setup) (setup : Setup) (log : List MonitorEntry) → found ≡ Some setup
     → IfSome found (λ s. IsLegalLog s log) → IsLegalLog setup log
 legal_under found setup log is legal = subst (λ (o : Option Setup). IfSome o (λ s. IsLegalLog s log)) is legal
 
 module _ {E : Type 0} where
-  -- what is said of each reply in a legal log is said of an answer that stands last in it
+  -- a property of each reply in a legal log holds of a result that is its last reply
   pub said : (result : Result Reply E) (found : Option Setup) (setup : Setup) (log : List MonitorEntry) (number : ℕ)
       (command : Command) (P : List MonitorEntry → Reply → Type 0)
       → ((before after : List MonitorEntry) (e : MonitorEntry) → IsLegalLog setup (before ++ e ∷ after)
@@ -57,7 +57,7 @@ module _ {E : Type 0} where
       (legal_under found setup log is legal)
   said (Err e) found setup log number command P law is ends legal = tt
 
--- what holds of each image holds of each element
+-- a property of each image holds of each element
 pub All-of_map : {A B : Type 0} (P : B → Type 0) (f : A → B) (xs : List A) → All P (map f xs) → All (λ x. P (f x)) xs
 All-of_map P f [] all = All-nil (λ x. P (f x))
 All-of_map P f (x ∷ xs) all =

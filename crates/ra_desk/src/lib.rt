@@ -1,9 +1,9 @@
 //! The desk: a monitor behind the ticket lock, for reporters on many threads.
 //!
-//! The one contract for the layers above: what a `DeskReporter` is answered is the one-thread monitor's answer after
-//! some reports of one growing log, which begins with all that the reporter had seen and in which this report stands
-//! last; a yes implies an RA-linearization of all of them, and a no comes exactly at the fault (`DeskReporter::tell`).
-//! It is what the lock's own calls (`ra_ticket`) say of a journal that is a monitor.
+//! The contract for the layers above: each reply to a `DeskReporter` is the single-threaded monitor's answer after some
+//! reports of one growing log. That log begins with all that the reporter had seen, and this report is its last entry.
+//! A reply `yes` implies an RA-linearization of all of them, and a reply `no` comes exactly at the fault
+//! (`DeskReporter::tell`). This follows from the contract of the lock (`ra_ticket`) for a journal that is a monitor.
 #![tactic(auto)]
 
 mod reporter;
@@ -12,6 +12,6 @@ use ra_monitor::Monitor;
 use ra_ticket::TicketLock;
 pub use reporter::{DeskCloseFault, DeskReporter};
 
-/// A monitor behind the ticket lock, for programs that prove something of passes themselves: each thread holds a pass
-/// of it and reports by `TicketLock::submit`. Others open a desk by `DeskReporter::open`.
+/// A monitor behind the ticket lock, for programs that prove something about passes themselves. Each thread holds a
+/// pass and reports by `TicketLock::submit`. Other programs open a desk by `DeskReporter::open`.
 pub type Desk = TicketLock<Monitor>;

@@ -1,8 +1,8 @@
-//! A reporter of a desk: what it is answered, in the monitor's words.
+//! The reporter of a desk, whose contract speaks of the monitor.
 ghost use Rattle.std.specs.Prelude.{◌≡◌, ◌≢◌, ◌+◌, ◌<◌, ◌≤◌, ◌⊎◌, [], length, map, All, IsTrue, IfOk, IfErr, IsOkUnless, Some};
 ghost use Rattle.std.specs.List.{range_with_len};
 ghost use Rattle.ra_journal.specs.Log.{BeginsWith, entries_of};
-ghost use Rattle.ra_laws.specs.AnyOrder.{is_of_any_order};
+ghost use Rattle.ra_theorems.specs.AnyOrder.{is_of_any_order};
 ghost use Rattle.ra_monitor.specs.Monitor.{answer_after, fault_label_in, IsLegalLog, IsRaLinearizable, IsNoAtFault, IsFinalNo};
 ghost use Rattle.ra_monitor.specs.Replies.{is_yes};
 ghost use Rattle.ra_ticket.specs.Callers.{pass_of, AreOfOneLock};
@@ -12,28 +12,28 @@ ghost use Rattle.ra_ticket.specs.declared.draw.TheConstants.{GREATEST_TICKET};
 ghost use Rattle.ra_ticket.specs.declared.open.TheConstants.{MOST_PASSES};
 
 use ra_labels::{Command, Reply};
-use ra_monitor::laws::each_reply_under_the_lock;
+use ra_monitor::theorems::replies_under_lock;
 use ra_monitor::{Monitor, Setup};
 use ra_ticket::{CallFault, Caller, CloseFault, Glance, Journal, OpenFault, Unsettled};
 use std::alloc::{AllocError, Global};
 use std::sync::Wait;
 
-/// A reporter of a desk, for a thread of its own. It may be dropped between reports, and the monitor goes with the last
-/// of them.
+/// A reporter of a desk, for a thread of its own. It may be dropped between reports. The last reporter that is dropped
+/// drops the monitor.
 #[derive(Drop)]
 pub struct DeskReporter {
     pub(crate) caller: Caller<Monitor>,
-    // The monitor's, which no report changes.
+    // The setup of the monitor, which no report changes.
     pub(crate) setup: Setup,
     ghost same: { pass_setup (pass_of caller) ≡ Some setup },
 }
 
-/// Why the monitor did not come back.
+/// Why `close` does not return the monitor.
 #[derive(Drop)]
 pub enum DeskCloseFault {
-    /// Other reporters of the desk are left. This one comes back.
+    /// Other reporters of the desk exist. Carries this reporter.
     Shared(DeskReporter),
-    /// A report was begun and not ended. The monitor is given up. No public call leaves one so.
+    /// A report was begun and not finished. The monitor is dropped. No public call leaves a report unfinished.
     Unsettled(Unsettled),
 }
 
@@ -41,9 +41,16 @@ impl DeskReporter {
     ghost use Rattle.ra_desk.specs.Reports.{number_of, setup_of, log_of, drawn_of, served_of, reports_of, passes_of, before_last};
     ghost use Rattle.ra_desk.specs.Reports.{IsSameReporter, EndsWith, IsReportedOnce, IsFoundBusy, AreOfOneDesk, KnowsWhatEitherKnew, HandsBack, TellsUnsettled};
 
-    /// Opens a desk over a monitor that has answered nothing yet, with 1 to 64 reporters, numbered from 0 in the list's
-    /// order. `BadPasses` gives the monitor back where it would be another number; `NoMemory` comes where a growth was
-    /// refused, and the monitor is given up. Its cost is linear in the number of reporters.
+    /// Opens a desk over a monitor with an empty log, with 1 to 64 reporters, numbered from 0 in the list's order.
+    ///
+    /// # Errors
+    ///
+    /// `BadPasses`, with the monitor, for any other number of reporters; otherwise `NoMemory` if an allocation fails,
+    /// and the monitor is dropped.
+    ///
+    /// # Complexity
+    ///
+    /// O(n) for n reporters.
     pub fn open(
         alloc: Global,
         monitor: Monitor,
@@ -69,7 +76,7 @@ impl DeskReporter {
         Ok(DeskReporter::set_up(alloc, callers, setup)?)
     }
 
-    // Gives each of the callers the setup of their monitor.
+    // Combines each caller with the setup of its monitor.
     fn set_up(
         alloc: Global,
         callers: Vec<Caller<Monitor>>,
@@ -87,32 +94,38 @@ impl DeskReporter {
         Ok(all)
     }
 
-    /// Its place in the list that `open` gave, from 0.
+    /// Returns its index in the list that `open` returned, from 0.
     pub fn number(&self) -> u8
         ensures { result ≡ number_of self.now }
     {
         self.caller.number()
     }
 
-    /// Tells the monitor of a command, in its turn, and answers the reply. It waits while other reports are answered;
-    /// costs what `Monitor::step` costs, and as `TicketLock::submit` says.
+    /// Reports a command to the monitor, in its turn, and returns the reply. It waits while other reports are answered.
     ///
-    /// `Full` where the log has as many entries as its limit, `NoMemory` where a growth was refused, `Worn` after
-    /// 2^64 - 1 tickets. Each hands the command back and logs nothing.
+    /// # Errors
+    ///
+    /// `Full` if the log has reached its limit; `NoMemory` if an allocation fails; `Worn` after 2^64 - 1 tickets. Each
+    /// hands the command back and logs nothing.
+    ///
+    /// # Complexity
+    ///
+    /// That of `Monitor::step` and of `TicketLock::submit`.
     pub fn tell<R: Wait>(&mut self, rt: &R, command: Command) -> Result<Reply, CallFault<Command>>
-        // Whatever comes, it is the same reporter, and has seen no less; what was legal stays so.
+        // In each case it is the same reporter, has seen no less, and a legal log stays legal.
         ensures same { IsSameReporter self.old self.new }
         ensures legal_still { IsLegalLog (setup_of self.old) (log_of self.old)
             → IsLegalLog (setup_of self.new) (log_of self.new) }
 
-        // This report stands last in what it has seen then, which is legal and begins with all that it had seen.
+        // This report is the last entry of the log that it has then seen, which is legal and begins with all that it
+        // had seen.
         ensures logged { IfOk result (λ reply. EndsWith (log_of self.new) (number_of self.old) command reply) }
         ensures not_before { IfOk result (λ reply. BeginsWith (before_last (log_of self.new)) (log_of self.old)) }
         ensures mine { IfOk result (λ reply. IsReportedOnce self.old self.new command reply) }
         ensures legal { IfOk result (λ reply. IsLegalLog (setup_of self.new) (log_of self.new)) }
 
-        // The reply is the one-thread monitor's after all before; a yes is evidence, a no comes exactly at the fault,
-        // and that of a counter or an OR-Set is final.
+        // The reply is the single-threaded monitor's answer after the entries before it. A reply `yes` is evidence, a
+        // reply `no` comes exactly at the fault, and for a counter or an OR-Set it is final.
         ensures answer { IfOk result (λ reply.
             reply ≡ answer_after (setup_of self.new) (before_last (log_of self.new)) command) }
         ensures yes { IfOk result (λ reply. IsTrue (is_yes reply)
@@ -131,16 +144,23 @@ impl DeskReporter {
         ensures never_busy { IfErr result (λ fault. ¬ (IsBusy fault)) }
         ensures worn_at_the_end { IfErr result (λ fault. IsWorn fault → drawn_of self.new ≡ GREATEST_TICKET + 1) }
         ensures worn_unchanged { IfErr result (λ fault. IsWorn fault → log_of self.new ≡ log_of self.old) }
-        // After these two the ticket that was drawn is served.
+        // After `Full` and `NoMemory` the drawn ticket is served.
         ensures served { IfErr result (λ fault. IsFull fault ⊎ IsNoMemory fault
             → served_of self.old < served_of self.new) }
     {
-        each_reply_under_the_lock();
+        replies_under_lock();
         self.caller.submit(rt, command)
     }
 
-    /// Tells the monitor of a command where nothing else is being answered; else `Busy` hands it back. It waits for
-    /// nobody. Cost and faults beside that are those of `tell`.
+    /// Reports a command to the monitor if nothing else is being answered. Does not wait.
+    ///
+    /// # Errors
+    ///
+    /// `Busy` if another report is being answered, which hands the command back; otherwise those of `tell`.
+    ///
+    /// # Complexity
+    ///
+    /// That of `tell`, without the wait.
     pub fn try_tell(&mut self, command: Command) -> Result<Reply, CallFault<Command>>
         ensures same { IsSameReporter self.old self.new }
         ensures legal_still { IsLegalLog (setup_of self.old) (log_of self.old)
@@ -173,17 +193,17 @@ impl DeskReporter {
         ensures not_drawn_unchanged { IfErr result (λ fault. IsWorn fault ⊎ IsBusy fault
             → log_of self.new ≡ log_of self.old) }
     {
-        each_reply_under_the_lock();
+        replies_under_lock();
         self.caller.try_submit(command)
     }
 
-    /// How many reports are logged by now, and the label of the first no, if there was one. It waits for nobody, takes
-    /// no memory and always answers.
+    /// Returns the number of reports logged so far, and the label of the first violation, if there is one. Does not
+    /// wait, does not allocate and cannot fail.
     pub fn glance(&mut self) -> Glance
         ensures same { IsSameReporter self.old self.new }
         ensures legal { IsLegalLog (setup_of self.new) (log_of self.new) }
         ensures mine { reports_of self.new ≡ reports_of self.old }
-        // What it knows of the tickets stays.
+        // What the reporter knows of the tickets is unchanged.
         ensures draws_none { (drawn_of self.new ≡ drawn_of self.old) × (served_of self.new ≡ served_of self.old) }
         ensures calls { result.calls ≡ length (log_of self.new) }
         ensures fault { result.fault ≡ fault_label_in (setup_of self.new) (log_of self.new) }
@@ -191,9 +211,9 @@ impl DeskReporter {
         self.caller.glance()
     }
 
-    /// Two reporters of one desk tell each other what they know: both come back, in the order in which they were given,
-    /// and have then seen one log, which has all reports of both. The number answered is how many entries it has. It
-    /// waits for nobody, takes no memory and always answers.
+    /// Shares what two reporters of one desk know, and returns both, in the given order. They have then seen one log,
+    /// which contains all reports of both. The returned number is its length. Does not wait, does not allocate and
+    /// cannot fail.
     pub fn meet(self, other: DeskReporter) -> (DeskReporter, DeskReporter, u32)
         requires one_desk { AreOfOneDesk self other }
         ensures first { IsSameReporter self result.0 }
@@ -203,7 +223,7 @@ impl DeskReporter {
         ensures one_log { log_of result.1 ≡ log_of result.0 }
         ensures legal { IsLegalLog (setup_of result.0) (log_of result.0)
             × IsLegalLog (setup_of result.1) (log_of result.1) }
-        // It draws no ticket.
+        // Of the tickets, each reporter knows what either knew.
         ensures draws_none { KnowsWhatEitherKnew self other result.0 × KnowsWhatEitherKnew self other result.1 }
         ensures calls { result.2 ≡ length (log_of result.0) }
     {
@@ -221,8 +241,11 @@ impl DeskReporter {
         (first, second, calls)
     }
 
-    /// Takes the monitor off the desk, where no other reporter is left; else `Shared` hands this one back. It waits for
-    /// nobody and takes no memory.
+    /// Closes the desk and returns the monitor. Does not wait and does not allocate.
+    ///
+    /// # Errors
+    ///
+    /// `Shared`, with this reporter, if other reporters exist; `Unsettled` if a report was begun and not finished.
     pub fn close(self) -> Result<Monitor, DeskCloseFault>
         ensures setup { IfOk result (λ monitor. monitor.setup ≡ setup_of self) }
         ensures legal { IfOk result (λ monitor. IsLegalLog monitor.setup monitor.log) }

@@ -1,11 +1,11 @@
--- Which number stands where among the first ones.
+-- Lemmas on the positions of consecutive numbers from 0.
 use Rattle.std.proofs.Common.{◌≡◌, ℕ, zero, suc, ◌<◌, ◌≤◌, ◌++◌, ◌∷◌, [], length, get_or, Some, None, ap, ◌∙◌, inl, inr, arith, length-append}
 use Rattle.std.specs.List.{slice_get}
 use Rattle.std.proofs.Math.ListN.{get_or-append}
 use Rattle.std.proofs.Math.Seq.{get_or-append_seam}
 use Rattle.std.proofs.lemmas.Bool.{cases_lt}
 use Rattle.std.proofs.lemmas.Option.{slice_get-get_or, slice_get_past}
-use Rattle.ra_exec_order.specs.Counted.{first_numbers}
+use Rattle.ra_exec_order.specs.NamedOrderTheorems.{first_numbers}
 
 pub length-first_numbers : (n : ℕ) → length (first_numbers n) ≡ n
 length-first_numbers zero = omega arith

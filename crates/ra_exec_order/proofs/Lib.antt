@@ -1,3 +1,3 @@
 pub mod FirstNumbers
 pub mod LastPlaces
-pub mod TheLaws
+pub mod TheoremIndex

@@ -1,15 +1,15 @@
-//! The named order of counters and OR-Sets: that of the labels' numbers.
+//! The named order of counters and OR-Sets: labels by their numbers.
 ghost use Rattle.std.specs.Prelude.{◌≡◌, ℕ, [], IsOk};
 ghost use Rattle.ra_labels.specs.declared.kind.Kind.{Kind};
 ghost use Rattle.ra_labels.specs.Records.{label_count};
-ghost use Rattle.ra_labels.specs.Situation.{nothing_yet};
+ghost use Rattle.ra_labels.specs.HistorySoFar.{empty_history};
 ghost use Rattle.ra_visibility.specs.Order.{IsByExecution};
 
 use ra_labels::{Label, NoMemory};
 use ra_visibility::{NamedOrder, Place, Seen};
 use std::marker::Model;
 
-/// Labels in the order of their execution. Each call takes no memory and costs a constant.
+/// Labels in execution order. No call allocates, and each is O(1).
 #[derive(Drop)]
 pub struct ExecOrder {
     labels: u32,
@@ -18,25 +18,25 @@ pub struct ExecOrder {
 impl Model for ExecOrder {
     ghost use Rattle.std.specs.Prelude.{ℕ};
 
-    // how many labels there are
+    // the number of labels
     ghost Value = { ℕ };
 
     ghost view = { λ a. a.labels };
 }
 
 impl ExecOrder {
-    /// The order of no labels.
+    /// Creates the order without labels.
     pub fn new() -> ExecOrder
         ensures listed { ⟦<ExecOrder as NamedOrder>⟧.listed result ≡ [] }
-        ensures stands { (kind : Kind) (founders : ℕ) → IsByExecution kind
-            → ⟦<ExecOrder as NamedOrder>⟧.stands_for result (nothing_yet kind founders) }
+        ensures stands { (kind : Kind) (initial_replicas : ℕ) → IsByExecution kind
+            → ⟦<ExecOrder as NamedOrder>⟧.stands_for result (empty_history kind initial_replicas) }
     {
         ExecOrder { labels: 0 }
     }
 }
 
 impl NamedOrder for ExecOrder {
-    ghost use Rattle.ra_exec_order.specs.Counted.{first_numbers, first_numbers-listed};
+    ghost use Rattle.ra_exec_order.specs.NamedOrderTheorems.{first_numbers, first_numbers-listed};
 
     ghost listed = { λ order. first_numbers order };
 
@@ -51,7 +51,7 @@ impl NamedOrder for ExecOrder {
         }
     }
 
-    /// It never answers `NoMemory`.
+    /// Succeeds in every case and changes nothing.
     fn spare(&mut self) -> Result<(), NoMemory>
         ensures made { IsOk result }
         ensures same { self.new ≡ self.old }

@@ -1,4 +1,4 @@
--- The command of a label stands at its place in the log.
+-- Lemmas on the command of a label: it stands at the label's position in the log.
 use Rattle.std.proofs.Common.{◌≡◌, ℕ, zero, suc, ◌+◌, ◌<◌, ◌≤◌, Bool, true, false, cond, List, [], ◌∷◌, ◌++◌, length, filter, reverse, Option, Some, refl, sym, ap, ◌∙◌, subst, arith}
 use Rattle.std.specs.Prelude.{◌&&◌, ◌||◌, option_map}
 use Rattle.std.specs.List.{slice_get, AllByRecursion}
@@ -9,14 +9,14 @@ use Rattle.ra_labels.specs.declared.label.Label.{Label}
 use Rattle.ra_labels.specs.declared.command.Command.{Command}
 use Rattle.ra_labels.specs.declared.command.Command.TheVariants.{Operate}
 use Rattle.ra_labels.specs.Records.{Records, label_count, labels_of}
-use Rattle.ra_labels.specs.Situation.{Next, next_of, operate}
+use Rattle.ra_labels.specs.HistorySoFar.{NextOperation, next_operation, operate}
 use Rattle.ra_monitor.specs.declared.setup.Setup.{Setup}
 use Rattle.ra_monitor.specs.Monitor.{MonitorEntry, records_of, IsLegalLog}
-use Rattle.ra_accepted.specs.Accepted.{is_no, tells_accepted, accepted_in}
-use Rattle.ra_accepted.proofs.TheLaws.{accepted_commands_are_the_records}
+use Rattle.ra_accepted_commands.specs.Accepted.{is_no, is_accepting_reply, accepted_in}
+use Rattle.ra_accepted_commands.proofs.TheoremIndex.{accepted_commands_eq_records}
 use Rattle.ra_explain.specs.Places.{is_operation, places_from, places_in, command_at}
 
--- ---- the operations among the accepted commands are found by the places
+-- ---- the positions select the operations among the accepted commands
 
 found_one : (whole : List MonitorEntry) (at : ℕ) (rest : List ℕ) (entry : MonitorEntry) (later : List Command)
     (acts tells : Bool) → is_operation entry.command ≡ acts → slice_get whole at ≡ Some entry
@@ -38,19 +38,19 @@ operations_found whole failed at (entry ∷ log) same n =
     let here : at + 0 ≡ at = omega arith in
     let next = failed || is_no entry.reply in
     found_one whole at (places_from next (at + 1) log) entry (accepted_in next log) (is_operation entry.command)
-    (tells_accepted failed entry.reply) refl (subst (λ k. slice_get whole k ≡ Some entry) here (same 0))
+    (is_accepting_reply failed entry.reply) refl (subst (λ k. slice_get whole k ≡ Some entry) here (same 0))
     (operations_found whole next (at + 1) log (λ i.
     let behind : at + suc i ≡ at + 1 + i = omega arith in
     subst (λ k. slice_get whole k ≡ slice_get log i) behind (same (suc i)))) n
 
--- ---- and they are the labels
+-- ---- and these are the labels
 
--- the label's operation is the one at its number
+-- the operation at the label's number is the label's operation
 abbrev pub StandsIn : List Command → Label → Type 0
 StandsIn operations label =
     (clock : Option ℕ) × (slice_get operations label.number ≡ Some (Operate label.replica label.op clock))
 
--- there are no more of them than these, and each stands there
+-- the label's operation is among these, at a number below their count
 pub record IsAmong (operations : List Command) (count : ℕ) (label : Label) : Type 0 where
   pub stands : StandsIn operations label
   pub below : label.number < count
@@ -88,7 +88,7 @@ operations_counted (c ∷ before) =
     ∙ append-nil (operations_in before)) ∙ operations_counted before
 
 -- the newest operation stands at its number
-pub newest_stands : (before : Records) (last : Next) (more : List Command)
+pub newest_stands : (before : Records) (last : NextOperation) (more : List Command)
     → slice_get (operations_in (operate last ∷ before) ++ more) (label_count before) ≡ Some (operate last)
 newest_stands before last more =
     let c = operate last in
@@ -104,7 +104,7 @@ labels_stand (Operate by op clock ∷ before) more count few =
     let c = Operate by op clock in
     let same : operations_in (c ∷ before) ++ more ≡ operations_in before ++ c ∷ more =
     ap (λ (cs : List Command). cs ++ more) (one_more c before) ∙ append_assoc (operations_in before) (c ∷ []) more in (
-      record { stands = (clock, newest_stands before (next_of by op clock) more); below = omega (arith, few) },
+      record { stands = (clock, newest_stands before (next_operation by op clock) more); below = omega (arith, few) },
       subst (λ (cs : List Command). AllByRecursion (IsAmong cs count) (labels_of before)) (sym same)
           (labels_stand before (c ∷ more) count (omega (arith, few))),
     )
@@ -118,4 +118,4 @@ pub command_found : (setup : Setup) (log : List MonitorEntry) → IsLegalLog set
 command_found setup log legal n =
     operations_found log false 0 log (λ i. let same : 0 + i ≡ i = omega arith in ap (slice_get log) same) n
     ∙ ap (λ (cs : List Command). slice_get (filter is_operation cs) n)
-    (accepted_commands_are_the_records setup log legal)
+    (accepted_commands_eq_records setup log legal)

@@ -1,4 +1,4 @@
--- The records of a log end with the label of its fault.
+-- Lemmas on the fault of a log: its records end with the label of the fault.
 use Rattle.std.proofs.Common.{◌≡◌, ℕ, ◌+◌, ◌<◌, ◌≤◌, Bool, true, false, List, [], ◌∷◌, inl, inr, length, Option, Some, None, refl, sym, ap, ◌∙◌, arith}
 use Rattle.std.specs.Prelude.{◌==◌, ◌&&◌, ◌||◌, is_some, is_none, option_map}
 use Rattle.std.specs.Option.{option_or}
@@ -10,17 +10,17 @@ use Rattle.ra_labels.specs.declared.command.Command.TheVariants.{Operate, Verdic
 use Rattle.ra_labels.specs.declared.reply.Cause.{Cause}
 use Rattle.ra_labels.specs.declared.reply.Fault.{Fault}
 use Rattle.ra_labels.specs.Records.{Records, label_count}
-use Rattle.ra_labels.specs.Visibility.{had, is_update}
+use Rattle.ra_labels.specs.Visibility.{has_delivered, is_update}
 use Rattle.ra_labels.specs.Fault.{fault_of, fault_at, cause_of, records_before_fault}
 use Rattle.ra_labels.specs.Answer.{refusal_of, records_after, records_after_all, with_accepted}
-use Rattle.ra_labels.specs.Situation.{Next, next_of, operate}
-use Rattle.ra_laws.proofs.TheLaws.{records_before_fault_have_none-all}
+use Rattle.ra_labels.specs.HistorySoFar.{NextOperation, next_operation, operate}
+use Rattle.ra_theorems.proofs.TheoremIndex.{records_before_fault_have_none-all}
 use Rattle.ra_seqspec.specs.declared.TheConstants.{FARTHEST_COUNT}
 use Rattle.ra_monitor.specs.Limits.{IsLimit}
 use Rattle.ra_monitor.specs.declared.setup.Setup.{Setup}
 use Rattle.ra_monitor.specs.Monitor.{MonitorEntry, records_of, commands_of}
 
--- before the newest of the records there was no fault
+-- there was no fault before the newest record
 abbrev IsSoundBefore : Kind → Records → Type 0
 IsSoundBefore kind [] = Unit {0}
 IsSoundBefore kind (c ∷ before) = fault_of kind before ≡ None
@@ -34,7 +34,8 @@ with_one : (kind : Kind) (records : Records) (c : Command) → IsSoundBefore kin
 with_one kind records Verdict sound none = sound
 with_one kind records _ sound none = none
 
--- what holds of the records whatever becomes of a command: they stay, or it is accepted before any fault
+-- a property that holds of the unchanged records, and of those with an accepted command before any fault, holds after
+-- each command
 after_cases : (kind : Kind) (n : ℕ) (records : Records) (c : Command) (P : Records → Type 0) → P records
     → (fault_of kind records ≡ None → P (with_accepted records c)) → P (records_after kind n records c)
 after_cases kind n records c P stay accepted =
@@ -56,14 +57,14 @@ after_all kind n records (c ∷ cs) sound =
     after_all kind n (records_after kind n records c) cs (after_one kind n records c sound)
 
 -- the records end with the fault's label
-pub record EndsAtFault (kind : Kind) (records : Records) (fault : Fault) (before : Records) (last : Next) : Type 0 where
+pub record EndsAtFault (kind : Kind) (records : Records) (fault : Fault) (before : Records) (last : NextOperation) : Type 0 where
   pub records_are : records ≡ operate last ∷ before
   pub label : fault.label ≡ label_count before
   pub sound : fault_of kind before ≡ None
   pub before_is : records_before_fault kind records ≡ before
 
 abbrev pub Ends : Kind → Records → Fault → Type 0
-Ends kind records fault = (before : Records) × (last : Next) × EndsAtFault kind records fault before last
+Ends kind records fault = (before : Records) × (last : NextOperation) × EndsAtFault kind records fault before last
 
 label_is : (n : ℕ) (why : Option Cause) (fault : Fault) → option_map (fault_at n) why ≡ Some fault → fault.label ≡ n
 label_is n None fault is = absurd (cc is)
@@ -78,7 +79,7 @@ ends kind (Operate by op clock ∷ before) fault sound is =
     let led : newest ≡ Some fault = sym (ap (λ (o : Option Fault). option_or o newest) sound) ∙ is in
     let fails : is_none (fault_of kind records) ≡ false = ap is_none is in (
       before,
-      next_of by op clock,
+      next_operation by op clock,
       record {
         records_are = refl;
         label = label_is (label_count before) (cause_of kind records) fault led;
@@ -94,7 +95,7 @@ pub log_ends : (setup : Setup) (log : List MonitorEntry) (fault : Fault)
 log_ends setup log fault is =
     ends setup.kind (records_of setup log) fault (after_all setup.kind setup.replicas [] (commands_of log) tt) is
 
--- of the labels before the fault, the replica had then what it has now
+-- a label before the fault was delivered to the replica by then exactly if it is delivered now
 or_false : (a b c : Bool) (h : Bool) → b ≡ false → ((a && b && c) || h) ≡ h
 or_false true b c h is = ap (λ t. (t && c) || h) is
 or_false false b c h is = refl
@@ -102,20 +103,20 @@ or_false false b c h is = refl
 pub had_before : (setup : Setup) (log : List MonitorEntry) (replica n : ℕ) (o : Option Fault)
     → fault_of setup.kind (records_of setup log) ≡ o
     → n < label_count (records_before_fault setup.kind (records_of setup log))
-    → had (records_of setup log) replica n ≡ had (records_before_fault setup.kind (records_of setup log)) replica n
+    → has_delivered (records_of setup log) replica n ≡ has_delivered (records_before_fault setup.kind (records_of setup log)) replica n
 had_before setup log replica n None is below =
-    ap (λ (rs : Records). had rs replica n)
+    ap (λ (rs : Records). has_delivered rs replica n)
     (sym (records_before_fault_have_none-all setup.kind (records_of setup log) is))
 had_before setup log replica n (Some fault) is below =
     let (before, last, at) = log_ends setup log fault is in
     let other : n ≡ label_count before → ⊥ = λ same.
     absurd (omega (arith, below, ap label_count at.before_is, same)) in
-    ap (λ (rs : Records). had rs replica n) at.records_are
-    ∙ or_false (last.by == replica) (n == label_count before) (is_update last.op) (had before replica n)
+    ap (λ (rs : Records). has_delivered rs replica n) at.records_are
+    ∙ or_false (last.by == replica) (n == label_count before) (is_update last.op) (has_delivered before replica n)
     (ne_eqb n (label_count before) other)
-    ∙ ap (λ (rs : Records). had rs replica n) (sym at.before_is)
+    ∙ ap (λ (rs : Records). has_delivered rs replica n) (sym at.before_is)
 
--- ---- there are no more labels than entries
+-- ---- there are at most as many labels as entries
 
 few_one : (kind : Kind) (n : ℕ) (records : Records) (c : Command)
     → label_count (records_after kind n records c) ≤ label_count records + 1
@@ -137,7 +138,7 @@ few_labels setup log =
     let same = length-map log (λ (e : MonitorEntry). e.command) in
     omega (arith, few_all setup.kind setup.replicas [] (commands_of log), same)
 
--- nor are there more before the fault
+-- and at most as many before the fault
 pub few_before : (setup : Setup) (log : List MonitorEntry) (o : Option Fault)
     → fault_of setup.kind (records_of setup log) ≡ o
     → label_count (records_before_fault setup.kind (records_of setup log)) ≤ label_count (records_of setup log)
@@ -147,7 +148,7 @@ few_before setup log (Some fault) is =
     let (before, last, at) = log_ends setup log fault is in
     omega (arith, ap label_count at.before_is, ap label_count at.records_are)
 
--- so there are few enough for a state
+-- so their number is small enough for a state
 pub few_enough : (setup : Setup) (log : List MonitorEntry) → length log ≤ setup.limit → IsLimit setup.limit
     → label_count (records_before_fault setup.kind (records_of setup log)) ≤ FARTHEST_COUNT
 few_enough setup log within limit =

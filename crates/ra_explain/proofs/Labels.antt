@@ -1,4 +1,4 @@
--- What the parts of the labels before the fault do is told by the log.
+-- Lemmas on the labels before the fault: the log determines the updates of their parts.
 use Rattle.std.proofs.Common.{◌≡◌, ℕ, ◌<◌, List, [], ◌∷◌, ◌++◌, map, filter, reverse, refl, sym, ap, ◌∙◌, arith}
 use Rattle.std.specs.Prelude.{flat_map, option_and_then}
 use Rattle.std.specs.List.{slice_get, AllByRecursion, All}
@@ -13,7 +13,7 @@ use Rattle.ra_labels.specs.Records.{label_count, labels_of}
 use Rattle.ra_labels.specs.Rewriting.{Half, Act, acts_of, part_of, parts_of}
 use Rattle.ra_labels.specs.Linearization.{parts_in}
 use Rattle.ra_labels.specs.NamedOrder.{named_sequence}
-use Rattle.ra_laws.proofs.TheLaws.{each_part_once, records_before_fault_are_the_longest-prefix}
+use Rattle.ra_theorems.proofs.TheoremIndex.{named_sequence_has_each_part_once, records_before_fault_longest-prefix}
 use Rattle.ra_monitor.specs.declared.setup.Setup.{Setup}
 use Rattle.ra_monitor.specs.Monitor.{MonitorEntry, records_of, records_before_fault_in, fault_in, IsLegalLog}
 use Rattle.ra_witness.specs.Labels.{update_in}
@@ -32,7 +32,7 @@ acts_fine (op.OrRemove x ids) = (
 )
 acts_fine _ = (record { query = λ is. absurd (cc is); other = λ not. refl }, tt)
 
--- what the log tells of a label
+-- what the log determines of a label
 pub record IsTold (setup : Setup) (log : List MonitorEntry) (label : Label) : Type 0 where
   pub found : update_at log (places_in log) label.number ≡ update_in label.op
   pub below : label.number < label_count (records_before_fault_in setup log)
@@ -58,13 +58,13 @@ each_flat : {A B : Type 0} (P : A → Type 0) (Q : B → Type 0) (f : A → List
 each_flat P Q f leads [] all = tt
 each_flat P Q f leads (x ∷ xs) all = both Q (f x) (flat_map f xs) (leads x all.0) (each_flat P Q f leads xs all.1)
 
--- of the labels before the fault
+-- for the labels before the fault
 labels_told : (setup : Setup) (log : List MonitorEntry) → IsLegalLog setup log
     → AllByRecursion (IsTold setup log) (labels_of (records_before_fault_in setup log))
 labels_told setup log legal =
     let records = records_of setup log in
     let before = records_before_fault_in setup log in
-    let (later, cut) = records_before_fault_are_the_longest-prefix setup.kind records in
+    let (later, cut) = records_before_fault_longest-prefix setup.kind records in
     let more = filter is_operation (reverse later) in
     let same : operations_in before ++ more ≡ operations_in records =
     sym (ap operations_in cut ∙ ap (filter is_operation) (reverse-append later before)
@@ -76,13 +76,13 @@ labels_told setup log legal =
       below = among.below;
     }) (labels_of before) (labels_stand before more (label_count before) (omega arith))
 
--- of the parts in the named order
+-- for the parts in the named order
 pub parts_known : (setup : Setup) (log : List MonitorEntry) (replica : ℕ) → IsLegalLog setup log
     → All (IsKnown setup log replica) (named_sequence setup.kind (records_before_fault_in setup log))
 parts_known setup log replica legal =
     let before = records_before_fault_in setup log in
     let known = IsKnown setup log replica in
-    All-permutation known (parts_in before) (named_sequence setup.kind before) (each_part_once setup.kind before)
+    All-permutation known (parts_in before) (named_sequence setup.kind before) (named_sequence_has_each_part_once setup.kind before)
     (All-from_recursion known (parts_in before)
     (each_flat (IsTold setup log) known parts_of (λ label told.
     each_map (fine label.op) known (part_of label) (λ act is. record {

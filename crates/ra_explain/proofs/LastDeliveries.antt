@@ -1,4 +1,4 @@
--- Without some of what reached a replica last, for the others all is as before.
+-- Lemmas on removing some of the last deliveries to a replica: nothing changes for the other replicas.
 use Rattle.std.proofs.Common.{◌≡◌, ℕ, ◌+◌, Bool, true, false, cond, List, [], ◌∷◌, ◌++◌, Option, Some, None, refl, sym, ap, subst, ◌∙◌, inl, inr}
 use Rattle.std.specs.Prelude.{◌==◌, ◌&&◌, ◌||◌, not, filter, flat_map, is_some, unwrap_or, option_map, if◌then◌else◌}
 use Rattle.std.specs.Option.{option_map_or, option_or}
@@ -16,17 +16,17 @@ use Rattle.ra_labels.specs.declared.reply.Cause.{Cause}
 use Rattle.ra_labels.specs.declared.reply.Cause.TheVariants.{Order, Update, Query}
 use Rattle.ra_labels.specs.Lists.{is_among}
 use Rattle.ra_labels.specs.Records.{Records, label_count, labels_of, stamp_at}
-use Rattle.ra_labels.specs.Visibility.{is_update_at, had, sees, IsCausal}
+use Rattle.ra_labels.specs.Visibility.{is_update_at, has_delivered, sees, IsCausal}
 use Rattle.ra_labels.specs.Specification.{is_answered_after}
 use Rattle.ra_labels.specs.Rewriting.{Part, parts_of, update_of, query_of, updates_of}
-use Rattle.ra_labels.specs.Linearization.{is_earlier_there, is_query_half_of, extends, updates_admitted}
+use Rattle.ra_labels.specs.Linearization.{is_earlier_at_replica, is_query_half_of, extends, updates_admitted}
 use Rattle.ra_labels.specs.NamedOrder.{stamp_cmp, greatest_stamp, rank_of, label_cmp, sort_by, named_labels, named_sequence}
 use Rattle.ra_labels.specs.Fault.{cause_of, fault_at, fault_of}
 use Rattle.ra_explain.specs.Changes.{cuts_off}
 use Rattle.ra_explain.specs.LastDeliveries.{is_taken_back, without, labels_got_last}
 
--- what holds of no records, and with each command more, whatever becomes of it: all stays from it on, it is left out,
--- or it stays alone
+-- induction on records: a property of the empty records that each further command preserves, whether everything from it
+-- on is kept, it is removed, or it alone is kept
 of_what_is_left : (by : ℕ) (left : ℕ → Bool) (P : Records → Records → Type 0) → P [] []
     → ((command : Command) (before : Records) → cuts_off by command ≡ true → P (command ∷ before) (command ∷ before))
     → ((n : ℕ) (older before : Records) → left n ≡ true → P older before → P older (Deliver by n ∷ before))
@@ -52,9 +52,9 @@ of_what_is_left by left P none cut taken kept (command ∷ before) =
         (taken n (without by left before) before parts.1 behind)
     without_it behind _ is = absurd (cc is)
 
--- ---- the same labels that see the same stand in the same order, and have the same fault
+-- ---- the same labels with the same visibility have the same order and the same fault
 
--- the labels, and which of them see which
+-- the labels, and which of them sees which
 record Sight : Type 0 where
   count : ℕ
   labels : List Label
@@ -63,7 +63,7 @@ record Sight : Type 0 where
 abbrev sight_of : Records → Sight
 sight_of records = record { count = label_count records; labels = labels_of records; sees = λ n m. sees records n m }
 
--- with one operation more, at a replica that had this
+-- with one more operation, at a replica to which these labels were delivered
 abbrev with_operation : ℕ → Op → Option ℕ → Sight → (ℕ → Bool) → Sight
 with_operation o op clock s had_before = record {
   count = s.count + 1;
@@ -91,7 +91,7 @@ same_order kind one other same =
 abbrev cause_by : Kind → (ℕ → ℕ → Bool) → List Part → Option Cause
 cause_by kind sight sequence =
     if not (extends (λ (p q : Part). (is_some (update_of p.act) && sight q.label.number p.label.number)
-    || is_earlier_there p q || is_query_half_of p q) sequence) then Some Order
+    || is_earlier_at_replica p q || is_query_half_of p q) sequence) then Some Order
     else if not (updates_admitted kind sequence) then Some Update
     else if not (list_all (λ (part : Part). option_map_or (is_answered_after kind
     (updates_of (filter (λ (p : Part). sight part.label.number p.label.number) sequence))) (query_of part.act) true)
@@ -105,11 +105,11 @@ same_cause kind one other same =
     ∙ ap (λ (ls : List Label). cause_by kind (λ n m. sees other n m) (flat_map parts_of ls))
     (same_order kind one other same)
 
--- ---- all but what the replica itself had
+-- ---- everything but the updates delivered to the replica itself
 
 record AreAlike (by : ℕ) (older before : Records) : Type 0 where
   sight : sight_of older ≡ sight_of before
-  others : (x n : ℕ) → (x ≡ by → ⊥) → had older x n ≡ had before x n
+  others : (x n : ℕ) → (x ≡ by → ⊥) → has_delivered older x n ≡ has_delivered before x n
   fault : (kind : Kind) → fault_of kind older ≡ fault_of kind before
 
 alike_itself : (by : ℕ) (records : Records) → AreAlike by records records
@@ -143,7 +143,7 @@ alike_with by (Operate o op clock) older before goes_on same = record {
 
     sight : sight_of (Operate o op clock ∷ older) ≡ sight_of (Operate o op clock ∷ before)
     sight =
-        ap (λ (s : Sight). with_operation o op clock s (had older o)) same.sight
+        ap (λ (s : Sight). with_operation o op clock s (has_delivered older o)) same.sight
         ∙ ap (with_operation o op clock (sight_of before))
         (fun_ext (λ (m : ℕ). same.others o m (eqb-false o by goes_on)))
 alike_with by (Deliver to m) older before goes_on same = record {
@@ -168,7 +168,7 @@ alike by left = of_what_is_left by left (AreAlike by) (alike_itself by [])
     (λ command older before goes_on stays. alike_with by command older before goes_on)
 
 pub had_without : (by : ℕ) (left : ℕ → Bool) (records : Records) (x n : ℕ) → (x ≡ by → ⊥)
-    → had (without by left records) x n ≡ had records x n
+    → has_delivered (without by left records) x n ≡ has_delivered records x n
 had_without by left records = (alike by left records).others
 
 pub sees_without : (by : ℕ) (left : ℕ → Bool) (records : Records) (n m : ℕ)
@@ -183,25 +183,26 @@ pub fault_without : (kind : Kind) (by : ℕ) (left : ℕ → Bool) (records : Re
     → fault_of kind (without by left records) ≡ fault_of kind records
 fault_without kind by left records = (alike by left records).fault kind
 
--- ---- what the replica itself had
+-- ---- the updates delivered to the replica itself
 
--- does the label stay?
+-- whether a label is kept
 abbrev stays : (ℕ → Bool) → ℕ → List ℕ → Bool
 stays left n got = not (left n && is_among n got)
 
--- and the rest is alike
+-- the records are alike otherwise, and the kept labels are those still delivered to the replica
 record HadThere (by : ℕ) (left : ℕ → Bool) (older before : Records) : Type 0 where
   alike : AreAlike by older before
-  own : (n : ℕ) → IsCausal before → had older by n ≡ (had before by n && stays left n (labels_got_last by before))
+  own : (n : ℕ) → IsCausal before → has_delivered older by n ≡ (has_delivered before by n && stays left n (labels_got_last by before))
 
--- nothing is left out of what did not reach it last
+-- no label is removed that is not among the last ones to reach the replica
 none_left : (h a : Bool) → h ≡ (h && not (a && false))
 none_left true true = refl
 none_left true false = refl
 none_left false a = refl
 
--- what the replica had with one delivery more that stays, by cases: is it to it, of this label, an update, had it that
--- before, is this label left out, and the delivered one, and did this one reach it last before
+-- what was delivered to the replica with one more delivery that is kept; the cases: it is to this replica, of this
+-- label, an update, the label was delivered before, this label is removed, the delivered one is, this label is among
+-- the last
 with_delivery : (t e u h l lm a : Bool) → (t && lm) ≡ false → (e ≡ true → lm ≡ l)
     → ((t && e && u) || (h && not (l && a))) ≡ (((t && e && u) || h) && not (l && cond t (e || a) a))
 with_delivery false e u h l lm a off same = refl
@@ -211,7 +212,7 @@ with_delivery true true u h true false a off same = absurd (true≢false (sym (s
 with_delivery true true true h false lm a off same = refl
 with_delivery true true false h false lm a off same = refl
 
--- and with one that is left out, and was new
+-- and with a delivery that is removed and was new
 without_delivery : (e u h l a : Bool) → (e ≡ true → (l ≡ true) × (h ≡ false))
     → (h && not (l && a)) ≡ (((e && u) || h) && not (l && (e || a)))
 without_delivery false u h l a new = refl
@@ -223,13 +224,13 @@ without_delivery true false false true a new = refl
 had_with : (by : ℕ) (left : ℕ → Bool) (command : Command) (older before : Records) → cuts_off by command ≡ false
     → is_taken_back by left command ≡ false → HadThere by left older before
     → (n : ℕ) → IsCausal (command ∷ before)
-    → had (command ∷ older) by n ≡ (had (command ∷ before) by n && stays left n (labels_got_last by (command ∷ before)))
+    → has_delivered (command ∷ older) by n ≡ (has_delivered (command ∷ before) by n && stays left n (labels_got_last by (command ∷ before)))
 had_with by left (Operate o op clock) older before goes_on off same n causal = rw goes_on (same.own n causal)
 had_with by left (Deliver to m) older before goes_on off same n causal =
     rw (ap (λ (s : Sight). s.labels) same.alike.sight, same.own n causal.2)
-    (with_delivery (to == by) (n == m) (is_update_at before n) (had before by n) (left n) (left m)
+    (with_delivery (to == by) (n == m) (is_update_at before n) (has_delivered before by n) (left n) (left m)
     (is_among n (labels_got_last by before)) off (λ is. ap left (sym (eqb-true n m is)))
-    ∙ ap (λ a. had (Deliver to m ∷ before) by n && not (left n && a)) (sym (among (to == by))))
+    ∙ ap (λ a. has_delivered (Deliver to m ∷ before) by n && not (left n && a)) (sym (among (to == by))))
   where
     among : (t : Bool) → is_among n (cond t (m ∷ []) [] ++ labels_got_last by before)
         ≡ cond t ((n == m) || is_among n (labels_got_last by before)) (is_among n (labels_got_last by before))
@@ -241,19 +242,19 @@ had_with by left (Join joined from) older before goes_on off same n causal =
 had_with by left Verdict older before goes_on off same n causal = same.own n causal
 
 pub had_there : (by : ℕ) (left : ℕ → Bool) (records : Records) (n : ℕ) → IsCausal records
-    → had (without by left records) by n ≡ (had records by n && stays left n (labels_got_last by records))
+    → has_delivered (without by left records) by n ≡ (has_delivered records by n && stays left n (labels_got_last by records))
 had_there by left records = (of_what_is_left by left (HadThere by left)
     (record { alike = alike_itself by []; own = λ n causal. refl })
     (λ command before cuts. record {
       alike = alike_itself by (command ∷ before);
-      own = λ n causal. rw cuts (none_left (had (command ∷ before) by n) (left n));
+      own = λ n causal. rw cuts (none_left (has_delivered (command ∷ before) by n) (left n));
     })
     (λ m older before is same. record {
       alike = alike_without by m older before same.alike;
       own = λ n causal. rw (eq-eqb by by refl)
-          (same.own n causal.2 ∙ without_delivery (n == m) (is_update_at before n) (had before by n) (left n)
+          (same.own n causal.2 ∙ without_delivery (n == m) (is_update_at before n) (has_delivered before by n) (left n)
           (is_among n (labels_got_last by before))
-          (λ same. let this = eqb-true n m same in (ap left this ∙ is, ap (had before by) this ∙ causal.0)));
+          (λ same. let this = eqb-true n m same in (ap left this ∙ is, ap (has_delivered before by) this ∙ causal.0)));
     })
     (λ command older before goes_on off same. record {
       alike = alike_with by command older before goes_on same.alike;

@@ -1,4 +1,4 @@
--- What a trial was told of, and what it answered.
+-- Lemmas on the commands that a trial received, and on its replies.
 use Rattle.std.proofs.Common.{◌≡◌, ℕ, suc, ◌+◌, ◌<◌, true, false, List, length, drop, get_or, arith, [], ◌∷◌, ◌++◌, Option, Some, None, refl, sym, ap, ◌∙◌, subst}
 use Rattle.std.proofs.Math.Seq.{drop-cons}
 use Rattle.std.proofs.lemmas.Bool.{cond-true, cond-false}
@@ -11,27 +11,28 @@ use Rattle.ra_labels.specs.declared.reply.Reply.{Reply}
 use Rattle.ra_labels.specs.declared.reply.Reply.TheVariants as reply
 use Rattle.ra_labels.specs.Records.{Records, label_count}
 use Rattle.ra_labels.specs.Fault.{fault_of}
-use Rattle.ra_labels.specs.Answer.{answer_of, records_after_all, refusal_of, no_at}
-use Rattle.ra_labels.specs.Situation.{Next, operate}
+use Rattle.ra_labels.specs.Answer.{answer_of, records_after_all, refusal_of, no_reply}
+use Rattle.ra_labels.specs.HistorySoFar.{NextOperation, operate}
 use Rattle.ra_monitor.specs.declared.setup.Setup.{Setup}
 use Rattle.ra_monitor.specs.declared.trial.Trial.{Trial}
 use Rattle.ra_monitor.specs.Monitor.{MonitorEntry}
-use Rattle.ra_monitor.specs.Trial.{IsToldOf}
+use Rattle.ra_monitor.specs.Trial.{HasAnswered}
 use Rattle.ra_explain.specs.declared.changes.Change.{Change}
 use Rattle.ra_explain.specs.Changes.{is_ok, is_kept, kept_one, kept_from, holds_after}
 
--- the trial was told of some commands, which with what is kept of the rest are those that are kept of all
+-- the trial received some commands, which together with the kept ones of the rest are all that are kept of the whole
+-- log
 pub record IsToldSo (trial : Trial) (change : Change) (replica place : ℕ)
     (rest whole : List MonitorEntry) : Type 0 where
   pub commands : List Command
-  pub told : IsToldOf trial commands
+  pub told : HasAnswered trial commands
   pub same : commands ++ kept_from change replica place rest ≡ kept_from change replica 0 whole
 
--- then of one entry's command more, which is kept
+-- the trial receives the command of one more entry, which is kept
 pub told_more : (old new : Trial) (change : Change) (replica place : ℕ) (entry : MonitorEntry)
     (rest whole : List MonitorEntry) → IsToldSo old change replica place (entry ∷ rest) whole
     → is_kept change replica place entry ≡ true
-    → ((commands : List Command) → IsToldOf old commands → IsToldOf new (commands ++ entry.command ∷ []))
+    → ((commands : List Command) → HasAnswered old commands → HasAnswered new (commands ++ entry.command ∷ []))
     → IsToldSo new change replica (place + 1) rest whole
 told_more old new change replica place entry rest whole so kept tells =
     let behind = kept_from change replica (place + 1) rest in
@@ -44,7 +45,7 @@ told_more old new change replica place entry rest whole so kept tells =
           ∙ sym (ap (λ (cs : List Command). so.commands ++ (cs ++ behind)) one) ∙ so.same;
     }
 
--- or it is left out
+-- or the entry is removed
 pub told_same : (trial : Trial) (change : Change) (replica place : ℕ) (entry : MonitorEntry)
     (rest whole : List MonitorEntry) → IsToldSo trial change replica place (entry ∷ rest) whole
     → is_kept change replica place entry ≡ false → IsToldSo trial change replica (place + 1) rest whole
@@ -58,7 +59,7 @@ told_same trial change replica place entry rest whole so kept =
       same = sym (ap (λ (cs : List Command). so.commands ++ (cs ++ behind)) none) ∙ so.same;
     }
 
--- the first of the rest is the entry at its place
+-- the first entry of the rest is the one at its position
 next_one : (i : ℕ) (log : List MonitorEntry) (entry : MonitorEntry) → i < length log → entry ≡ get_or log i entry
     → drop i log ≡ entry ∷ drop (i + 1) log
 next_one i log entry below is =
@@ -66,7 +67,7 @@ next_one i log entry below is =
     drop-cons log i entry below
     ∙ ap (λ (e : MonitorEntry). e ∷ drop (suc i) log) (sym is) ∙ ap (λ (j : ℕ). entry ∷ drop j log) next
 
--- the entry's command comes next
+-- the entry's command is the next one
 pub told_next : (trial : Trial) (change : Change) (replica place i : ℕ) (entry : MonitorEntry)
     (whole : List MonitorEntry) → i < length whole → entry ≡ get_or whole i entry
     → IsToldSo trial change replica place (drop i whole) whole
@@ -75,7 +76,7 @@ told_next trial change replica place i entry whole below is so =
     subst (λ (rest : List MonitorEntry). IsToldSo trial change replica place rest whole)
     (next_one i whole entry below is) so
 
--- the reply to the last command tells whether it holds after the others
+-- the reply to the last command states whether it holds after the others
 pub told_last : (setup told : Setup) (commands : List Command) (last same : Command) (reply : Reply)
     → told ≡ setup → same ≡ last
     → reply ≡ answer_of told.kind told.replicas (records_after_all told.kind told.replicas [] commands) same
@@ -85,16 +86,16 @@ told_last setup told commands last same reply setups lasts is =
     ∙ ap (λ (s : Setup). is_ok (answer_of s.kind s.replicas (records_after_all s.kind s.replicas [] commands) same))
     setups ∙ ap (λ (c : Command). holds_after setup commands c) lasts
 
--- an answer is ok only where no fault was before, nothing refuses the command, and none comes with it
+-- a reply is `ok` only if there is no earlier fault, the command is not refused, and it causes no fault
 ok_only : (older newest : Option Fault) (why : Option Refusal) (n : ℕ)
-    → is_ok (option_map_or no_at older (option_map_or reply.Refused why (option_map_or no_at newest (reply.Ok n))))
+    → is_ok (option_map_or no_reply older (option_map_or reply.Refused why (option_map_or no_reply newest (reply.Ok n))))
     ≡ true → (why ≡ None) × (newest ≡ None)
 ok_only None None None n is = (refl, refl)
 ok_only None (Some fault) None n is = absurd (cc is)
 ok_only None newest (Some why) n is = absurd (cc is)
 ok_only (Some fault) newest why n is = absurd (cc is)
 
-pub ok_holds : (setup : Setup) (records : Records) (next : Next)
+pub ok_holds : (setup : Setup) (records : Records) (next : NextOperation)
     → is_ok (answer_of setup.kind setup.replicas records (operate next)) ≡ true
     → (refusal_of setup.kind setup.replicas records (operate next) ≡ None)
     × (fault_of setup.kind (operate next ∷ records) ≡ None)

@@ -1,17 +1,17 @@
--- Records without some of what reached a replica last.
+-- Records without some of the last deliveries to a replica.
 use Rattle.std.specs.Prelude.{ℕ, ◌==◌, Bool, false, ◌&&◌, List, [], ◌∷◌, ◌++◌, if◌then◌else◌}
 use Rattle.ra_labels.specs.declared.command.Command.{Command}
 use Rattle.ra_labels.specs.declared.command.Command.TheVariants.{Deliver}
 use Rattle.ra_labels.specs.Records.{Records}
 use Rattle.ra_explain.specs.Changes.{cuts_off}
 
--- is it the delivery to the replica of a label that is left?
+-- `true` if the command is the delivery to the replica of a label that is left out
 abbrev pub is_taken_back : ℕ → (ℕ → Bool) → Command → Bool
 is_taken_back replica left (Deliver to label) = to == replica && left label
 is_taken_back replica left command = false
 
--- the records without the deliveries to the replica of such labels, as far back as no other label or replica depends on
--- them
+-- The records without the deliveries to the replica of such labels, back to the newest command on which another label
+-- or replica depends.
 abbrev pub without : ℕ → (ℕ → Bool) → Records → Records
 without replica left [] = []
 without replica left (command ∷ before) =
@@ -19,12 +19,13 @@ without replica left (command ∷ before) =
     else if is_taken_back replica left command then without replica left before
     else command ∷ without replica left before
 
--- the label that reaches the replica by the command, if one does
+-- the label that the command delivers to the replica, if it does
 abbrev pub got_by : ℕ → Command → List ℕ
 got_by replica (Deliver to label) = if to == replica then label ∷ [] else []
 got_by replica command = []
 
--- the labels that reached the replica last, as far back as no other label or replica depends on them, the latest first
+-- The labels that were delivered to the replica last, back to the newest command on which another label or replica
+-- depends, latest first.
 abbrev pub labels_got_last : ℕ → Records → List ℕ
 labels_got_last replica [] = []
 labels_got_last replica (command ∷ before) =

@@ -1,5 +1,5 @@
 pub mod Places
-pub mod Sorts
+pub mod LabelFilter
 pub mod Changes
 pub mod Seen
 pub mod Right

@@ -1,4 +1,4 @@
--- What the label at the fault had to return.
+-- The right answer of the violating label.
 use Rattle.std.specs.Prelude.{Bool, true, false, List, ◌∷◌, Option, Some, None, option_map, option_and_then, if◌then◌else◌}
 use Rattle.ra_labels.specs.declared.operation.Op.{Op}
 use Rattle.ra_labels.specs.declared.operation.Op.TheVariants as op
@@ -13,18 +13,18 @@ use Rattle.ra_labels.specs.declared.kind.Kind.{Kind}
 use Rattle.ra_labels.specs.Records.{Records}
 use Rattle.ra_labels.specs.Rewriting.{acts_of}
 use Rattle.ra_labels.specs.Specification.{State, state_after}
-use Rattle.ra_labels.specs.Insertion.{updates_had}
+use Rattle.ra_labels.specs.Insertion.{delivered_updates}
 use Rattle.ra_monitor.specs.declared.setup.Setup.{Setup}
 use Rattle.ra_monitor.specs.Monitor.{MonitorEntry, records_of, fault_in}
 use Rattle.ra_seqspec.specs.Answered.{answered_in}
 use Rattle.ra_witness.specs.Labels.{head_of, queries_in}
-use Rattle.ra_explain.specs.Seen.{state_had}
+use Rattle.ra_explain.specs.Seen.{replica_state}
 
--- what the operation asks, if anything
+-- the query of the operation, if it has one
 abbrev pub query_in : Op → Option Query
 query_in op = head_of (queries_in (acts_of op))
 
--- the operation that asks this
+-- the operation with this query
 abbrev pub asking : Query → Op
 asking (Count v) = op.Count v
 asking (Last value) = op.Last value
@@ -33,7 +33,7 @@ asking (ReadIds x ids) = op.OrRemove x ids
 asking (OrRead list) = op.OrRead list
 asking (RgaRead list) = op.RgaRead list
 
--- the operation, with what it had to return in this state in the place of what it returned; none where it asks nothing
+-- the operation with the right answer of this state in place of what it returned; none if it has no query
 abbrev pub right_in : State → Op → Option Op
 right_in state operation = option_map asking (option_and_then (answered_in state) (query_in operation))
 
@@ -41,13 +41,14 @@ abbrev pub is_query : Cause → Bool
 is_query cause.Query = true
 is_query why = false
 
--- the newest label, with what it had to return after the updates that its replica had, in the named order
+-- the newest label's operation, with the right answer after the updates delivered to its replica, in the named order
 abbrev pub right_at : Kind → Records → Option Op
 right_at kind (Operate by operation clock ∷ before) =
-    option_and_then (λ state. right_in state operation) (state_after kind (updates_had kind before by))
+    option_and_then (λ state. right_in state operation) (state_after kind (delivered_updates kind before by))
 right_at kind records = None
 
--- the label at the fault, with what it had to return, where its query fails and what its replica had is admitted
+-- The violating label's operation with its right answer, if its query fails and the updates delivered to its replica
+-- are admitted.
 abbrev pub right_where : Kind → Records → Option Fault → Option Op
 right_where kind records None = None
 right_where kind records (Some fault) = if is_query fault.cause then right_at kind records else None
@@ -55,8 +56,8 @@ right_where kind records (Some fault) = if is_query fault.cause then right_at ki
 abbrev pub right_answer_in : Setup → List MonitorEntry → Option Op
 right_answer_in setup log = right_where setup.kind (records_of setup log) (fault_in setup log)
 
--- the command's operation, with what it had to return after the updates before the fault that its replica had
+-- the command's operation, with the right answer after the updates before the fault that were delivered to its replica
 abbrev pub right_by : Setup → List MonitorEntry → Command → Option Op
 right_by setup log (Operate by operation clock) =
-    option_and_then (λ state. right_in state operation) (state_had setup log by)
+    option_and_then (λ state. right_in state operation) (replica_state setup log by)
 right_by setup log command = None

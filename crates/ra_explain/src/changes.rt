@@ -1,34 +1,41 @@
-//! What the label at the fault would have been, had its replica had something more or less.
+//! The trial of a violating label with a change to what its replica had received.
 ghost use Rattle.std.specs.Prelude.{◌≡◌, ◌++◌, [], List, IfOk, OnOk, filter};
 ghost use Rattle.ra_labels.specs.declared.command.Command.{Command};
-ghost use Rattle.ra_monitor.specs.Trial.{IsToldOf, IsToldOfSome};
+ghost use Rattle.ra_monitor.specs.Trial.{HasAnswered, HasAnsweredSome};
 ghost use Rattle.ra_explain.specs.Changes as changes;
 ghost use Rattle.ra_explain.specs.Changes.{got_last, got_with, kept_from, would_hold, command_holds_with};
 
-use ra_accepted::tells_accepted;
+use ra_accepted_commands::is_accepting_reply;
 use ra_journal::Entry;
 use ra_labels::{Command, NoMemory, Reply};
 use ra_monitor::{Setup, Trial};
 use std::alloc::Global;
 
-/// One change to what the replica of a label had when it made the label.
+/// One change to what had been delivered to a label's replica when it issued the label.
 #[derive(Clone, Copy, Debug, PartialEq, Eq)]
 pub enum Change {
-    /// It had got the label with this number too.
+    /// The label with this number had been delivered too.
     Gets(u32),
-    /// It had not got what it got at this place of the log, counted from 0.
+    /// The delivery at this index of the log, from 0, had not been made.
     Misses(u32),
-    /// It had got nothing yet of what it got from this place of the log on.
+    /// None of the replica's deliveries from this index of the log on had been made yet.
     ComesBefore(u32),
 }
 
-/// Would the label that stands at this place of a monitor's log have held with the change? The accepted commands before
-/// it are told to a trial, but for those that the change leaves out, and then the label: with a yes it is accepted, and
-/// holds by the named order. A delivery that needs one that is left out is refused then, and so is left out too.
+/// Returns `true` if the label at this index of a monitor's log would have held with the change. A trial answers the
+/// accepted commands before it, except those that the change leaves out, and then the label. If the result is `true`,
+/// the trial accepts the label, and the label holds by the named order. The trial rejects a delivery that depends on
+/// one left out, which is thereby left out too.
 ///
-/// The entries before are those before the first no. `NoMemory` where a growth is refused, or where there are more
-/// labels than a log may have. Costs what the steps of a monitor for the commands before cost, without their log; what
-/// is kept for them is let go afterwards.
+/// The entries before the index must precede the first violation.
+///
+/// # Errors
+///
+/// `NoMemory` if an allocation fails, or if there are more labels than a log may have.
+///
+/// # Complexity
+///
+/// The monitor's steps for the commands before, without their log. The trial is dropped afterwards.
 pub fn would_hold(
     alloc: Global,
     setup: &Setup,
@@ -44,8 +51,15 @@ pub fn would_hold(
     holds_with(alloc, setup, &log[..place as usize], change, &entry.command)
 }
 
-/// Those of the changes with which the label at this place would have held, in their order. Costs what `would_hold`
-/// does for each of them.
+/// Returns, in order, those of the changes with which the label at this index would have held.
+///
+/// # Errors
+///
+/// Those of `would_hold`.
+///
+/// # Complexity
+///
+/// That of `would_hold` for each change.
 pub fn changes_that_help(
     alloc: Global,
     setup: &Setup,
@@ -65,9 +79,17 @@ pub fn changes_that_help(
     Ok(found)
 }
 
-/// The places among these entries of what reached the replica since its last label, since it joined, or since
-/// another one joined from it, the oldest first: where one of them is left out, no other replica has anything else, and
-/// this one lacks that and what came later and needs it. Costs a step for each entry.
+/// Returns the indices, oldest first, of the replica's latest deliveries among these entries: those since its last
+/// label, its own join, or the last join from it. If one of them is left out, no other replica lacks anything, and this
+/// one lacks only that update and later ones that depend on it.
+///
+/// # Errors
+///
+/// `NoMemory` if an allocation fails.
+///
+/// # Complexity
+///
+/// O(number of entries).
 pub fn got_last(
     alloc: Global,
     log: &[Entry<Command, Reply>],
@@ -84,7 +106,7 @@ pub fn got_last(
     Ok(got)
 }
 
-// With the entry that stands at this place.
+// Updates the list by the entry at this index.
 fn add_got(
     got: &mut Vec<usize>,
     entry: &Entry<Command, Reply>,
@@ -93,7 +115,7 @@ fn add_got(
 ) -> Result<(), NoMemory>
     ensures { OnOk result (got.new.items ≡ got_with replica place got.old.items entry.now) }
 {
-    if tells_accepted(false, entry.reply) {
+    if is_accepting_reply(false, entry.reply) {
         if cuts_off(replica, &entry.command) {
             got.clear();
         } else if reaches(replica, &entry.command) {
@@ -116,7 +138,7 @@ fn cuts_off(replica: u8, command: &Command) -> bool
     }
 }
 
-// Did something reach the replica by the command?
+// Returns `true` if the command is a delivery to the replica.
 fn reaches(replica: u8, command: &Command) -> bool
     ensures { result ≡ changes.reaches replica command.now }
 {
@@ -126,7 +148,7 @@ fn reaches(replica: u8, command: &Command) -> bool
     }
 }
 
-// Would the command have held after these entries, with the change?
+// Returns `true` if the command would have held after these entries, with the change.
 fn holds_with(
     alloc: Global,
     setup: &Setup,
@@ -141,12 +163,12 @@ fn holds_with(
     };
     let mut trial = Trial::new(alloc, setup)?;
     let answer = tell_with(&mut trial, before, change, *replica, command);
-    // A trial has many parts, so it is let go by a call: the proof goes through them once, and not at each return.
+    // A trial has many fields. Dropping it by a call lets the proof unfold them once, not at each return.
     drop(trial);
     answer
 }
 
-// Is the command accepted as a label that holds, once the trial was told of the others?
+// Returns `true` if the trial, after the other commands, accepts the command as a label that holds.
 fn tell_with(
     trial: &mut Trial,
     before: &[Entry<Command, Reply>],
@@ -154,7 +176,7 @@ fn tell_with(
     replica: u8,
     command: &Command,
 ) -> Result<bool, NoMemory>
-    requires { IsToldOf trial.old [] }
+    requires { HasAnswered trial.old [] }
     ensures { IfOk result (λ holds. holds ≡ changes.holds_after trial.old.setup
         (changes.commands_with change replica before.now) command.now) }
 {
@@ -164,22 +186,22 @@ fn tell_with(
     Ok(is_ok(reply))
 }
 
-// The same command: said here, so that whoever tells it on need not go through what it may have.
+// Copies the command. A function of its own, so that proofs of its callers need not unfold the command.
 fn copy(command: &Command) -> Result<Command, NoMemory>
     ensures { IfOk result (λ copy. copy ≡ command.now) }
 {
     Ok(command.clone()?)
 }
 
-// Tells the trial of what is not left out.
+// Reports to the trial the commands that are not left out.
 fn tell_kept(
     trial: &mut Trial,
     before: &[Entry<Command, Reply>],
     change: Change,
     replica: u8,
 ) -> Result<(), NoMemory>
-    requires { IsToldOf trial.old [] }
-    ensures told { OnOk result (IsToldOf trial.new (kept_from change replica 0 before.now)) }
+    requires { HasAnswered trial.old [] }
+    ensures told { OnOk result (HasAnswered trial.new (kept_from change replica 0 before.now)) }
     ensures same_setup { trial.new.setup ≡ trial.old.setup }
 {
     let mut place = 0;
@@ -192,11 +214,11 @@ fn tell_kept(
     Ok(())
 }
 
-// Tells the trial of what is added.
+// Reports to the trial the command that is added.
 fn tell_added(trial: &mut Trial, change: Change, replica: u8) -> Result<(), NoMemory>
-    requires { IsToldOfSome trial.old }
-    ensures told { (commands : List Command) → IsToldOf trial.old commands
-        → OnOk result (IsToldOf trial.new (commands ++ changes.added_by change replica)) }
+    requires { HasAnsweredSome trial.old }
+    ensures told { (commands : List Command) → HasAnswered trial.old commands
+        → OnOk result (HasAnswered trial.new (commands ++ changes.added_by change replica)) }
     ensures same_setup { trial.new.setup ≡ trial.old.setup }
 {
     match change {
@@ -208,11 +230,11 @@ fn tell_added(trial: &mut Trial, change: Change, replica: u8) -> Result<(), NoMe
     }
 }
 
-// Was the command accepted, and is it not left out?
+// Returns `true` if the command was accepted and is not left out.
 fn is_kept(change: Change, replica: u8, place: usize, entry: &Entry<Command, Reply>) -> bool
     ensures { result ≡ changes.is_kept change replica place entry.now }
 {
-    tells_accepted(false, entry.reply) && !is_left_out(change, replica, place, &entry.command)
+    is_accepting_reply(false, entry.reply) && !is_left_out(change, replica, place, &entry.command)
 }
 
 fn is_left_out(change: Change, replica: u8, place: usize, command: &Command) -> bool

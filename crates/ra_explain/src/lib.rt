@@ -1,21 +1,21 @@
-//! Why a no is one: what the label at the fault had to return, and what would make it right.
+//! The reasons of a violation: what the violating label had to return, and which changes remove the violation.
 //!
-//! The one contract for the layers above: `right_answer` tells the operation that the label at a monitor's fault had to
-//! be, where its query is what fails: the specification's answer after the updates that its replica had, in the named
-//! order (`specs/Right`). `changes_that_help` tells of changes to what that replica had those with which the label
-//! would have held (`specs/Changes`), since a trial of `ra_monitor` says so. `Places` tells where in a monitor's log
-//! each label stands, and `labels_that` and `labels_with` find those of one sort. The right answer is read off the log,
-//! the named sequence and the plain specification (`ra_seqspec`): no second witness is kept.
+//! The contract for the layers above: `right_answer` returns the operation that a monitor's violating label had to be,
+//! if its query fails. It is the specification's answer after the updates delivered to its replica, in the named order
+//! (`specs/Right`). Of changes to what was delivered to that replica, `changes_that_help` returns those with which a
+//! trial of `ra_monitor` accepts the label (`specs/Changes`). `Places` maps each label to its index in a monitor's log,
+//! and `find_labels` and `labels_with` return the labels of one sort. The right answer is computed from the log, the
+//! named sequence and the plain specification (`ra_seqspec`), without a second witness.
 #![tactic(auto)]
 
 mod changes;
-pub mod laws;
+mod label_filter;
 mod places;
 mod right;
 mod seen;
-mod sorts;
+pub mod theorems;
 
 pub use changes::{Change, changes_that_help, got_last, would_hold};
+pub use label_filter::{LabelFilter, LabelsWith, find_labels, labels_with};
 pub use places::Places;
 pub use right::right_answer;
-pub use sorts::{LabelsThat, LabelsWith, labels_that, labels_with};

@@ -1,17 +1,17 @@
-//! Where labels stand in a log.
+//! The indices of labels in a log.
 ghost use Rattle.std.specs.Prelude.{◌≡◌, ◌≤◌, IfOk, MatchOption, None, Some, length};
 ghost use Rattle.std.specs.List.{slice_get};
 ghost use Rattle.ra_explain.specs.Places as places;
 ghost use Rattle.ra_explain.specs.Places.{entry_at, places_in};
 
-use ra_accepted::{is_no, tells_accepted};
+use ra_accepted_commands::{is_accepting_reply, is_no};
 use ra_journal::Entry;
 use ra_labels::{Command, NoMemory, Reply};
 use ra_monitor::Monitor;
 use std::alloc::Global;
 use std::marker::Model;
 
-/// The place of each label in a monitor's log, by the label's number.
+/// The index of each label in a monitor's log, by the label's number.
 #[derive(Drop)]
 pub struct Places {
     places: Vec<u32>,
@@ -28,7 +28,15 @@ impl Model for Places {
 }
 
 impl Places {
-    /// The places of the labels in the monitor's log. Costs a step for each entry, and 4 bytes for each label.
+    /// Returns the indices of the labels in the monitor's log.
+    ///
+    /// # Errors
+    ///
+    /// `NoMemory` if an allocation fails.
+    ///
+    /// # Complexity
+    ///
+    /// O(number of entries), and 4 bytes for each label.
     pub fn of(alloc: Global, monitor: &Monitor) -> Result<Places, NoMemory>
         ensures { IfOk result (λ places. places ≡ places_in monitor.now.log) }
     {
@@ -37,7 +45,7 @@ impl Places {
         let mut failed = false;
         let mut place = 0;
         for entry in log {
-            if is_operation(&entry.command) && tells_accepted(failed, entry.reply) {
+            if is_operation(&entry.command) && is_accepting_reply(failed, entry.reply) {
                 places.push(place)?;
             }
             failed = failed || is_no(entry.reply);
@@ -46,14 +54,14 @@ impl Places {
         Ok(Places { places })
     }
 
-    /// How many labels there are.
+    /// Returns the number of labels.
     pub fn count(&self) -> u32
         ensures { result ≡ length self.now }
     {
         self.places.len() as u32
     }
 
-    /// The entry of the log that is this label, where there is such a label.
+    /// Returns the log's entry of this label, or `None` if there is no such label.
     pub fn entry<'a>(
         &self,
         log: &'a [Entry<Command, Reply>],
@@ -65,7 +73,7 @@ impl Places {
         log.get(self.at(label)? as usize)
     }
 
-    /// The place of the label, counted from 0, where there is such a label.
+    /// Returns the index of the label, from 0, or `None` if there is no such label.
     pub fn at(&self, label: u32) -> Option<u32>
         ensures { result ≡ slice_get self.now label }
     {
@@ -73,7 +81,7 @@ impl Places {
     }
 }
 
-// Is it an operation?
+// Returns `true` if the command is an operation.
 fn is_operation(command: &Command) -> bool
     ensures { result ≡ places.is_operation command.now }
 {

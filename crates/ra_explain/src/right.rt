@@ -1,11 +1,11 @@
-//! What the label at the fault had to return.
+//! The right answer of the violating label.
 ghost use Rattle.std.specs.Prelude.{◌≡◌, IfOk, option_and_then};
 ghost use Rattle.ra_explain.specs.Right as told;
 ghost use Rattle.ra_explain.specs.Right.{right_answer_in, right_by};
 ghost use Rattle.ra_explain.specs.Places.{places_in, command_at};
 
 use crate::places::Places;
-use crate::seen::state_had;
+use crate::seen::replica_state;
 use ra_journal::Entry;
 use ra_labels::{Cause, Command, NoMemory, Op, Query, Reply};
 use ra_monitor::Monitor;
@@ -13,13 +13,17 @@ use ra_rewrite::parts_of;
 use ra_seqspec::State;
 use std::alloc::Global;
 
-/// The operation of the label at the fault, with what it had to return in the place of what it returned: the
-/// specification's answer after the updates that its replica had, in the named order. None where the monitor has no
-/// fault, where the fault's cause is another one than the query, or where what the replica had is not admitted, so that
-/// no answer would do.
+/// Returns the operation of the violating label with the right answer in place of its own. The right answer is the
+/// specification's after the updates delivered to its replica, in the named order. Returns `None` if the monitor has no
+/// fault, if the fault's cause is not the query, or if those updates are not admitted, so that no answer is right.
 ///
-/// `NoMemory` where a growth is refused. Costs one pass over the log, and what the named sequence and the specification
-/// cost: nothing is kept.
+/// # Errors
+///
+/// `NoMemory` if an allocation fails.
+///
+/// # Complexity
+///
+/// One pass over the log, and the cost of the named sequence and of the specification. Nothing is cached.
 pub fn right_answer(alloc: Global, monitor: &Monitor) -> Result<Option<Op>, NoMemory>
     ensures answer { IfOk result (λ answer. answer ≡ right_answer_in monitor.now.setup monitor.now.log) }
 {
@@ -32,7 +36,7 @@ pub fn right_answer(alloc: Global, monitor: &Monitor) -> Result<Option<Op>, NoMe
     }
 }
 
-// The operation of the label, with what it had to return after what its replica has.
+// Returns the label's operation with the right answer after what was delivered to its replica.
 fn right_at(
     alloc: Global,
     monitor: &Monitor,
@@ -50,7 +54,7 @@ fn right_at(
     }
 }
 
-// The command's operation, with what it had to return.
+// Returns the command's operation with the right answer.
 fn right_of(
     alloc: Global,
     monitor: &Monitor,
@@ -63,13 +67,13 @@ fn right_of(
     let Command::Operate { replica, op, .. } = command else {
         return Ok(None);
     };
-    match state_had(alloc, monitor, places, *replica)? {
+    match replica_state(alloc, monitor, places, *replica)? {
         Some(state) => right_in(alloc, &state, op),
         None => Ok(None),
     }
 }
 
-// The operation, with what it had to return in this state; none where it asks nothing.
+// Returns the operation with the right answer in this state, or `None` if it has no query.
 fn right_in(alloc: Global, state: &State, op: &Op) -> Result<Option<Op>, NoMemory>
     ensures { IfOk result (λ right. right ≡ told.right_in state.now op.now) }
 {
@@ -80,7 +84,7 @@ fn right_in(alloc: Global, state: &State, op: &Op) -> Result<Option<Op>, NoMemor
     Ok(answer.map(asking))
 }
 
-// The operation that asks this.
+// Returns the operation with this query.
 fn asking(query: Query) -> Op
     ensures { result ≡ told.asking query }
 {

@@ -1,4 +1,4 @@
-//! What the updates that a replica had lead to.
+//! The state that the updates delivered to a replica lead to.
 ghost use Rattle.std.specs.Prelude.{◌≡◌, ◌∷◌, [], IfOk, IfSome, is_some, unwrap_or};
 ghost use Rattle.std.specs.Option.{option_to_list};
 ghost use Rattle.ra_labels.specs.Rewriting.{Part};
@@ -6,7 +6,7 @@ ghost use Rattle.ra_monitor.specs.Monitor.{records_before_fault_in};
 ghost use Rattle.ra_witness.specs.Sequence.{ref_of};
 ghost use Rattle.ra_explain.specs.Places.{places_in};
 ghost use Rattle.ra_explain.specs.Seen as seen;
-ghost use Rattle.ra_explain.specs.Seen.{IsKnown, after_one, state_had, updates_among};
+ghost use Rattle.ra_explain.specs.Seen.{IsKnown, after_one, replica_state, updates_among};
 ghost use Rattle.ra_seqspec.specs.Range.{IsInRange};
 
 use crate::places::Places;
@@ -17,16 +17,24 @@ use ra_rewrite::parts_of;
 use ra_seqspec::State;
 use std::alloc::Global;
 
-/// The state after the updates before the fault that the replica had by now, in the named order; none where one of them
-/// is not admitted. Costs an `apply` for each, and a look-up for each part of the named sequence.
-pub fn state_had(
+/// Returns the state after the updates that precede the fault and were delivered to the replica so far, in the named
+/// order. Returns `None` if one of them is not admitted.
+///
+/// # Errors
+///
+/// `NoMemory` if an allocation fails.
+///
+/// # Complexity
+///
+/// One `apply` for each of these updates, and one lookup for each part of the named sequence.
+pub fn replica_state(
     alloc: Global,
     monitor: &Monitor,
     places: &Places,
     replica: u8,
 ) -> Result<Option<State>, NoMemory>
     requires { places.now ≡ places_in monitor.now.log }
-    ensures { IfOk result (λ state. state ≡ state_had monitor.now.setup monitor.now.log replica) }
+    ensures { IfOk result (λ state. state ≡ replica_state monitor.now.setup monitor.now.log replica) }
 {
     let log = monitor.log();
     let parts = monitor.sequence()?;
@@ -40,7 +48,7 @@ pub fn state_had(
     Ok(Some(state))
 }
 
-// Makes the update, if there is one. Answers false, and changes nothing, where the state does not admit it.
+// Applies the update, if there is one. Returns `false` and leaves the state unchanged if the state does not admit it.
 fn make(state: &mut State, update: Option<Update>) -> Result<bool, NoMemory>
     requires { IfSome (after_one state.old update) IsInRange }
     ensures admitted { IfOk result (λ is_made. is_made ≡ is_some (after_one state.old update)) }
@@ -52,7 +60,7 @@ fn make(state: &mut State, update: Option<Update>) -> Result<bool, NoMemory>
     }
 }
 
-// What the part does, where it does something and the replica had it.
+// Returns the update of the part, if it has one that was delivered to the replica.
 fn update_had(
     monitor: &Monitor,
     log: &[Entry<Command, Reply>],
@@ -66,13 +74,13 @@ fn update_had(
         → IfOk result (λ update. option_to_list update
         ≡ updates_among (records_before_fault_in monitor.now.setup monitor.now.log) replica (p ∷ [])) }
 {
-    if part.half == Half::QueryHalf || !monitor.had(replica, part.label) {
+    if part.half == Half::QueryHalf || !monitor.has_delivered(replica, part.label) {
         return Ok(None);
     }
     update_at(log, places, part.label)
 }
 
-// What the label does, if anything.
+// Returns the update of the label, if it has one.
 fn update_at(
     log: &[Entry<Command, Reply>],
     places: &Places,
@@ -86,7 +94,7 @@ fn update_at(
     }
 }
 
-// What the command does, if anything.
+// Returns the update of the command, if it has one.
 fn update_by(command: &Command) -> Result<Option<Update>, NoMemory>
     ensures { IfOk result (λ update. update ≡ seen.update_by command.now) }
 {

@@ -1,6 +1,6 @@
--- What words ask of a program that explains.
+-- What the arguments request of a program that explains.
 use Rattle.std.specs.Prelude.{ℕ, not, List, [], ◌∷◌, map, Option, Some, None, Ok, Err, codes, string_bytes, bytes_eq, if◌then◌else◌}
-use Rattle.ra_words.specs.Words.{Words}
+use Rattle.ra_cli_common.specs.Arguments.{Words}
 use Rattle.ra_explain_cli.specs.declared.asked.Form.{Form}
 use Rattle.ra_explain_cli.specs.declared.asked.Form.TheVariants.{Page, Json, Svg, Html, Sequence}
 
@@ -18,13 +18,13 @@ form_of_option option =
 abbrev pub asked_by_two : (word option : List ℕ) → Option Form
 asked_by_two word option = if not (bytes_eq word (codes "explain")) then None else form_of_option option
 
--- the form that words ask for
+-- the form that the arguments request, if any
 abbrev pub form_named : List (List ℕ) → Option Form
 form_named (word ∷ []) = asked_by_one word
 form_named (word ∷ option ∷ []) = asked_by_two word option
 form_named words = None
 
--- none where they could not be read
+-- the requested form; none if the arguments could not be read
 abbrev pub form_asked_by : Words → Option Form
 form_asked_by (Ok words) = form_named (map string_bytes words.items)
 form_asked_by (Err fault) = None

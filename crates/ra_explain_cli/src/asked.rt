@@ -1,25 +1,25 @@
-//! What the words ask for.
+//! The command-line arguments.
 ghost use Rattle.std.specs.Prelude.{◌≡◌, map, string_bytes};
 ghost use Rattle.ra_explain_cli.specs.Asked as asked;
 ghost use Rattle.ra_explain_cli.specs.Asked.{form_named};
 
-/// How a history is explained.
+/// The form of an explanation.
 #[derive(Clone, Copy, Debug, PartialEq, Eq)]
 pub enum Form {
-    /// In words.
+    /// A page of plain text.
     Page,
-    /// As one JSON object.
+    /// One JSON object.
     Json,
-    /// As a drawing: SVG.
+    /// A drawing in SVG.
     Svg,
-    /// As a document with words and drawing: HTML.
+    /// An HTML document with text and drawing.
     Html,
-    /// By the sequence alone that linearizes it.
+    /// The sequence alone that linearizes the history.
     Sequence,
 }
 
-/// The form that the words behind the program's name ask for: `explain` alone, or with `--json`, `--svg`, `--html` or
-/// `--sequence`. `None` where they are others.
+/// Returns the form that the arguments after the program's name ask for, or `None` for any other arguments: `explain`
+/// alone, or with `--json`, `--svg`, `--html` or `--sequence`.
 pub fn form_of(words: &[String]) -> Option<Form>
     ensures { result ≡ form_named (map string_bytes words.now) }
 {

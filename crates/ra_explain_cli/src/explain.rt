@@ -1,24 +1,26 @@
-//! A text on the reader is checked, and what that answers is explained.
+//! The explanation of a text from a reader.
 ghost use Rattle.std.specs.Prelude.{◌≡◌, ◌≢◌, IfOk, Ok};
 ghost use Rattle.ra_explain_cli.specs.Explained.{ExplainsText, EndsExplained, EndsStopped, IsPage};
 
 use crate::asked::Form;
+use ra_cli_common::{Ending, stop};
+use ra_explain_diagram::{put_html, put_page, put_svg};
+use ra_explain_syntax_errors::Stop;
+use ra_explain_text::{Case, No, Purpose, Told, put_json, put_sequence};
+use ra_history_lines::Names;
+use ra_history_lines::reply::put_end;
 use ra_history_text::{CheckFault, Outcome, Session, check_session, status, write_out};
 use ra_labels::NoMemory;
-use ra_lines::Names;
-use ra_lines::reply::put_end;
 use ra_monitor::{Monitor, Report};
-use ra_pages::{Case, No, Purpose, Told, put_json, put_sequence};
-use ra_pictures::{put_html, put_page, put_svg};
-use ra_program::{Ending, stop};
-use ra_stops::Stop;
 use std::alloc::Global;
 use std::io;
 use std::io::{Read, Write};
 
-/// Has the text that the reader gives explained on `out`, and a fault's line told on `err`. The status is that of a
-/// check of the text, and 2 where the page could not be made or written. A page in words begins with the check's own
-/// last line. Of a text with a fault, words, object and document tell the line and the field.
+/// Explains the text that the reader provides on `out`, and writes the line of an error on `err`. The status is that of
+/// a check of the text, or 2 if the page cannot be made or written. A plain page begins with the check's own end line.
+///
+/// For a text with a fault, page, object and document show the line and the field. No clause states that, or more of a
+/// page than its end line.
 pub fn explain<R: Read, W: Write, E: Write>(
     alloc: Global,
     form: Form,
@@ -36,14 +38,14 @@ pub fn explain<R: Read, W: Write, E: Write>(
         Ok(outcome) => end_explained(alloc, form, session, outcome, out, err),
         Err(fault) => {
             let ending = end_stopped(alloc, form, &session, fault, out, err);
-            // Let go by a call: the proof goes through its parts once, and not at each return.
+            // Dropped by a call, so that the proof unfolds its fields once and not at each return.
             drop(session);
             ending
         }
     }
 }
 
-// All was read and answered.
+// Ends an explanation of a text that was read and answered completely.
 fn end_explained<W: Write, E: Write>(
     alloc: Global,
     form: Form,
@@ -68,7 +70,7 @@ fn end_explained<W: Write, E: Write>(
     }
 }
 
-// The text has a fault; or the reader failed, or memory.
+// Ends an explanation after an error of the text, the reader or an allocation.
 fn end_stopped<W: Write, E: Write>(
     alloc: Global,
     form: Form,
@@ -91,7 +93,7 @@ fn end_stopped<W: Write, E: Write>(
     }
 }
 
-// Words on the fault, if it is one of the text.
+// Returns the explanation of the error, if it is one of the text.
 fn words_on(
     alloc: Global,
     form: Form,
@@ -141,7 +143,7 @@ fn body_of(
     Ok(body)
 }
 
-// Asks the monitor, and lets it go but for its log, before other courses of the history are tried.
+// Takes from the monitor what is needed and drops all of it but the log, before changed histories are tried.
 fn put_history(
     body: &mut Vec<u8>,
     form: Form,

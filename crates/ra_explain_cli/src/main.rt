@@ -1,5 +1,5 @@
-//! Explains a history, given as a text on standard input: why a no is one, what would make it right, and what a yes
-//! leaves open.
+//! The program that explains a history, given as a text on standard input: the cause of a violation, changes that
+//! remove it, and what a pass leaves open.
 #![tactic(auto)]
 
 mod asked;
@@ -7,7 +7,7 @@ mod explain;
 mod run;
 
 use crate::run::run;
-use ra_words::words_of;
+use ra_cli_common::words_of;
 use std::io;
 use std::process::ExitCode;
 

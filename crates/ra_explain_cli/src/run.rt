@@ -1,25 +1,24 @@
-//! The program, over the words of its command line, a reader and two writers.
+//! The program as a function of its arguments, a reader and two writers.
 ghost use Rattle.std.specs.Prelude.{◌≡◌, ◌≢◌, None, Some};
-ghost use Rattle.ra_words.specs.Words.{stop_words};
-ghost use Rattle.ra_program.specs.Endings.{StopsProgram};
+ghost use Rattle.ra_cli_common.specs.Arguments.{stop_words};
+ghost use Rattle.ra_cli_common.specs.Endings.{StopsProgram};
 ghost use Rattle.ra_explain_cli.specs.declared.asked.Form.{Form};
 ghost use Rattle.ra_explain_cli.specs.Asked.{form_asked_by};
 ghost use Rattle.ra_explain_cli.specs.Explained.{ExplainsText};
 
 use crate::asked::form_of;
 use crate::explain::explain;
+use ra_cli_common::{Ending, WordsFault, stop, usage};
 use ra_history_text::CheckFault;
-use ra_program::{Ending, stop, usage};
-use ra_words::WordsFault;
 use std::alloc::Global;
 use std::io::{Read, Write};
 
-/// Runs the program on the words behind its name.
+/// Runs the program with the arguments after its name.
 ///
-/// `explain` has the text that the reader gives explained on `out` in words, with `--json` as one JSON object, with
-/// `--svg` as a drawing, with `--html` as a document, and with `--sequence` by the sequence that linearizes it; a
-/// fault's line stands on `err`. Other words are answered with the line `usage` on `err`, or `no memory` where they
-/// could not be read for want of it.
+/// `explain` explains the text that the reader provides on `out`: as a plain page, with `--json` as one JSON object,
+/// with `--svg` as a drawing, with `--html` as a document, and with `--sequence` by the sequence that linearizes it.
+/// The line of an error is written on `err`. For other arguments it writes the line `usage` on `err`, or `no memory` if
+/// they could not be read for lack of memory.
 pub fn run<R: Read, W: Write, E: Write>(
     alloc: Global,
     words: &Result<Vec<String>, WordsFault>,
@@ -27,12 +26,12 @@ pub fn run<R: Read, W: Write, E: Write>(
     out: &mut W,
     err: &mut E,
 ) -> Ending
-    // Other words have nothing read, nothing written but one line on the error writer, and the status 2.
+    // Other arguments read nothing, write nothing but one line on the error writer, and end with status 2.
     ensures unread { form_asked_by words.now ≡ None → reader.new ≡ reader.old }
     ensures unwritten { form_asked_by words.now ≡ None → out.new ≡ out.old }
     ensures usage { form_asked_by words.now ≡ None →
         StopsProgram result (E.contents err.old) (E.contents err.new) (stop_words words.now) }
-    // The words of a form have a text explained, and the status is that of its check.
+    // The arguments of a form explain a text, with the status of its check.
     ensures explained { (form : Form) → form_asked_by words.now ≡ Some form →
         ExplainsText form result (R.remaining reader.old) (R.remaining reader.new)
         (W.contents out.old) (W.contents out.new) (E.contents err.old) (E.contents err.new) }

@@ -1,4 +1,4 @@
--- From the lines of a text to how it ends: each of the four faults, in the words of lines, is found byte by byte.
+-- Lemmas that lead from the lines of a text to its end: each of the four faults, given by lines, is found byte by byte.
 use Rattle.std.proofs.Common.{◌≡◌, inl, inr, ℕ, suc, ◌+◌, ◌<◌, ◌≤◌, Bool, true, false, eqb, cond, List}
 use Rattle.std.proofs.Common.{[], ◌∷◌, ◌++◌, length, Option, Some, None, Ok, Err, refl, sym, ap, subst}
 use Rattle.std.proofs.Common.{◌∙◌, arith}
@@ -9,28 +9,28 @@ use Rattle.ra_labels.specs.declared.kind.Kind.{Kind}
 use Rattle.ra_labels.specs.declared.command.Command.{Command}
 use Rattle.ra_labels.specs.Records.{Records}
 use Rattle.ra_labels.specs.Answer.{records_after}
-use Rattle.ra_lines.specs.declared.format.Format.{Format}
-use Rattle.ra_lines.specs.Grammar.{IsLine, bytes_of, fields_of, names_behind, SpellEach}
-use Rattle.ra_lines.specs.Reading.{head_read, names_read, command_read}
+use Rattle.ra_history_lines.specs.declared.format.Format.{Format}
+use Rattle.ra_history_lines.specs.Grammar.{IsLine, bytes_of, fields_of, names_behind, SpellEach}
+use Rattle.ra_history_lines.specs.Reading.{head_read, names_read, command_read}
 use Rattle.ra_history_text.specs.Text.{Said, Nothing, OfKind, OfHistory, Ending, Regular, Syntax, Truncated}
 use Rattle.ra_history_text.specs.Text.{LineTooLong, Full}
 use Rattle.ra_history_text.specs.Text.{Progress, Stop, stop_at, next_line, with_command, of_head, said_behind, is_full}
 use Rattle.ra_history_text.specs.Text.{has_names, line_start, text_start, line_taken_as, line_taken}
 use Rattle.ra_history_text.specs.Text.{taken, ending_at, end_of, ending_of, said_by}
-use Rattle.ra_history_text.specs.Endings.{Say, SpellsNothing, SpellsOneTooMany, BeginsWith, HasSyntaxFault, IsTruncated}
+use Rattle.ra_history_text.specs.Endings.{LinesSay, SpellsNothing, SpellsOneTooMany, HasLinesBefore, HasSyntaxFault, IsTruncated}
 use Rattle.ra_history_text.specs.Endings.{HasLongLine, HasCommandTooMany}
-use Rattle.ra_lines.proofs.TheLaws.{a_line_of_a_command_is_read-found as command_found}
-use Rattle.ra_lines.proofs.TheLaws.{a_line_of_a_command_is_read-only as command_only}
-use Rattle.ra_lines.proofs.TheLaws.{a_first_line_is_read-only as head_only, a_first_line_is_read-found as head_found}
-use Rattle.ra_lines.proofs.TheLaws.{a_line_of_names_is_read-found as names_found}
-use Rattle.ra_lines.proofs.TheLaws.{a_line_of_names_is_read-only as names_only, mapped}
+use Rattle.ra_history_lines.proofs.TheoremIndex.{command_line_read_iff-found as command_found}
+use Rattle.ra_history_lines.proofs.TheoremIndex.{command_line_read_iff-only as command_only}
+use Rattle.ra_history_lines.proofs.TheoremIndex.{first_line_read_iff-only as head_only, first_line_read_iff-found as head_found}
+use Rattle.ra_history_lines.proofs.TheoremIndex.{names_line_read_iff-found as names_found}
+use Rattle.ra_history_lines.proofs.TheoremIndex.{names_line_read_iff-only as names_only, mapped}
 use Rattle.ra_history_text.proofs.TakenBytes.{taken_then, stopped_then, taken_part, taken_long}
 use Rattle.ra_history_text.proofs.Texts.{Leads, taken_whole, taken_lines, leads_commands}
 use Rattle.ra_history_text.proofs.Texts.{commands_found}
 
--- ---- what lines say, and where they lead
+-- ---- what lines say, and the progress that they lead to
 
-leads_from_say : (lines : List (List ℕ)) (said : Said) → Say lines said → Leads Nothing lines said
+leads_from_say : (lines : List (List ℕ)) (said : Said) → LinesSay lines said → Leads Nothing lines said
 leads_from_say [] Nothing say = refl
 leads_from_say [] (OfKind format kind) say = absurd say
 leads_from_say [] (OfHistory format kind first joined commands) say = absurd say
@@ -56,11 +56,11 @@ leads_from_say (head ∷ second ∷ lines) (OfHistory format kind first joined c
   ),
 )
 
-pub say_from_leads : (lines : List (List ℕ)) (said : Said) → Leads Nothing lines said → Say lines said
-say_from_leads [] said leads = subst (Say []) leads tt
+pub say_from_leads : (lines : List (List ℕ)) (said : Said) → Leads Nothing lines said → LinesSay lines said
+say_from_leads [] said leads = subst (LinesSay []) leads tt
 say_from_leads (head ∷ []) said leads =
     let m = mapped of_head (head_read head) leads.0 leads.1 in
-    subst (Say (head ∷ [])) (m.2 ∙ leads.3) (head_found head m.0.0 m.0.1 m.1)
+    subst (LinesSay (head ∷ [])) (m.2 ∙ leads.3) (head_found head m.0.0 m.0.1 m.1)
 say_from_leads (head ∷ second ∷ lines) said leads =
     let m = mapped of_head (head_read head) leads.0 leads.1 in
     let its : Format = m.0.0 in
@@ -69,10 +69,10 @@ say_from_leads (head ∷ second ∷ lines) said leads =
     let n = mapped (λ ns. OfHistory its own ns [] []) (names_read its second) next.0 next.1 in
     let more = subst (λ (s : Said). Leads s lines said) (sym n.2) next.3 in
     let found = commands_found its own n.0 [] lines [] [] said refl (omega arith) more in
-    subst (Say (head ∷ second ∷ lines)) found.is
+    subst (LinesSay (head ∷ second ∷ lines)) found.is
     (head_found head its own m.1, names_found its second n.0 n.1, found.spell, omega (arith, found.few))
 
--- each line of commands has one
+-- there is one line for each command
 as_many_lines : (format : Format) (kind : Kind) (first joined all lines : List (List ℕ)) (records : Records)
     (commands : List Command) → SpellEach format kind first records joined lines commands all
     → length lines ≡ length commands
@@ -83,8 +83,8 @@ as_many_lines format kind first joined all (line ∷ lines) records (c ∷ comma
     ap suc (as_many_lines format kind first (names_behind kind (length first) records joined line c) all lines
     (records_after kind (length first) records c) commands each.1)
 
--- the number of the line behind them
-pub line_behind : (lines : List (List ℕ)) (said : Said) → Say lines said → next_line said ≡ length lines + 1
+-- the number of the next line
+pub line_behind : (lines : List (List ℕ)) (said : Said) → LinesSay lines said → next_line said ≡ length lines + 1
 line_behind [] Nothing say = refl
 line_behind [] (OfKind format kind) say = absurd say
 line_behind [] (OfHistory format kind first joined commands) say = absurd say
@@ -96,8 +96,8 @@ line_behind (head ∷ second ∷ lines) (OfKind format kind) say = absurd say
 line_behind (head ∷ second ∷ lines) (OfHistory format kind first joined commands) say =
     let same = as_many_lines format kind first [] joined lines [] commands say.2 in omega (arith, same)
 
--- fewer than two lines have no names, and two have
-few_lines : (lines : List (List ℕ)) (said : Said) → Say lines said → length lines + 1 ≤ 2 → has_names said ≡ false
+-- fewer than two lines have no names, and two have them
+few_lines : (lines : List (List ℕ)) (said : Said) → LinesSay lines said → length lines + 1 ≤ 2 → has_names said ≡ false
 few_lines [] Nothing say few = refl
 few_lines [] (OfKind format kind) say few = absurd say
 few_lines [] (OfHistory format kind first joined commands) say few = absurd say
@@ -106,7 +106,7 @@ few_lines (head ∷ []) (OfKind format kind) say few = refl
 few_lines (head ∷ []) (OfHistory format kind first joined commands) say few = absurd say
 few_lines (head ∷ second ∷ lines) said say few = absurd (omega (arith, few))
 
-pub lines_are_few : (lines : List (List ℕ)) (said : Said) → Say lines said → has_names said ≡ false
+pub lines_are_few : (lines : List (List ℕ)) (said : Said) → LinesSay lines said → has_names said ≡ false
     → length lines + 1 ≤ 2
 lines_are_few [] said say none = omega arith
 lines_are_few (head ∷ []) said say none = omega arith
@@ -114,7 +114,7 @@ lines_are_few (head ∷ second ∷ lines) Nothing say none = absurd say
 lines_are_few (head ∷ second ∷ lines) (OfKind format kind) say none = absurd say
 lines_are_few (head ∷ second ∷ lines) (OfHistory format kind first joined commands) say none = absurd cc
 
--- ---- what a line spells behind them
+-- ---- what the next line spells
 
 none_mapped : {X Y : Type 0} (f : X → Y) (o : Option X) → ((x : X) → o ≡ Some x → ⊥) → option_map f o ≡ None
 none_mapped f None never = refl
@@ -171,24 +171,24 @@ one_more_spelled (OfHistory format kind first joined commands) next line is full
 
 -- ---- from lines to the end of a text
 
--- the whole lines are taken
-lines_taken : (text rest : List ℕ) (said : Said) (number : ℕ) (before : BeginsWith text said number rest)
+-- the complete lines are consumed
+lines_taken : (text rest : List ℕ) (said : Said) (number : ℕ) (before : HasLinesBefore text said number rest)
     → taken text_start text ≡ taken (line_start said) rest
 lines_taken text rest said number before =
     ap (taken text_start) before.whole
     ∙ taken_then text_start (line_start said) (bytes_of before.lines) rest
     (taken_lines Nothing said before.lines before.are_lines (leads_from_say before.lines said before.say))
 
--- the next one is taken too
+-- and so is the next one
 next_taken : (text line behind : List ℕ) (said : Said) (number : ℕ)
-    (before : BeginsWith text said number (line ++ 10 ∷ behind)) (stop : Stop) → IsLine line
+    (before : HasLinesBefore text said number (line ++ 10 ∷ behind)) (stop : Stop) → IsLine line
     → line_taken said line ≡ Err stop → taken text_start text ≡ Err stop
 next_taken text line behind said number before stop is_line stops =
     lines_taken text (line ++ 10 ∷ behind) said number before
     ∙ ap (taken (line_start said)) (sym (append_assoc line (10 ∷ []) behind))
     ∙ stopped_then (line_start said) stop (line ++ 10 ∷ []) behind (taken_whole said line is_line ∙ stops)
 
-number_of : {text rest : List ℕ} {said : Said} {number : ℕ} → BeginsWith text said number rest
+number_of : {text rest : List ℕ} {said : Said} {number : ℕ} → HasLinesBefore text said number rest
     → next_line said ≡ number
 number_of {text} {rest} {said} {number} before =
     line_behind before.lines said before.say ∙ sym before.numbered
@@ -221,13 +221,13 @@ long_only text said number has = ends_with text said LineTooLong number
     (taken_long (line_start said) has.line has.one (omega (arith, has.long)) (omega (arith, has.long))))
     (number_of has.before)
 
--- a text that ends early is not at its regular end
+-- a text that ends early does not have its regular end
 is_early : (b : Bool) (rest : List ℕ) → (0 < length rest) ⊎ (b ≡ false) → (b && eqb (length rest) 0) ≡ false
 is_early false rest early = refl
 is_early true rest (inl some) = ne_eqb (length rest) 0 (λ none. absurd (omega (arith, none, some)))
 is_early true rest (inr none) = absurd cc
 
-early_one : (text rest : List ℕ) (said : Said) (number : ℕ) → BeginsWith text said number rest
+early_one : (text rest : List ℕ) (said : Said) (number : ℕ) → HasLinesBefore text said number rest
     → (0 < length rest) ⊎ (number ≤ 2) → (0 < length rest) ⊎ (has_names said ≡ false)
 early_one text rest said number before (inl some) = inl some
 early_one text rest said number before (inr few) =

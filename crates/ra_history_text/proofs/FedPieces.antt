@@ -1,8 +1,8 @@
--- A piece of a text that is taken line by line.
+-- Lemmas on a piece of a text that is consumed line by line.
 use Rattle.std.proofs.Common.{◌≡◌, ℕ, ◌+◌, ◌≤◌, List, [], ◌∷◌, ◌++◌, length, Option, Some, None, Result, Ok, Err, IfErr, refl, sym, ap, subst, ◌∙◌, arith}
 use Rattle.std.specs.Prelude.{MatchOption, OnOk}
 use Rattle.std.proofs.lemmas.List.{append_assoc, append-nil}
-use Rattle.ra_lines.specs.Fields.{IsCutAt}
+use Rattle.ra_history_lines.specs.Fields.{IsCutAt}
 use Rattle.ra_history_text.specs.Faults.{ending_told}
 use Rattle.ra_history_text.specs.declared.fault.CheckFault.{CheckFault}
 use Rattle.ra_history_text.specs.declared.fault.CheckFault.TheVariants.{NoMemory}
@@ -28,7 +28,7 @@ adds_then a b c x y z p q = record {
 pub fed_none : (p : Progress) (piece out : List ℕ) → IsFedUpTo p p piece piece out out
 fed_none p piece out = record { front = []; parts = refl; is_taken = refl; replied = adds_none p.said out }
 
--- one more line is taken
+-- one more line is consumed
 pub fed_line : (first old new : Progress) (piece rest line behind out_first out_old out_new : List ℕ)
     → IsFedUpTo first old piece rest out_first out_old → IsCutAt 10 rest line behind
     → taken old (line ++ 10 ∷ []) ≡ Ok new
@@ -42,9 +42,9 @@ fed_line first old new piece rest line behind out_first out_old out_new fed cut 
   replied = adds_then first.said old.said new.said out_first out_old out_new fed.replied replied;
 }
 
--- ---- where it stops
+-- ---- where the piece stops
 
--- the piece stops behind what is fed: at these bytes, or for want of memory
+-- the piece stops after the consumed part: at these bytes, or at a failed allocation
 stops_behind : (first old : Progress) (piece rest part behind out_first out_old out_new : List ℕ) (fault : CheckFault)
     → IsFedUpTo first old piece rest out_first out_old
     → rest ≡ part ++ behind → out_new ≡ out_old → (o : Option Ending) → ending_told fault ≡ o
@@ -70,7 +70,7 @@ stops_behind first old piece rest part behind out_first out_old out_new fault fe
       replied = subst (AddsReplies first.said old.said out_first) (sym same) fed.replied;
     }
 
--- less is said of missing memory
+-- the weaker statement on a failed allocation
 memory_alone : (fault : CheckFault) (A : Type 0) (P : Ending → Type 0) (o : Option Ending)
     → MatchOption o ((fault ≡ NoMemory) × A) P
     → MatchOption o (fault ≡ NoMemory) P
@@ -87,9 +87,9 @@ stop_line first old piece rest line behind out_first out_old out_new fault fed c
     (memory_alone fault (old.partial ≡ [] → TakesMemory old.said line)
     (λ ending. taken old (line ++ 10 ∷ []) ≡ Err (stop_at old.said ending)) (ending_told fault) stops)
 
--- ---- a line that came in parts
+-- ---- a line that arrived in parts
 
--- a line that came in parts is too long, or memory for it is missing
+-- a line that arrived in parts is too long, or its allocation fails
 pub stop_gathering : (old : Progress) (last : List ℕ) (fault : CheckFault) (o : Option Ending)
     → (old.partial ≡ [] → length last ≤ 1048576 → ⊥)
     → MatchOption o ((fault ≡ NoMemory) × (length old.partial + length last ≤ 1048576))
@@ -101,7 +101,7 @@ stop_gathering old last fault None in_parts stops =
 stop_gathering old last fault (Some ending) in_parts stops =
     stopped_then old (stop_at old.said ending) last (10 ∷ []) stops
 
--- a line that came in parts is not taken
+-- a line that arrived in parts is rejected
 pub stop_gathered : (old mid : Progress) (last : List ℕ) (fault : CheckFault) (o : Option Ending)
     → taken old last ≡ Ok mid → mid.said ≡ old.said
     → (old.partial ≡ [] → mid.partial ≡ last)
@@ -117,7 +117,7 @@ stop_gathered old mid last fault None is same whole stops = (
 stop_gathered old mid last fault (Some ending) is same whole stops =
     taken_line old mid last is ∙ stops ∙ ap (λ (s : Said). Err (stop_at s ending)) same
 
--- ---- in the words of the contracts
+-- ---- in the terms of the contracts
 
 pub feed_taken : {T E : Type 0} (r : Result T E) (first old new : Progress) (piece rest out_first out_old : List ℕ)
     → IsFedUpTo first old piece rest out_first out_old

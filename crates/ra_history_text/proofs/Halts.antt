@@ -1,4 +1,4 @@
--- Runs that stop before a regular end.
+-- Lemmas on runs that stop before the regular end.
 use Rattle.std.proofs.Common.{◌≡◌, inl, inr, ℕ, eqb, List, [], ◌++◌, Option, Some, None, IfSome}
 use Rattle.std.proofs.Common.{Result, Ok, Err, IfErr, refl, sym, ap, subst, ◌∙◌, ◌+◌, ◌<◌, ◌≤◌, take, length, arith}
 use Rattle.std.specs.Prelude.{OnOk, IsErrAnd, is_ok, ◌&&◌}
@@ -8,7 +8,7 @@ use Rattle.ra_monitor.specs.declared.report.Report.{Report}
 use Rattle.ra_history_text.specs.declared.fault.CheckFault.{CheckFault}
 use Rattle.ra_history_text.specs.declared.fault.CheckFault.TheVariants as check_fault
 use Rattle.ra_history_text.specs.Faults.{ending_told}
-use Rattle.ra_lines.specs.Fields.{BeginsWith}
+use Rattle.ra_history_lines.specs.Fields.{BeginsWith}
 use Rattle.ra_history_text.specs.Output.{replies_of, last_line_of, last_line_at, output_of}
 use Rattle.ra_history_text.specs.Run.{WritesUpTo, WritesReplies, WritesPart, StopsCheck, HasGiven, IsRunning}
 use Rattle.ra_history_text.specs.Sessions.{AddsReplies, StopsInside, EndsText, StopsEnding}
@@ -17,12 +17,12 @@ use Rattle.ra_history_text.specs.Text.{has_names, next_line, text_start, stop_at
 use Rattle.ra_history_text.specs.Written.{HasWritten}
 use Rattle.ra_history_text.proofs.ReplyLines.{output_begins}
 use Rattle.ra_history_text.proofs.Runs.{where_known, where_whole, Appends-then, put_alone, written_replies, ends_at, said_at_end, output_at_end, output_regular}
-use Rattle.ra_lines.proofs.TheLaws.{chosen}
+use Rattle.ra_history_lines.proofs.TheoremIndex.{chosen}
 use Rattle.ra_history_text.proofs.TakenBytes.{taken_then, stopped_then}
 
--- ---- in the midst of a text
+-- ---- within a text
 
--- a part that led this far, with its replies written
+-- the consumed part led to this progress, and its replies are written
 pub replies_written : (read : List ℕ) (p : Progress) (old new : Option (List ℕ)) → taken text_start read ≡ Ok p
     → Appends old new (replies_of p.said) → WritesReplies read old new
 replies_written read p old new is written = record {
@@ -47,7 +47,7 @@ kept_whole (Some all) (Some same) keeps = sym keeps
 
 -- ---- at the end of the text
 
--- no last line where the end is not regular
+-- there is no last line if the end is not regular
 cut_short : (text : List ℕ) (p : Progress) (n : ℕ) (old new : Option (List ℕ)) → taken text_start text ≡ Ok p
     → ending_at p ≡ Truncated n
     → Appends old new (replies_of p.said) → WritesUpTo text old new (Truncated n)
@@ -81,7 +81,7 @@ halts_ending r0 r1 r2 w0 w1 p out fault running ended stops =
 
 -- ---- the writer fails
 
--- what was written before, and a part of these bytes, is a part of what the text's output begins with
+-- the earlier output and a part of these bytes are the beginning of the text's output
 part_written : (text : List ℕ) (w0 w1 w2 : Option (List ℕ)) (before bytes later rest : List ℕ)
     → output_of text ≡ (before ++ bytes) ++ later
     → 0 < length rest → Appends w0 w1 before → HasWritten w1 w2 bytes rest → WritesPart text w0 w2
@@ -108,9 +108,9 @@ halts_writing_end r0 r1 r2 w0 w1 w2 p out1 out2 unwritten report short running e
     (output_regular text p is ends.regular ∙ ap (λ (bs : List ℕ). replies_of p.said ++ bs) (sym gathered)
     ∙ sym (append-nil (replies_of p.said ++ out2))) short running.written written)
 
--- ---- inside a piece
+-- ---- within a piece
 
--- a text that goes on behind what was read, and behind a front of the next piece
+-- the text after the part that was read and the front of the next piece
 goes_on : (all read piece left front behind : List ℕ) → all ≡ read ++ (piece ++ left) → piece ≡ front ++ behind
     → all ≡ (read ++ front) ++ (behind ++ left)
 goes_on all read piece left front behind parts fed =
@@ -126,7 +126,7 @@ all_stops all read front later p stop parts is stops =
     ap (taken text_start) parts
     ∙ stopped_then text_start stop (read ++ front) later (taken_then text_start p read front is ∙ stops)
 
--- what is written for a text that stops
+-- the output for a text that stops
 stop_written : (text : List ℕ) (said : Said) (e : Ending) (old new : Option (List ℕ)) → last_line_at e said ≡ []
     → taken text_start text ≡ Err (stop_at said e)
     → Appends old new (replies_of said) → WritesUpTo text old new e
@@ -137,7 +137,7 @@ stop_written text said e old new none is written = record {
       ∙ ap (λ (bs : List ℕ). replies_of said ++ bs) none ∙ append-nil (replies_of said))) written;
 }
 
--- why the check stops where the piece does
+-- the check stops for the same reason as the piece
 why_feeding : (all read piece left out1 out2 : List ℕ) (p : Progress) (w0 w2 : Option (List ℕ)) (fault : CheckFault)
     → all ≡ read ++ (piece ++ left)
     → taken text_start read ≡ Ok p → (stopped : StopsInside p piece out1 out2 fault)
@@ -170,7 +170,7 @@ halts_feeding r0 r1 r2 w0 w1 w2 p out1 out2 piece fault running consumes stopped
     (λ all read left parts is. why_feeding all read piece left out1 out2 p w0 w2 fault parts is stopped
     (written_replies w0 w1 w2 p.said stopped.said out1 out2 running.written running.nothing stopped.replied appends))
 
--- what a fault leaves written is what the text's output begins with
+-- the output at a fault is the beginning of the text's output
 begins_at_stop : (all read piece left out1 out2 : List ℕ) (p : Progress) (fault : CheckFault)
     → all ≡ read ++ (piece ++ left) → taken text_start read ≡ Ok p
     → (stopped : StopsInside p piece out1 out2 fault) → (o : Option Ending) → ending_told fault ≡ o
@@ -191,7 +191,7 @@ begins_at_stop all read piece left out1 out2 p fault parts is stopped (Some endi
       ap (λ r. replies_of (end_of r).said ++ last_line_at (end_of r).ending (end_of r).said) stops,
     )
 
--- the replies that a piece adds, whether it was taken or stopped, and what the text's output begins with
+-- the replies that a piece adds, whether it was consumed or stopped, and the beginning of the text's output
 pub record Fed (all : List ℕ) (old : Said) (out1 out2 : List ℕ) : Type 0 where
   pub said : Said
   pub replied : AddsReplies old said out1 out2
@@ -240,7 +240,7 @@ pub passed_on : {T : Type 0} (r : Result T CheckFault) (P : CheckFault → Type 
 passed_on (Ok x) P fault is holds = absurd is
 passed_on (Err same) P fault is holds = subst P (sym is) holds
 
--- ---- how much was read
+-- ---- the number of bytes read
 
 pub given_none : (known : Option (List ℕ)) → HasGiven known known 0
 given_none None = tt

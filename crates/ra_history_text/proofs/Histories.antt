@@ -1,4 +1,4 @@
--- What is kept true of a recorded history, step by step.
+-- Lemmas on the invariant of a recorded history, step by step.
 use Rattle.std.proofs.Common.{◌≡◌, ℕ, zero, suc, ◌+◌, ◌-◌, ◌<◌, ◌≤◌, Bool, true, false, ltb, List, [], ◌∷◌, ◌++◌, length, map, take}
 use Rattle.std.proofs.Common.{Result, Ok, Err, Some, refl, sym, ap, subst, ◌∙◌, arith, inl, inr}
 use Rattle.std.specs.Prelude.{◌↔◌, ◌||◌, is_some, option_map, slice_get, if◌then◌else◌}
@@ -11,20 +11,20 @@ use Rattle.ra_labels.specs.declared.reply.Reply.{Reply}
 use Rattle.ra_labels.specs.Records.{Records, replica_count}
 use Rattle.ra_labels.specs.Fault.{fault_of}
 use Rattle.ra_labels.specs.Answer.{answer_of, refusal_of, records_after, records_after_all, with_accepted}
-use Rattle.ra_laws.proofs.TheLaws.{answers_in_turn-records}
+use Rattle.ra_theorems.proofs.TheoremIndex.{answers_append-records}
 use Rattle.ra_monitor.specs.declared.setup.Setup.{Setup}
 use Rattle.ra_journal.specs.Log.{IsAboveLast, unstepped}
 use Rattle.ra_journal.specs.declared.journal.StepFault.{StepFault}
 use Rattle.ra_journal.specs.declared.journal.StepFault.TheVariants as handed
 use Rattle.ra_monitor.specs.Monitor.{Monitor, MonitorEntry, commands_of, records_of}
 use Rattle.ra_history_text.specs.declared.recording.Recording.TheInside.{Inside}
-use Rattle.ra_lines.specs.declared.limits.TheConstants.{MOST_COMMANDS}
+use Rattle.ra_history_lines.specs.declared.limits.TheConstants.{MOST_COMMANDS}
 use Rattle.ra_history_text.specs.Recording.{Recording, StopsAnswering, fault_at}
 use Rattle.ra_history_text.proofs.ReplyLines.{answers_push}
 use Rattle.ra_history_text.specs.RecordingKept.{RecordingKept, first_names_of, are_tickets_below}
 use Rattle.ra_history_text.specs.Output.{answers_in}
 
--- an entry's ticket is below the number of entries
+-- an entry's ticket is less than the number of entries
 below_at : (count i : ℕ) (log : List MonitorEntry) (ticket : ℕ) → are_tickets_below count log ≡ true
     → option_map (λ (e : MonitorEntry). e.ticket) (slice_get log i) ≡ Some ticket → ticket < count
 below_at count i [] ticket below is = absurd (cc (is))
@@ -49,9 +49,9 @@ tickets_push count (first ∷ log) entry below is =
     and_from (ltb first.ticket (count + 1)) (are_tickets_below (count + 1) (log ++ entry ∷ []))
     (lt-ltb first.ticket (count + 1) here) (tickets_push count log entry parts.1 is)
 
--- ---- how many replicas there are
+-- ---- the number of replicas
 
--- the records that a test leaves
+-- the number of replicas does not decrease, whichever records a test selects
 chosen_count : (n : ℕ) (records : Records) (c : Command) (b : Bool)
     → replica_count n records ≤ replica_count n (if b then records else with_accepted records c)
 chosen_count n records c true = omega arith
@@ -67,13 +67,13 @@ counts_grow kind n records (c ∷ commands) = omega (
   counts_grow kind n (records_after kind n records c) commands,
 )
 
--- the names at first stay
+-- the initial names stay
 first_same : (h : Inside) (m : Monitor) → RecordingKept h → m.setup ≡ h.monitor.setup
     → m.setup.replicas ≡ length (take m.setup.replicas h.names)
 first_same h m kept setup =
     subst (λ (n : ℕ). n ≡ length (take n h.names)) (sym (ap (λ s. s.replicas) setup)) kept.replicas
 
--- how many replicas there are, with the same log and with an entry more
+-- the number of replicas, for the same log and for one with one more entry
 count_same : (h : Inside) (m : Monitor) → m.log ≡ h.monitor.log → m.setup ≡ h.monitor.setup
     → replica_count m.setup.replicas (records_of m.setup m.log)
     ≡ replica_count h.monitor.setup.replicas (records_of h.monitor.setup h.monitor.log)
@@ -94,7 +94,7 @@ count_grows h m entry log setup =
     ap (λ (cs : List Command). replica_count n (records_after_all own.kind n [] cs))
     (map_push (λ (e : MonitorEntry). e.command) h.monitor.log entry)
     ∙ ap (replica_count n)
-    (answers_in_turn-records own.kind n [] (commands_of h.monitor.log) (entry.command ∷ [])) in
+    (answers_append-records own.kind n [] (commands_of h.monitor.log) (entry.command ∷ [])) in
     omega (
       arith,
       ap (λ (s : Setup). replica_count s.replicas (records_of s m.log)) setup,
@@ -103,7 +103,7 @@ count_grows h m entry log setup =
       counts_grow own.kind n records (entry.command ∷ []),
     )
 
--- nothing changed
+-- the unchanged history
 pub kept_same : (h : Inside) (m : Monitor) → RecordingKept h → m.log ≡ h.monitor.log → m.setup ≡ h.monitor.setup
     → RecordingKept (record { format = h.format; kind = h.kind; names = h.names; monitor = m })
 kept_same h m kept log setup = record {
@@ -158,7 +158,7 @@ kept_next h m entry kept log setup ticket room reply = record {
       (sym (ap (λ s. s.replicas) setup)) same;
 }
 
--- a log that is not full has room below its limit
+-- a log that is not full is below its limit
 pub has_room : {T E : Type 0} (r : Result T E) (x : T) (e : E) (count limit : ℕ) → r ≡ Ok x
     → ((r ≡ Err e) ↔ (count ≡ limit)) → count ≤ 1048576 → limit ≡ 1048576 → count < 1048576
 has_room r x e count limit is full fits most =
@@ -167,7 +167,7 @@ has_room r x e count limit is full fits most =
       | inr apart ↦ omega (arith, apart)
     ]
 
--- what the monitor hands back stops the text as its fault says
+-- the command that the monitor returns with its fault stops the text accordingly
 pub stops_answering : (old : Recording) (line : ℕ) (command : Command) (fault : StepFault Command)
     → line ≡ length old.commands + 3
     → (fault ≡ handed.Full command → length old.commands ≡ MOST_COMMANDS) → unstepped fault ≡ command

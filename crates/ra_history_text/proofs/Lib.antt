@@ -10,4 +10,4 @@ pub mod Endings
 pub mod StoppedBytes
 pub mod Prefixes
 pub mod NewNames
-pub mod TheLaws
+pub mod TheoremIndex

@@ -1,4 +1,4 @@
--- What a line gives, at each place where it may stand, in one piece or in parts.
+-- Lemmas on the effect of a line at each position in a text, in one piece or in parts.
 use Rattle.std.proofs.Common.{◌≡◌, ℕ, false, eqb, List, [], ◌++◌, length, Option, Some, None, Ok, Err, refl, sym}
 use Rattle.std.proofs.Common.{ap, ◌∙◌, arith, ◌≢◌, inl, inr, Bool, cond, leb, ◌-◌, ◌<◌, ◌≤◌, ◌∷◌, All, Result, IfErr, subst}
 use Rattle.std.proofs.lemmas.Bool.{eqb-false, ne_eqb, cases_Bool, leb-true, leb-false}
@@ -6,27 +6,27 @@ use Rattle.std.specs.Prelude.{option_map, MatchOption, OnOk}
 use Rattle.ra_labels.specs.declared.kind.Kind.{Kind}
 use Rattle.ra_labels.specs.declared.command.Command.{Command}
 use Rattle.ra_labels.specs.declared.reply.Reply.{Reply}
-use Rattle.ra_lines.specs.declared.format.Format.{Format}
-use Rattle.ra_lines.specs.Grammar.{ListsNames, fields_of, joined_by}
+use Rattle.ra_history_lines.specs.declared.format.Format.{Format}
+use Rattle.ra_history_lines.specs.Grammar.{ListsNames, fields_of, joined_by}
 use Rattle.ra_history_text.specs.Recording.{Recording, said_of, TakesCommand}
-use Rattle.ra_lines.specs.Replies.{reply_line}
+use Rattle.ra_history_lines.specs.Replies.{reply_line}
 use Rattle.ra_history_text.specs.Output.{replies_of}
-use Rattle.ra_lines.specs.Reading.{head_read, command_read}
+use Rattle.ra_history_lines.specs.Reading.{head_read, command_read}
 use Rattle.ra_history_text.specs.Sessions.{AddsReplies, StopsExtending, StopsClosing, TakesMemory, StopsLine}
 use Rattle.ra_history_text.specs.Text.{Nothing, OfKind, OfHistory, Syntax, of_head, with_command, line_start, stop_at, line_taken_as}
 use Rattle.ra_history_text.specs.Text.{line_taken, Said, Progress, Ending, LineTooLong, Full, next_line, taken}
-use Rattle.ra_lines.proofs.TheLaws.{a_line_of_names_is_read-only as names_read-listed, a_line_of_names_is_read-none as names_read-none}
+use Rattle.ra_history_lines.proofs.TheoremIndex.{names_line_read_iff-only as names_read-listed, names_line_read_iff-none as names_read-none}
 use Rattle.ra_history_text.proofs.ReplyLines.{replies_push}
 use Rattle.std.proofs.lemmas.List.{append-nil}
 use Rattle.ra_history_text.specs.Faults.{ending_told, fault_at_line}
 use Rattle.ra_history_text.specs.declared.fault.CheckFault.{CheckFault}
 use Rattle.ra_history_text.specs.declared.fault.CheckFault.TheVariants.{NoMemory}
-use Rattle.ra_lines.specs.declared.fault.LineFault.{LineFault}
-use Rattle.ra_lines.specs.declared.fault.LineFault.TheVariants as line_fault
+use Rattle.ra_history_lines.specs.declared.fault.LineFault.{LineFault}
+use Rattle.ra_history_lines.specs.declared.fault.LineFault.TheVariants as line_fault
 use Rattle.ra_history_text.proofs.FedPieces.{stop_gathering, stop_gathered}
 use Rattle.ra_history_text.proofs.TakenBytes.{taken_line, taken_part, taken_long}
 
--- ---- the first
+-- ---- the first line
 
 pub first_taken : (line : List ℕ) (head : Format × Kind) → head_read line ≡ Some head
     → line_taken Nothing line ≡ Ok (line_start (OfKind head.0 head.1))
@@ -43,7 +43,7 @@ begun format kind names = OfHistory format kind names [] []
 
 -- ---- a command
 
--- its reply line is put behind the others
+-- its reply line is appended to the others
 pub command_replied : (old new : Recording) (line : List ℕ) (command : Command) (reply : Reply) (out_old out_new : List ℕ)
     → TakesCommand old new line command reply
     → out_new ≡ out_old ++ reply_line reply → AddsReplies (said_of old) (said_of new) out_old out_new
@@ -56,7 +56,7 @@ command_replied old new line command reply out_old out_new takes put = record {
   out = put;
 }
 
--- and the line is taken
+-- and the line is consumed
 pub command_taken : (old new : Recording) (line : List ℕ) (command : Command) (reply : Reply)
     → command_read old.format old.kind (old.first ++ old.joined) (fields_of line) ≡ Some command
     → TakesCommand old new line command reply → line_taken (said_of old) line ≡ Ok (line_start (said_of new))
@@ -72,7 +72,7 @@ command_taken old new line command reply read takes =
     (Ok (line_start next))) room
     ∙ ap (λ (s : Said). Ok (line_start s)) (sym said)
 
--- ---- where the history begins
+-- ---- the start of the history
 
 pub history_begins : (format : Format) (kind : Kind) (line : List ℕ) (names : List (List ℕ)) (history : Recording)
     → ListsNames format line names → history.format ≡ format → history.kind ≡ kind → history.first ≡ names
@@ -112,9 +112,9 @@ extend_stops p q part n same line none long =
     ∙ ap (λ (m : ℕ). Err (stop_at p.said (LineTooLong m))) (sym line)
     ∙ ap (λ (r : Progress). Err (stop_at r.said (LineTooLong n))) same
 
--- ---- a line that lies in one piece
+-- ---- a line in one piece
 
--- read where it lies
+-- consuming the line and its line feed is one step of `line_taken`
 whole_line : (p q : Progress) (last : List ℕ) → p ≡ q → p.partial ≡ [] → All (λ b. b ≢ 10) last → length last ≤ 1048576
     → taken q (last ++ 10 ∷ []) ≡ line_taken p.said last
 whole_line p q last same nothing none short =
@@ -151,19 +151,19 @@ close_whole_stops (Ok x) p q last same nothing none short stops = tt
 close_whole_stops (Err fault) p q last same nothing none short stops =
     stops_whole p q last fault (ending_told fault) same (whole_line p q last same nothing none short) stops
 
--- ---- a line that came in parts
+-- ---- a line that arrived in parts
 
 pub gathering_stops : (old : Progress) (last : List ℕ) (fault : CheckFault)
     → (old.partial ≡ [] → length last ≤ 1048576 → ⊥) → StopsExtending old last fault → StopsClosing old last fault
 gathering_stops old last fault in_parts stops = stop_gathering old last fault (ending_told fault) in_parts stops
 
--- so a line came in parts
+-- so the line arrived in parts
 pub no_parts : (p q : Progress) (len : ℕ) (empty : Bool) → p ≡ q → len ≡ length p.partial → empty ≡ eqb len 0
     → empty ≡ false → q.partial ≡ [] → ⊥
 no_parts p q len empty same is tested some nothing =
     eqb-false len 0 (sym tested ∙ some) (is ∙ ap (λ (r : Progress). length r.partial) same ∙ ap length nothing)
 
--- a line that came in parts, and lies in the last one, is none
+-- if the line arrived in parts, the last part is not all of it
 none_alone : (old mid : Progress) (last : List ℕ) → All (λ b. b ≢ 10) last → taken old last ≡ Ok mid
     → (old.partial ≡ [] → length last ≤ 1048576 → ⊥) → old.partial ≡ [] → mid.partial ≡ last
 none_alone old mid last none is in_parts nothing =

@@ -1,4 +1,4 @@
--- The name of a replica that joins is a new one, and there is room for it.
+-- Lemmas on the name of a joining replica: it is a new name, and there is room for it.
 use Rattle.std.proofs.Common.{◌≡◌, ℕ, true, false, List, [], ◌∷◌, ◌++◌, length, Option, Some, None, refl, sym, ap, subst, ◌∙◌, arith}
 use Rattle.ra_labels.specs.declared.kind.Kind.{Kind}
 use Rattle.ra_labels.specs.declared.command.Command.{Command}
@@ -10,17 +10,17 @@ use Rattle.ra_labels.specs.declared.reply.Reply.TheVariants.{Joined}
 use Rattle.ra_labels.specs.Records.{Records, replica_count}
 use Rattle.ra_labels.specs.Fault.{fault_of}
 use Rattle.ra_labels.specs.Answer.{answer_of, refusal_of}
-use Rattle.ra_labels.specs.Laws.{ReplySays}
-use Rattle.ra_laws.proofs.TheLaws.{what_a_reply_says, joins_are_accepted_with_the_next_number, answers_in_turn-records}
-use Rattle.ra_lines.proofs.TheLaws.{place_within, not_bad}
-use Rattle.ra_lines.specs.declared.fault.NamesFault.TheVariants.{BadName}
-use Rattle.ra_lines.specs.declared.format.Format.TheVariants.{Rah2}
-use Rattle.ra_lines.specs.Grammar.{fields_of, second_of, new_name, Spells, SpellsJoin}
-use Rattle.ra_lines.specs.Names.{MayJoin, StopsAdding}
+use Rattle.ra_labels.specs.TheoremTerms.{ReplyMeaning}
+use Rattle.ra_theorems.proofs.TheoremIndex.{reply_meaning, join_accepted_iff, answers_append-records}
+use Rattle.ra_history_lines.proofs.TheoremIndex.{place_within, not_bad}
+use Rattle.ra_history_lines.specs.declared.fault.NamesFault.TheVariants.{BadName}
+use Rattle.ra_history_lines.specs.declared.format.Format.TheVariants.{Rah2}
+use Rattle.ra_history_lines.specs.Grammar.{fields_of, second_of, new_name, Spells, SpellsJoin}
+use Rattle.ra_history_lines.specs.Names.{MayJoin, StopsAdding}
 use Rattle.ra_history_text.specs.Recording.{Recording, RecordsCommand, HasFewNames, LacksName}
 use Rattle.ra_history_text.specs.Text.{records_in}
 
--- what is answered so is not refused
+-- a command with this answer is not refused
 not_refused : (kind : Kind) (n : ℕ) (records : Records) (c : Command) (replica : ℕ) (fault : Option Fault)
     (refusal : Option Refusal)
     → fault_of kind records ≡ fault → refusal_of kind n records c ≡ refusal
@@ -31,7 +31,7 @@ not_refused kind n records c replica None (Some why) sound refused e =
     absurd (let never = rw (sound, refused) at e in cc)
 not_refused kind n records c replica None None sound fits e = fits
 
--- what holds behind a join that is accepted
+-- what holds after an accepted join
 pub record IsNamed (old mid : Recording) (line : List ℕ) : Type 0 where
   pub new : MayJoin Rah2 (mid.first ++ mid.joined) (new_name line)
   pub lacks : LacksName mid
@@ -47,7 +47,7 @@ named_behind old mid line replica from reply few spelled records is =
     let answer : answer_of old.kind n before c ≡ Joined replica = sym records.answered ∙ is in
     let fits = not_refused old.kind n before c replica (fault_of old.kind before) (refusal_of old.kind n before c)
     refl refl answer in
-    let accepted = (joins_are_accepted_with_the_next_number n before replica from).0 fits in
+    let accepted = (join_accepted_iff n before replica from).0 fits in
     let named : new_name line ≡ spelled.name = ap second_of spelled.words in
     let within = place_within names spelled.name in
     let new : MayJoin Rah2 names (new_name line) =
@@ -56,14 +56,14 @@ named_behind old mid line replica from reply few spelled records is =
       form = spelled.who.form;
       new = omega (arith, accepted.1, spelled.who.place, within, few);
     }) in
-    let says : ReplySays old.kind n before c (Joined replica) =
-    subst (ReplySays old.kind n before c) answer (what_a_reply_says old.kind n before c) in
+    let says : ReplyMeaning old.kind n before c (Joined replica) =
+    subst (ReplyMeaning old.kind n before c) answer (reply_meaning old.kind n before c) in
     let grown : Recording = record old { commands = old.commands ++ c ∷ [] } in
     let lacks : LacksName grown =
     omega (
       arith,
       few,
-      ap (replica_count n) (answers_in_turn-records old.kind n [] old.commands (c ∷ [])),
+      ap (replica_count n) (answers_append-records old.kind n [] old.commands (c ∷ [])),
       ap (replica_count n) says.1,
     ) in
     subst (λ (history : Recording). IsNamed old history line) (sym records.recorded)
@@ -75,14 +75,14 @@ pub may_name : (old mid : Recording) (line : List ℕ) (c : Command) (replica : 
 may_name old mid line c replica reply few spelled records is =
     let n : ℕ = length old.first in
     let before : Records = records_in old.kind old.first old.commands in
-    let says : ReplySays old.kind n before c (Joined replica) =
-    subst (ReplySays old.kind n before c) (sym records.answered ∙ is) (what_a_reply_says old.kind n before c) in
+    let says : ReplyMeaning old.kind n before c (Joined replica) =
+    subst (ReplyMeaning old.kind n before c) (sym records.answered ∙ is) (reply_meaning old.kind n before c) in
     let join = says.3.1 in
     named_behind old mid line replica says.3.0 reply few
     (subst (Spells old.format old.kind (old.first ++ old.joined) line) join spelled)
     (subst (λ (command : Command). RecordsCommand old mid command reply) join records) is
 
--- memory alone can be missing for such a name
+-- only an allocation can fail for such a name
 
 pub not_bad_name : (names : List (List ℕ)) (name : List ℕ) (at : ℕ) → MayJoin Rah2 names name
     → StopsAdding names name (BadName at) → ⊥

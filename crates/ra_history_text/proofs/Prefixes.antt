@@ -1,4 +1,4 @@
--- What was written for a part of a text, against its output.
+-- Lemmas on the output for a part of a text, compared with that for the whole text.
 use Rattle.std.proofs.Common.{◌≡◌, ◌+◌, ◌-◌, ◌<◌, ℕ, true, eqb, cond, List, [], ◌∷◌, ◌++◌, length, Option, Some}
 use Rattle.std.proofs.Common.{Result, Ok, Err, refl, sym, ap, subst, ◌∙◌, arith}
 use Rattle.std.specs.Prelude.{flat_map, is_ok}
@@ -14,24 +14,24 @@ use Rattle.ra_labels.specs.Records.{Records, label_count}
 use Rattle.ra_labels.specs.Answer.{answers_to, records_after}
 use Rattle.ra_history_text.specs.declared.fault.CheckFault.{CheckFault}
 use Rattle.ra_history_text.specs.declared.fault.CheckFault.TheVariants as check_fault
-use Rattle.ra_lines.specs.Grammar.{fields_of}
-use Rattle.ra_lines.specs.Replies.{reply_line, end_words, end_line}
+use Rattle.ra_history_lines.specs.Grammar.{fields_of}
+use Rattle.ra_history_lines.specs.Replies.{reply_line, end_words, end_line}
 use Rattle.ra_history_text.specs.Output.{answers_in, replies_of, last_line_of, last_line_at, output_of}
-use Rattle.ra_lines.specs.Fields.{BeginsWith}
-use Rattle.ra_history_text.specs.Laws.{line_feeds, IsOfReader, IsLess, GrowsByPart, GrowsByReplies, AnswersEach}
-use Rattle.ra_lines.specs.Reading.{head_read, names_read, command_read}
+use Rattle.ra_history_lines.specs.Fields.{BeginsWith}
+use Rattle.ra_history_text.specs.TheoremTerms.{line_feeds, IsOfReader, IsLess, GrowsByPart, GrowsByReplies, AnswersEach}
+use Rattle.ra_history_lines.specs.Reading.{head_read, names_read, command_read}
 use Rattle.ra_history_text.specs.Run.{WritesReplies, StopsCheck}
 use Rattle.ra_history_text.specs.Text.{Said, Nothing, OfKind, OfHistory, Progress, Stop, Ending, Regular}
 use Rattle.ra_history_text.specs.Text.{next_line, records_in, with_command, of_head, said_behind, has_names}
 use Rattle.ra_history_text.specs.Text.{text_start, byte_taken, taken, end_of, ending_of, said_by, does_not_stop}
-use Rattle.ra_lines.proofs.TheLaws.{mapped}
+use Rattle.ra_history_lines.proofs.TheoremIndex.{mapped}
 use Rattle.ra_history_text.proofs.ReplyLines.{taken_begins, output_begins}
 use Rattle.ra_history_text.proofs.TakenBytes.{byte_cases, taken_then}
 use Rattle.ra_history_text.proofs.Texts.{taken_as_found, going_on, regular_progress}
 
 -- ---- a part that does not stop
 
--- where it led
+-- the progress that it led to
 pub led_to : (r : Result Progress Stop) → is_ok r ≡ true → (p : Progress) × (r ≡ Ok p)
 led_to (Ok p) e = (p, refl)
 led_to (Err stop) e = absurd cc
@@ -45,7 +45,7 @@ front_begins front back e =
 
 -- ---- a text with a regular end
 
--- the last line is no empty one
+-- the last line is not empty
 some_end : (labels : ℕ) (fault : Option Fault) → 0 < length (end_line labels fault)
 some_end labels fault = omega (arith, length-append (end_words labels fault) (10 ∷ []))
 
@@ -59,7 +59,7 @@ regular_output : (text : List ℕ) → ending_of text ≡ Regular
     → output_of text ≡ replies_of (said_by text) ++ last_line_of (said_by text)
 regular_output text regular = ap (λ (e : Ending). replies_of (said_by text) ++ last_line_at e (said_by text)) regular
 
--- what a part that does not stop gives is less
+-- a part that does not stop has less output
 part_is_less : (front back : List ℕ) → does_not_stop front ≡ true → ending_of (front ++ back) ≡ Regular
     → IsLess (replies_of (said_by front)) (output_of (front ++ back))
 part_is_less front back going regular =
@@ -108,7 +108,7 @@ unwritten text left old new _ regular stops =
 
 -- ---- reply lines
 
--- the replies of what lines say, each a line
+-- the replies to what lines say, one line each
 abbrev replies_in : Said → List Reply
 replies_in Nothing = []
 replies_in (OfKind format kind) = []
@@ -131,7 +131,7 @@ as_many_answers kind n records [] = refl
 as_many_answers kind n records (c ∷ commands) =
     omega (arith, as_many_answers kind n (records_after kind n records c) commands)
 
--- ---- as many as there are whole lines
+-- ---- the number of complete lines
 
 line_counted : (said next : Said) (line : List ℕ) → said_behind said line ≡ Some next
     → next_line next ≡ next_line said + 1
@@ -149,7 +149,7 @@ line_counted (OfHistory format kind first joined commands) next line e =
 feeds_cons : (byte : ℕ) (bytes : List ℕ) → line_feeds (byte ∷ bytes) ≡ cond (eqb byte 10) 1 0 + line_feeds bytes
 feeds_cons byte bytes = sum_by-cons (λ x. cond (eqb x 10) 1 0) byte bytes
 
--- a byte makes as many lines whole as it is line feeds
+-- a byte completes one line if it is a line feed, and else none
 byte_counted : (p q : Progress) (byte : ℕ) → byte_taken p byte ≡ Ok q
     → next_line q.said ≡ next_line p.said + cond (eqb byte 10) 1 0
 byte_counted p q byte = byte_cases p byte (λ r. r ≡ Ok q → next_line q.said ≡ next_line p.said + cond (eqb byte 10) 1 0)

@@ -1,4 +1,4 @@
--- The reply lines to what lines say, as more lines come.
+-- Lemmas on the reply lines to what lines say, as lines are added.
 use Rattle.std.proofs.Common.{◌≡◌, ℕ, List, [], ◌∷◌, ◌++◌, length, Option, Some, None, Result, Ok, Err, refl, sym, ap, subst, ◌∙◌, inl, inr}
 use Rattle.std.specs.Prelude.{flat_map}
 use Rattle.std.proofs.lemmas.Bool.{cases_Bool}
@@ -9,15 +9,15 @@ use Rattle.ra_labels.specs.declared.command.Command.{Command}
 use Rattle.ra_labels.specs.declared.reply.Reply.{Reply}
 use Rattle.ra_labels.specs.Records.{Records}
 use Rattle.ra_labels.specs.Answer.{answer_of, answers_to, records_after, records_after_all}
-use Rattle.ra_lines.specs.declared.format.Format.{Format}
-use Rattle.ra_lines.specs.Grammar.{fields_of, names_behind}
-use Rattle.ra_lines.specs.Replies.{reply_line}
+use Rattle.ra_history_lines.specs.declared.format.Format.{Format}
+use Rattle.ra_history_lines.specs.Grammar.{fields_of, names_behind}
+use Rattle.ra_history_lines.specs.Replies.{reply_line}
 use Rattle.ra_history_text.specs.Output.{answers_in, replies_of, last_line_at, output_of}
-use Rattle.ra_lines.specs.Fields.{BeginsWith}
-use Rattle.ra_lines.specs.Reading.{command_read}
+use Rattle.ra_history_lines.specs.Fields.{BeginsWith}
+use Rattle.ra_history_lines.specs.Reading.{command_read}
 use Rattle.ra_history_text.specs.Text.{Said, Nothing, OfKind, OfHistory, Progress, Stop, records_in, with_command, said_behind}
 use Rattle.ra_history_text.specs.Text.{is_full, text_start, line_taken_as, byte_taken, unless_stopped, taken, end_of}
-use Rattle.ra_lines.proofs.TheLaws.{mapped}
+use Rattle.ra_history_lines.proofs.TheoremIndex.{mapped}
 use Rattle.ra_history_text.proofs.TakenBytes.{byte_cases, taken_then}
 
 pub begins_same : (xs : List ℕ) → BeginsWith xs xs
@@ -26,7 +26,7 @@ begins_same xs = ([], sym (append-nil xs))
 pub begins_then : (xs ys zs : List ℕ) → BeginsWith xs ys → BeginsWith ys zs → BeginsWith xs zs
 begins_then xs ys zs p q = (p.0 ++ q.0, q.1 ∙ ap (λ (bs : List ℕ). bs ++ q.0) p.1 ∙ append_assoc xs p.0 q.0)
 
--- ---- one command more
+-- ---- one more command
 
 pub answers_push : (kind : Kind) (n : ℕ) (records : Records) (commands : List Command) (command : Command)
     → answers_to kind n records (commands ++ command ∷ []) ≡ answers_to kind n records commands
@@ -36,7 +36,7 @@ answers_push kind n records (first ∷ commands) command =
     ap (λ (replies : List Reply). answer_of kind n records first ∷ replies)
     (answers_push kind n (records_after kind n records first) commands command)
 
--- its reply line stands behind the others
+-- its reply line is appended to the others
 pub replies_push : (format : Format) (kind : Kind) (first joined behind : List (List ℕ)) (commands : List Command)
     (command : Command)
     → replies_of (OfHistory format kind first behind (commands ++ command ∷ []))
@@ -64,7 +64,7 @@ line_begins (OfHistory format kind first joined commands) next line e =
       replies_push format kind first joined (names_behind kind (length first) records joined line m.0) commands m.0,
     )
 
--- what the lines up to an end say has the replies of those before
+-- the replies up to an end begin with the earlier ones
 abbrev BeginsAt : Said → Result Progress Stop → Type 0
 BeginsAt said r = BeginsWith (replies_of said) (replies_of (end_of r).said)
 
@@ -97,7 +97,7 @@ taken_begins (byte ∷ bytes) p = step_begins p.said (byte_taken p byte) bytes (
 
 -- ---- the output of a whole text
 
--- what is written for a front that does not stop is a front of the text's output
+-- the output for a front that does not stop is the beginning of the text's output
 pub output_begins : (front back : List ℕ) (p : Progress) → taken text_start front ≡ Ok p
     → BeginsWith (replies_of p.said) (output_of (front ++ back))
 output_begins front back p is =

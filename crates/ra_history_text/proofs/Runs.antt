@@ -1,4 +1,4 @@
--- Readers and writers over a whole run.
+-- Lemmas on readers and writers over a whole run.
 use Rattle.std.proofs.Common.{◌≡◌, ℕ, List, [], ◌++◌, take, drop, Option, Some, None, IfSome, Ok, refl, sym, ap, subst, ◌∙◌, ◌<◌, length}
 use Rattle.std.specs.Io.KnownBytes.{Appends, Consumes, IsAtEnd}
 use Rattle.std.proofs.lemmas.List.{append_assoc, append-nil, take-append-drop}
@@ -34,9 +34,9 @@ written_more old mid new bytes rest behind n written appends is = record {
   appends = Appends-then old mid new written.prefix (take n rest) written.appends appends;
 }
 
--- ---- what is gathered for the writer
+-- ---- the output buffer of the writer
 
--- behind nothing, what is put there is all
+-- bytes appended to an empty buffer are its whole content
 pub put_alone : (out1 out2 more : List ℕ) → out1 ≡ [] → out2 ≡ out1 ++ more → out2 ≡ more
 put_alone out1 out2 more nothing put = put ∙ ap (λ (bs : List ℕ). bs ++ more) nothing
 
@@ -65,7 +65,7 @@ read_more (Some all) (Some rest) (Some later) old new piece read consumes is = (
   taken_then text_start old read.0 piece read.2 ∙ is,
 )
 
--- where the text is known, so is what was read of it, and what is left
+-- if the text is known, so are the part that was read and the rest
 pub where_known : (r0 r1 r2 : Option (List ℕ)) (p : Progress) (piece : List ℕ)
     (P : List ℕ → Option (List ℕ) → Type 0) → HasRead r0 r1 p → Consumes r1 r2 piece
     → ((all read left : List ℕ) → all ≡ read ++ (piece ++ left) → taken text_start read ≡ Ok p → P all (Some left))
@@ -95,7 +95,7 @@ run_next r0 r1 r2 w0 w1 w2 old new out1 out2 out3 piece running consumes is adds
   nothing = nothing;
 }
 
--- a read of no byte, though there was room for one: nothing is left
+-- a read that returns no byte into a buffer with room: nothing is left
 pub read_none_left : (r1 r2 : Option (List ℕ)) (count : ℕ) (buffer : List ℕ) → count ≡ 0 → 0 < length buffer
     → Consumes r1 r2 (take count buffer) × (count ≡ 0 → 0 < length buffer → IsAtEnd r2) → Consumes r1 r2 [] × IsAtEnd r2
 read_none_left r1 r2 count buffer none room read =
@@ -103,7 +103,7 @@ read_none_left r1 r2 count buffer none room read =
 
 -- ---- at the end
 
--- where the text is known, all of it was read
+-- if the text is known, all of it was read
 pub where_whole : (r0 r1 r2 : Option (List ℕ)) (p : Progress) (P : List ℕ → Type 0) → HasRead r0 r1 p
     → Consumes r1 r2 [] × IsAtEnd r2 → ((text : List ℕ) → taken text_start text ≡ Ok p → P text) → IfSome r0 P
 where_whole None r1 r2 p P read ended leads = tt

@@ -1,4 +1,4 @@
--- From how a text ends to its lines: where bytes stop a text, and what stands before.
+-- Lemmas that lead from the end of a text to its lines: the byte at which a text stops, and the lines before it.
 use Rattle.std.proofs.Common.{◌≡◌, ◌≢◌, inl, inr, ℕ, ◌<◌, ◌≤◌, Bool, true, false, eqb, List}
 use Rattle.std.proofs.Common.{[], ◌∷◌, ◌++◌, length, Option, Some, None, Result, Ok, Err, refl, sym, ap, subst}
 use Rattle.std.proofs.Common.{◌∙◌, arith}
@@ -7,14 +7,14 @@ use Rattle.std.specs.List.{AllByRecursion}
 use Rattle.std.proofs.lemmas.Bool.{eqb-false}
 use Rattle.std.proofs.lemmas.List.{append_assoc, length_push}
 use Rattle.std.proofs.lemmas.List.Elements.{All-append}
-use Rattle.ra_lines.specs.Grammar.{IsLine, bytes_of}
+use Rattle.ra_history_lines.specs.Grammar.{IsLine, bytes_of}
 use Rattle.ra_history_text.specs.Text.{Said, Nothing, Ending, Regular, Syntax, Truncated, LineTooLong, Full}
 use Rattle.ra_history_text.specs.Text.{Progress, Stop, stop_at, next_line, said_behind, is_full}
 use Rattle.ra_history_text.specs.Text.{has_names, text_start, line_taken_as, byte_taken}
 use Rattle.ra_history_text.specs.Text.{unless_stopped, taken, ending_at, end_of, ending_of, said_by}
-use Rattle.ra_history_text.specs.Endings.{Say, SpellsNothing, SpellsOneTooMany, BeginsWith, HasSyntaxFault, IsTruncated}
+use Rattle.ra_history_text.specs.Endings.{LinesSay, SpellsNothing, SpellsOneTooMany, HasLinesBefore, HasSyntaxFault, IsTruncated}
 use Rattle.ra_history_text.specs.Endings.{HasLongLine, HasCommandTooMany}
-use Rattle.ra_lines.proofs.TheLaws.{chosen}
+use Rattle.ra_history_lines.proofs.TheoremIndex.{chosen}
 use Rattle.ra_history_text.proofs.TakenBytes.{byte_cases}
 use Rattle.ra_history_text.proofs.Texts.{Leads, no_bytes, one_byte}
 use Rattle.ra_history_text.proofs.Texts.{line_push, line_in_front, lines_found, taken_as_found}
@@ -23,7 +23,7 @@ use Rattle.ra_history_text.proofs.Endings.{one_more_spelled}
 
 -- ---- from the end of a text to its lines
 
--- where bytes stop a text: whole lines, what is there of the next one, and the byte that stops it
+-- a stopped text: complete lines, the beginning of the next one, and the byte that stops it
 record IsStopped (p : Progress) (bytes : List ℕ) (stop : Stop) : Type 0 where
   pub at : Progress
   pub byte : ℕ
@@ -40,7 +40,7 @@ now_or_later : (r : Result Progress Stop) (f : Progress → Result Progress Stop
 now_or_later (Ok p) f stop e = inr (p, refl, e)
 now_or_later (Err other) f stop e = inl e
 
--- what holds behind a byte that did not stop the text
+-- what holds after a byte that did not stop the text
 byte_passed : (p next : Progress) (byte : ℕ) (bytes : List ℕ) (stop : Stop) → IsLine p.partial
     → byte_taken p byte ≡ Ok next → (IsLine next.partial → IsStopped next bytes stop)
     → IsStopped p (byte ∷ bytes) stop
@@ -126,7 +126,7 @@ reason_of at byte stop = byte_cases at byte (λ r. r ≡ Err stop → Reason at 
     (λ other room e. absurd cc)
     (λ other full e. OfLength other full (sym (let same = e in cc)))
 
--- the line with a fault
+-- the number of the line with a fault
 abbrev line_with : Ending → ℕ
 line_with Regular = 0
 line_with (Syntax line) = line
@@ -134,28 +134,28 @@ line_with (Truncated line) = line
 line_with (LineTooLong line) = line
 line_with (Full line) = line
 
--- what stands before the line at which a text stops
+-- the lines before the one at which a text stops
 begins_with : (text rest : List ℕ) (lines : List (List ℕ)) (at said : Said) (number : ℕ)
     → AllByRecursion IsLine lines → Leads Nothing lines at → text ≡ bytes_of lines ++ rest → at ≡ said
-    → number ≡ next_line at → BeginsWith text said number rest
+    → number ≡ next_line at → HasLinesBefore text said number rest
 begins_with text rest lines at said number are leads whole same is =
     let say = say_from_leads lines at leads in
     record {
       lines = lines;
       are_lines = are;
-      say = subst (Say lines) same say;
+      say = subst (LinesSay lines) same say;
       whole = whole;
       numbered = is ∙ line_behind lines at say;
     }
 
--- a stop ends a text as it says
+-- the text stops with this ending
 record Stops (text : List ℕ) (ending : Ending) (said : Said) : Type 0 where
   pub stop : Stop
   pub is : taken text_start text ≡ Err stop
   pub ends : stop.ending ≡ ending
   pub says : stop.said ≡ said
 
--- is it a fault at which a text stops before its end?
+-- whether a text stops at this fault before its end
 abbrev IsStop : Ending → Type 0
 IsStop Regular = ⊥
 IsStop (Syntax line) = Unit {0}
@@ -179,7 +179,7 @@ stops_at : (text : List ℕ) (ending : Ending) (said : Said) → IsStop ending �
     → said_by text ≡ said → Stops text ending said
 stops_at text ending said is ends says = stops_from text ending said (taken text_start text) refl is ends says
 
--- the line number and what was said, of a stop for a reason
+-- the line number and the content of a stop for a reason
 same_said : {stop : Stop} {at said : Said} {ending : Ending} → stop ≡ stop_at at ending → stop.said ≡ said → at ≡ said
 same_said is says = sym (ap (λ (s : Stop). s.said) is) ∙ says
 
@@ -262,7 +262,7 @@ long_found text said number ends says =
           }
     ]
 
--- no stop is that of a text that ends early
+-- a stop is not the early end of a text
 no_stop_is_truncated : (text : List ℕ) (stop : Stop) (number : ℕ) → taken text_start text ≡ Err stop
     → stop.ending ≡ Truncated number → ⊥
 no_stop_is_truncated text stop number is ends =
@@ -288,7 +288,7 @@ early_found p number e =
       | inr early ↦ (sym (ap line_with early.1), why_early (has_names p.said) p.partial early.0)
     ]
 
-early_or_few : (lines : List (List ℕ)) (said : Said) (number : ℕ) (rest : List ℕ) → Say lines said
+early_or_few : (lines : List (List ℕ)) (said : Said) (number : ℕ) (rest : List ℕ) → LinesSay lines said
     → number ≡ next_line said → (0 < length rest) ⊎ (has_names said ≡ false) → (0 < length rest) ⊎ (number ≤ 2)
 early_or_few lines said number rest say is (inl some) = inl some
 early_or_few lines said number rest say is (inr none) =

@@ -1,11 +1,11 @@
--- How bytes are taken, many at a time.
+-- Lemmas on consuming several bytes.
 use Rattle.std.proofs.Common.{inl, inr, ◌≡◌, ◌≢◌, ℕ, suc, ◌+◌, ◌<◌, ◌≤◌, false, true, eqb, ltb, List, [], ◌∷◌, ◌++◌}
 use Rattle.std.proofs.Common.{length, All, Result, Ok, Err, refl, sym, ap, ◌∙◌, arith}
 use Rattle.std.proofs.lemmas.Bool.{ne_eqb, lt-ltb, ltb-true, ltb-false, eqb-true, eqb-false, cases_Bool}
 use Rattle.std.proofs.lemmas.List.{append_assoc, append-nil, length_push}
 use Rattle.ra_history_text.specs.Text.{Progress, Stop, LineTooLong, next_line, stop_at, line_taken, byte_taken, unless_stopped, taken}
 
--- what holds of a byte that is taken, by what it is and whether there is room for it
+-- a property of a consumed byte, by the byte and by whether there is room for it
 pub byte_cases : (p : Progress) (byte : ℕ) (P : Result Progress Stop → Type 0)
     → (byte ≡ 10 → P (line_taken p.said p.partial))
     → (byte ≢ 10 → length p.partial < 1048576
@@ -36,7 +36,7 @@ same_behind : (r : Result Progress Stop) (f g : Progress → Result Progress Sto
 same_behind (Ok p) f g same = same p
 same_behind (Err stop) f g same = refl
 
--- bytes behind others are taken from where those led
+-- later bytes are consumed from the progress that the earlier ones led to
 pub taken-append : (p : Progress) (front back : List ℕ)
     → taken p (front ++ back) ≡ unless_stopped (taken p front) (λ q. taken q back)
 taken-append p [] back = refl
@@ -52,14 +52,14 @@ pub stopped_then : (p : Progress) (stop : Stop) (front back : List ℕ) → take
     → taken p (front ++ back) ≡ Err stop
 stopped_then p stop front back is = taken-append p front back ∙ ap (λ r. unless_stopped r (λ q. taken q back)) is
 
--- a line feed makes the line whole
+-- a line feed completes the line
 pub taken_line : (p q : Progress) (last : List ℕ) → taken p last ≡ Ok q
     → taken p (last ++ 10 ∷ []) ≡ line_taken q.said q.partial
 taken_line p q last is = taken_then p q last (10 ∷ []) is ∙ unless_stopped_ok (line_taken q.said q.partial)
 
 -- ---- a part of a line
 
--- a byte that is no line feed
+-- a byte that is not a line feed
 belongs : (p : Progress) (byte : ℕ) → byte ≢ 10 → length p.partial < 1048576
     → byte_taken p byte ≡ Ok (record { said = p.said; partial = p.partial ++ byte ∷ [] })
 belongs p byte none room =

@@ -1,4 +1,4 @@
--- A text has a regular end just where it is the lines of a history.
+-- Lemmas on the regular end: a text has it exactly if it is the lines of a history.
 use Rattle.std.proofs.Common.{◌≡◌, ◌≢◌, inl, inr, ℕ, zero, suc, ◌+◌, ◌<◌, ◌≤◌, Bool, true, false, eqb, cond, List}
 use Rattle.std.proofs.Common.{[], ◌∷◌, ◌++◌, length, All, Option, Some, None, Result, Ok, Err, refl, sym, ap, subst}
 use Rattle.std.proofs.Common.{◌∙◌, arith}
@@ -11,30 +11,30 @@ use Rattle.ra_labels.specs.declared.kind.Kind.{Kind}
 use Rattle.ra_labels.specs.declared.command.Command.{Command}
 use Rattle.ra_labels.specs.Records.{Records}
 use Rattle.ra_labels.specs.Answer.{records_after}
-use Rattle.ra_lines.specs.declared.format.Format.{Format}
-use Rattle.ra_lines.specs.Grammar.{IsLine, bytes_of, fields_of, first_line, names_behind, SpellEach, Says}
-use Rattle.ra_lines.specs.Reading.{head_read, names_read, command_read}
+use Rattle.ra_history_lines.specs.declared.format.Format.{Format}
+use Rattle.ra_history_lines.specs.Grammar.{IsLine, bytes_of, fields_of, first_line, names_behind, SpellEach, Says}
+use Rattle.ra_history_lines.specs.Reading.{head_read, names_read, command_read}
 use Rattle.ra_history_text.specs.Text.{Said, Nothing, OfKind, OfHistory, Progress, Stop, Regular, Full, stop_at}
 use Rattle.ra_history_text.specs.Text.{next_line, records_in, with_command, of_head, said_behind, is_full, has_names, line_start, text_start}
 use Rattle.ra_history_text.specs.Text.{line_taken_as, line_taken, byte_taken, unless_stopped, taken, end_of, ending_of}
 use Rattle.ra_history_text.specs.Text.{said_by}
-use Rattle.ra_lines.proofs.TheLaws.{a_line_of_a_command_is_read-found as command_found}
-use Rattle.ra_lines.proofs.TheLaws.{a_line_of_a_command_is_read-only as command_only}
-use Rattle.ra_lines.proofs.TheLaws.{a_first_line_is_read-only as head_only, a_first_line_is_read-found as head_found}
-use Rattle.ra_lines.proofs.TheLaws.{a_line_of_names_is_read-found as names_read-Some}
-use Rattle.ra_lines.proofs.TheLaws.{a_line_of_names_is_read-only as names_read-listed, mapped, chosen}
-use Rattle.ra_laws.proofs.TheLaws.{answers_in_turn-records}
+use Rattle.ra_history_lines.proofs.TheoremIndex.{command_line_read_iff-found as command_found}
+use Rattle.ra_history_lines.proofs.TheoremIndex.{command_line_read_iff-only as command_only}
+use Rattle.ra_history_lines.proofs.TheoremIndex.{first_line_read_iff-only as head_only, first_line_read_iff-found as head_found}
+use Rattle.ra_history_lines.proofs.TheoremIndex.{names_line_read_iff-found as names_read-Some}
+use Rattle.ra_history_lines.proofs.TheoremIndex.{names_line_read_iff-only as names_read-listed, mapped, chosen}
+use Rattle.ra_theorems.proofs.TheoremIndex.{answers_append-records}
 use Rattle.ra_history_text.proofs.TakenBytes.{byte_cases, taken_then, taken_line, taken_part}
 
 -- ---- lines, one after another
 
--- these lines lead from what the lines before say to this
+-- these lines lead from what the earlier lines say to this
 abbrev pub Leads : Said → List (List ℕ) → Said → Type 0
 Leads said [] last = said ≡ last
 Leads said (line ∷ lines) last = (next : Said) × (said_behind said line ≡ Some next) × (is_full said ≡ false)
     × Leads next lines last
 
--- a line that is taken
+-- a line that is consumed
 line_is_taken : (said next : Said) (line : List ℕ) → said_behind said line ≡ Some next → is_full said ≡ false
     → line_taken said line ≡ Ok (line_start next)
 line_is_taken said next line is room = ap (line_taken_as said) is
@@ -51,7 +51,7 @@ taken_as_found said (Some next) q e =
 
 -- ---- from lines to bytes
 
--- a whole line, from its first byte to its line feed
+-- a complete line, from its first byte to its line feed
 pub taken_whole : (said : Said) (line : List ℕ) → IsLine line
     → taken (line_start said) (line ++ 10 ∷ []) ≡ line_taken said line
 taken_whole said line is =
@@ -66,10 +66,10 @@ taken_lines said last (line ∷ lines) are leads =
     (taken_whole said line are.0 ∙ line_is_taken said leads.0 line leads.1 leads.2)
     ∙ taken_lines leads.0 last lines are.1 leads.3
 
--- the records that one command more leaves
+-- the records after one more command
 records_more : (kind : Kind) (first : List (List ℕ)) (before : List Command) (c : Command)
     → records_in kind first (before ++ c ∷ []) ≡ records_after kind (length first) (records_in kind first before) c
-records_more kind first before c = answers_in_turn-records kind (length first) [] before (c ∷ [])
+records_more kind first before c = answers_append-records kind (length first) [] before (c ∷ [])
 
 -- the lines of commands
 pub leads_commands : (format : Format) (kind : Kind) (first joined all lines : List (List ℕ)) (records : Records)
@@ -131,7 +131,7 @@ taken_text text format kind first joined commands says =
 
 -- ---- from bytes to lines
 
--- bytes that were taken: whole lines, which lead to what is said now, and what is there of the next
+-- consumed bytes: complete lines, which lead to the current content, and the beginning of the next line
 pub record AreLines (p q : Progress) (bytes : List ℕ) : Type 0 where
   pub lines : List (List ℕ)
   pub are_lines : AllByRecursion IsLine lines
@@ -146,14 +146,14 @@ pub one_byte : (byte : ℕ) → byte ≢ 10 → All (λ b. b ≢ 10) (byte ∷ [
 one_byte byte none zero d below = none
 one_byte byte none (suc k) d below = absurd (omega (arith, below))
 
--- a line and its line feed in front of other lines, with what stands behind these
+-- a line and its line feed before other lines, with the bytes behind these
 pub line_in_front : (line lines behind bytes : List ℕ) (byte : ℕ) → byte ≡ 10 → bytes ≡ lines ++ behind
     → line ++ byte ∷ bytes ≡ ((line ++ 10 ∷ []) ++ lines) ++ behind
 line_in_front line lines behind bytes byte feed parts =
     ap (λ (b : ℕ). line ++ b ∷ bytes) feed ∙ ap (λ (bs : List ℕ). line ++ 10 ∷ bs) parts
     ∙ sym (append_assoc line (10 ∷ []) (lines ++ behind)) ∙ sym (append_assoc (line ++ 10 ∷ []) lines behind)
 
--- what went on
+-- the successful steps
 pub going_on : (r : Result Progress Stop) (q : Progress) (f : Progress → Result Progress Stop)
     → unless_stopped r f ≡ Ok q → (p : Progress) × (r ≡ Ok p) × (f p ≡ Ok q)
 going_on (Ok p) q f e = (p, refl, e)
@@ -211,7 +211,7 @@ lines_found (byte ∷ bytes) p q is e =
 
 -- ---- from lines to a history
 
--- what lines of commands lead to
+-- the history that lines of commands lead to
 pub record AreFound (format : Format) (kind : Kind) (first joined lines : List (List ℕ)) (records : Records)
     (before : List Command) (last : Said) : Type 0 where
   pub commands : List Command
@@ -254,7 +254,7 @@ commands_found format kind first joined (line ∷ lines) records before last are
       few = omega (arith, rest.few, length_push before m.0);
     }
 
--- the text is lines that say this history
+-- the text consists of lines that say this history
 abbrev SaysIt : List ℕ → Said → Type 0
 SaysIt text (OfHistory format kind first joined commands) = Says text format kind first joined commands
 SaysIt text said = ⊥
@@ -287,7 +287,7 @@ says_from_lines text (head ∷ second ∷ lines) last named parts are leads =
 
 -- ---- the regular end
 
--- where a text has it, there was no stop, and nothing stands behind the last line feed
+-- a text with the regular end was not stopped, and nothing follows its last line feed
 regular_found : (r : Result Progress Stop) → ((stop : Stop) → r ≡ Err stop → stop.ending ≡ Regular → ⊥)
     → (end_of r).ending ≡ Regular
     → (p : Progress) × (r ≡ Ok p) × (has_names p.said ≡ true) × (p.partial ≡ [])
@@ -300,7 +300,7 @@ regular_found (Ok p) never e =
       | inr short ↦ absurd (let never = short.1 in cc)
     ]
 
--- no stop is a regular end
+-- a stop is not the regular end
 abbrev IsNoRegular : Result Progress Stop → Type 0
 IsNoRegular r = (stop : Stop) → r ≡ Err stop → stop.ending ≡ Regular → ⊥
 
@@ -352,7 +352,7 @@ says_only text format kind first joined commands says =
     let is = taken_text text format kind first joined commands says in
     (ap (λ r. (end_of r).ending) is, ap (λ r. (end_of r).said) is)
 
--- what such a text says is a history
+-- such a text says a history
 history_of_names : (said : Said) → has_names said ≡ true → (format : Format) × (kind : Kind)
     × (first : List (List ℕ)) × (joined : List (List ℕ)) × (commands : List Command)
     × (said ≡ OfHistory format kind first joined commands)

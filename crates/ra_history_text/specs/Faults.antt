@@ -1,12 +1,12 @@
--- The faults of a check: which of them tell how a text ends, and their words.
+-- The faults of a check: how those of a text end it, and their messages.
 use Rattle.std.specs.Prelude.{ℕ, List, ◌++◌, Option, Some, None, codes, decimal}
-use Rattle.ra_lines.specs.declared.fault.LineFault.{LineFault}
-use Rattle.ra_lines.specs.declared.fault.LineFault.TheVariants as line_fault
+use Rattle.ra_history_lines.specs.declared.fault.LineFault.{LineFault}
+use Rattle.ra_history_lines.specs.declared.fault.LineFault.TheVariants as line_fault
 use Rattle.ra_history_text.specs.declared.fault.CheckFault.{CheckFault}
 use Rattle.ra_history_text.specs.declared.fault.CheckFault.TheVariants as fault
 use Rattle.ra_history_text.specs.Text.{Ending, Syntax, Truncated, LineTooLong, Full}
 
--- the ending of the text that the fault tells; none where it is of the reader, the writer or the memory
+-- the ending of the text that the fault reports; none for a fault of the reader, the writer or an allocation
 abbrev pub ending_told : CheckFault → Option Ending
 ending_told fault.Read = None
 ending_told fault.Write = None
@@ -17,14 +17,14 @@ ending_told fault.NoMemory = None
 ending_told fault.Endless = None
 ending_told (fault.Full line) = Some (Full line)
 
--- the fault of a text that has this fault at this line
+-- the fault of a check for this fault at this line
 abbrev pub fault_at_line : LineFault → ℕ → CheckFault
 fault_at_line line_fault.Syntax line = fault.Syntax line
 fault_at_line line_fault.NoMemory line = fault.NoMemory
 
--- ---- words
+-- ---- messages
 
--- the line with this number, and what is wrong with it
+-- the message about the line with this number
 abbrev pub line_words : ℕ → List ℕ → List ℕ
 line_words line what = codes "line " ++ (decimal line ++ what)
 

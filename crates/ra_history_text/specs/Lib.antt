@@ -7,4 +7,4 @@ pub mod Recording
 pub mod RecordingKept
 pub mod Sessions
 pub mod Run
-pub mod Laws
+pub mod TheoremTerms

@@ -1,14 +1,14 @@
--- What the fields of a recorded history stand for, and what is kept true of them.
+-- What the fields of a recorded history represent, and its representation invariant.
 use Rattle.std.specs.Prelude.{◌≡◌, ℕ, ◌≤◌, nat_lt, Bool, true, List, length, map, take, drop}
 use Rattle.std.specs.List.{list_all}
 use Rattle.ra_labels.specs.Records.{replica_count}
 use Rattle.ra_monitor.specs.Monitor.{MonitorEntry, commands_of, records_of}
 use Rattle.ra_history_text.specs.declared.recording.Recording.TheInside.{Inside}
-use Rattle.ra_lines.specs.declared.limits.TheConstants.{MOST_COMMANDS}
+use Rattle.ra_history_lines.specs.declared.limits.TheConstants.{MOST_COMMANDS}
 use Rattle.ra_history_text.specs.Recording.{Recording}
 use Rattle.ra_history_text.specs.Output.{answers_in}
 
--- the names that it began with, and those that joined
+-- the initial names; below, those that joined
 abbrev pub first_names_of : Inside → List (List ℕ)
 first_names_of h = take h.monitor.setup.replicas h.names
 
@@ -24,14 +24,14 @@ recording_of h = record {
   commands = commands_of h.monitor.log;
 }
 
--- each ticket is below the number of entries
+-- `true` if each ticket is below the count
 abbrev pub are_tickets_below : ℕ → List MonitorEntry → Bool
 are_tickets_below count log = list_all (λ entry. nat_lt entry.ticket count) log
 
 pub record RecordingKept (h : Inside) : Type 0 where
   pub kind : h.monitor.setup.kind ≡ h.kind
   pub replicas : h.monitor.setup.replicas ≡ length (first_names_of h)
-  -- a name that there was no memory for is missing
+  -- a name is missing if its allocation failed
   pub few : length h.names ≤ replica_count h.monitor.setup.replicas (records_of h.monitor.setup h.monitor.log)
   pub limit : h.monitor.setup.limit ≡ MOST_COMMANDS
   pub fits : length h.monitor.log ≤ MOST_COMMANDS

@@ -1,36 +1,36 @@
--- A text from its first byte to its last: what its lines say, and how it ends. All of this is computed from the bytes.
+-- A text from its first byte to its last: the content of its lines, and how it ends, both computed from the bytes.
 use Rattle.std.specs.Prelude.{ℕ, ◌+◌, ◌==◌, nat_lt, Bool, true, false, ◌&&◌, List, [], ◌∷◌, ◌++◌, length, Option, Some, None, option_map, Result, Ok, Err, is_ok, if◌then◌else◌}
 use Rattle.ra_labels.specs.declared.kind.Kind.{Kind}
 use Rattle.ra_labels.specs.declared.command.Command.{Command}
 use Rattle.ra_labels.specs.Records.{Records}
 use Rattle.ra_labels.specs.Answer.{records_after_all}
-use Rattle.ra_lines.specs.declared.format.Format.{Format}
-use Rattle.ra_lines.specs.declared.limits.TheConstants.{LONGEST_LINE, MOST_COMMANDS}
-use Rattle.ra_lines.specs.Grammar.{fields_of, names_behind}
-use Rattle.ra_lines.specs.Reading.{head_read, names_read, command_read}
+use Rattle.ra_history_lines.specs.declared.format.Format.{Format}
+use Rattle.ra_history_lines.specs.declared.limits.TheConstants.{LONGEST_LINE, MOST_COMMANDS}
+use Rattle.ra_history_lines.specs.Grammar.{fields_of, names_behind}
+use Rattle.ra_history_lines.specs.Reading.{head_read, names_read, command_read}
 
--- ---- what lines say
+-- ---- the content of lines
 
--- what the lines so far say
+-- the content of the lines so far
 pub data Said : Type 0 where
-  -- there is none yet
+  -- no line yet
   Nothing : Said
   -- the first line: the format and the kind
   OfKind : Format → Kind → Said
-  -- the line of names too, and then commands, the oldest first: the names at first, and those that joined
+  -- the line of names as well, and then commands, oldest first: the initial names, and those that joined
   OfHistory : Format → Kind → List (List ℕ) → List (List ℕ) → List Command → Said
 
--- the number of the line that comes next, from 1
+-- the number of the next line, from 1
 abbrev pub next_line : Said → ℕ
 next_line Nothing = 1
 next_line (OfKind format kind) = 2
 next_line (OfHistory format kind first joined commands) = length commands + 3
 
--- the records that the commands of a history leave, which begins with these names
+-- the records after the commands of a history with these initial names
 abbrev pub records_in : Kind → List (List ℕ) → List Command → Records
 records_in kind first commands = records_after_all kind (length first) [] commands
 
--- a history with one command more, which this line spells
+-- a history with one more command, which this line spells
 abbrev pub with_command : Format → Kind → List (List ℕ) → List (List ℕ) → List Command → List ℕ → Command → Said
 with_command format kind first joined commands line command =
     OfHistory format kind first
@@ -39,7 +39,7 @@ with_command format kind first joined commands line command =
 abbrev pub of_head : Format × Kind → Said
 of_head head = OfKind head.0 head.1
 
--- what they say with one line more; none where the line spells nothing that may stand there
+-- the content with one more line; none if the line spells nothing that is allowed there
 abbrev pub said_behind : Said → List ℕ → Option Said
 said_behind Nothing line = option_map of_head (head_read line)
 said_behind (OfKind format kind) line =
@@ -48,13 +48,13 @@ said_behind (OfHistory format kind first joined commands) line =
     option_map (with_command format kind first joined commands line)
     (command_read format kind (first ++ joined) (fields_of line))
 
--- are as many commands there as there may be?
+-- `true` if there are as many commands as allowed
 abbrev pub is_full : Said → Bool
 is_full Nothing = false
 is_full (OfKind format kind) = false
 is_full (OfHistory format kind first joined commands) = length commands == MOST_COMMANDS
 
--- were both lines before the commands there?
+-- `true` if both lines before the commands were read
 abbrev pub has_names : Said → Bool
 has_names Nothing = false
 has_names (OfKind format kind) = false
@@ -62,7 +62,7 @@ has_names (OfHistory format kind first joined commands) = true
 
 -- ---- how a text ends
 
--- at its regular end, or with a fault at the line with this number
+-- how a text ends: regularly, or with a fault at the line with this number
 pub data Ending : Type 0 where
   Regular : Ending
   Syntax : ℕ → Ending
@@ -72,39 +72,39 @@ pub data Ending : Type 0 where
 
 -- ---- byte by byte
 
--- how far a text has come: what its whole lines say, and what is there of the next one
+-- how far a text is read: the content of its whole lines, and the bytes of the next one so far
 pub record Progress : Type 0 where
   pub said : Said
   pub partial : List ℕ
 
--- where a text stops: why, and what the lines before say
+-- where a text stops: why, and the content of the lines before
 pub record Stop : Type 0 where
   pub ending : Ending
   pub said : Said
 
--- a line begins
+-- the progress at the beginning of a line
 abbrev pub line_start : Said → Progress
 line_start said = record { said = said; partial = [] }
 
--- nothing of the text is there
+-- the progress before the first byte of a text
 abbrev pub text_start : Progress
 text_start = line_start Nothing
 
 abbrev pub stop_at : Said → Ending → Stop
 stop_at said ending = record { ending = ending; said = said }
 
--- a line that makes the lines say this is taken, unless it is one command too many
+-- the result of a line that leads to this content: a fault if there is none or if it is one command too many
 abbrev pub line_taken_as : Said → Option Said → Result Progress Stop
 line_taken_as said None = Err (stop_at said (Syntax (next_line said)))
 line_taken_as said (Some next) =
     if is_full said then Err (stop_at said (Full (next_line said))) else Ok (line_start next)
 
--- a whole line is taken: how far the text is then, or why it stops there
+-- the result of a whole line: the progress after it, or why the text stops there
 abbrev pub line_taken : Said → List ℕ → Result Progress Stop
 line_taken said line = line_taken_as said (said_behind said line)
 
--- one byte is taken: a line feed, which is the byte 10, makes the line whole; any other belongs to it, if the line may
--- have one more
+-- The result of one byte: a line feed (byte 10) completes the line; any other byte is appended to the line if it may
+-- have one more.
 abbrev pub byte_taken : Progress → ℕ → Result Progress Stop
 byte_taken progress byte =
     if byte == 10 then line_taken progress.said progress.partial
@@ -112,19 +112,19 @@ byte_taken progress byte =
     then Ok (record { said = progress.said; partial = progress.partial ++ byte ∷ [] })
     else Err (stop_at progress.said (LineTooLong (next_line progress.said)))
 
--- unless the text stopped, it goes on
+-- the result of going on, unless the text stopped
 abbrev pub unless_stopped : Result Progress Stop → (Progress → Result Progress Stop) → Result Progress Stop
 unless_stopped (Ok progress) later = later progress
 unless_stopped (Err stop) later = Err stop
 
--- these bytes are taken, one after another
+-- the result of these bytes, one after another
 abbrev pub taken : Progress → List ℕ → Result Progress Stop
 taken progress [] = Ok progress
 taken progress (byte ∷ bytes) = unless_stopped (byte_taken progress byte) (λ next. taken next bytes)
 
 -- ---- the whole text
 
--- how a text ends that ends here
+-- how a text ends that ends at this progress
 abbrev pub ending_at : Progress → Ending
 ending_at progress =
     if has_names progress.said && length progress.partial == 0 then Regular else Truncated (next_line progress.said)
@@ -133,14 +133,14 @@ abbrev pub end_of : Result Progress Stop → Stop
 end_of (Ok progress) = stop_at progress.said (ending_at progress)
 end_of (Err stop) = stop
 
--- how the text ends: at its regular end, or with the first fault
+-- how the text ends: regularly, or with its first fault
 abbrev pub ending_of : List ℕ → Ending
 ending_of text = (end_of (taken text_start text)).ending
 
--- what its lines say: all of them, or those before the fault
+-- the content of its lines: all of them, or those before the fault
 abbrev pub said_by : List ℕ → Said
 said_by text = (end_of (taken text_start text)).said
 
--- does no line of it stop it, and is what stands behind them not too long for a line?
+-- `true` if no line of the text stops it, and the bytes after its last line feed are not too long for a line
 abbrev pub does_not_stop : List ℕ → Bool
 does_not_stop text = is_ok (taken text_start text)

@@ -1,38 +1,38 @@
-//! Why a text is not taken.
+//! The errors of a check.
 ghost use Rattle.ra_history_text.specs.declared.fault.CheckFault.TheVariants as check_fault;
 ghost use Rattle.ra_history_text.specs.Faults.{check_fault_words, fault_at_line};
 ghost use Rattle.std.specs.Prelude.{◌≡◌, Some};
 
 use crate::write::Unwritten;
+use ra_history_lines::LineFault;
 use ra_labels::NoMemory;
-use ra_lines::LineFault;
 use std::alloc::AllocError;
 use std::fmt;
 use thiserror::Error;
 
-/// Why a check gives no verdict. Lines count from 1.
+/// Why a check returns no verdict. Lines count from 1.
 #[derive(Clone, Copy, Debug, PartialEq, Eq, Error)]
 pub enum CheckFault {
     /// The reader failed.
     Read,
-    /// The writer failed, or took no byte.
+    /// The writer failed, or accepted no byte.
     Write,
-    /// The line is not one of the text's grammar.
+    /// The line is not in the text's grammar.
     Syntax(u32),
-    /// The input ends inside the line, or before it where it is the first or the second.
+    /// The input ends inside the line, or before it if it is the first or the second.
     Truncated(u32),
     /// The line has more than 1,048,576 bytes.
     LineTooLong(u32),
-    /// A growth was refused for want of memory.
+    /// An allocation failed.
     NoMemory,
     /// The input did not end within 4,294,967,296 reads.
     Endless,
-    /// The line is a command, and 1,048,576 commands came before.
+    /// The line is a command, and 1,048,576 commands precede it.
     Full(u32),
 }
 
 impl CheckFault {
-    /// The fault of a text that has this fault at this line.
+    /// Returns the error of a text that has this fault at this line.
     pub fn at_line(fault: LineFault, line: u32) -> CheckFault
         ensures { result ≡ fault_at_line fault line }
     {

@@ -1,4 +1,4 @@
-//! A line to a writer.
+//! A writer of single lines.
 ghost use Rattle.std.specs.Prelude.{◌∷◌, ◌++◌, [], IfErr, OnOk, string_bytes};
 ghost use Rattle.std.specs.Io.KnownBytes.{Appends};
 ghost use Rattle.ra_history_text.specs.Written.{StopsLine};
@@ -7,12 +7,12 @@ use crate::fault::CheckFault;
 use crate::write::write_out;
 use std::io::Write;
 
-/// Writes the words on a line of their own.
+/// Writes the words and a line feed.
 ///
 /// # Errors
 ///
-/// `NoMemory` where a growth is refused: nothing was written. `Write` where the writer fails, or takes no byte: a part
-/// of the line was.
+/// `NoMemory` if an allocation fails: nothing was written. `Write` if the writer fails or accepts no byte: a proper
+/// prefix of the line was written.
 pub fn write_line<W: Write>(words: String, writer: &mut W) -> Result<(), CheckFault>
     ensures written { OnOk result (Appends (W.contents writer.old) (W.contents writer.new)
         (string_bytes words ++ 10 ∷ [])) }

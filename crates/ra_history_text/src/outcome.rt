@@ -1,19 +1,19 @@
-//! How a check ended.
+//! The outcome of a check.
 ghost use Rattle.std.specs.Prelude.{◌≡◌};
 ghost use Rattle.ra_history_text.specs.Output.{status_of};
 
 use crate::fault::CheckFault;
 use ra_monitor::Report;
 
-/// What a check of a text with a regular end found.
+/// The result of the check of a text with a regular end.
 #[derive(Clone, Copy, Debug, PartialEq, Eq)]
 pub struct Outcome {
-    /// What the history amounts to.
+    /// The summary of the history.
     pub report: Report,
 }
 
-/// The program's exit status: 0 is a yes with nothing refused, 1 a no, 2 a fault, and 3 a yes with at least
-/// one command refused.
+/// Returns the program's exit status: 0 for a pass without rejected commands, 1 for a violation, 2 for an error, and 3
+/// for a pass with at least one rejected command.
 pub fn status(result_of_check: &Result<Outcome, CheckFault>) -> u8
     ensures { result ≡ status_of result_of_check.now }
 {

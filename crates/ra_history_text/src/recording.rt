@@ -1,28 +1,25 @@
-//! A history that is recorded: its commands, given to the monitor.
+//! A recorded history: its commands, with the monitor that answers them.
 ghost use Rattle.std.specs.Prelude.{◌≡◌, ◌+◌, ◌++◌, [], length, IfOk, IfErr, OnOk};
 ghost use Rattle.ra_labels.specs.declared.command.Command.{Command};
-ghost use Rattle.ra_lines.specs.Grammar.{AreNames, Spells};
-ghost use Rattle.ra_lines.specs.Names.{MayJoin};
-ghost use Rattle.ra_lines.specs.declared.format.Format.TheVariants.{Rah2};
+ghost use Rattle.ra_history_lines.specs.Grammar.{AreNames, Spells};
+ghost use Rattle.ra_history_lines.specs.Names.{MayJoin};
+ghost use Rattle.ra_history_lines.specs.declared.format.Format.TheVariants.{Rah2};
 ghost use Rattle.ra_monitor.specs.Monitor.{commands_of};
 ghost use Rattle.ra_history_text.specs.Output.{IsReportOf};
 ghost use Rattle.ra_history_text.specs.Recording.{RecordsCommand, TakesCommand, StopsAnswering, HasFewNames, LacksName, fault_at, with_name};
 
 use crate::fault::CheckFault;
-use crate::limits::MOST_COMMANDS;
+use crate::limits::{LINES_BEFORE_COMMANDS, MOST_COMMANDS};
+use ra_history_lines::command::new_name;
+use ra_history_lines::{Format, Names, NamesFault};
 use ra_journal::{Journal, StepFault};
 use ra_labels::{Command, Kind, NoMemory, Reply};
-use ra_lines::command::new_name;
-use ra_lines::{Format, Names, NamesFault};
 use ra_monitor::{Monitor, Report};
 use std::alloc::Global;
 use std::marker::Model;
 
-// How many lines stand before the first command.
-const LINES_BEFORE: u32 = 2;
-
-/// A history of one kind, at replicas that have names, whose commands a monitor answers. Names of replicas that joined
-/// stand behind those of the first ones.
+/// A history of one kind at named replicas, whose commands a monitor answers. The names of replicas that joined follow
+/// those of the initial ones.
 #[derive(Drop)]
 pub struct Recording {
     format: Format,
@@ -44,7 +41,11 @@ impl Model for Recording {
 }
 
 impl Recording {
-    /// A history of this kind, at the replicas with these names, of which nothing is recorded.
+    /// Creates an empty history of this kind, at replicas with these names.
+    ///
+    /// # Errors
+    ///
+    /// `NoMemory` if an allocation fails.
     pub fn new(
         alloc: Global,
         format: Format,
@@ -65,41 +66,45 @@ impl Recording {
                 names,
                 monitor,
             }),
-            // There are 1 to 64 names, and the limit is the greatest: memory alone can be missing.
+            // There are 1 to 64 names, and the limit is the largest one, so only an allocation can fail.
             Err(_) => Err(NoMemory),
         }
     }
 
-    /// The format of its text.
+    /// Returns the format of its text.
     pub fn format(&self) -> Format
         ensures { result ≡ self.now.format }
     {
         self.format
     }
 
-    /// Its kind.
+    /// Returns its kind.
     pub fn kind(&self) -> Kind
         ensures { result ≡ self.now.kind }
     {
         self.kind
     }
 
-    /// The names of its replicas.
+    /// Returns the names of its replicas.
     pub fn names(&self) -> &Names
         ensures { result.now ≡ self.now.first ++ self.now.joined }
     {
         &self.names
     }
 
-    /// The number of the line that comes next.
+    /// Returns the number of the next line.
     pub fn line(&self) -> u32
         ensures { result ≡ length self.now.commands + 3 }
     {
-        self.monitor.log().len() as u32 + LINES_BEFORE + 1
+        self.monitor.log().len() as u32 + LINES_BEFORE_COMMANDS + 1
     }
 
-    /// Has the command answered that this line spells, and records it; a replica that joins by it gets the line's new
-    /// name. After a fault the history is of no further use.
+    /// Answers the command that this line encodes, and records it. A replica that joins gets the line's new name.
+    ///
+    /// # Errors
+    ///
+    /// `Full` at the largest number of commands; `NoMemory` if an allocation fails. After an error the history must not
+    /// be used again.
     pub fn take(&mut self, line: &[u8], command: Command) -> Result<Reply, CheckFault>
         requires { Spells self.old.format self.old.kind (self.old.first ++ self.old.joined) line.now command }
         ensures taken { IfOk result (TakesCommand self.old self.new line.now command) }
@@ -113,8 +118,7 @@ impl Recording {
         Ok(reply)
     }
 
-    // Has the command answered, and records it. It comes from pass 0, and its ticket is the number of commands before
-    // it.
+    // Answers the command and records it. Its pass is 0, and its ticket is the number of commands before it.
     fn answer(&mut self, command: Command) -> Result<Reply, CheckFault>
         ensures answered { IfOk result (λ reply. RecordsCommand self.old self.new command reply) }
         ensures full { IfErr result (StopsAnswering self.old) }
@@ -127,14 +131,14 @@ impl Recording {
         }
     }
 
-    // What is kept of the names: there are no more than replicas.
+    // Exposes to the caller's proof that there are at most as many names as replicas.
     fn has_few_names(&self)
         ensures { HasFewNames self.now }
     {
         let _ = &self.names;
     }
 
-    // Gives a replica that joined this name, behind the others.
+    // Adds the name of a replica that joined.
     fn add_name(&mut self, name: &[u8]) -> Result<(), NoMemory>
         requires new { MayJoin Rah2 (self.old.first ++ self.old.joined) name.now }
         requires lacks { LacksName self.old }
@@ -148,7 +152,7 @@ impl Recording {
         }
     }
 
-    /// The monitor that answered its commands.
+    /// Returns the monitor that answered its commands.
     pub fn monitor(&self) -> &Monitor
         ensures kind { result.now.setup.kind ≡ self.now.kind }
         ensures replicas { result.now.setup.replicas ≡ length self.now.first }
@@ -157,7 +161,7 @@ impl Recording {
         &self.monitor
     }
 
-    /// Gives the monitor that answered its commands up to the caller, and the names.
+    /// Returns the monitor that answered its commands, and the names. Consumes `self`.
     pub fn into_parts(self) -> (Monitor, Names)
         ensures kind { result.0.setup.kind ≡ self.kind }
         ensures replicas { result.0.setup.replicas ≡ length self.first }
@@ -173,7 +177,7 @@ impl Recording {
         (monitor, names)
     }
 
-    /// What the history amounts to.
+    /// Returns the summary of the history.
     pub fn report(&self) -> Report
         ensures { IsReportOf self.now.kind self.now.first self.now.commands result }
     {
@@ -181,7 +185,7 @@ impl Recording {
     }
 }
 
-// The fault of a text where the monitor hands the command of this line back.
+// Returns the error of a text whose command at this line the monitor handed back.
 fn fault_at(line: u32, fault: StepFault<Command>) -> CheckFault
     ensures { result ≡ fault_at line fault }
 {

@@ -1,4 +1,4 @@
-//! The check of a text, bytes in and bytes out.
+//! The check of a text from a reader to a writer.
 ghost use Rattle.std.specs.Prelude.{◌≡◌, ◌<◌, [], length, Ok, OnOk, IfOk, IfErr, IfSome, IsErrOf};
 ghost use Rattle.std.specs.Io.KnownBytes.{IsAtEnd};
 ghost use Rattle.ra_history_text.specs.declared.fault.CheckFault.TheVariants.{Endless};
@@ -15,17 +15,21 @@ use crate::write::write_out;
 use std::alloc::Global;
 use std::io::{Read, Write};
 
-/// Checks the text that the reader gives, and writes the line of each reply and the last line.
+/// Checks the text that the reader provides, and writes a line for each reply and the end line.
 ///
-/// The reply lines to the lines that are whole are written before the next read is made, and before the check
-/// ends. Costs as much as the steps of the monitor, and a write a piece.
+/// The replies to the whole lines so far are written before the next read and before the check returns.
 ///
 /// # Errors
 ///
-/// `Syntax`, `Truncated`, `LineTooLong` and `Full` come where the text itself stops, with the number of its line: the
-/// reply lines to the lines before were written, and so they were with `Read` and `Endless`, where nothing more is
-/// read. With `NoMemory`, where a growth is refused, the reply lines to some of the first lines were written, and with
-/// `Write`, where the writer fails, a prefix of the output. After an error reader and writer are not asked again.
+/// `Syntax`, `Truncated`, `LineTooLong` and `Full`, with the line's number, if the text itself is faulty; `Read` if the
+/// reader fails, and `Endless` after 4,294,967,296 reads. In these cases the replies to the lines before were written.
+/// `NoMemory` if an allocation fails: the replies to some first lines were written. `Write` if the writer fails: a
+/// proper prefix of the output was written. No read follows an error of the reader, and no read or write one of the
+/// writer.
+///
+/// # Complexity
+///
+/// The steps of the monitor, and one write for each read of at most 4,096 bytes.
 pub fn check<R: Read, W: Write>(
     alloc: Global,
     reader: &mut R,
@@ -33,26 +37,30 @@ pub fn check<R: Read, W: Write>(
 ) -> Result<Outcome, CheckFault>
     // Nothing is left to read.
     ensures end { OnOk result (IsAtEnd (R.remaining reader.new)) }
-    // The text has its regular end; what is written for it was written, and nothing else; the report is its.
+    // The text has a regular end, exactly its output was written, and the report is that of its history.
     ensures answered { IfOk result (λ outcome. IfSome (R.remaining reader.old) (λ text.
         WritesAnswer text (W.contents writer.old) (W.contents writer.new) outcome.report)) }
-    // The text ends with this very fault, and what is written for it was written; or the reader, the writer or memory
-    // failed in the midst of it.
+    // The text ends with this error, and exactly its output was written; or the reader, the writer or an allocation
+    // failed during the check.
     ensures stopped { IfErr result (λ fault. IfSome (R.remaining reader.old) (λ text.
         StopsCheck text (R.remaining reader.new) (W.contents writer.old) (W.contents writer.new) fault)) }
-    // Endless says that the reader gave at least 4,294,967,296 bytes. That its reads are counted, of which each gave
-    // one byte or more, is seen by reading.
+    // `Endless` implies that the reader provided at least 4,294,967,296 bytes. The clause does not count reads; the
+    // loop does, and each of its reads returned at least one byte.
     ensures endless { IsErrOf result Endless → HasGiven (R.remaining reader.old) (R.remaining reader.new) MOST_READS }
 {
     let mut session = Session::new(alloc);
     let answer = check_session(alloc, &mut session, reader, writer);
-    // A session has many parts, so it is let go by a call: the proof goes through them once, and not at each return.
+    // A session has many fields. Dropping it by a call lets the proof unfold them once, not at each return.
     drop(session);
     answer
 }
 
-/// Checks as `check` does, by a session to which nothing was fed, for a caller that looks at it afterwards: where the
-/// text has its regular end, the session has come as far as it.
+/// Checks as `check` does, with a session to which nothing was fed, for a caller that inspects it afterwards. If the
+/// text has a regular end, the session has read all of it.
+///
+/// # Errors
+///
+/// Those of `check`.
 pub fn check_session<R: Read, W: Write>(
     alloc: Global,
     session: &mut Session,
@@ -74,7 +82,7 @@ pub fn check_session<R: Read, W: Write>(
     check_by_pieces(reader, writer, session, &mut out, &mut piece)
 }
 
-// The same by a session at the start of a text, with room for the replies to a piece and for the piece.
+// Checks with a session at the start of a text, with buffers for the replies to a piece and for the piece.
 fn check_by_pieces<R: Read, W: Write>(
     reader: &mut R,
     writer: &mut W,

@@ -1,4 +1,4 @@
-//! A text that is taken in piece by piece.
+//! A check that receives its text piece by piece.
 ghost use Rattle.std.specs.Prelude.{◌≡◌, ◌≢◌, ◌++◌, ◌∷◌, [], All, Ok, IfErr, IfOk, MatchOption, OnErr, OnOk};
 ghost use Rattle.ra_history_text.specs.Recording.{said_of};
 ghost use Rattle.ra_history_text.specs.Output.{replies_of};
@@ -9,12 +9,12 @@ ghost use Rattle.ra_history_text.specs.Text.{text_start, line_start, next_line, 
 use crate::fault::CheckFault;
 use crate::limits::LONGEST_LINE;
 use crate::recording::Recording;
+use ra_history_lines::command::command;
+use ra_history_lines::fields::cut_at;
+use ra_history_lines::kind_line::head_of;
+use ra_history_lines::reply::{put_end, put_reply};
+use ra_history_lines::{Format, Names};
 use ra_labels::Kind;
-use ra_lines::command::command;
-use ra_lines::fields::cut_at;
-use ra_lines::kind_line::head_of;
-use ra_lines::reply::{put_end, put_reply};
-use ra_lines::{Format, Names};
 use ra_monitor::{Monitor, Report};
 use std::alloc::Global;
 use std::marker::Model;
@@ -22,16 +22,16 @@ use std::marker::Model;
 // What the whole lines of a text said.
 #[derive(Drop)]
 enum Stage {
-    // There was none: the first comes next.
+    // No line so far: the first comes next.
     Nothing,
     // The format and the kind: the line of names comes next.
     OfKind(Format, Kind),
-    // These, the names and commands, which are answered: a command comes next.
+    // The format, the kind, the names and the answered commands: a command comes next.
     OfHistory(Recording),
 }
 
 impl Stage {
-    // The number of the line that comes next.
+    // Returns the number of the next line.
     fn line(&self) -> u32
         ensures { result ≡ next_line (said_at self.now) }
     {
@@ -42,7 +42,7 @@ impl Stage {
         }
     }
 
-    // Takes a whole line, and puts the line of its reply, if it has one, behind the others.
+    // Takes a whole line, and appends the line of its reply, if it has one.
     fn take_line(&mut self, line: &[u8], out: &mut Vec<u8>) -> Result<(), CheckFault>
         ensures taken { OnOk result (line_taken (said_at self.old) line.now ≡ Ok (line_start (said_at self.new))) }
         ensures replied { OnOk result (AddsReplies (said_at self.old) (said_at self.new)
@@ -60,7 +60,7 @@ impl Stage {
         }
     }
 
-    // Not inlined, nor is the next one: what they keep on the stack would be made ready for each line.
+    // Neither this function nor the next is inlined: their stack frames would be set up for each line.
     #[cold]
     #[inline(never)]
     fn take_first(&mut self, line: &[u8]) -> Result<(), CheckFault>
@@ -116,7 +116,7 @@ fn after_names(alloc: Global, format: Format, kind: Kind, line: &[u8]) -> Result
     Ok(Stage::OfHistory(history))
 }
 
-// Takes a line behind the first two.
+// Takes a line after the first two.
 fn take_command(history: &mut Recording, line: &[u8], out: &mut Vec<u8>) -> Result<(), CheckFault>
     ensures taken { OnOk result (line_taken (said_of history.old) line.now ≡ Ok (line_start (said_of history.new))) }
     ensures replied { OnOk result (AddsReplies (said_of history.old) (said_of history.new)
@@ -139,8 +139,8 @@ fn take_command(history: &mut Recording, line: &[u8], out: &mut Vec<u8>) -> Resu
     Ok(())
 }
 
-// Takes a whole line; or keeps it where it stops the text, for those who ask for it. Where there is no memory for it,
-// nothing is kept.
+// Takes a whole line. A line that stops the text is kept for the callers of `line_so_far`; it is not kept if its
+// allocation fails.
 fn take_or_keep(
     stage: &mut Stage,
     partial: &mut Vec<u8>,
@@ -162,8 +162,8 @@ fn take_or_keep(
     }
 }
 
-/// A text that is checked as it comes, in pieces that may end anywhere. Contracts see how far it has come: what its
-/// whole lines say, and what is there of the next one.
+/// A text that is checked as it arrives, in pieces that may end anywhere. Contracts view it as what its whole lines
+/// say, and the bytes so far of the next line.
 #[derive(Drop)]
 pub struct Session {
     stage: Stage,
@@ -181,7 +181,7 @@ impl Model for Session {
 }
 
 impl Session {
-    /// A text of which nothing came. It takes no memory.
+    /// Creates the session of a text of which nothing has arrived. Does not allocate.
     pub fn new(alloc: Global) -> Session
         ensures { result ≡ text_start }
     {
@@ -191,9 +191,16 @@ impl Session {
         }
     }
 
-    /// Takes the next piece of the text, and puts the reply lines of the lines that are whole now behind the others.
-    /// After a fault the session is of no further use; the reply lines of the lines before are there. Costs as much as
-    /// the piece is long, and what the monitor's steps cost; a line that lies in one piece is read where it lies.
+    /// Takes the next piece of the text, and appends the replies to the lines that are whole now.
+    ///
+    /// # Errors
+    ///
+    /// `Syntax`, `LineTooLong` or `Full` if the text stops inside the piece, and `NoMemory` if an allocation fails. The
+    /// replies to the lines before were appended, and the session must not be used again.
+    ///
+    /// # Complexity
+    ///
+    /// O(length of the piece), and the monitor's steps. A line that lies within one piece is not copied.
     pub fn feed(&mut self, piece: &[u8], out: &mut Vec<u8>) -> Result<(), CheckFault>
         ensures taken { OnOk result (taken self.old piece.now ≡ Ok self.new) }
         ensures replied { OnOk result (AddsReplies self.old.said self.new.said
@@ -208,8 +215,12 @@ impl Session {
         self.extend(rest)
     }
 
-    /// Ends the text, and puts its last line behind the others. `Truncated` where it may not end here; a fault puts
-    /// nothing there.
+    /// Ends the text, appends its end line, and returns the summary of its history.
+    ///
+    /// # Errors
+    ///
+    /// `Truncated` if the text may not end here, and `NoMemory` if an allocation fails. On an error nothing is
+    /// appended.
     pub fn finish(&self, out: &mut Vec<u8>) -> Result<Report, CheckFault>
         ensures ended { IfOk result (EndsText self.now out.old.items out.new.items) }
         ensures fault { IfErr result (StopsEnding self.now) }
@@ -228,8 +239,8 @@ impl Session {
         }
     }
 
-    /// The monitor that answered the lines so far, once the first two are there: entry k of its log, from 0, is what
-    /// line k + 3 says.
+    /// Returns the monitor that answered the lines so far, or `None` before the first two lines. Entry k of its log,
+    /// from 0, is the command of line k + 3.
     pub fn monitor(&self) -> Option<&Monitor>
         ensures { MatchOption result (SaysNoHistory self.now.said) (λ monitor. IsToldBy self.now.said monitor.now) }
     {
@@ -239,7 +250,7 @@ impl Session {
         }
     }
 
-    /// The names of the replicas so far, by their numbers, once the first two lines are there.
+    /// Returns the names of the replicas so far, by their numbers, or `None` before the first two lines.
     pub fn names(&self) -> Option<&Names>
         ensures { MatchOption result (SaysNoHistory self.now.said) (λ names. names.now ≡ names_said self.now.said) }
     {
@@ -249,7 +260,7 @@ impl Session {
         }
     }
 
-    /// Gives the monitor and the names up to the caller, where the first two lines are there.
+    /// Returns the monitor and the names, or `None` before the first two lines. Consumes `self`.
     pub fn into_history(self) -> Option<(Monitor, Names)>
         ensures { MatchOption result (SaysNoHistory self.said)
             (λ parts. IsToldBy self.said parts.0 × (parts.1 ≡ names_said self.said)) }
@@ -261,7 +272,7 @@ impl Session {
         }
     }
 
-    /// The format that the first line names, once it is there.
+    /// Returns the format that the first line names, or `None` before that line.
     pub fn format(&self) -> Option<Format>
         ensures { result ≡ format_said self.now.said }
     {
@@ -272,15 +283,15 @@ impl Session {
         }
     }
 
-    /// What is there of the next line. After a fault that is the line at which the text stopped, as far as it came; or
-    /// nothing, where there was no memory for it.
+    /// Returns the bytes so far of the next line. After an error they are the kept bytes of the faulty line, which no
+    /// clause states; nothing was kept if its allocation failed.
     pub fn line_so_far(&self) -> &[u8]
         ensures { result.now ≡ self.now.partial }
     {
         &self.partial
     }
 
-    // Takes a part of the next line, which has no line feed.
+    // Takes a part of the next line, which contains no line feed.
     fn extend(&mut self, part: &[u8]) -> Result<(), CheckFault>
         requires { All (λ b. b ≢ 10) part.now }
         ensures taken { OnOk result (taken self.old part.now ≡ Ok self.new) }
@@ -295,8 +306,8 @@ impl Session {
         Ok(())
     }
 
-    // Takes the last part of the next line, which has no line feed, and the line feed behind it. A line that lies in
-    // one piece is read there.
+    // Takes the last part of the next line, which contains no line feed, and the line feed after it. A line that lies
+    // within one piece is not copied.
     fn close_line(&mut self, last: &[u8], out: &mut Vec<u8>) -> Result<(), CheckFault>
         requires { All (λ b. b ≢ 10) last.now }
         ensures taken { OnOk result (taken self.old (last.now ++ 10 ∷ []) ≡ Ok self.new) }

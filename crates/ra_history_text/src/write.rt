@@ -1,16 +1,19 @@
-//! Bytes to a writer.
+//! A writer of whole byte strings.
 ghost use Rattle.std.specs.Prelude.{◌<◌, ℕ, List, length, OnErr, OnOk};
 ghost use Rattle.std.specs.Io.KnownBytes.{Appends};
 ghost use Rattle.ra_history_text.specs.Written.{HasWritten};
 
 use std::io::Write;
 
-/// The writer failed, or took no byte.
+/// The error of a writer that failed or accepted no byte.
 #[derive(Clone, Copy, Debug, PartialEq, Eq)]
 pub struct Unwritten;
 
-/// Writes all of the bytes. Any error of the writer, or a write that takes no byte, is `Unwritten`, and the bytes
-/// before it were written.
+/// Writes all of the bytes.
+///
+/// # Errors
+///
+/// `Unwritten` if the writer fails, or accepts no byte: a proper prefix of the bytes was written.
 pub fn write_out<W: Write>(writer: &mut W, bytes: &[u8]) -> Result<(), Unwritten>
     ensures written { OnOk result (Appends (W.contents writer.old) (W.contents writer.new) bytes.now) }
     ensures part { OnErr result ((rest : List ℕ) × (0 < length rest)

@@ -1,4 +1,4 @@
--- The lines of a log's accepted commands, one after another.
+-- Lemmas on the lines of a log's accepted commands, one after another.
 use Rattle.std.proofs.Common.{◌≡◌, ℕ, suc, ◌+◌, ◌<◌, ◌≤◌, Bool, true, false, cond, List, [], ◌∷◌, ◌++◌, length}
 use Rattle.std.proofs.Common.{map, drop, get_or, sym, ap, subst, ◌∙◌, arith}
 use Rattle.std.specs.Prelude.{◌||◌}
@@ -8,10 +8,10 @@ use Rattle.std.proofs.Math.Seq.{drop-cons}
 use Rattle.std.proofs.lemmas.List.Concat.{flat_map-append}
 use Rattle.ra_labels.specs.declared.command.Command.{Command}
 use Rattle.ra_monitor.specs.Monitor.{MonitorEntry}
-use Rattle.ra_accepted.specs.Accepted.{is_no, tells_accepted, accepted_one, accepted_in}
-use Rattle.ra_lines.specs.Grammar.{bytes_of}
+use Rattle.ra_accepted_commands.specs.Accepted.{is_no, is_accepting_reply, accepted_one, accepted_in}
+use Rattle.ra_history_lines.specs.Grammar.{bytes_of}
 use Rattle.ra_history_writer.specs.Spelling.{line_of, AreSmall, IsShort, AreShort}
-use Rattle.ra_history_writer.specs.Writing.{IsFirstLong}
+use Rattle.ra_history_writer.specs.Writing.{IsFirstTooLong}
 use Rattle.ra_history_writer.proofs.SpelledLines.{each-append}
 
 -- ---- entries
@@ -26,7 +26,7 @@ lines-append names xs ys =
     ap bytes_of (map-append (line_of names) xs ys)
     ∙ flat_map-append (λ (line : List ℕ). line ++ 10 ∷ []) (map (line_of names) xs) (map (line_of names) ys)
 
--- the accepted commands of the first entries are these, and these entries are left
+-- these are the accepted commands of the first entries, and these entries remain
 pub record IsWalkedUpTo (log rest : List MonitorEntry) (failed : Bool) (done : List Command) : Type 0 where
   pub parts : accepted_in false log ≡ done ++ accepted_in failed rest
   pub bounded : length done + length rest ≤ length log
@@ -35,7 +35,7 @@ pub one_at_most : (entry : MonitorEntry) (b : Bool) → length (cond b (entry.co
 one_at_most entry true = omega arith
 one_at_most entry false = omega arith
 
--- one entry more
+-- one more entry
 walked_next : (log rest more : List MonitorEntry) (entry : MonitorEntry) (failed next : Bool) (done : List Command)
     → IsWalkedUpTo log rest failed done
     → rest ≡ entry ∷ more → next ≡ (failed || is_no entry.reply)
@@ -52,7 +52,7 @@ walked_next log rest more entry failed next done so_far is told =
         so_far.bounded,
         ap length is,
         one_at_most entry
-            (tells_accepted failed entry.reply),
+            (is_accepting_reply failed entry.reply),
         length-append done one,
       );
     }
@@ -62,9 +62,9 @@ walked_all : (log rest : List MonitorEntry) (failed : Bool) (done : List Command
 walked_all log rest failed done so_far nothing =
     so_far.parts ∙ ap (λ (es : List MonitorEntry). done ++ accepted_in failed es) nothing ∙ append-nil done
 
--- ---- what is put
+-- ---- writing
 
--- the lines of the accepted commands of the first entries are put, and these entries are left
+-- the lines of the accepted commands of the first entries are written, and these entries remain
 pub record IsPutUpTo (names : List (List ℕ)) (log rest : List MonitorEntry) (failed : Bool)
     (out_old out : List ℕ) : Type 0 where
   pub done : List Command
@@ -90,10 +90,10 @@ put_next names log rest more entry failed next out_old out out_new so_far is put
       small = each-append AreSmall so_far.done one so_far.small small;
     }
 
--- ---- what is measured
+-- ---- measuring
 
--- the lines of the accepted commands of the first entries are short enough, so many are there, and these entries are
--- left
+-- the lines of the accepted commands of the first entries are short enough, with the given count, and these entries
+-- remain
 pub record IsMeasuredUpTo (names : List (List ℕ)) (log rest : List MonitorEntry) (failed : Bool)
     (place : ℕ) : Type 0 where
   pub done : List Command
@@ -101,10 +101,10 @@ pub record IsMeasuredUpTo (names : List (List ℕ)) (log rest : List MonitorEntr
   pub short : AreShort names done
   pub counted : place ≡ length done
 
--- one entry more
+-- one more entry
 pub measured_next : (names : List (List ℕ)) (log rest more : List MonitorEntry) (entry : MonitorEntry)
     (failed next tells : Bool) (place later : ℕ) → IsMeasuredUpTo names log rest failed place → rest ≡ entry ∷ more
-    → tells_accepted failed entry.reply ≡ tells → AreShort names (cond tells (entry.command ∷ []) [])
+    → is_accepting_reply failed entry.reply ≡ tells → AreShort names (cond tells (entry.command ∷ []) [])
     → later ≡ place + length (cond tells (entry.command ∷ []) []) → next ≡ (failed || is_no entry.reply)
     → IsMeasuredUpTo names log more next later
 measured_next names log rest more entry failed next tells place later so_far is accepted short counted told =
@@ -117,19 +117,19 @@ measured_next names log rest more entry failed next tells place later so_far is 
       counted = omega (arith, counted, so_far.counted, length-append so_far.done one);
     }
 
--- all of them
+-- all entries
 pub measured_all : (names : List (List ℕ)) (log rest : List MonitorEntry) (failed : Bool) (place : ℕ)
     → IsMeasuredUpTo names log rest failed place → rest ≡ []
     → AreShort names (accepted_in false log)
 measured_all names log rest failed place so_far nothing =
     subst (AreShort names) (sym (walked_all log rest failed so_far.done so_far.walked nothing)) so_far.short
 
--- the first that is too long
+-- the first line that is too long
 pub measured_long : (names : List (List ℕ)) (log rest more : List MonitorEntry) (entry : MonitorEntry)
     (failed : Bool) (place : ℕ)
-    → IsMeasuredUpTo names log rest failed place → rest ≡ entry ∷ more → tells_accepted failed entry.reply ≡ true
+    → IsMeasuredUpTo names log rest failed place → rest ≡ entry ∷ more → is_accepting_reply failed entry.reply ≡ true
     → 1048576 < length (line_of names entry.command)
-    → IsFirstLong names (accepted_in false log) place
+    → IsFirstTooLong names (accepted_in false log) place
 measured_long names log rest more entry failed place so_far is accepted long =
     let one : accepted_one failed entry ≡ entry.command ∷ [] =
     ap (λ (b : Bool). cond b (entry.command ∷ []) []) accepted in

@@ -1,4 +1,4 @@
--- Records that are given again, the oldest first, are accepted again, and have lines.
+-- Lemmas on records whose commands are given again, the oldest first: they are accepted again, and have lines.
 use Rattle.std.proofs.Common.{◌≡◌, ℕ, ◌+◌, ◌<◌, ◌≤◌, Bool, true, false, not, ltb, List, [], ◌∷◌, ◌++◌, Option, Some, None, refl, sym, ap, subst, ◌∙◌, arith}
 use Rattle.std.specs.Prelude.{reverse, ◌||◌, if◌then◌else◌}
 use Rattle.std.specs.Option.{option_or}
@@ -16,13 +16,13 @@ use Rattle.ra_labels.specs.declared.refusal.Refusal.TheVariants.{UnknownReplica,
 use Rattle.ra_labels.specs.declared.reply.Fault.{Fault}
 use Rattle.ra_labels.specs.Records.{Records, replica_count}
 use Rattle.ra_labels.specs.Fault.{fault_of}
-use Rattle.ra_labels.specs.Answer.{when, is_kind, kind_of, misfit_of, refusal_of, with_accepted, answer_of}
+use Rattle.ra_labels.specs.Answer.{when, is_kind, kind_of, form_refusal, refusal_of, with_accepted, answer_of}
 use Rattle.ra_labels.specs.Answer.{records_after, records_after_all}
-use Rattle.ra_labels.specs.Laws.{is_join}
-use Rattle.ra_laws.proofs.TheLaws.{answers_in_turn-records}
-use Rattle.ra_lines.specs.declared.format.Format.{Format}
-use Rattle.ra_lines.specs.declared.format.Format.TheVariants.{Rah1, Rah2}
-use Rattle.ra_lines.specs.Grammar.{has_words}
+use Rattle.ra_labels.specs.TheoremTerms.{is_join}
+use Rattle.ra_theorems.proofs.TheoremIndex.{answers_append-records}
+use Rattle.ra_history_lines.specs.declared.format.Format.{Format}
+use Rattle.ra_history_lines.specs.declared.format.Format.TheVariants.{Rah1, Rah2}
+use Rattle.ra_history_lines.specs.Grammar.{has_words}
 use Rattle.ra_history_writer.specs.Spelling.{HasLine, IsJoined, HaveLines}
 
 -- ---- records, each of which was accepted
@@ -59,7 +59,7 @@ pub reached : (kind : Kind) (n : ℕ) (commands : List Command)
     → AreAccepted kind n (records_after_all kind n [] commands)
 reached kind n commands = reached_from kind n [] commands tt
 
--- ---- given again
+-- ---- commands that are given again
 
 taken_again : (kind : Kind) (n : ℕ) (records : Records) (c : Command) → IsAccepted kind n records c
     → records_after kind n records c ≡ c ∷ records
@@ -70,7 +70,7 @@ pub given_again : (kind : Kind) (n : ℕ) (records : Records) → AreAccepted ki
 given_again kind n [] are = refl
 given_again kind n (c ∷ records) are =
     ap (records_after_all kind n []) (reverse-append (c ∷ []) records)
-    ∙ answers_in_turn-records kind n [] (reverse records) (c ∷ [])
+    ∙ answers_append-records kind n [] (reverse records) (c ∷ [])
     ∙ ap (λ (rs : Records). records_after kind n rs c) (given_again kind n records are.1)
     ∙ taken_again kind n records c are.0
 
@@ -96,10 +96,10 @@ or_none None later e = refl
 or_none (Some x) later e = absurd cc
 
 misfit_none : (kind : Kind) (by : ℕ) (op : Op) (clock : Option ℕ) (later : Option Refusal)
-    → option_or (misfit_of kind (Operate by op clock)) later ≡ None → is_kind kind (kind_of op) ≡ true
+    → option_or (form_refusal kind (Operate by op clock)) later ≡ None → is_kind kind (kind_of op) ≡ true
 misfit_none kind by op clock later e =
     let own = first_none (not (is_kind kind (kind_of op))) WrongKind _
-    (or_none (misfit_of kind (Operate by op clock)) later e) in
+    (or_none (form_refusal kind (Operate by op clock)) later e) in
     not-false (is_kind kind (kind_of op)) own.0
 
 pub spelled : (format : Format) (kind : Kind) (n : ℕ) (records : Records) (c : Command)
@@ -125,7 +125,7 @@ spelled format kind n records (Join replica from) fits newer =
       ltb-true from count (not-false (ltb from count) parts.0),
     )
 
--- ---- records that are given again have lines
+-- ---- commands that are given again have lines
 
 joined_again : (kind : Kind) (n : ℕ) (records : Records) (c : Command) → IsAccepted kind n records c
     → IsJoined c (answer_of kind n records c)
@@ -152,9 +152,9 @@ lines_again format kind n (c ∷ records) are newer =
     (lines-append format kind n [] (reverse records) (c ∷ []) before
     (subst (λ (rs : Records). HaveLines format kind n rs (c ∷ [])) (sym (given_again kind n records are.1)) here))
 
--- ---- how many replicas there are
+-- ---- the number of replicas
 
--- no more than at first, where none joined
+-- at least the initial number
 pub count_first : (n : ℕ) (records : Records) → n ≤ replica_count n records
 count_first n [] = omega arith
 count_first n (Join replica from ∷ records) = omega (arith, count_first n records)
@@ -166,7 +166,7 @@ none_joined n (Join replica from ∷ records) =
     sym (lt-ltb n (replica_count n records + 1) (omega (arith, count_first n records)))
 none_joined n (_ ∷ records) = none_joined n records
 
--- there was one at first
+-- there was an initial replica
 pub some_first : (kind : Kind) (n : ℕ) (records : Records) → AreAccepted kind n records → 0 < replica_count n records
     → 0 < n
 some_first kind n [] are some = some

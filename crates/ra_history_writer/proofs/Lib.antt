@@ -5,4 +5,4 @@ pub mod Sizes
 pub mod GivenAgain
 pub mod Entries
 pub mod WholeTexts
-pub mod TheLaws
+pub mod TheoremIndex

@@ -1,9 +1,9 @@
--- Numbers and lists that are put behind bytes.
+-- Lemmas on numbers and lists that are appended to bytes.
 use Rattle.std.proofs.Common.{◌≡◌, ℕ, zero, suc, ◌+◌, ◌^◌, ◌<◌, List, [], ◌∷◌, ◌++◌, length, map, take, get_or, Result, Ok, Err, refl, sym, ap, ◌∙◌}
 use Rattle.std.specs.Prelude.{decimal, OnOk}
 use Rattle.std.specs.List.{join_with_byte, AllByRecursion}
 use Rattle.std.proofs.lemmas.List.{append_assoc, append-nil, take_more}
-use Rattle.ra_lines.specs.Grammar.{list_word, IsSmall}
+use Rattle.ra_history_lines.specs.Grammar.{list_word, IsSmall}
 use Rattle.ra_history_writer.specs.Spelling.{spaced, name_of, commas}
 
 -- ---- lists
@@ -14,7 +14,7 @@ commas-append (x ∷ xs) ys =
     ap (λ (bs : List ℕ). 44 ∷ (decimal x ++ bs)) (commas-append xs ys)
     ∙ ap (λ (bs : List ℕ). 44 ∷ bs) (sym (append_assoc (decimal x) (commas xs) (commas ys)))
 
--- one number more
+-- one more number
 pub commas_next : (out old mid new xs : List ℕ) (i : ℕ) → i < length xs → old ≡ out ++ commas (take i xs)
     → mid ≡ old ++ 44 ∷ [] → new ≡ mid ++ decimal (get_or xs i 0)
     → new ≡ out ++ commas (take (i + 1) xs)
@@ -62,7 +62,7 @@ name_of-get [] i = refl
 name_of-get (x ∷ names) zero = refl
 name_of-get (x ∷ names) (suc i) = name_of-get names i
 
--- one name more
+-- one more name
 pub names_next : (out old mid new : List ℕ) (names : List (List ℕ)) (i : ℕ) → i < length names
     → old ≡ out ++ spaced (take i names)
     → mid ≡ old ++ 32 ∷ [] → new ≡ mid ++ name_of names i → new ≡ out ++ spaced (take (i + 1) names)

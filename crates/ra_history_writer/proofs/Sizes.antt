@@ -1,9 +1,9 @@
--- How many bytes numbers and lists have.
+-- Lemmas on the number of bytes of numbers and lists.
 use Rattle.std.proofs.Common.{◌≡◌, ℕ, ◌+◌, ◌/◌, ◌%◌, ◌^◌, ◌<◌, ◌≤◌, List, [], ◌∷◌, length, take, get_or, sym, ap, arith}
 use Rattle.std.specs.Prelude.{decimal}
 use Rattle.std.proofs.lemmas.Fmt.{decimal_digit, decimal_step, length-decimal-le}
 use Rattle.std.proofs.lemmas.List.{length-append, take_more}
-use Rattle.ra_lines.specs.Grammar.{list_word}
+use Rattle.ra_history_lines.specs.Grammar.{list_word}
 use Rattle.ra_history_writer.specs.Spelling.{commas}
 use Rattle.ra_history_writer.proofs.PutBytes.{commas-append, joined}
 

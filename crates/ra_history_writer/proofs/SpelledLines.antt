@@ -1,4 +1,4 @@
--- The line that is written of a command spells it.
+-- Lemmas on the line that is written for a command: it spells the command.
 use Rattle.std.proofs.Common.{◌≡◌, ◌≢◌, ◌^◌, ◌+◌, ℕ, zero, suc, ◌<◌, ◌≤◌, true, false, eqb, ltb, List, [], ◌∷◌, ◌++◌}
 use Rattle.std.proofs.Common.{length, map, All, Option, Some, None, ℤ, pos, negsuc, refl, sym, ap, ◌∙◌, arith, inl, inr}
 use Rattle.std.specs.Prelude.{codes, decimal, bytes_eq, IfSome, FitsSigned}
@@ -21,16 +21,16 @@ use Rattle.ra_labels.specs.declared.operation.Op.TheVariants.{Inc, Dec, Count, W
 use Rattle.ra_labels.specs.declared.operation.Op.TheVariants.{OrAdd, OrRemove, OrRead, After, RgaRemove, RgaRead}
 use Rattle.ra_labels.specs.declared.command.Command.{Command}
 use Rattle.ra_labels.specs.declared.command.Command.TheVariants.{Operate, Deliver, Join, Verdict}
-use Rattle.ra_lines.specs.Grammar.{IsSmall, is_name, index_of_name, fields_of, list_word}
-use Rattle.ra_lines.specs.Grammar.{value_word, operation_fields, clock_fields, HasSmallNumbers, NamesReplica, Spells}
-use Rattle.ra_lines.specs.Names.{AreDistinctNames}
-use Rattle.ra_lines.specs.declared.format.Format.{Format}
-use Rattle.ra_lines.proofs.TheLaws.{name_bytes}
+use Rattle.ra_history_lines.specs.Grammar.{IsSmall, is_name, index_of_name, fields_of, list_word}
+use Rattle.ra_history_lines.specs.Grammar.{value_word, operation_fields, clock_fields, HasSmallNumbers, NamesReplica, Spells}
+use Rattle.ra_history_lines.specs.Names.{AreDistinctNames}
+use Rattle.ra_history_lines.specs.declared.format.Format.{Format}
+use Rattle.ra_history_lines.proofs.TheoremIndex.{name_bytes}
 use Rattle.ra_history_writer.specs.Spelling.{spaced, name_of, line_of, AreSmall, HasLine, HasNewName}
 
 -- ---- bytes of fields
 
--- each byte stands above the space and the line feed
+-- each byte is greater than the space and the line feed
 abbrev pub IsPlain : List ℕ → Type 0
 IsPlain bytes = AllByRecursion (λ b. 32 < b) bytes
 
@@ -58,7 +58,7 @@ no_space : (bytes : List ℕ) → IsPlain bytes → All (λ b. eqb b 32 ≡ fals
 no_space bytes plain = All-from_recursion (λ b. eqb b 32 ≡ false) bytes (each-weaker (λ b. 32 < b)
     (λ b. eqb b 32 ≡ false) (λ b above. ne_eqb b 32 (λ same. omega (arith, above, same))) bytes plain)
 
--- fields with spaces before them are cut at the spaces again
+-- fields joined by spaces are split into the same fields
 pub fields-spaced : (first : List ℕ) (fields : List (List ℕ)) → IsPlain first → ArePlain fields
     → fields_of (first ++ spaced fields) ≡ first ∷ fields
 fields-spaced first [] plain each = ap fields_of (append-nil first)
@@ -147,7 +147,7 @@ plain_name name is =
     each-weaker (λ b. (48 ≤ b) × (b ≤ 122)) (λ b. 32 < b) (λ b in_range. omega (arith, in_range.0)) name
     (name_bytes name is).1
 
--- what holds of each holds in a place
+-- a property of all names holds of the name at a position
 apart_from : (names : List (List ℕ)) (n : ℕ) (P : List ℕ → Type 0) → n < length names → AllByRecursion P names
     → P (name_of names n)
 apart_from [] n P there all = absurd (omega (arith, there))
@@ -187,7 +187,7 @@ index_of_name-append (own ∷ names) later name there =
           rw other (ap (λ (n : ℕ). n + 1) (index_of_name-append names later name (omega (arith, within))))
     ]
 
--- one that stands behind the names has no place among them
+-- a name behind these names has no position among them
 index_of_name-behind : (names later : List (List ℕ)) (name : List ℕ)
     → length names ≤ index_of_name (names ++ later) name
     → index_of_name names name ≡ length names
@@ -200,7 +200,7 @@ index_of_name-behind (own ∷ names) later name behind =
           rw other (omega (arith, index_of_name-behind names later name (omega (arith, past))))
     ]
 
--- a replica that is there, by the names of all
+-- an existing replica, by the names of all
 pub named_among : (names later : List (List ℕ)) (replica : ℕ) → replica < length names
     → AreDistinctNames (names ++ later)
     → NamesReplica names (name_of (names ++ later) replica) replica
@@ -213,7 +213,7 @@ named_among names later replica there are =
           ∙ sym (index_of_name-append names later (name_of (names ++ later) replica) (omega (arith, at.1, there)));
     }
 
--- and the next one
+-- and the next replica
 pub named_next : (names later : List (List ℕ)) (replica : ℕ) → replica ≡ length names → 0 < length later
     → AreDistinctNames (names ++ later) → NamesReplica names (name_of (names ++ later) replica) replica
 named_next names later replica next some are =
@@ -225,7 +225,7 @@ named_next names later replica next some are =
           ∙ sym (index_of_name-behind names later (name_of (names ++ later) replica) (omega (arith, at.1, next)));
     }
 
--- the line of a command is these fields
+-- the line of a command consists of these fields
 pub record IsOfFields (line : List ℕ) : Type 0 where
   pub first : List ℕ
   pub fields : List (List ℕ)

@@ -1,4 +1,4 @@
--- The text that is written says the monitor's history.
+-- Lemmas on the whole text that is written: it says the monitor's history.
 use Rattle.std.proofs.Common.{◌≡◌, ℕ, ◌<◌, ◌≤◌, Bool, true, false, cond, ltb, List, [], ◌∷◌, ◌++◌, length, map, take, drop, sym, ap, subst, ◌∙◌, arith, inl, inr}
 use Rattle.std.specs.Prelude.{bytes_eq, ◌||◌}
 use Rattle.std.specs.List.{list_all, list_any, IsDistinct, AllByRecursion}
@@ -11,37 +11,37 @@ use Rattle.ra_labels.specs.declared.kind.Kind.{Kind}
 use Rattle.ra_labels.specs.declared.command.Command.{Command}
 use Rattle.ra_labels.specs.Records.{Records, replica_count}
 use Rattle.ra_labels.specs.Answer.{records_after_all}
-use Rattle.ra_labels.specs.Laws.{is_join}
+use Rattle.ra_labels.specs.TheoremTerms.{is_join}
 use Rattle.ra_monitor.specs.Monitor.{Monitor, MonitorEntry, IsLegalLog, commands_of, records_of}
-use Rattle.ra_lines.specs.declared.format.Format.{Format}
-use Rattle.ra_lines.specs.declared.format.Format.TheVariants.{Rah1, Rah2}
-use Rattle.ra_lines.specs.Grammar.{bytes_of, first_line, is_name, most_names, AreNames, Says}
-use Rattle.ra_lines.specs.Names.{AreNamesSoFar, AreDistinctNames}
+use Rattle.ra_history_lines.specs.declared.format.Format.{Format}
+use Rattle.ra_history_lines.specs.declared.format.Format.TheVariants.{Rah1, Rah2}
+use Rattle.ra_history_lines.specs.Grammar.{bytes_of, first_line, is_name, most_names, AreNames, Says}
+use Rattle.ra_history_lines.specs.Names.{AreNamesSoFar, AreDistinctNames}
 use Rattle.ra_history_writer.specs.Spelling.{line_of, names_line, text_of, AreSmall, AreShort, HaveLines, NameEach}
-use Rattle.ra_accepted.specs.Accepted.{is_no, tells_accepted, accepted_in}
+use Rattle.ra_accepted_commands.specs.Accepted.{is_no, is_accepting_reply, accepted_in}
 use Rattle.ra_history_writer.specs.Writing.{SaysHistory, AreAsMany, records_in_order, format_of}
-use Rattle.ra_accepted.proofs.TheLaws.{accepted_commands_are_the_records}
+use Rattle.ra_accepted_commands.proofs.TheoremIndex.{accepted_commands_eq_records}
 use Rattle.ra_history_writer.proofs.GivenAgain.{reached, given_again, lines_again, count_first, some_first}
 use Rattle.ra_history_writer.proofs.Entries.{lines_of, one_at_most}
-use Rattle.ra_history_text.proofs.TheLaws.{a_regular_text_is_lines_of_a_history-only as says_only}
+use Rattle.ra_history_text.proofs.TheoremIndex.{regular_text_iff_lines-only as says_only}
 use Rattle.ra_history_writer.proofs.WrittenLines.{written-says}
 
 as_few : (failed : Bool) (log : List MonitorEntry) → length (accepted_in failed log) ≤ length log
 as_few failed [] = omega arith
 as_few failed (entry ∷ log) =
-    let one : List Command = cond (tells_accepted failed entry.reply) (entry.command ∷ []) [] in
+    let one : List Command = cond (is_accepting_reply failed entry.reply) (entry.command ∷ []) [] in
     omega (
       arith,
-      one_at_most entry (tells_accepted failed entry.reply),
+      one_at_most entry (is_accepting_reply failed entry.reply),
       as_few (failed || is_no entry.reply) log,
       length-append one (accepted_in (failed || is_no entry.reply) log),
     )
 
 pub in_order : (monitor : Monitor) → IsLegalLog monitor.setup monitor.log
     → accepted_in false monitor.log ≡ records_in_order monitor
-in_order monitor legal = accepted_commands_are_the_records monitor.setup monitor.log legal
+in_order monitor legal = accepted_commands_eq_records monitor.setup monitor.log legal
 
--- ---- the names at first
+-- ---- the initial names
 
 all_front : (p : List ℕ → Bool) (xs ys : List (List ℕ)) → list_all p (xs ++ ys) ≡ true → list_all p xs ≡ true
 all_front p xs ys all = (and_parts (list_all p xs) (list_all p ys) (sym (list_all-append p xs ys) ∙ all)).0

@@ -1,4 +1,4 @@
--- The lines that are written of a history are the lines of a text that says it.
+-- Lemmas on the lines that are written for a history: they are the lines of a text that says it.
 use Rattle.std.proofs.Common.{◌≡◌, ◌≢◌, ℕ, ◌*◌, ◌≤◌, Bool, true, false, not, eqb, List, [], ◌∷◌, ◌++◌}
 use Rattle.std.proofs.Common.{length, map, All, refl, sym, ap, subst, ◌∙◌, arith}
 use Rattle.std.specs.Prelude.{codes, is_some, ◌||◌, if◌then◌else◌}
@@ -15,17 +15,17 @@ use Rattle.ra_labels.specs.declared.reply.Reply.TheVariants as reply
 use Rattle.ra_labels.specs.Answer.{refusal_of, answer_of, with_accepted, records_after}
 use Rattle.ra_labels.specs.Answer.{records_after_all}
 use Rattle.ra_labels.specs.Fault.{fault_of}
-use Rattle.ra_labels.specs.Laws.{is_join, ReplySays}
+use Rattle.ra_labels.specs.TheoremTerms.{is_join, ReplyMeaning}
 use Rattle.ra_labels.specs.Records.{Records, replica_count}
-use Rattle.ra_lines.specs.declared.format.Format.{Format}
-use Rattle.ra_lines.specs.declared.format.Format.TheVariants.{Rah1, Rah2}
-use Rattle.ra_lines.specs.Grammar.{IsLine, first_line, is_name}
-use Rattle.ra_lines.specs.Grammar.{most_names, AreNames, ListsNames, Spells, SpellEach, Says}
-use Rattle.ra_lines.specs.Grammar.{second_of, new_name, joined_by, names_behind}
-use Rattle.ra_lines.specs.Names.{AreDistinctNames}
-use Rattle.ra_laws.proofs.TheLaws.{what_a_reply_says}
-use Rattle.ra_lines.proofs.TheLaws.{name_bytes}
-use Rattle.ra_history_text.proofs.TheLaws.{counts_grow}
+use Rattle.ra_history_lines.specs.declared.format.Format.{Format}
+use Rattle.ra_history_lines.specs.declared.format.Format.TheVariants.{Rah1, Rah2}
+use Rattle.ra_history_lines.specs.Grammar.{IsLine, first_line, is_name}
+use Rattle.ra_history_lines.specs.Grammar.{most_names, AreNames, ListsNames, Spells, SpellEach, Says}
+use Rattle.ra_history_lines.specs.Grammar.{second_of, new_name, joined_by, names_behind}
+use Rattle.ra_history_lines.specs.Names.{AreDistinctNames}
+use Rattle.ra_theorems.proofs.TheoremIndex.{reply_meaning}
+use Rattle.ra_history_lines.proofs.TheoremIndex.{name_bytes}
+use Rattle.ra_history_text.proofs.TheoremIndex.{counts_grow}
 use Rattle.ra_history_writer.specs.Spelling.{spaced, name_of, line_of, names_line, text_of, AreSmall, IsShort, AreShort, HasLine}
 use Rattle.ra_history_writer.specs.Spelling.{HasNewName, IsJoined, HaveLines, NameEach}
 use Rattle.ra_history_writer.proofs.SpelledLines.{ArePlain, fields-spaced, one_line, plain_name, plain_word}
@@ -81,32 +81,32 @@ one_command format kind names later command are has new small =
     let of = line_fields format kind names later command are has new small in
     subst (All (λ b. b ≢ 10)) (sym of.is) (one_line of.first of.fields of.plain of.each)
 
--- ---- how many replicas there are, and which of them have names
+-- ---- the number of replicas, and which of them have names
 
--- no command but a join adds a replica, and an accepted join is one of the records
+-- only a join adds a replica, and an accepted join is recorded
 same_count : (n : ℕ) (records : Records) (c : Command) (b : Bool) → is_join c ≡ false
     → replica_count n (if b then records else with_accepted records c) ≡ replica_count n records
 same_count n records c true other = refl
 same_count n records (Join replica from) false other = absurd cc
 same_count n records _ false other = refl
 
--- names stay with any other command
+-- any other command leaves the names unchanged
 names_stay : (kind : Kind) (n : ℕ) (records : Records) (joined : List (List ℕ)) (line : List ℕ) (c : Command)
     → is_join c ≡ false → names_behind kind n records joined line c ≡ joined
 names_stay kind n records joined line c other = by_reply (answer_of kind n records c)
-    (what_a_reply_says kind n records c)
+    (reply_meaning kind n records c)
   where
-    by_reply : (reply : Reply) → ReplySays kind n records c reply → joined_by reply joined line ≡ joined
+    by_reply : (reply : Reply) → ReplyMeaning kind n records c reply → joined_by reply joined line ≡ joined
     by_reply (reply.Joined replica) says = absurd (false≢true (sym other ∙ ap is_join says.3.1))
     by_reply _ says = refl
 
--- what an accepted join leaves
+-- the records after an accepted join
 join_leaves : (kind : Kind) (n : ℕ) (records : Records) (replica from : ℕ)
     → answer_of kind n records (Join replica from) ≡ reply.Joined replica
     → records_after kind n records (Join replica from) ≡ Join replica from ∷ records
 join_leaves kind n records replica from joins =
-    (subst (ReplySays kind n records (Join replica from)) joins
-    (what_a_reply_says kind n records (Join replica from))).1
+    (subst (ReplyMeaning kind n records (Join replica from)) joins
+    (reply_meaning kind n records (Join replica from))).1
 
 no_new_name : (later : List (List ℕ)) (c : Command) → is_join c ≡ false → HasNewName later c
 no_new_name later (Join replica from) other = absurd cc
@@ -114,7 +114,7 @@ no_new_name later _ other = tt
 
 -- ---- lines of commands
 
--- where a text is, between its lines: the names of those that are there, those to come, and all
+-- a position between two lines of the text: the names of the existing replicas, the later ones, and all
 record IsAmong (kind : Kind) (first joined before rest : List (List ℕ)) (records : Records)
     (commands : List Command) : Type 0 where
   all : joined ≡ before ++ rest
@@ -127,7 +127,7 @@ parted : (first joined before rest : List (List ℕ)) → joined ≡ before ++ r
 parted first joined before rest all =
     ap (λ (js : List (List ℕ)). first ++ js) all ∙ sym (append_assoc first before rest)
 
--- the new replica of a join has a name among those to come
+-- the new replica of a join has one of the later names
 new_comes : (kind : Kind) (first joined before rest : List (List ℕ)) (records : Records) (c : Command)
     (commands : List Command)
     → IsAmong kind first joined before rest records (c ∷ commands)
@@ -145,7 +145,7 @@ new_comes kind first joined before rest records (Join replica from) commands amo
     )
 new_comes kind first joined before rest records _ commands among joins = tt
 
--- behind a command that joins no replica
+-- after a command that is no join
 stays : (kind : Kind) (first joined before rest : List (List ℕ)) (records : Records) (c : Command)
     (commands : List Command) → is_join c ≡ false
     → IsAmong kind first joined before rest records (c ∷ commands)
@@ -160,7 +160,7 @@ stays kind first joined before rest records c commands other among =
       last = among.last;
     }
 
--- and behind a join
+-- and after a join
 goes_on : (kind : Kind) (first joined before rest : List (List ℕ)) (name : List ℕ) (records : Records)
     (replica from : ℕ) (commands : List Command)
     → answer_of kind (length first) records (Join replica from) ≡ reply.Joined replica
@@ -202,7 +202,7 @@ join_names format kind first joined before rest name replica from all are has =
     ap (λ (ns : List (List ℕ)). new_name (line_of ns (Join replica from))) parts ∙ new
     ∙ ap (name_of (names ++ name ∷ rest)) has.1 ∙ at_end names rest name
 
--- the lines of commands, behind those of these records
+-- the lines of commands, after those of these records
 abbrev AreWritten : Format → Kind → List (List ℕ) → List (List ℕ) → List (List ℕ) → Records → List Command → Type 0
 AreWritten format kind first joined before records commands =
     AllByRecursion IsLine (map (line_of (first ++ joined)) commands)

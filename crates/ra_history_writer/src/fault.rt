@@ -1,4 +1,4 @@
-//! Why a history is not written.
+//! The errors of the writer of histories.
 ghost use Rattle.ra_history_writer.specs.declared.fault.WriteFault.TheVariants as write_fault;
 ghost use Rattle.std.specs.Prelude.{◌≡◌};
 
@@ -8,13 +8,14 @@ use ra_labels::NoMemory;
 /// Why a history is not written.
 #[derive(Clone, Copy, Debug, PartialEq, Eq)]
 pub enum WriteFault {
-    /// There are not as many names as the monitor has replicas.
+    /// The number of names differs from the monitor's number of replicas.
     BadNames,
-    /// The place, from 0, among the accepted commands, of the first whose line has more than 1,048,576 bytes.
+    /// A line has more than 1,048,576 bytes. Carries the index, from 0, of the first such command among the accepted
+    /// ones.
     LineTooLong(u32),
-    /// The writer failed, or took no byte.
+    /// The writer failed, or accepted no byte.
     Write,
-    /// A growth was refused for want of memory.
+    /// An allocation failed.
     NoMemory,
 }
 

@@ -1,14 +1,17 @@
-//! How many bytes the lines of commands have, found with no memory. The sums are of 128 bits: none of them overflows.
+//! The lengths of the lines of commands, computed without allocating. Sums have 128 bits, so none of them overflows.
 ghost use Rattle.std.specs.Prelude.{◌≡◌, ◌+◌, ◌*◌, ◌<◌, ◌≤◌, decimal, length};
 ghost use Rattle.std.specs.Fmt.{signed_decimal};
-ghost use Rattle.ra_lines.specs.Grammar.{operation_fields, clock_fields, list_word, value_word};
+ghost use Rattle.ra_history_lines.specs.Grammar.{operation_fields, clock_fields, list_word, value_word};
 ghost use Rattle.ra_history_writer.specs.Spelling.{spaced, commas, line_of, name_of};
 
+use ra_history_lines::Names;
 use ra_labels::{Command, Op};
-use ra_lines::Names;
 
-/// How many bytes the line of the command has, with no line feed. It takes no memory. Costs as much as a list in it is
-/// long.
+/// Returns the length in bytes of the command's line, excluding the line feed. Does not allocate.
+///
+/// # Complexity
+///
+/// O(length of a list in the command).
 pub fn line_size(names: &Names, command: &Command) -> u128
     ensures { result ≡ length (line_of names.now command.now) }
 {
@@ -49,7 +52,7 @@ fn clock_size(clock: Option<u32>) -> u128
     }
 }
 
-// The word of the operation with a space before it and behind it, and its numbers.
+// Counts the operation's word with a space before and after it, and its numbers.
 fn operation_size(op: &Op) -> u128
     ensures exact { result ≡ length (spaced (operation_fields op.now)) }
     ensures small { result < 340_282_366_920_938_463_463 }
@@ -107,7 +110,7 @@ fn signed_size(value: i32) -> u128
     sign + number_size(value.unsigned_abs())
 }
 
-// How many digits the number has.
+// Returns the number of decimal digits.
 fn number_size(number: u32) -> u128
     ensures exact { result ≡ length (decimal number) }
     ensures small { result ≤ 10 }

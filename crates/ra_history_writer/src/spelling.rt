@@ -1,17 +1,25 @@
-//! The lines that spell commands.
+//! The encoder of commands as lines.
 ghost use Rattle.std.specs.Prelude.{◌≡◌, ◌≤◌, ◌++◌, length, take, OnOk, IfSome};
 ghost use Rattle.std.specs.List.{AllByRecursion};
 ghost use Rattle.std.specs.Fmt.{signed_decimal};
 ghost use Rattle.ra_labels.specs.declared.command.Command.TheVariants.{Join};
-ghost use Rattle.ra_lines.specs.Grammar.{operation_fields, clock_fields, list_word, value_word, HasSmallNumbers, IsSmall};
+ghost use Rattle.ra_history_lines.specs.Grammar.{operation_fields, clock_fields, list_word, value_word, HasSmallNumbers, IsSmall};
 ghost use Rattle.ra_history_writer.specs.Spelling.{spaced, commas, line_of, name_of, AreSmall};
 
+use ra_history_lines::Names;
+use ra_history_lines::number::{put_number, put_numbered};
 use ra_labels::{Command, Elements, NoMemory, Op};
-use ra_lines::Names;
-use ra_lines::number::{put_number, put_numbered};
 
-/// Puts the line of the command behind the bytes, with no line feed. A replica that has no name gets none. Costs as
-/// much as the line is long.
+/// Appends the line of the command to the buffer, without a line feed. A replica without a name is written as an empty
+/// name.
+///
+/// # Errors
+///
+/// `NoMemory` if an allocation fails.
+///
+/// # Complexity
+///
+/// O(length of the line).
 pub fn put_command(out: &mut Vec<u8>, names: &Names, command: &Command) -> Result<(), NoMemory>
     ensures put { OnOk result (out.new.items ≡ out.old.items ++ line_of names.now command.now) }
     ensures small { OnOk result (AreSmall command.now) }
@@ -31,7 +39,15 @@ pub fn put_command(out: &mut Vec<u8>, names: &Names, command: &Command) -> Resul
     }
 }
 
-/// Puts each of so many first names behind the bytes, with a space before it. Costs as much as they are long.
+/// Appends the first `count` names to the buffer, each preceded by a space.
+///
+/// # Errors
+///
+/// `NoMemory` if an allocation fails.
+///
+/// # Complexity
+///
+/// O(total length of these names).
 pub fn put_names(out: &mut Vec<u8>, names: &Names, count: u8) -> Result<(), NoMemory>
     requires { count ≤ length names.now }
     ensures { OnOk result (out.new.items ≡ out.old.items ++ spaced (take count names.now)) }

@@ -1,40 +1,45 @@
-//! A monitor's history, written as a text.
+//! The writer of a monitor's history as a text.
 ghost use Rattle.std.specs.Prelude.{◌≡◌, ◌+◌, ◌-◌, ◌++◌, ◌∷◌, [], ◌<◌, ◌≤◌, false, length, map, take, OnOk, IfOk, IfErr};
 ghost use Rattle.std.specs.List.{AllByRecursion};
-ghost use Rattle.ra_accepted.specs.Accepted.{accepted_in, accepted_one};
-ghost use Rattle.ra_lines.specs.Grammar.{bytes_of, first_line};
+ghost use Rattle.ra_accepted_commands.specs.Accepted.{accepted_in, accepted_one};
+ghost use Rattle.ra_history_lines.specs.Grammar.{bytes_of, first_line};
 ghost use Rattle.ra_history_writer.specs.Spelling.{line_of, names_line, AreSmall, AreShort};
-ghost use Rattle.ra_history_writer.specs.Writing.{TellsFirstLong, AreAsMany, records_in_order, format_of, WritesHistory, StopsWriting, SaysHistory};
+ghost use Rattle.ra_history_writer.specs.Writing.{ReturnsFirstTooLong, AreAsMany, records_in_order, format_of, WritesHistory, StopsWriting, SaysHistory};
 
 use crate::fault::WriteFault;
 use crate::size::line_size;
 use crate::spelling::{put_command, put_names};
-use ra_accepted::{is_no, tells_accepted};
+use ra_accepted_commands::{is_accepting_reply, is_no};
+use ra_history_lines::kind_line::kind_word;
+use ra_history_lines::limits::{LONGEST_LINE, MOST_NAMES_IN_RAH_1};
+use ra_history_lines::{Format, Names};
 use ra_history_text::write_out;
 use ra_journal::Entry;
 use ra_labels::{Command, Kind, NoMemory, Reply};
-use ra_lines::kind_line::kind_word;
-use ra_lines::limits::{LONGEST_LINE, MOST_NAMES_IN_RAH_1};
-use ra_lines::{Format, Names};
 use ra_monitor::Monitor;
 use std::alloc::Global;
 use std::io::Write;
 
-/// Writes the two lines of the kind and of the names at first, and the accepted operations, deliveries and joins in
-/// order, a line each. The names are those of all replicas that are there, those that joined last. It is `RAH 2` only
-/// where a replica joined, or there were more than 16 at first.
+/// Writes the line of the kind, the line of the initial names, and a line for each accepted operation, delivery and
+/// join, in order. The names are those of all replicas, the joined ones last. The format is `RAH 2` only if a replica
+/// joined, or if more than 16 are initial.
 ///
-/// `BadNames` comes just where there are not as many names as the monitor has replicas, and else `LineTooLong` just
-/// where a command's line is too long, with the place of the first such: neither takes memory, and nothing is written.
-/// Nor is it with `NoMemory`, where a growth is refused. With `Write`, where the writer fails, a part of the text is
-/// written. The whole text is spelled in memory before: costs as much as it is long.
+/// # Errors
+///
+/// `BadNames` if and only if the number of names differs from the monitor's number of replicas; otherwise `LineTooLong`
+/// if and only if a command's line is too long, with the index of the first one. Neither allocates. `NoMemory` if an
+/// allocation fails. In these cases nothing is written. `Write` if the writer fails: a proper prefix was written.
+///
+/// # Complexity
+///
+/// O(length of the log and of the text), which is encoded in memory first.
 pub fn write_history<W: Write>(
     alloc: Global,
     monitor: &Monitor,
     names: &Names,
     writer: &mut W,
 ) -> Result<(), WriteFault>
-    // A text was written that has a regular end, and says these names, the monitor's kind and its accepted commands.
+    // The text that was written has a regular end, and says these names, the monitor's kind and its accepted commands.
     ensures written { OnOk result
         (WritesHistory monitor.now names.now (W.contents writer.old) (W.contents writer.new)) }
     ensures as_many { OnOk result (AreAsMany monitor.now names.now) }
@@ -53,15 +58,15 @@ pub fn write_history<W: Write>(
     Ok(())
 }
 
-// The place of the first accepted command whose line is too long. It takes no memory.
+// Returns the index of the first accepted command whose line is too long. Does not allocate.
 fn first_long(names: &Names, monitor: &Monitor) -> Option<u32>
-    ensures { TellsFirstLong names.now (records_in_order monitor.now) result }
+    ensures { ReturnsFirstTooLong names.now (records_in_order monitor.now) result }
 {
     let log = monitor.log();
     let mut failed = false;
     let mut place = 0;
     for entry in log {
-        if tells_accepted(failed, entry.reply) {
+        if is_accepting_reply(failed, entry.reply) {
             if line_size(names, &entry.command) > LONGEST_LINE as u128 {
                 return Some(place);
             }
@@ -72,7 +77,7 @@ fn first_long(names: &Names, monitor: &Monitor) -> Option<u32>
     None
 }
 
-// The whole text.
+// Returns the whole text.
 fn spelled(alloc: Global, monitor: &Monitor, names: &Names) -> Result<Vec<u8>, NoMemory>
     requires as_many { AreAsMany monitor.now names.now }
     requires some { 0 < length names.now }
@@ -99,7 +104,7 @@ fn format_of(monitor: &Monitor, first: u8) -> Format
     }
 }
 
-// The two lines before the commands.
+// Appends the two lines before the commands.
 fn put_heads(
     text: &mut Vec<u8>,
     format: Format,
@@ -118,7 +123,7 @@ fn put_heads(
     Ok(text.push(b'\n')?)
 }
 
-// The lines of the accepted commands of a log.
+// Appends the lines of a log's accepted commands.
 fn put_entries(
     text: &mut Vec<u8>,
     names: &Names,
@@ -136,7 +141,7 @@ fn put_entries(
     Ok(())
 }
 
-// The line of the entry's command, where it was accepted.
+// Appends the line of the entry's command, if it was accepted.
 fn put_entry(
     text: &mut Vec<u8>,
     names: &Names,
@@ -147,7 +152,7 @@ fn put_entry(
         ≡ text.old.items ++ bytes_of (map (line_of names.now) (accepted_one failed entry.now))) }
     ensures small { OnOk result (AllByRecursion AreSmall (accepted_one failed entry.now)) }
 {
-    if !tells_accepted(failed, entry.reply) {
+    if !is_accepting_reply(failed, entry.reply) {
         return Ok(());
     }
     put_command(text, names, &entry.command)?;

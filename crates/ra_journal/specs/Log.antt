@@ -6,8 +6,8 @@ use Rattle.ra_journal.specs.declared.entry.Entry.{Entry}
 use Rattle.ra_journal.specs.declared.journal.StepFault.{StepFault}
 use Rattle.ra_journal.specs.declared.journal.StepFault.TheVariants.{Full, NoMemory}
 
--- what the lock reads off a journal: its setup and log, and what a log under a setup makes of a command and of the
--- fault
+-- The functions by which the lock reads a journal: its setup and its log, and for a log under a setup the reply to a
+-- command and the number of its fault.
 pub record Readings (M C R S : Type 0) : Type 0 where
   pub setup : M → S
   pub log : M → List (Entry C R)
@@ -23,15 +23,15 @@ module _ {C R : Type 0} where
   abbrev pub entry : ℕ → ℕ → C → R → Entry C R
   entry p t c r = record { pass = p; ticket = t; command = c; reply = r }
 
-  -- the ticket of the last entry
+  -- the ticket of the last entry, if there is one
   abbrev pub last_ticket_of : List (Entry C R) → Option ℕ
   last_ticket_of log = option_map (λ e. e.ticket) (slice_get log (length log - 1))
 
-  -- the ticket is above that of the last entry, if there is one
+  -- holds if the ticket is above that of the last entry, if there is one
   abbrev pub IsAboveLast : List (Entry C R) → ℕ → Type 0
   IsAboveLast log ticket = ForSome (last_ticket_of log) (λ last. last < ticket)
 
-  -- each entry's ticket is below this one
+  -- holds if each entry's ticket is below this one
   abbrev pub AllBelow : ℕ → List (Entry C R) → Type 0
   AllBelow ticket log = All (λ e. e.ticket < ticket) log
 
@@ -39,17 +39,17 @@ module _ {C R : Type 0} where
   abbrev pub entries_of : ℕ → List (Entry C R) → List (Entry C R)
   entries_of number log = filter (λ e. eqb e.pass number) log
 
-  -- the log begins with these entries
+  -- holds if the log begins with these entries
   abbrev pub BeginsWith : List (Entry C R) → List (Entry C R) → Type 0
   BeginsWith log first = (rest : List (Entry C R)) × (log ≡ first ++ rest)
 
-  -- a legal log: each reply is the answer after the entries before it, and tickets rise strictly
+  -- a legal log: each reply is the answer after the entries before it, and tickets increase strictly
   module _ (answer_after : List (Entry C R) → C → R) where
-    -- the entry may come next
+    -- holds if the entry can come next
     abbrev pub MayFollow : List (Entry C R) → Entry C R → Type 0
     MayFollow before e = (e.reply ≡ answer_after before e.command) × IsAboveLast before e.ticket
 
-    -- each of the entries may follow those before it, of which the first ones are given
+    -- holds if each of the entries can follow those before it, of which the first ones are given
     abbrev pub IsLegalAfter : List (Entry C R) → List (Entry C R) → Type 0
     IsLegalAfter before [] = Unit {0}
     IsLegalAfter before (e ∷ rest) = MayFollow before e × IsLegalAfter (before ++ e ∷ []) rest
@@ -57,7 +57,7 @@ module _ {C R : Type 0} where
     abbrev pub IsLegal : List (Entry C R) → Type 0
     IsLegal log = IsLegalAfter [] log
 
--- the command that a fault of a step hands back
+-- the command that the fault of a step returns
 abbrev pub unstepped : {C : Type 0} → StepFault C → C
 unstepped (Full command) = command
 unstepped (NoMemory command) = command

@@ -1,14 +1,15 @@
-//! One call in the log of a journal.
+//! An entry of a journal's log.
 
-/// A call that was answered.
+/// A command with its reply.
 #[derive(Debug, PartialEq, Eq, Drop)]
 pub struct Entry<C, R> {
-    /// The ticket by which it was served.
+    /// The ticket under which the call was served.
     pub ticket: u64,
-    /// What was asked.
+    /// The command.
     pub command: C,
-    /// What was answered.
+    /// The reply.
     pub reply: R,
-    /// The number of the pass that made it. It stands last, since behind a reply there is room that is left over.
+    /// The number of the pass that made the call. It is the last field, so that it fits into the padding behind the
+    /// reply.
     pub pass: u8,
 }

@@ -1,28 +1,28 @@
-//! The object that the lock guards.
+//! The interface of a journal: the object that the ticket lock guards.
 ghost use Rattle.std.specs.Prelude.{◌≡◌, ℕ, ◌<◌, ◌≤◌, ◌↔◌, ◌++◌, ◌∷◌, [], List, length, Option, IfSome, IfOk, IfErr, OnErr};
 ghost use Rattle.ra_journal.specs.Log.{entry, last_ticket_of, IsAboveLast, unstepped};
 
-/// The most entries that a log may have.
+/// The largest number of entries of a log.
 pub const MOST_ENTRIES: u32 = 1_048_576;
 
-/// Why a step was not made. The command comes back.
+/// The reason why a step failed. It returns the command to the caller.
 #[derive(Debug, PartialEq, Eq, Drop)]
 pub enum StepFault<C> {
-    /// The log has as many entries as its limit.
+    /// The log has reached its limit.
     Full(C),
-    /// A growth was refused.
+    /// Allocation failed.
     NoMemory(C),
 }
 
-/// An object that answers commands one after another and logs each answer. A reply is a function of the setup, of the
-/// log so far and of the command. Each call but `step` costs a constant.
+/// A state machine that answers commands one after another and logs each reply. A reply is a function of the setup, the
+/// log so far and the command. Each call except `step` is meant to be O(1).
 pub trait Journal: Drop + Send {
     ghost use Rattle.ra_journal.specs.declared.entry.Entry.{Entry};
 
-    /// What it is asked.
+    /// The commands.
     type Command;
 
-    /// What it answers.
+    /// The replies.
     type Reply: Copy;
 
     /// Plain data that no step changes.
@@ -39,27 +39,31 @@ pub trait Journal: Drop + Send {
 
     ghost limit_of: { Self.Setup → ℕ };
 
-    /// How many entries the log may have, 1 to `MOST_ENTRIES`.
+    /// Returns the largest number of entries of the log, from 1 to `MOST_ENTRIES`.
     fn limit(&self) -> u32
         ensures limit { result ≡ limit_of (setup self.now) }
         ensures range { (0 < result) × (result ≤ MOST_ENTRIES) };
 
-    /// How many entries the log has.
+    /// Returns the number of entries of the log.
     fn calls(&self) -> u32
         ensures { result ≡ length (log self.now) };
 
-    /// The number by which the object names its fault, if it has one. It is below `calls`: of a monitor, say, it is the
-    /// label of the fault.
+    /// Returns the number that identifies the journal's fault, if it has one. It is less than `calls`. For a monitor it
+    /// is the label of the fault.
     fn fault(&self) -> Option<u32>
         ensures fault { result ≡ fault_of (setup self.now) (log self.now) }
         ensures below { IfSome result (λ f. f < length (log self.now)) };
 
-    /// The ticket of the last entry.
+    /// Returns the ticket of the last entry, if there is one.
     fn last_ticket(&self) -> Option<u64>
         ensures { result ≡ last_ticket_of (log self.now) };
 
-    /// Answers a command and logs the answer. `Full` comes whether or not a growth would be refused, and after either
-    /// fault setup and log are as before.
+    /// Answers a command, logs the reply and returns it.
+    ///
+    /// # Errors
+    ///
+    /// `Full` exactly if the log has reached its limit, even if memory is exhausted too; `NoMemory` if allocation
+    /// fails. Both return the command, and leave the setup and the log unchanged.
     fn step(
         &mut self,
         pass: u8,

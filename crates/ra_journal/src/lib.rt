@@ -1,8 +1,8 @@
-//! A journal: an object that answers commands one after another and logs each answer.
+//! A journal: a state machine that answers commands one after another and logs each reply.
 //!
-//! The one contract for the layers above: a step of a `Journal` answers as its setup, its log so far and the command
-//! have it, and logs that answer. `specs/Log` says what a legal log is. A monitor is a journal, and the ticket lock
-//! guards any.
+//! Contract for the crates above: a step of a `Journal` gives the reply that its setup, its log so far and the command
+//! determine, and logs it. `specs/Log` defines a legal log. A monitor is a journal, and the ticket lock guards any
+//! journal.
 #![tactic(auto)]
 
 mod entry;

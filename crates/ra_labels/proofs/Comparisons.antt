@@ -1,4 +1,4 @@
--- The order of numbers by cases, and tests for the same.
+-- Lemmas on comparisons of numbers: what each result of `nat_cmp` states, and the tests that agree with it.
 use Rattle.std.proofs.Common.{◌≡◌, ℕ, ◌<◌, refl, sym, arith, Ordering}
 use Rattle.std.specs.Prelude.{◌==◌, ◌&&◌}
 use Rattle.std.specs.Ordering.{MatchOrdering, nat_cmp, ordering_then, is_eq}
@@ -22,11 +22,11 @@ cmp_tests x y Less known = sym (ne_eqb x y (λ same. absurd (omega arith)))
 cmp_tests x y Equal known = sym (eq-eqb x y known)
 cmp_tests x y Greater known = sym (ne_eqb x y (λ same. absurd (omega arith)))
 
--- numbers are the same where they compare so
+-- two numbers compare as equal exactly if they are equal
 pub is_eq-nat_cmp : (x y : ℕ) → is_eq (nat_cmp x y) ≡ (x == y)
 is_eq-nat_cmp x y = cmp_tests x y (nat_cmp x y) (ranked x y _ refl)
 
--- a key is found where it is the number
+-- a key is found at a number exactly if it is that number
 pub is_at-eqb : (x y : ℕ) → is_at (nat_cmp x) y ≡ (x == y)
 is_at-eqb = is_eq-nat_cmp
 

@@ -1,11 +1,11 @@
--- The labels of records, and their count.
+-- Lemmas on the labels of records and their count.
 use Rattle.std.proofs.Common.{◌≡◌, ◌+◌, ◌<◌, [], ◌∷◌, length, refl, arith}
 use Rattle.std.specs.Prelude.{All}
 use Rattle.std.proofs.lemmas.List.Elements.{All-nil, All-cons, All-weaker}
 use Rattle.ra_labels.specs.declared.command.Command.TheVariants.{Operate, Deliver, Join, Verdict}
 use Rattle.ra_labels.specs.Records.{Records, label_count, labels_of, next_label}
 
--- each label's number is below their count
+-- each label's number is less than the count of labels
 pub numbers_below_count : (records : Records) → All (λ label. label.number < label_count records) (labels_of records)
 numbers_below_count [] = All-nil (λ label. label.number < 0)
 numbers_below_count (Operate by op clock ∷ before) =

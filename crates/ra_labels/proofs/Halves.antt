@@ -1,4 +1,4 @@
--- A list in which two elements stand where one stood.
+-- Lemmas on a list in which one element is replaced by two.
 use Rattle.std.proofs.Common.{◌≡◌, ℕ, zero, suc, ◌+◌, ◌<◌, List, [], ◌∷◌, length, refl, ap, ◌∙◌, arith}
 use Rattle.std.specs.Prelude.{set}
 use Rattle.std.specs.List.{insert}

@@ -1,4 +1,4 @@
--- Lists that rise, what is in them, and lists with the same elements.
+-- Lemmas on strictly rising lists, membership, and lists with the same elements.
 use Rattle.std.proofs.Common.{◌≡◌, ℕ, suc, ◌<◌, Bool, true, false, List, [], ◌∷◌, length, get_or, refl, sym, ap, ◌∙◌, subst, arith}
 use Rattle.std.specs.Prelude.{◌↔◌, ◌==◌, ◌||◌, nat_lt, Contains}
 use Rattle.std.specs.List.{list_all, list_any, AllByRecursion}
@@ -14,23 +14,23 @@ use Rattle.std.proofs.lemmas.List.Elements.{All-contains, All-weaker, All-contai
 use Rattle.std.proofs.lemmas.List.Sums.{AllPass-from_list_all, list_all-from_AllPass}
 use Rattle.std.proofs.lemmas.Map.Views.{list_any-from_Contains, Contains-from_any}
 use Rattle.std.proofs.lemmas.Map.Lookups.{btree_set_from_contains, exact_unsigned}
-use Rattle.ra_labels.specs.Lists.{is_among, have_same, rises}
+use Rattle.ra_labels.specs.Lists.{is_among, have_same_elements, rises}
 use Rattle.ra_labels.proofs.Comparisons.{less_cmp, cmp_less, is_at-eqb}
 use Rattle.ra_labels.proofs.RisingLists.{rises-index, rises-steps}
 
--- an element passes a test that all pass, and all pass where each element does
+-- an element of a list passes a test that all elements pass, and all pass if each element does
 pub list_all-contains : {A : Type 0} (p : A → Bool) (xs : List A) (y : A) → list_all p xs ≡ true → Contains xs y → p y ≡ true
 list_all-contains p xs y pass found = All-contains (λ x. p x ≡ true) xs y (AllPass-from_list_all p xs pass) found
 
 pub list_all-from_contains : {A : Type 0} (p : A → Bool) (xs : List A) → ((y : A) → Contains xs y → p y ≡ true) → list_all p xs ≡ true
 list_all-from_contains p xs pass = list_all-from_AllPass p xs (All-weaker (Contains xs) (λ y. p y ≡ true) pass xs (All-contains_itself xs))
 
--- what is in a list
+-- `is_among` decides membership
 pub among-exactly : (x : ℕ) (xs : List ℕ) → (is_among x xs ≡ true) ↔ Contains xs x
 among-exactly x xs = (Contains-from_any eqb-true x xs, list_any-from_Contains nat_eq_equiv x xs)
 
--- lists with the same elements
-pub same-exactly : (xs ys : List ℕ) → (have_same xs ys ≡ true) ↔ ((x : ℕ) → Contains xs x ↔ Contains ys x)
+-- `have_same_elements` decides whether two lists have the same elements
+pub same-exactly : (xs ys : List ℕ) → (have_same_elements xs ys ≡ true) ↔ ((x : ℕ) → Contains xs x ↔ Contains ys x)
 same-exactly xs ys = (
   (λ same x.
       let parts = and_parts (list_all (λ y. is_among y ys) xs) (list_all (λ y. is_among y xs) ys) same in (
@@ -43,10 +43,10 @@ same-exactly xs ys = (
       (list_all-from_contains (λ y. is_among y xs) ys (λ x there. (among-exactly x xs).1 ((each x).1 there)))),
 )
 
-pub same-itself : (xs : List ℕ) → have_same xs xs ≡ true
+pub same-itself : (xs : List ℕ) → have_same_elements xs xs ≡ true
 same-itself xs = (same-exactly xs xs).1 (λ x. ((λ there. there), (λ there. there)))
 
--- a list rises where each element is below those behind it
+-- a list rises exactly if each element is less than all elements behind it
 pub rises-exactly : (xs : List ℕ) → (rises xs ≡ true) ↔ ((i j : ℕ) → i < j → j < length xs → get_or xs i 0 < get_or xs j 0)
 rises-exactly xs = (rises-index xs, (λ less. rises-steps xs (λ k below. less k (suc k) (omega arith) below)))
 
@@ -54,7 +54,7 @@ any_same : (p q : ℕ → Bool) (xs : List ℕ) → ((x : ℕ) → p x ≡ q x) 
 any_same p q [] same = refl
 any_same p q (x ∷ xs) same = ap (λ b. b || list_any p xs) (same x) ∙ ap (λ b. q x || b) (any_same p q xs same)
 
--- to rise is to be sorted strictly, in std's words
+-- `rises` is equivalent to std's `IsStrictlySortedBy`
 below_less : (x : ℕ) (xs : List ℕ) → list_all (λ y. nat_lt x y) xs ≡ true → AllByRecursion (λ y. nat_cmp x y ≡ Less) xs
 below_less x [] all = tt
 below_less x (y ∷ ys) all =
@@ -82,13 +82,13 @@ sorted-to_rises (x ∷ xs) sorted =
 pub rises-sorted : (xs : List ℕ) → (rises xs ≡ true) ↔ IsStrictlySortedBy nat_cmp xs
 rises-sorted xs = (rises-to_sorted xs, sorted-to_rises xs)
 
--- lists that rise and have the same elements are the same
+-- rising lists with the same elements are equal
 pub bool_same : (a b : Bool) → (a ≡ true → b ≡ true) → (b ≡ true → a ≡ true) → a ≡ b
 bool_same true b to from = sym (to refl)
 bool_same false true to from = from refl
 bool_same false false to from = refl
 
-pub rising_same : (xs ys : List ℕ) → rises xs ≡ true → rises ys ≡ true → have_same xs ys ≡ true → xs ≡ ys
+pub rising_same : (xs ys : List ℕ) → rises xs ≡ true → rises ys ≡ true → have_same_elements xs ys ≡ true → xs ≡ ys
 rising_same xs ys up also same =
     let s : BTreeSet ℕ = record { keys = xs } in
     let t : BTreeSet ℕ = record { keys = ys } in
@@ -100,5 +100,5 @@ rising_same xs ys up also same =
     ∙ sym (any_same (is_at (nat_cmp q)) (λ y. q == y) ys (is_at-eqb q)))
     exact_unsigned
 
-pub rising-same : (xs ys : List ℕ) → rises xs ≡ true → rises ys ≡ true → (have_same xs ys ≡ true) ↔ (xs ≡ ys)
-rising-same xs ys up also = (rising_same xs ys up also, (λ same. subst (λ zs. have_same xs zs ≡ true) same (same-itself xs)))
+pub rising-same : (xs ys : List ℕ) → rises xs ≡ true → rises ys ≡ true → (have_same_elements xs ys ≡ true) ↔ (xs ≡ ys)
+rising-same xs ys up also = (rising_same xs ys up also, (λ same. subst (λ zs. have_same_elements xs zs ≡ true) same (same-itself xs)))

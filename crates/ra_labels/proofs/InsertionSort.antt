@@ -1,4 +1,4 @@
--- A list that is sorted by insertion.
+-- Lemmas on lists sorted by insertion.
 use Rattle.std.proofs.Common.{◌≡◌, List, [], ◌∷◌, refl, ap, ◌∙◌, Ordering}
 use Rattle.std.specs.Prelude.{All, cond}
 use Rattle.std.specs.Ordering.{is_lt}
@@ -24,7 +24,7 @@ module _ {A : Type 0} where
       ap (λ o. cond (is_lt o) (x ∷ y ∷ ys) (y ∷ insert_by cmp x ys)) (All-head (λ z. cmp x z ≡ other x z) y ys same)
       ∙ ap (λ zs. cond (is_lt (other x y)) (x ∷ y ∷ ys) (y ∷ zs)) (insert_by_same cmp other x ys (All-tail (λ z. cmp x z ≡ other x z) y ys same))
 
-  -- comparisons that agree on the elements sort them alike
+  -- comparisons that agree on all elements sort a list alike
   pub sort_by_same : (P : A → Type 0) (cmp other : A → A → Ordering) → ((x y : A) → P x → P y → cmp x y ≡ other x y) → (xs : List A) → All P xs → sort_by cmp xs ≡ sort_by other xs
   sort_by_same P cmp other same [] all = refl
   sort_by_same P cmp other same (x ∷ xs) all =

@@ -1,16 +1,16 @@
--- Where an element stands in a list.
+-- Lemmas on membership in a list.
 use Rattle.std.proofs.Common.{◌≡◌, zero, suc, Bool, true, List, [], ◌∷◌, ◌++◌, filter, refl, sym, ap, ◌∙◌, subst, inl, inr, arith}
 use Rattle.std.specs.Prelude.{◌⊎◌, Contains, map, flat_map}
 use Rattle.std.specs.List.{list_any, AllByRecursion}
 use Rattle.std.proofs.lemmas.Bool.{false≢true, cases_Bool, cond-true, cond-false, or_cases}
 use Rattle.std.proofs.lemmas.List.Elements.{Contains-append_left, Contains-append_right, Contains-append_cases}
 
--- an element of a list is its head, or stands behind it
+-- an element of a list is its head or a member of its tail
 pub head_or_behind : {A : Type 0} (x : A) (xs : List A) (y : A) → Contains (x ∷ xs) y → (x ≡ y) ⊎ Contains xs y
 head_or_behind x xs y (zero, within, is) = inl is
 head_or_behind x xs y (suc k, within, is) = inr (k, omega arith, is)
 
--- the list round one of its elements
+-- a list splits into the elements before a member, the member, and the elements behind it
 pub split_at : {A : Type 0} (xs : List A) (y : A) → Contains xs y → (before after : List A) × (xs ≡ before ++ y ∷ after)
 split_at [] y (k, within, is) = absurd (omega arith)
 split_at (x ∷ xs) y found = elim (head_or_behind x xs y found) [
@@ -18,14 +18,14 @@ split_at (x ∷ xs) y found = elim (head_or_behind x xs y found) [
   | inr further ↦ let rest = split_at xs y further in (x ∷ rest.0, rest.1, ap (λ zs. x ∷ zs) rest.2)
 ]
 
--- an element at the head, and one behind it
+-- membership of the head, and of an element behind it
 pub at_head : {A : Type 0} (x : A) (xs : List A) (y : A) → x ≡ y → Contains (x ∷ xs) y
 at_head x xs y is = (zero, omega arith, is)
 
 pub behind_head : {A : Type 0} (x : A) (xs : List A) (y : A) → Contains xs y → Contains (x ∷ xs) y
 behind_head x xs y (k, within, is) = (suc k, omega arith, is)
 
--- what a filter keeps
+-- `filter` keeps exactly the members that pass its test
 pub kept-there : {A : Type 0} (p : A → Bool) (xs : List A) (y : A) → Contains xs y → p y ≡ true → Contains (filter p xs) y
 kept-there p [] y there passes = absurd (omega (arith, there.1))
 kept-there p (x ∷ xs) y there passes = elim (cases_Bool (p x)) [
@@ -51,7 +51,7 @@ there-kept p (x ∷ xs) y there = elim (cases_Bool (p x)) [
       (behind_head x xs y rest.0, rest.1)
 ]
 
--- what a map reaches
+-- `map` has the images of the members, and no other elements
 pub reached : {A B : Type 0} (f : A → B) (xs : List A) (x : A) → Contains xs x → Contains (map f xs) (f x)
 reached f [] x there = absurd (omega (arith, there.1))
 reached f (y ∷ ys) x there = elim (head_or_behind y ys x there) [
@@ -66,7 +66,7 @@ from_where f (y ∷ ys) z there = elim (head_or_behind (f y) (map f ys) z there)
   | inr further ↦ let rest = from_where f ys z further in (rest.0, behind_head y ys rest.0 rest.1, rest.2)
 ]
 
--- none stands in the empty list
+-- the empty list has no member
 pub none_there : {A : Type 0} (y : A) → ¬ Contains [] y
 none_there y there = omega (arith, there.1)
 
@@ -78,7 +78,7 @@ everyone P (x ∷ xs) y all there = elim (head_or_behind x xs y there) [
 ]
 
 module _ {A : Type 0} where
-  -- what lets a list pass a test
+  -- a list that passes `list_any` has a member that passes the test
   pub what_passes : (p : A → Bool) (xs : List A) → list_any p xs ≡ true → (x : A) × Contains xs x × (p x ≡ true)
   what_passes p [] some = absurd (false≢true some)
   what_passes p (x ∷ xs) some = elim (or_cases (p x) (list_any p xs) some) [
@@ -87,7 +87,7 @@ module _ {A : Type 0} where
   ]
 
 module _ {A B : Type 0} where
-  -- what is in a list of pieces is in one of them
+  -- the members of a concatenation are those of its pieces
   pub piece_of : (f : B → List A) (bs : List B) (y : A) → Contains (flat_map f bs) y → (b : B) × Contains bs b × Contains (f b) y
   piece_of f [] y there = absurd (omega (arith, there.1))
   piece_of f (b ∷ bs) y there = elim (Contains-append_cases (f b) (flat_map f bs) y there) [

@@ -1,4 +1,4 @@
--- The parts of labels, and sequences of parts that extend what must stand before.
+-- Lemmas on the parts of labels, and on sequences of parts that extend an order.
 use Rattle.std.proofs.Common.{◌≡◌, Bool, true, false, List, [], ◌∷◌, ◌++◌, refl, sym, ap, ◌∙◌, subst, inl, inr, arith}
 use Rattle.std.specs.Prelude.{not, Contains, map}
 use Rattle.std.specs.List.{list_all}
@@ -14,7 +14,7 @@ use Rattle.ra_labels.proofs.InLists.{list_all-contains, list_all-from_contains}
 use Rattle.ra_labels.proofs.Members.{head_or_behind, reached, from_where}
 
 module _ {A : Type 0} where
-  -- of a sequence that extends an order, so does what stands first
+  -- if a sequence extends an order, so does its front
   pub extends-first : (precedes : A → A → Bool) (xs ys : List A) → extends precedes (xs ++ ys) ≡ true → extends precedes xs ≡ true
   extends-first precedes [] ys extended = refl
   extends-first precedes (x ∷ xs) ys extended =
@@ -23,13 +23,13 @@ module _ {A : Type 0} where
       (list_all-from_contains (λ q. not (precedes q x)) xs (λ q there. list_all-contains (λ r. not (precedes r x)) (xs ++ ys) q parts.0 (Contains-append_left xs ys q there)))
       (extends-first precedes xs ys parts.1)
 
-  -- and what stands behind
+  -- and so does its rear
   pub extends-behind : (precedes : A → A → Bool) (xs ys : List A) → extends precedes (xs ++ ys) ≡ true → extends precedes ys ≡ true
   extends-behind precedes [] ys extended = extended
   extends-behind precedes (x ∷ xs) ys extended =
       extends-behind precedes xs ys (and_parts (list_all (λ q. not (precedes q x)) (xs ++ ys)) (extends precedes (xs ++ ys)) extended).1
 
-  -- and none of it must stand before what is there first
+  -- and no element of the rear must precede an element of the front
   pub extends-apart : (precedes : A → A → Bool) (xs ys : List A) → extends precedes (xs ++ ys) ≡ true → (p q : A) → Contains xs p → Contains ys q → precedes q p ≡ false
   extends-apart precedes [] ys extended p q p_there q_there = absurd (omega (arith, p_there.1))
   extends-apart precedes (x ∷ xs) ys extended p q p_there q_there =
@@ -39,7 +39,7 @@ module _ {A : Type 0} where
         | inr further ↦ extends-apart precedes xs ys parts.1 p q further q_there
       ]
 
--- a part is one of its label
+-- a part of a label has that label
 pub part_is_of : (label : Label) (part : Part) → Contains (parts_of label) part → part.label ≡ label
 part_is_of label part there =
     let from = from_where (part_of label) (acts_of label.op) part there in
@@ -67,7 +67,7 @@ some_part label =
     let act = some_act label.op in
     (part_of label act.0, reached (part_of label) (acts_of label.op) act.0 act.1)
 
--- a part of the label, before which none of those behind must stand
+-- the label has a part that none of the parts behind must precede
 abbrev pub IsBefore : (Part → Part → Bool) → Label → List Part → Type 0
 IsBefore precedes label behind = (q : Part) × (q.label ≡ label) × (list_all (λ p. not (precedes p q)) behind ≡ true)
 

@@ -1,4 +1,4 @@
--- What holds of a result.
+-- Lemmas on the postconditions of a `Result`.
 use Rattle.std.specs.Prelude.{Result, Ok, Err, IfOk, OnOk, OnErr}
 
 pub on_ok : {T E : Type 0} {P Q : Type 0} (r : Result T E) → OnOk r P → (P → Q) → OnOk r Q

@@ -1,4 +1,4 @@
--- The test whether two kinds are the same.
+-- Lemmas on `is_kind`, the test whether two kinds are the same.
 use Rattle.std.proofs.Common.{◌≡◌, true, refl}
 use Rattle.std.proofs.lemmas.Bool.{false≢true}
 use Rattle.ra_labels.specs.declared.kind.Kind.{Kind}

@@ -1,4 +1,4 @@
--- The order of stamps: by clock, and at one clock by replica.
+-- Lemmas on the order of stamps: by clock, and for equal clocks by replica.
 use Rattle.std.proofs.Common.{◌≡◌, ℕ, ◌<◌, ◌≤◌, true, false, refl, sym, ap, ◌∙◌, inl, inr, arith, Ordering}
 use Rattle.std.specs.Prelude.{◌↔◌, ◌⊎◌}
 use Rattle.std.specs.Ordering.{MatchOrdering, nat_cmp, is_lt, ordering_then}
@@ -8,12 +8,12 @@ use Rattle.std.proofs.lemmas.Bool.{true≢false, cases_eq}
 use Rattle.std.proofs.lemmas.Cmp.{ranked, on_total, then_total, nat_cmp_total}
 use Rattle.ra_labels.specs.declared.label.Stamp.{Stamp}
 use Rattle.ra_labels.specs.NamedOrder.{lowest_rank, stamp_cmp}
-use Rattle.ra_labels.specs.Laws.{IsStampBelow}
+use Rattle.ra_labels.specs.TheoremTerms.{IsStampBelow}
 
 pub stamp_cmp-total : IsTotalOrder stamp_cmp
 stamp_cmp-total = then_total (on_total (λ (s : Stamp). s.clock) nat_cmp_total) (on_total (λ (s : Stamp). s.replica) nat_cmp_total)
 
--- of two comparisons the first decides, and the second where that is a tie
+-- of two comparisons in sequence the first decides, and the second decides a tie
 pub ranked_less : (m n j k : ℕ) (o p : Ordering) → MatchOrdering o (m < n) (m ≡ n) (n < m) → MatchOrdering p (j < k) (j ≡ k) (k < j) → (ordering_then o p ≡ Less) ↔ ((m < n) ⊎ ((m ≡ n) × (j < k)))
 ranked_less m n j k Less p first second = (λ is. inl first, λ below. refl)
 ranked_less m n j k Equal Less first second = (λ is. inr (first, second), λ below. refl)
@@ -28,7 +28,7 @@ ranked_same m n j k Equal Equal first second = (λ is. (first, second), λ same.
 ranked_same m n j k Equal Greater first second = (λ is. absurd (cc is), λ same. absurd (omega arith))
 ranked_same m n j k Greater p first second = (λ is. absurd (cc is), λ same. absurd (omega arith))
 
--- stamps are ordered by clock, and at one clock by replica
+-- stamps are ordered by clock, and for equal clocks by replica
 pub stamp_below : (s t : Stamp) → (stamp_cmp s t ≡ Less) ↔ IsStampBelow s t
 stamp_below s t =
     ranked_less s.clock t.clock s.replica t.replica (nat_cmp s.clock t.clock) (nat_cmp s.replica t.replica)
@@ -41,7 +41,7 @@ stamp_same s t =
       (λ same. both.1 (ap (λ (r : Stamp). r.clock) same, ap (λ (r : Stamp). r.replica) same)),
     )
 
--- the lowest rank is below each stamp
+-- the lowest rank is below each stamp whose clock is at least 1
 pub lowest_below : (s : Stamp) → 1 ≤ s.clock → IsStampBelow lowest_rank s
 lowest_below s from_one = inl from_one
 
@@ -50,7 +50,7 @@ is_less Less is = refl
 is_less Equal is = absurd (true≢false (sym is))
 is_less Greater is = absurd (true≢false (sym is))
 
--- what the test says
+-- the test by `stamp_cmp` decides `IsStampBelow`
 pub below_tested : (s t : Stamp) → is_lt (stamp_cmp s t) ≡ true → IsStampBelow s t
 below_tested s t is = (stamp_below s t).0 (is_less (stamp_cmp s t) is)
 
@@ -70,7 +70,7 @@ not_below_itself s t same (inr a) = let c : s.replica ≡ t.replica = ap (λ (x 
 pub not_both_below : (s t : Stamp) → IsStampBelow s t → ¬ IsStampBelow t s
 not_both_below s t one other = not_below_itself s s refl (below_below s t s one other)
 
--- of two stamps that differ one is below the other
+-- of two different stamps one is below the other
 same_stamp : (s t : Stamp) → s.clock ≡ t.clock → s.replica ≡ t.replica → s ≡ t
 same_stamp s t a b = λ i. record { clock = a i; replica = b i }
 

@@ -1,4 +1,4 @@
--- When records hold, and the first label at which they do not.
+-- The condition that records hold, and the first label at which they do not.
 use Rattle.std.specs.Prelude.{ℕ, [], ◌∷◌, Option, Some, None, option_map, is_none, not, if◌then◌else◌}
 use Rattle.std.specs.Option.{option_or}
 use Rattle.ra_labels.specs.declared.kind.Kind.{Kind}
@@ -10,11 +10,11 @@ use Rattle.ra_labels.specs.Records.{Records, label_count}
 use Rattle.ra_labels.specs.Linearization.{IsRaLinearization, extends_visibility, updates_admitted, queries_admitted}
 use Rattle.ra_labels.specs.NamedOrder.{named_sequence}
 
--- the named sequence is an RA-linearization
+-- holds if the named sequence is an RA-linearization of the records
 abbrev pub Holds : Kind → Records → Type 0
 Holds kind records = IsRaLinearization kind records (named_sequence kind records)
 
--- the first condition that the named sequence fails
+-- the first condition that the named sequence fails; none if it meets all three
 abbrev pub cause_of : Kind → Records → Option Cause
 cause_of kind records =
     let sequence = named_sequence kind records in
@@ -26,7 +26,7 @@ cause_of kind records =
 abbrev pub fault_at : ℕ → Cause → Fault
 fault_at n why = record { label = n; cause = why }
 
--- the first label at which the records do not hold: that of the records before, else this one
+-- the first label at which the records do not hold: that of the earlier records, else the newest label if it fails
 abbrev pub fault_of : Kind → Records → Option Fault
 fault_of kind [] = None
 fault_of kind (Operate replica op clock ∷ before) =
@@ -34,7 +34,7 @@ fault_of kind (Operate replica op clock ∷ before) =
     option_or (fault_of kind before) (option_map (fault_at (label_count before)) (cause_of kind records))
 fault_of kind (_ ∷ before) = fault_of kind before
 
--- the longest prefix of the history that has no fault: the records less the newest, up to one with none
+-- the longest prefix of the history that has no fault, found by dropping the newest records
 abbrev pub records_before_fault : Kind → Records → Records
 records_before_fault kind [] = []
 records_before_fault kind (command ∷ before) =

@@ -8,9 +8,9 @@ pub mod Linearization
 pub mod NamedOrder
 pub mod Fault
 pub mod Answer
-pub mod Situation
-pub mod Laws
+pub mod HistorySoFar
+pub mod TheoremTerms
 pub mod Insertion
 pub mod Commuting
 pub mod Late
-pub mod Waiting
+pub mod Pending

@@ -1,4 +1,4 @@
--- The rewriting: a query-update becomes a query half and an update half; any other label is its own one part.
+-- The rewriting: a query-update becomes a query half and an update half; any other label is a single part.
 use Rattle.std.specs.Prelude.{◌∷◌, [], List, map, Option, Some, None, filter_map}
 use Rattle.ra_labels.specs.declared.operation.Op.{Op}
 use Rattle.ra_labels.specs.declared.operation.Op.TheVariants as op
@@ -8,13 +8,13 @@ use Rattle.ra_labels.specs.declared.operation.Query.{Query}
 use Rattle.ra_labels.specs.declared.operation.Query.TheVariants.{Count, Last, LwwRead, ReadIds, OrRead, RgaRead}
 use Rattle.ra_labels.specs.declared.label.Label.{Label}
 
--- which part of its label: all of it, or one of two halves
+-- which part of its label a part is: the whole label, or one of its two halves
 pub data Half : Type 0 where
   Whole : Half
   QueryHalf : Half
   UpdateHalf : Half
 
--- what a part does, or asks
+-- what a part does: an update, or a query with its answer
 pub data Act : Type 0 where
   Does : Update → Act
   Asks : Query → Act
@@ -24,7 +24,7 @@ pub record Part : Type 0 where
   pub half : Half
   pub act : Act
 
--- what an operation is rewritten into, a query half before its update half
+-- the parts that an operation is rewritten into, the query half before the update half
 abbrev pub acts_of : Op → List (Half × Act)
 acts_of op.Inc = (Whole, Does Inc) ∷ []
 acts_of op.Dec = (Whole, Does Dec) ∷ []

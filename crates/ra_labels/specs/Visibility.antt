@@ -1,4 +1,4 @@
--- What a replica had, what a label sees, and when records are causal.
+-- Visibility: what was delivered to a replica, what a label sees, and when records are causal.
 use Rattle.std.specs.Prelude.{◌≡◌, ℕ, ◌==◌, Bool, true, false, not, ◌&&◌, ◌||◌, [], ◌∷◌, Option, if◌then◌else◌}
 use Rattle.std.specs.Option.{option_map_or}
 use Rattle.std.specs.List.{find, range_with_len}
@@ -7,7 +7,7 @@ use Rattle.ra_labels.specs.declared.operation.Op.TheVariants.{Inc, Dec, Count, W
 use Rattle.ra_labels.specs.declared.command.Command.TheVariants.{Operate, Deliver, Join}
 use Rattle.ra_labels.specs.Records.{Records, label_count, label_at}
 
--- does the operation change the state, be it an update or a query-update?
+-- `true` if the operation may change the state, as an update or as a query-update
 abbrev pub is_update : Op → Bool
 is_update Inc = true
 is_update Dec = true
@@ -24,37 +24,37 @@ is_update (After anchor x) = true
 is_update (RgaRemove x) = true
 is_update (RgaRead list) = false
 
--- is label n there, and an update?
+-- `true` if label n exists and is an update
 abbrev pub is_update_at : Records → ℕ → Bool
 is_update_at records n = option_map_or (λ label. is_update label.op) (label_at records n) false
 
--- is label n an update that the replica issued, or reported as delivered, or that the one had from which it joined?
-abbrev pub had : Records → ℕ → ℕ → Bool
-had [] replica n = false
-had (Operate by op clock ∷ before) replica n =
-    (by == replica && n == label_count before && is_update op) || had before replica n
-had (Deliver to label ∷ before) replica n =
-    (to == replica && n == label && is_update_at before n) || had before replica n
-had (Join joined from ∷ before) replica n = (joined == replica && had before from n) || had before replica n
-had (_ ∷ before) replica n = had before replica n
+-- `true` if label n is an update delivered to the replica: issued by it, reported to it, or copied when it joined
+abbrev pub has_delivered : Records → ℕ → ℕ → Bool
+has_delivered [] replica n = false
+has_delivered (Operate by op clock ∷ before) replica n =
+    (by == replica && n == label_count before && is_update op) || has_delivered before replica n
+has_delivered (Deliver to label ∷ before) replica n =
+    (to == replica && n == label && is_update_at before n) || has_delivered before replica n
+has_delivered (Join joined from ∷ before) replica n = (joined == replica && has_delivered before from n) || has_delivered before replica n
+has_delivered (_ ∷ before) replica n = has_delivered before replica n
 
--- does label n see label m: had n's replica m when it issued n?
+-- `true` if label n sees label m: m was delivered to n's replica before the replica issued n
 abbrev pub sees : Records → ℕ → ℕ → Bool
 sees [] n m = false
-sees (Operate by op clock ∷ before) n m = if n == label_count before then had before by m else sees before n m
+sees (Operate by op clock ∷ before) n m = if n == label_count before then has_delivered before by m else sees before n m
 sees (_ ∷ before) n m = sees before n m
 
--- whatever was delivered was new to the receiver, which had all that it saw
+-- holds if each delivered label was new to its receiver, to which all that the label sees had been delivered
 abbrev pub IsCausal : Records → Type 0
 IsCausal [] = Unit {0}
 IsCausal (Deliver to label ∷ before) =
-    (had before to label ≡ false) × ((m : ℕ) → sees before label m ≡ true → had before to m ≡ true) × IsCausal before
+    (has_delivered before to label ≡ false) × ((m : ℕ) → sees before label m ≡ true → has_delivered before to m ≡ true) × IsCausal before
 IsCausal (_ ∷ before) = IsCausal before
 
--- does label n see label m, and the replica lack it?
+-- `true` if label n sees label m, and m was not delivered to the replica
 abbrev pub lacks : Records → ℕ → ℕ → ℕ → Bool
-lacks records replica n m = sees records n m && not (had records replica m)
+lacks records replica n m = sees records n m && not (has_delivered records replica m)
 
--- the least label that label n sees and the replica lacks
+-- the least label that label n sees and that was not delivered to the replica; none if there is none
 abbrev pub first_missing : Records → ℕ → ℕ → Option ℕ
 first_missing records replica n = find (lacks records replica n) (range_with_len 0 (label_count records))

@@ -1,9 +1,9 @@
 use crate::operation::Op;
 
-/// What a caller reports to the monitor, or asks of it.
+/// A report to the monitor, or the request for a verdict.
 #[derive(Clone, Debug, PartialEq, Eq, Drop)]
 pub enum Command {
-    /// The replica made this operation, with this clock where it carries a stamp.
+    /// The replica made this operation, with this clock if it carries a stamp.
     Operate {
         /// The replica's number, from 0.
         replica: u8,
@@ -19,13 +19,13 @@ pub enum Command {
         /// The delivered label's number.
         label: u32,
     },
-    /// A new replica begins with all that another one had.
+    /// A new replica starts with all updates that were delivered to another one.
     Join {
-        /// The new replica's number: how many replicas there are so far.
+        /// The new replica's number: the number of replicas so far.
         replica: u8,
-        /// The number of the one that it begins from.
+        /// The number of the replica whose state it copies.
         from: u8,
     },
-    /// Is all that was reported so far RA-linearizable by the named order?
+    /// The request for a verdict on the history so far: does its named order linearize it?
     Verdict,
 }

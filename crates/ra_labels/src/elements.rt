@@ -6,7 +6,8 @@ ghost use Rattle.std.specs.Cmp.Lexicographic.{pointwise, lists_per, lists_equiv}
 use std::alloc::AllocError;
 use std::marker::Model;
 
-/// A list of elements, as a read returned it, or of identifiers, as a removal did. Contracts see the list.
+/// A list of elements that a read returned, or of identifiers that a removal returned. Its model is the list of
+/// numbers.
 #[derive(Debug, Drop)]
 pub struct Elements {
     items: Vec<u32>,
@@ -21,21 +22,21 @@ impl Model for Elements {
 }
 
 impl Elements {
-    /// The list of these items. It takes no memory.
+    /// Creates the list of these items. Does not allocate.
     pub fn new(items: Vec<u32>) -> Elements
         ensures { result ≡ items.items }
     {
         Elements { items }
     }
 
-    /// Gives the items back. It takes no memory.
+    /// Returns the items, and consumes `self`. Does not allocate.
     pub fn into_vec(self) -> Vec<u32>
         ensures { result.items ≡ self }
     {
         self.items
     }
 
-    /// The items.
+    /// Returns the items as a slice.
     pub fn as_slice(&self) -> &[u32]
         ensures { result.now ≡ self.now }
     {

@@ -1,17 +1,18 @@
-/// The replicated data types whose histories are checked.
+/// The replicated data type of a history.
 #[derive(Clone, Copy, Debug, PartialEq, Eq)]
 pub enum Kind {
-    /// A number that goes up and down by one. Its named order is that of execution.
+    /// A number that is incremented and decremented. Its named order is the execution order.
     Counter,
-    /// A value, which the write with the greatest timestamp gave it. Its named order is that of timestamps.
+    /// A last-writer-wins (LWW) register: its value is the write with the greatest timestamp. Its named order is the
+    /// timestamp order.
     Register,
-    /// A set, in which an element is where its update with the greatest timestamp put it in: LWW, the last writer wins.
-    /// Its named order is that of timestamps.
+    /// A last-writer-wins (LWW) set: an element is present if its update with the greatest timestamp added it. Its
+    /// named order is the timestamp order.
     LwwSet,
-    /// A set, in which an element is while an addition of it was not taken out: OR, observed removes. A removal takes
-    /// out the additions that its replica had. Its named order is that of execution.
+    /// An observed-remove (OR) set: an element is present if some addition of it was not removed. A removal takes out
+    /// the additions that its replica had observed. Its named order is the execution order.
     OrSet,
-    /// A list, in which each element was put behind another: RGA, a replicated growable array. Its named order is that
-    /// of timestamps.
+    /// A replicated growable array (RGA): a list in which each element is inserted behind another one. Its named order
+    /// is the timestamp order.
     Rga,
 }

@@ -1,23 +1,23 @@
 use crate::operation::Op;
 
-/// When and where a timestamped update was made: stamps compare by clock first, then by replica.
+/// The logical time at which a replica made an update. Stamps compare by clock first, then by replica.
 #[derive(Clone, Copy, Debug, PartialEq, Eq, PartialOrd, Ord)]
 pub struct Stamp {
-    /// A logical clock, from 1 to 4,294,967,295.
+    /// The logical clock, from 1 to 4,294,967,295.
     pub clock: u32,
-    /// The replica that made it.
+    /// The replica that made the update.
     pub replica: u8,
 }
 
-/// An accepted operation: what the PLDI 2019 paper calls a label.
+/// An accepted operation: a label in the sense of the PLDI 2019 paper.
 #[derive(Clone, Debug, PartialEq, Eq, Drop)]
 pub struct Label {
-    /// How many labels were accepted before it.
+    /// The number of labels that were accepted before it.
     pub number: u32,
     /// The replica that issued it.
     pub replica: u8,
-    /// What it did, or asked, with its return value.
+    /// The operation with its return value.
     pub op: Op,
-    /// Its stamp, where its operation carries one.
+    /// Its stamp, if its operation carries one.
     pub stamp: Option<Stamp>,
 }

@@ -1,14 +1,12 @@
-//! What replicas report, and what the monitor answers.
+//! The vocabulary shared by all crates: what replicas report, and what the monitor answers.
 //!
-//! The types are those of every layer: kinds, operations, labels, commands, replies. Their meaning stands
-//! beside them in `specs/`, for a person to read in one sitting (docs/MODEL.md has it in words): the
-//! sequential specification, records and visibility, the rewriting, RA-linearization, the named sequence,
-//! the fault, and the one-thread monitor's answer, after Wang, Enea, Mutluergil and Petri,
-//! "Replication-Aware Linearizability" (PLDI 2019).
+//! The types are kinds, operations, labels, commands and replies. The definitions of their meaning are in `specs/`, and
+//! docs/MODEL.md explains them in words. They comprise the sequential specification, records and visibility, the
+//! rewriting, RA-linearization, the named sequence, the fault, and the single-threaded monitor's answer. They follow
+//! Wang, Enea, Mutluergil and Petri, "Replication-Aware Linearizability" (PLDI 2019).
 //!
-//! The one contract for the layers above: `fits` answers the first refusal that an operation's own form
-//! deserves. The laws of the definitions, and worked histories, are in `ra_laws`; those of lists are here, in
-//! `lists`.
+//! Contract for the crates above: `fits` returns the first reason to reject a command because of its own form. Theorems
+//! about the definitions, and worked examples, are in `ra_theorems`; theorems about lists are in `lists`.
 #![tactic(auto)]
 
 mod command;

@@ -1,2 +1,2 @@
-/// So many replicas there are at most, those that join included.
+/// The largest number of replicas of a history, those that join included.
 pub const MOST_REPLICAS: u8 = 64;

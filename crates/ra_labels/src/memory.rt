@@ -1,6 +1,6 @@
 use std::alloc::{AllocError, AllocFailed};
 
-/// A growth was refused for want of memory. The object that was asked is as before.
+/// Allocation failed. The object whose method was called is unchanged.
 #[derive(Clone, Copy, Debug, PartialEq, Eq)]
 pub struct NoMemory;
 

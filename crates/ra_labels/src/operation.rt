@@ -1,4 +1,4 @@
-//! What replicas do, as they report it, and its two halves: what it does to the state, and what it asks of it.
+//! The operations that replicas report, and the two halves of an operation: an update and a query.
 ghost use Rattle.std.specs.Prelude.{◌≡◌};
 ghost use Rattle.ra_labels.specs.Visibility.{is_update};
 
@@ -7,53 +7,53 @@ use crate::elements::Elements;
 /// An operation as a replica reports it, with its arguments and its return value.
 #[derive(Clone, Debug, PartialEq, Eq, Drop)]
 pub enum Op {
-    /// Counter: one more.
+    /// Counter: an increment by one.
     Inc,
-    /// Counter: one less.
+    /// Counter: a decrement by one.
     Dec,
-    /// Counter: a read, which returned this number.
+    /// Counter: a read that returned this number.
     Count(i32),
     /// Register: a write of this value.
     Write(u32),
-    /// Register: a read, which returned the value that was written last, or that none was.
+    /// Register: a read that returned the last value written, or `None` if there was no write.
     Last(Option<u32>),
-    /// LWW set: this element is put in.
+    /// LWW set: an addition of this element.
     LwwAdd(u32),
-    /// LWW set: this element is taken out.
+    /// LWW set: a removal of this element.
     LwwRemove(u32),
-    /// LWW set: a read, which returned these elements.
+    /// LWW set: a read that returned these elements.
     LwwRead(Elements),
-    /// OR-Set: this element is put in, under an identifier that no other addition has.
+    /// OR-Set: an addition of an element under an identifier that no other addition has.
     OrAdd {
         /// The element.
         element: u32,
         /// The addition's identifier.
         id: u32,
     },
-    /// OR-Set: this element is taken out, as far as the replica had it.
+    /// OR-Set: a removal of those additions of an element that the replica observed.
     OrRemove {
         /// The element.
         element: u32,
-        /// The identifiers that the replica had it under, which the removal returned.
+        /// The identifiers under which the replica observed the element, as the removal returned them.
         ids: Elements,
     },
-    /// OR-Set: a read, which returned these elements.
+    /// OR-Set: a read that returned these elements.
     OrRead(Elements),
-    /// RGA: an element is put directly behind another one.
+    /// RGA: an insertion of an element directly behind its anchor.
     After {
-        /// The element that is there, or 0, behind which the list begins.
+        /// The element behind which the new one is inserted, or 0 for the root at the start of the list.
         anchor: u32,
         /// The new element.
         element: u32,
     },
-    /// RGA: this element is shown no more. It keeps its place.
+    /// RGA: a removal of this element, which stays in the list as a tombstone.
     RgaRemove(u32),
-    /// RGA: a read, which returned these elements in this order.
+    /// RGA: a read that returned these elements in this order.
     RgaRead(Elements),
 }
 
 impl Op {
-    /// Does the operation change the state? A removal from an OR-Set does, though it asks too.
+    /// Returns `true` if the operation is an update. An OR-Set's removal is one, although it is a query as well.
     pub fn is_update(&self) -> bool
         ensures { result ≡ is_update self.now }
     {
@@ -67,54 +67,54 @@ impl Op {
     }
 }
 
-/// What an operation does to the state of the sequential specification.
+/// The update part of an operation: what it does to the state of the sequential specification.
 #[derive(Drop)]
 pub enum Update {
-    /// Counter: one more.
+    /// Counter: an increment by one.
     Inc,
-    /// Counter: one less.
+    /// Counter: a decrement by one.
     Dec,
-    /// Register: this value is written.
+    /// Register: a write of this value.
     Write(u32),
-    /// LWW set: this element is put in.
+    /// LWW set: an addition of this element.
     LwwAdd(u32),
-    /// LWW set: this element is taken out, if it is in.
+    /// LWW set: a removal of this element, if it is present.
     LwwRemove(u32),
-    /// OR-Set: the element is put in under this identifier.
+    /// OR-Set: an addition of the element under this identifier.
     OrAdd {
         /// The element.
         element: u32,
         /// The addition's identifier.
         id: u32,
     },
-    /// OR-Set: what the element is there under of these identifiers is taken out.
+    /// OR-Set: a removal of the element's pairs with these identifiers.
     TakeOut {
         /// The element.
         element: u32,
         /// The identifiers.
         ids: Elements,
     },
-    /// RGA: an element is put directly behind another one.
+    /// RGA: an insertion of an element directly behind its anchor.
     After {
-        /// The element that is there, or 0, behind which the list begins.
+        /// The element behind which the new one is inserted, or 0 for the root at the start of the list.
         anchor: u32,
         /// The new element.
         element: u32,
     },
-    /// RGA: this element is shown no more.
+    /// RGA: a removal of this element, after which reads no longer show it.
     RgaRemove(u32),
 }
 
-/// What an operation asks of the state of the sequential specification, with the answer that it got.
+/// The query part of an operation: what it asks of the state of the sequential specification, with its answer.
 #[derive(Drop)]
 pub enum Query {
     /// Counter: the number.
     Count(i32),
-    /// Register: the value that was written last, if one was.
+    /// Register: the last value written, if any.
     Last(Option<u32>),
     /// LWW set: the elements.
     LwwRead(Elements),
-    /// OR-Set: the identifiers that an element is there under.
+    /// OR-Set: the identifiers of an element's pairs.
     ReadIds {
         /// The element.
         element: u32,

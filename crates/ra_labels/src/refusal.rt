@@ -1,50 +1,54 @@
-//! Why a command is refused, and the refusals that its own form deserves.
+//! The reasons to reject a command, and the check of those that depend on its form alone.
 ghost use Rattle.std.specs.Prelude.{◌≡◌, ℕ};
 ghost use Rattle.ra_labels.specs.declared.command.Command.TheVariants.{Operate};
-ghost use Rattle.ra_labels.specs.Answer.{misfit_of, kind_of, has_rising_list, carries_stamp};
+ghost use Rattle.ra_labels.specs.Answer.{form_refusal, kind_of, has_rising_list, carries_stamp};
 ghost use Rattle.ra_labels.specs.Lists.{rises};
 
 use crate::command::Command;
 use crate::kind::Kind;
 use crate::operation::Op;
 
-/// Why a command is refused, in the order in which the reasons are tested.
+/// The reason to reject a command. The variants stand in the order in which the reasons are tested.
 #[derive(Clone, Copy, Debug, PartialEq, Eq)]
 pub enum Refusal {
-    /// The replica's number is not below the number of replicas. Of a join: that of the one that it begins from is not,
-    /// or the new one's is above it.
+    /// The replica's number is not less than the number of replicas. For a join: the source's number is not less than
+    /// it, or the new replica's number is greater than it.
     UnknownReplica,
-    /// The operation is one of another kind.
+    /// The operation belongs to another kind.
     WrongKind,
-    /// A list that has to rise strictly does not.
+    /// A list that has to be strictly increasing is not.
     BadList,
-    /// The operation carries a stamp, and none came, or the clock is 0.
+    /// The operation carries a stamp, and the command has no clock or the clock 0.
     StampMissing,
-    /// The operation carries no stamp, and one came.
+    /// The operation carries no stamp, and the command has a clock.
     StampUnwanted,
     /// An accepted label has the same stamp.
     StampTaken,
     /// An accepted label has the same identifier.
     IdTaken,
-    /// The label's number is not below the number of labels.
+    /// The label's number is not less than the number of labels.
     UnknownLabel,
-    /// The label is a query, which is not delivered.
+    /// The label is a query; queries are not delivered.
     NotAnUpdate,
-    /// The replica has the label: it issued it, got it before, or joined with it.
+    /// The label was delivered to the replica before: the replica issued it, received it, or joined with it.
     AlreadySeen,
-    /// The least label that the delivered one saw and the receiver has not.
+    /// The smallest label that the delivered label sees and that was not delivered to the receiver.
     NotCausal(u32),
-    /// A replica is to join under the number of one that is there.
+    /// A replica is to join under the number of an existing one.
     ReplicaThere,
-    /// A replica is to join where no more may: there are as many as there can be.
+    /// A replica is to join, and the number of replicas is already the largest one.
     TooManyReplicas,
 }
 
-/// The first refusal that the command's own form deserves in a history of this kind, if any: of `WrongKind`,
-/// `BadList`, `StampMissing` and `StampUnwanted`. It takes no memory and always answers. Costs as much as the
-/// operation's list is long.
+/// Returns the first reason to reject a command because of its form alone, in a history of this kind: `WrongKind`,
+/// `BadList`, `StampMissing` or `StampUnwanted`. Returns `None` for a well-formed operation, and for every delivery,
+/// join and verdict. Does not allocate.
+///
+/// # Complexity
+///
+/// O(n), where `n` is the length of the operation's list.
 pub fn fits(kind: Kind, command: &Command) -> Option<Refusal>
-    ensures { result ≡ misfit_of kind command.now }
+    ensures { result ≡ form_refusal kind command.now }
 {
     match command {
         Command::Operate { op, stamp, .. } => fits_operation(kind, op, *stamp),
@@ -53,7 +57,7 @@ pub fn fits(kind: Kind, command: &Command) -> Option<Refusal>
 }
 
 fn fits_operation(kind: Kind, op: &Op, clock: Option<u32>) -> Option<Refusal>
-    ensures { (by : ℕ) → result ≡ misfit_of kind (Operate by op.now clock) }
+    ensures { (by : ℕ) → result ≡ form_refusal kind (Operate by op.now clock) }
 {
     if kind_of(op) != kind {
         Some(Refusal::WrongKind)

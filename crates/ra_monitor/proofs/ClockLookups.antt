@@ -1,4 +1,4 @@
--- Clocks as they are looked up.
+-- Lemmas on the look-up of clocks.
 use Rattle.std.proofs.Common.{◌≡◌, ℕ, ◌<◌, ◌≤◌, Bool, true, false, List, ◌∷◌, length, get_or, refl, sym, ap, ◌∙◌, arith}
 use Rattle.std.specs.Prelude.{◌||◌, ◌&&◌, ◌==◌, nat_eq, nat_lt, set}
 use Rattle.std.specs.List.{list_any, insert}
@@ -14,7 +14,7 @@ use Rattle.ra_labels.specs.declared.label.Stamp.{Stamp}
 use Rattle.ra_labels.specs.NamedOrder.{stamp_cmp}
 use Rattle.ra_labels.proofs.Comparisons.{eqb-comm, is_eq-nat_cmp, then_eq}
 use Rattle.ra_monitor.specs.Clocks.{Clocks, is_clock_in, IsIndexFor}
-use Rattle.ra_monitor.specs.Taken.{clocks_at}
+use Rattle.ra_monitor.specs.UsedKeys.{clocks_at}
 
 both : true ≡ false → ⊥
 both e = absurd (cc e)
@@ -28,7 +28,7 @@ index_found xs clock index among point = record {
   behind = λ k behind below. ltb-false (get_or xs k 0) clock (point.1 k 0 behind below);
 }
 
--- where another one stands at its index, a clock is none of them
+-- if another clock stands at its index, the clock is not in the list
 differs : (xs : List ℕ) (clock index own i : ℕ) (b : Bool) → IsNonDecreasing xs → IsIndexFor xs clock index → index < length xs
     → get_or xs index 0 ≡ own → ¬ (own ≡ clock) → i < length xs → nat_lt i index ≡ b → ¬ (clock ≡ get_or xs i 0)
 differs xs clock index own i true sorted at there is other below e same = absurd (omega (arith, same, at.before i (ltb-true i index e)))
@@ -36,7 +36,7 @@ differs xs clock index own i false sorted at there is other below e same =
     let behind : index ≤ i = ltb-false i index e in
     other (omega (arith, is, same, sorted index i 0 behind below, at.behind index (omega arith) there))
 
--- a clock stands at its index where it is one of them
+-- a clock is in the list exactly if it stands at its index
 pub found_at : (xs : List ℕ) (clock index own : ℕ) (b : Bool) → IsNonDecreasing xs → IsIndexFor xs clock index
     → index < length xs → get_or xs index 0 ≡ own → nat_eq own clock ≡ b → b ≡ list_any (nat_eq clock) xs
 found_at xs clock index own true sorted at there is same =
@@ -45,13 +45,13 @@ found_at xs clock index own false sorted at there is same =
     sym (list_any_none (nat_eq clock) xs (All-from_get_or (λ x. nat_eq clock x ≡ false) xs 0
     (λ i below. ne_eqb clock (get_or xs i 0) (differs xs clock index own i (nat_lt i index) sorted at there is (λ e. both (sym (eq-eqb own clock e) ∙ same)) below refl))))
 
--- where its index is behind all, it is none of them
+-- if its index is the length of the list, the clock is not in the list
 pub not_found : (xs : List ℕ) (clock index : ℕ) → IsIndexFor xs clock index → length xs ≤ index → false ≡ list_any (nat_eq clock) xs
 not_found xs clock index at past =
     sym (list_any_none (nat_eq clock) xs (All-from_get_or (λ x. nat_eq clock x ≡ false) xs 0
     (λ i below. ne_eqb clock (get_or xs i 0) (λ same. absurd (omega (arith, same, at.before i (omega (arith, below, past))))))))
 
--- with one more at its index
+-- the list with one more clock at its index
 pub one_more : (xs : List ℕ) (index clock other : ℕ) → list_any (nat_eq other) (insert xs index clock) ≡ (nat_eq other clock || list_any (nat_eq other) xs)
 one_more xs index clock other =
     sym (list_any-IsPermutation (nat_eq other) (clock ∷ xs) (insert xs index clock) (IsPermutation-insert xs index clock))
@@ -62,7 +62,7 @@ sorted_with xs index clock sorted at =
     (λ k d below. omega (arith, get_or_default_zero xs k d (omega (arith, below, at.among)), at.before k below))
     (λ k d behind below. omega (arith, get_or_default_zero xs k d below, at.behind k behind below))
 
--- and stamps where clock and replica are
+-- stamps are equal exactly if their clocks and replicas are
 pub stamps_eq : (s t : Stamp) → is_eq (stamp_cmp s t) ≡ (s.clock == t.clock && s.replica == t.replica)
 stamps_eq s t =
     then_eq (nat_cmp s.clock t.clock) (nat_cmp s.replica t.replica)
@@ -77,7 +77,7 @@ and_false : (b : Bool) → (b && false) ≡ false
 and_false true = refl
 and_false false = refl
 
--- what a replica's clocks say once one of them has one more
+-- the stamps after a clock is added to one replica's clocks
 pub stamp_more : (all : List Clocks) (own stamp : Stamp) (clocks : Clocks) (b : Bool) → own.replica < length all
     → ((other : ℕ) → is_clock_in clocks other ≡ (nat_eq other own.clock || is_clock_in (clocks_at all own.replica) other))
     → (own.replica == stamp.replica) ≡ b

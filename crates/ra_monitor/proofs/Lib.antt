@@ -4,5 +4,5 @@ pub mod NewRecords
 pub mod Answered
 pub mod Legal
 pub mod NewEntries
-pub mod LogLaws
+pub mod LogTheorems
 pub mod Trials

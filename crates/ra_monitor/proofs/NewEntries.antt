@@ -1,10 +1,10 @@
--- What is kept true of a monitor when an entry joins its log.
+-- Lemmas on the monitor's invariant after an entry is appended to its log.
 use Rattle.std.proofs.Common.{◌≡◌, ℕ, ◌+◌, ◌<◌, ◌≤◌, cond, [], ◌∷◌, ◌++◌, length, sym, ap, ◌∙◌, arith, length-append}
 use Rattle.ra_labels.specs.Answer.{answer_of, records_after}
 use Rattle.ra_monitor.specs.declared.monitor.Monitor.TheInside.{Inside}
 use Rattle.ra_monitor.specs.Replies.{is_refused}
 use Rattle.ra_monitor.specs.Monitor.{MonitorEntry, answer_after, records_of, refused_count, IsLegalLog, IsNextTicket}
-use Rattle.ra_monitor.specs.History.{StandsFor, past_in}
+use Rattle.ra_monitor.specs.History.{Represents, history_in}
 use Rattle.ra_monitor.specs.Limits.{AreReplicas}
 use Rattle.ra_monitor.specs.Kept.{monitor_of, MonitorKept}
 use Rattle.ra_monitor.proofs.Legal.{legal-push, records_of-push, refused_count-push}
@@ -18,7 +18,7 @@ legal_after m entry kept next answered = legal-push (answer_after m.setup) [] m.
 pub kept_after : (m n : Inside) (entry : MonitorEntry) → MonitorKept m → IsNextTicket (monitor_of m) entry.ticket → length m.log.items < m.setup.limit
     → entry.reply ≡ answer_of m.setup.kind m.setup.replicas (records_of m.setup m.log.items) entry.command
     → n.setup ≡ m.setup → n.log.items ≡ m.log.items ++ entry ∷ []
-    → StandsFor n.history (past_in m.setup (records_after m.setup.kind m.setup.replicas (records_of m.setup m.log.items) entry.command))
+    → Represents n.history (history_in m.setup (records_after m.setup.kind m.setup.replicas (records_of m.setup m.log.items) entry.command))
     → n.history.labels ≤ m.history.labels + 1
     → (AreReplicas m.history.replicas → AreReplicas n.history.replicas)
     → n.refused ≡ m.refused + cond (is_refused entry.reply) 1 0

@@ -1,4 +1,4 @@
--- What a history stands for after one record more.
+-- Lemmas on the past that a history represents after one more record.
 use Rattle.std.proofs.Common.{◌≡◌, ℕ, ◌+◌, ◌∷◌, Option, Some, None, refl, sym, ap, ◌∙◌, arith}
 use Rattle.std.specs.Prelude.{option_map, cond, is_none, vec_len}
 use Rattle.std.specs.Option.{option_or, option_map_or}
@@ -11,23 +11,23 @@ use Rattle.ra_labels.specs.declared.reply.Reply.TheVariants as reply
 use Rattle.ra_labels.specs.Records.{Records, label_count}
 use Rattle.ra_labels.specs.Visibility.{IsCausal}
 use Rattle.ra_labels.specs.Fault.{fault_of, fault_at, cause_of, records_before_fault}
-use Rattle.ra_labels.specs.Answer.{no_at, answer_to_accepted}
-use Rattle.ra_labels.specs.Situation.{Past, past_with, IsAccepted, Next, operate, label_of}
-use Rattle.ra_laws.proofs.TheLaws.{records_before_fault_have_none-all}
+use Rattle.ra_labels.specs.Answer.{no_reply, answer_to_accepted}
+use Rattle.ra_labels.specs.HistorySoFar.{History, history_with, IsAccepted, NextOperation, operate, label_of}
+use Rattle.ra_theorems.proofs.TheoremIndex.{records_before_fault_have_none-all}
 use Rattle.ra_visibility.specs.Seen.{Seen}
 use Rattle.ra_visibility.specs.Tracked.{IsVisibilityOf, seen_in}
-use Rattle.ra_visibility.proofs.TheLaws.{what_a_label_sees}
+use Rattle.ra_visibility.proofs.TheoremIndex.{seen_matches_records}
 use Rattle.ra_witness.specs.Witness.{IsWitnessOf}
-use Rattle.ra_monitor.specs.declared.history.History.{History}
-use Rattle.ra_monitor.specs.declared.taken.brought.Brought.{Brought}
-use Rattle.ra_monitor.specs.declared.taken.Taken.{Taken}
+use Rattle.ra_monitor.specs.declared.history.TrackedHistory.{TrackedHistory}
+use Rattle.ra_monitor.specs.declared.used_keys.unique_key.UniqueKey.{UniqueKey}
+use Rattle.ra_monitor.specs.declared.used_keys.UsedKeys.{UsedKeys}
 use Rattle.ra_monitor.specs.Order.{IsOrderOf}
-use Rattle.ra_monitor.specs.Taken.{brought_by, is_stamp_in, is_identifier_in, IsTakenIn}
-use Rattle.ra_monitor.specs.History.{StandsFor, HasNewest, before_fault}
+use Rattle.ra_monitor.specs.UsedKeys.{key_of, is_stamp_in, is_identifier_in, AreUsedKeysOf}
+use Rattle.ra_monitor.specs.History.{Represents, HasNewest, before_fault}
 use Rattle.ra_visibility.specs.Order.{ComesNext}
 
--- the newest label comes to the witness
-pub comes_next : (history : History) (past : Past) (next : Next) (label : Label) (brought : Brought) (seen : Seen)
+-- the newest label is the next one for the witness
+pub comes_next : (history : TrackedHistory) (past : History) (next : NextOperation) (label : Label) (brought : UniqueKey) (seen : Seen)
     → HasNewest history past next label brought → seen ≡ seen_in history.tracker.now label.number
     → ComesNext past next label seen
 comes_next history past next label brought seen newest sees =
@@ -36,33 +36,33 @@ comes_next history past next label brought seen newest sees =
       causal = newest.causal;
       accepted = newest.accepted;
       becomes = newest.becomes;
-      sees = rw (sees, is) (what_a_label_sees history.tracker.now (past_with past (operate next)) (label_count past.records) newest.tracker (omega (arith, newest.tracker.labels)));
+      sees = rw (sees, is) (seen_matches_records history.tracker.now (history_with past (operate next)) (label_count past.records) newest.tracker (omega (arith, newest.tracker.labels)));
     }
 
 -- the fault with the newest label
-pub fault_with : (kind : Kind) (records : Records) (next : Next) (why : Option Cause)
+pub fault_with : (kind : Kind) (records : Records) (next : NextOperation) (why : Option Cause)
     → fault_of kind records ≡ None → why ≡ cause_of kind (operate next ∷ records)
     → fault_of kind (operate next ∷ records) ≡ option_map (fault_at (label_count records)) why
 fault_with kind records next why none because =
     ap (λ o. option_or o (option_map (fault_at (label_count records)) (cause_of kind (operate next ∷ records)))) none
     ∙ ap (option_map (fault_at (label_count records))) (sym because)
 
--- with a newest label that fails, the records before the fault stay
-before_failed : (kind : Kind) (records : Records) (next : Next) (why : Cause)
+-- if the newest label fails, the records before the fault are those before the label
+before_failed : (kind : Kind) (records : Records) (next : NextOperation) (why : Cause)
     → fault_of kind records ≡ None → Some why ≡ cause_of kind (operate next ∷ records)
     → records_before_fault kind (operate next ∷ records) ≡ records
 before_failed kind records next why none because =
     ap (λ o. cond (is_none o) (operate next ∷ records) (records_before_fault kind records)) (fault_with kind records next (Some why) none because)
     ∙ records_before_fault_have_none-all kind records none
 
--- the newest label is taken in
-pub stands_taken : (old new : History) (past : Past) (next : Next) (label : Label) (brought : Brought)
+-- the history after a newest label that does not fail
+pub stands_taken : (old new : TrackedHistory) (past : History) (next : NextOperation) (label : Label) (brought : UniqueKey)
     → HasNewest old past next label brought → None ≡ cause_of past.kind (operate next ∷ past.records)
-    → IsWitnessOf IsOrderOf new.witness (past_with past (operate next))
-    → IsTakenIn (operate next ∷ past.records) new.taken
+    → IsWitnessOf IsOrderOf new.witness (history_with past (operate next))
+    → AreUsedKeysOf (operate next ∷ past.records) new.taken
     → vec_len new.taken.clocks ≡ vec_len old.taken.clocks
     → new.labels ≡ label.number + 1 → new.tracker ≡ old.tracker → new.fault ≡ old.fault → new.replicas ≡ old.replicas
-    → StandsFor new (past_with past (operate next))
+    → Represents new (history_with past (operate next))
 stands_taken old new past next label brought newest because witness taken places labels tracker fault replicas =
     let now = operate next ∷ past.records in
     let none : fault_of past.kind now ≡ None = fault_with past.kind past.records next None newest.none because in
@@ -77,13 +77,13 @@ stands_taken old new past next label brought newest because witness taken places
       fault = fault ∙ newest.fault ∙ sym none;
     }
 
--- or it fails
-pub stands_failed : (old new : History) (past : Past) (next : Next) (label : Label) (brought : Brought) (why : Cause)
+-- the history after a newest label that fails
+pub stands_failed : (old new : TrackedHistory) (past : History) (next : NextOperation) (label : Label) (brought : UniqueKey) (why : Cause)
     → HasNewest old past next label brought → Some why ≡ cause_of past.kind (operate next ∷ past.records)
     → IsWitnessOf IsOrderOf new.witness past
     → new.taken ≡ old.taken
     → new.labels ≡ label.number + 1 → new.tracker ≡ old.tracker → new.fault ≡ Some (fault_at label.number why)
-    → new.replicas ≡ old.replicas → StandsFor new (past_with past (operate next))
+    → new.replicas ≡ old.replicas → Represents new (history_with past (operate next))
 stands_failed old new past next label brought why newest because witness taken labels tracker fault replicas =
     let now = operate next ∷ past.records in
     let is : label.number ≡ label_count past.records = ap (λ (l : Label). l.number) newest.becomes in
@@ -95,52 +95,52 @@ stands_failed old new past next label brought why newest because witness taken l
       replicas = replicas ∙ newest.replicas;
       witness = rw before witness;
       taken = rw (before, taken) newest.taken;
-      places = ap (λ (t : Taken). vec_len t.clocks) taken ∙ newest.places;
+      places = ap (λ (t : UsedKeys). vec_len t.clocks) taken ∙ newest.places;
       fault = fault ∙ ap (λ (k : ℕ). Some (fault_at k why)) is ∙ sym (fault_with past.kind past.records next (Some why) newest.none because);
     }
 
-mapped : (n : ℕ) (why : Option Cause) → option_map_or (λ w. no_at (fault_at n w)) why (reply.Ok n) ≡ option_map_or no_at (option_map (fault_at n) why) (reply.Ok n)
+mapped : (n : ℕ) (why : Option Cause) → option_map_or (λ w. no_reply (fault_at n w)) why (reply.Ok n) ≡ option_map_or no_reply (option_map (fault_at n) why) (reply.Ok n)
 mapped n None = refl
 mapped n (Some why) = refl
 
 -- the reply to the newest label
-pub reply_to : (kind : Kind) (records : Records) (next : Next) (why : Option Cause) (n : ℕ)
+pub reply_to : (kind : Kind) (records : Records) (next : NextOperation) (why : Option Cause) (n : ℕ)
     → fault_of kind records ≡ None → why ≡ cause_of kind (operate next ∷ records) → n ≡ label_count records
-    → option_map_or (λ w. no_at (fault_at n w)) why (reply.Ok n) ≡ answer_to_accepted kind records (operate next)
+    → option_map_or (λ w. no_reply (fault_at n w)) why (reply.Ok n) ≡ answer_to_accepted kind records (operate next)
 reply_to kind records next why n none because is =
-    ap (λ (k : ℕ). option_map_or (λ w. no_at (fault_at k w)) why (reply.Ok k)) is
+    ap (λ (k : ℕ). option_map_or (λ w. no_reply (fault_at k w)) why (reply.Ok k)) is
     ∙ mapped (label_count records) why
-    ∙ sym (ap (λ o. option_map_or no_at o (reply.Ok (label_count records))) (fault_with kind records next why none because))
+    ∙ sym (ap (λ o. option_map_or no_reply o (reply.Ok (label_count records))) (fault_with kind records next why none because))
 
--- where nothing failed, what is taken is what all labels have
-pub taken_known : (history : History) (past : Past) → StandsFor history past
-    → fault_of past.kind past.records ≡ None → IsTakenIn past.records history.taken
+-- without a fault, the used stamps and identifiers are those of all labels
+pub taken_known : (history : TrackedHistory) (past : History) → Represents history past
+    → fault_of past.kind past.records ≡ None → AreUsedKeysOf past.records history.taken
 taken_known history past stands none = rw (records_before_fault_have_none-all past.kind past.records none) at stands.taken
 
--- and the witness is that of all
-pub witness_known : (history : History) (past : Past) → StandsFor history past
+-- and the witness is that of all labels
+pub witness_known : (history : TrackedHistory) (past : History) → Represents history past
     → fault_of past.kind past.records ≡ None → IsWitnessOf IsOrderOf history.witness past
 witness_known history past stands none = rw (records_before_fault_have_none-all past.kind past.records none) at stands.witness
 
--- what is taken is what looks up the same
-pub taken_alike : (records : Records) (old new : Taken) → ((stamp : Stamp) → is_stamp_in new stamp ≡ is_stamp_in old stamp)
-    → ((identifier : ℕ) → is_identifier_in new identifier ≡ is_identifier_in old identifier) → IsTakenIn records old → IsTakenIn records new
+-- the used stamps and identifiers are determined by their look-ups
+pub taken_alike : (records : Records) (old new : UsedKeys) → ((stamp : Stamp) → is_stamp_in new stamp ≡ is_stamp_in old stamp)
+    → ((identifier : ℕ) → is_identifier_in new identifier ≡ is_identifier_in old identifier) → AreUsedKeysOf records old → AreUsedKeysOf records new
 taken_alike records old new stamps identifiers known = record {
   stamps = λ stamp. stamps stamp ∙ known.stamps stamp;
   identifiers = λ identifier. identifiers identifier ∙ known.identifiers identifier;
 }
 
--- a delivery takes nothing
-taken_delivered : (records : Records) (to label : ℕ) (taken : Taken) → IsTakenIn records taken → IsTakenIn (Deliver to label ∷ records) taken
+-- a delivery uses no stamp or identifier
+taken_delivered : (records : Records) (to label : ℕ) (taken : UsedKeys) → AreUsedKeysOf records taken → AreUsedKeysOf (Deliver to label ∷ records) taken
 taken_delivered records to label taken known = record { stamps = known.stamps; identifiers = known.identifiers }
 
 -- the history after a delivery
-pub stands_delivered : (old new : History) (past : Past) (to label : ℕ)
-    → StandsFor old past → fault_of past.kind past.records ≡ None
-    → IsVisibilityOf new.tracker.now (past_with past (Deliver to label)) → IsCausal (Deliver to label ∷ past.records)
-    → IsWitnessOf IsOrderOf new.witness (past_with past (Deliver to label))
+pub stands_delivered : (old new : TrackedHistory) (past : History) (to label : ℕ)
+    → Represents old past → fault_of past.kind past.records ≡ None
+    → IsVisibilityOf new.tracker.now (history_with past (Deliver to label)) → IsCausal (Deliver to label ∷ past.records)
+    → IsWitnessOf IsOrderOf new.witness (history_with past (Deliver to label))
     → new.labels ≡ old.labels → new.taken ≡ old.taken → new.fault ≡ old.fault → new.replicas ≡ old.replicas
-    → StandsFor new (past_with past (Deliver to label))
+    → Represents new (history_with past (Deliver to label))
 stands_delivered old new past to label stands none tracker causal witness labels taken fault replicas = record {
   tracker = tracker;
   causal = causal;
@@ -148,17 +148,17 @@ stands_delivered old new past to label stands none tracker causal witness labels
   replicas = replicas ∙ stands.replicas;
   witness = rw (records_before_fault_have_none-all past.kind (Deliver to label ∷ past.records) none) witness;
   taken = rw (records_before_fault_have_none-all past.kind (Deliver to label ∷ past.records) none, taken) (taken_delivered past.records to label old.taken (taken_known old past stands none));
-  places = ap (λ (t : Taken). vec_len t.clocks) taken ∙ stands.places;
+  places = ap (λ (t : UsedKeys). vec_len t.clocks) taken ∙ stands.places;
   fault = fault ∙ stands.fault;
 }
 
 -- the history with the newest label
-pub newest_stands : (old new : History) (past : Past) (next : Next) (label : Label) (brought : Brought)
-    → StandsFor old past → fault_of past.kind past.records ≡ None
-    → IsVisibilityOf new.tracker.now (past_with past (operate next))
-    → label ≡ label_of past.records next → brought ≡ brought_by next
+pub newest_stands : (old new : TrackedHistory) (past : History) (next : NextOperation) (label : Label) (brought : UniqueKey)
+    → Represents old past → fault_of past.kind past.records ≡ None
+    → IsVisibilityOf new.tracker.now (history_with past (operate next))
+    → label ≡ label_of past.records next → brought ≡ key_of next
     → new.labels ≡ old.labels → new.witness ≡ old.witness → new.fault ≡ old.fault → new.replicas ≡ old.replicas
-    → IsTakenIn past.records new.taken → vec_len new.taken.clocks ≡ vec_len old.taken.clocks
+    → AreUsedKeysOf past.records new.taken → vec_len new.taken.clocks ≡ vec_len old.taken.clocks
     → IsAccepted past (operate next)
     → HasNewest new past next label brought
 newest_stands old new past next label brought stands none tracker is brings labels witness fault replicas taken places accepted = record {
@@ -176,12 +176,12 @@ newest_stands old new past next label brought stands none tracker is brings labe
   brings = brings;
 }
 
--- the history with a label taken back, or room made
-pub stands_same : (old new : History) (past : Past) → StandsFor old past
+-- the history after a label is withdrawn, or capacity is reserved
+pub stands_same : (old new : TrackedHistory) (past : History) → Represents old past
     → new.tracker.now ≡ old.tracker.now → new.labels ≡ old.labels
     → IsWitnessOf IsOrderOf new.witness (before_fault past)
-    → IsTakenIn (records_before_fault past.kind past.records) new.taken → vec_len new.taken.clocks ≡ vec_len old.taken.clocks
-    → new.fault ≡ old.fault → new.replicas ≡ old.replicas → StandsFor new past
+    → AreUsedKeysOf (records_before_fault past.kind past.records) new.taken → vec_len new.taken.clocks ≡ vec_len old.taken.clocks
+    → new.fault ≡ old.fault → new.replicas ≡ old.replicas → Represents new past
 stands_same old new past stands tracker labels witness taken places fault replicas = record {
   tracker = rw tracker stands.tracker;
   causal = stands.causal;
@@ -193,21 +193,21 @@ stands_same old new past stands tracker labels witness taken places fault replic
   fault = fault ∙ stands.fault;
 }
 
--- a join takes nothing
-taken_joined : (records : Records) (joined from : ℕ) (taken : Taken) → IsTakenIn records taken
-    → IsTakenIn (Join joined from ∷ records) taken
+-- a join uses no stamp or identifier
+taken_joined : (records : Records) (joined from : ℕ) (taken : UsedKeys) → AreUsedKeysOf records taken
+    → AreUsedKeysOf (Join joined from ∷ records) taken
 taken_joined records joined from taken known = record { stamps = known.stamps; identifiers = known.identifiers }
 
 -- the history after a join
-pub stands_joined : (old new : History) (past : Past) (joined from : ℕ)
-    → StandsFor old past → fault_of past.kind past.records ≡ None
-    → IsVisibilityOf new.tracker.now (past_with past (Join joined from))
-    → IsWitnessOf IsOrderOf new.witness (past_with past (Join joined from))
+pub stands_joined : (old new : TrackedHistory) (past : History) (joined from : ℕ)
+    → Represents old past → fault_of past.kind past.records ≡ None
+    → IsVisibilityOf new.tracker.now (history_with past (Join joined from))
+    → IsWitnessOf IsOrderOf new.witness (history_with past (Join joined from))
     → ((stamp : Stamp) → is_stamp_in new.taken stamp ≡ is_stamp_in old.taken stamp)
     → ((identifier : ℕ) → is_identifier_in new.taken identifier ≡ is_identifier_in old.taken identifier)
     → vec_len new.taken.clocks ≡ vec_len old.taken.clocks + 1 → new.labels ≡ old.labels → new.fault ≡ old.fault
     → new.replicas ≡ old.replicas + 1
-    → StandsFor new (past_with past (Join joined from))
+    → Represents new (history_with past (Join joined from))
 stands_joined old new past joined from stands none tracker witness stamps identifiers places labels fault replicas = record {
   tracker = tracker;
   causal = stands.causal;

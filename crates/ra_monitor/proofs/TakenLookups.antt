@@ -1,4 +1,4 @@
--- What is taken, as it is looked up.
+-- Lemmas on the look-up of used stamps and identifiers.
 use Rattle.std.proofs.Common.{◌≡◌, ℕ, ◌<◌, false, ◌∷◌, Option, Some, None, refl, ap, ◌∙◌}
 use Rattle.std.specs.Prelude.{◌||◌, ◌==◌, vec_len}
 use Rattle.std.specs.Option.{option_map_or}
@@ -7,11 +7,11 @@ use Rattle.ra_labels.specs.declared.operation.Op.{Op}
 use Rattle.ra_labels.specs.declared.operation.Op.TheVariants as op
 use Rattle.ra_labels.specs.declared.label.Stamp.{Stamp}
 use Rattle.ra_labels.specs.Records.{Records, next_label}
-use Rattle.ra_labels.specs.Answer.{misfit_of, carries_stamp, has_stamp, is_taken, identifier_of, is_identifier_taken}
-use Rattle.ra_labels.specs.Situation.{Next, operate}
-use Rattle.ra_laws.proofs.TheLaws.{forms_that_deserve_no_refusal}
-use Rattle.ra_monitor.specs.declared.taken.Taken.{Taken}
-use Rattle.ra_monitor.specs.Taken.{HasRoom, CanKeep, is_stamp_in, is_identifier_in, brought_with, brought_by, has_brought, gives_brought, IsTakenIn}
+use Rattle.ra_labels.specs.Answer.{form_refusal, carries_stamp, has_stamp, is_stamp_taken, identifier_of, is_identifier_taken}
+use Rattle.ra_labels.specs.HistorySoFar.{NextOperation, operate}
+use Rattle.ra_theorems.proofs.TheoremIndex.{well_formed_iff}
+use Rattle.ra_monitor.specs.declared.used_keys.UsedKeys.{UsedKeys}
+use Rattle.ra_monitor.specs.UsedKeys.{HasRoom, CanKeep, is_stamp_in, is_identifier_in, key_with, key_of, key_is_stamp, key_is_identifier, AreUsedKeysOf}
 
 some_none : (n : ℕ) → Some n ≡ None → ⊥
 some_none n e = absurd (cc e)
@@ -33,55 +33,55 @@ carries_none (op.After anchor x) given e = absurd (cc e)
 carries_none (op.RgaRemove x) given e = refl
 carries_none (op.RgaRead list) given e = refl
 
--- so no clock came with it, where its form fits
-pub no_clock : (kind : Kind) (next : Next) (given : ℕ) → misfit_of kind (operate next) ≡ None
+-- so if its form is right, it has no clock
+pub no_clock : (kind : Kind) (next : NextOperation) (given : ℕ) → form_refusal kind (operate next) ≡ None
     → identifier_of next.op ≡ Some given → next.clock ≡ None
 no_clock kind next given fits gives =
-    ((forms_that_deserve_no_refusal kind next).0 fits).2.1 (carries_none next.op given gives)
+    ((well_formed_iff kind next).0 fits).2.1 (carries_none next.op given gives)
 
--- a stamp was brought exactly where the label has it
+-- an operation adds a stamp exactly if its label has it
 stamps_brought : (records : Records) (by : ℕ) (op : Op) (clock gives : Option ℕ) (stamp : Stamp)
     → identifier_of op ≡ gives → ((given : ℕ) → gives ≡ Some given → clock ≡ None)
-    → has_brought (brought_with by gives clock) stamp ≡ has_stamp stamp (next_label records by op clock)
+    → key_is_stamp (key_with by gives clock) stamp ≡ has_stamp stamp (next_label records by op clock)
 stamps_brought records by op (Some at) (Some given) stamp is bare = absurd (some_none at (bare given refl))
 stamps_brought records by op None (Some given) stamp is bare = refl
 stamps_brought records by op (Some at) None stamp is bare = refl
 stamps_brought records by op None None stamp is bare = refl
 
--- an identifier was brought exactly where the label gives it
+-- an operation adds an identifier exactly if its label gives it
 identifiers_brought : (by : ℕ) (op : Op) (clock gives : Option ℕ) (identifier : ℕ) → identifier_of op ≡ gives
-    → gives_brought (brought_with by gives clock) identifier ≡ option_map_or (λ own. own == identifier) gives false
+    → key_is_identifier (key_with by gives clock) identifier ≡ option_map_or (λ own. own == identifier) gives false
 identifiers_brought by op clock (Some given) identifier is = refl
 identifiers_brought by op (Some at) None identifier is = refl
 identifiers_brought by op None None identifier is = refl
 
--- what is taken with the newest label
-pub taken_more : (kind : Kind) (old new : Taken) (records : Records) (next : Next)
-    → misfit_of kind (operate next) ≡ None
-    → ((stamp : Stamp) → is_stamp_in new stamp ≡ (has_brought (brought_by next) stamp || is_stamp_in old stamp))
+-- the used stamps and identifiers with the newest label
+pub taken_more : (kind : Kind) (old new : UsedKeys) (records : Records) (next : NextOperation)
+    → form_refusal kind (operate next) ≡ None
+    → ((stamp : Stamp) → is_stamp_in new stamp ≡ (key_is_stamp (key_of next) stamp || is_stamp_in old stamp))
     → ((identifier : ℕ) → is_identifier_in new identifier
-    ≡ (gives_brought (brought_by next) identifier || is_identifier_in old identifier))
-    → IsTakenIn records old → IsTakenIn (operate next ∷ records) new
+    ≡ (key_is_identifier (key_of next) identifier || is_identifier_in old identifier))
+    → AreUsedKeysOf records old → AreUsedKeysOf (operate next ∷ records) new
 taken_more kind old new records next fits stamps identifiers known = record {
   stamps = λ stamp.
       stamps stamp
-      ∙ ap (λ b. has_brought (brought_by next) stamp || b) (known.stamps stamp)
-      ∙ ap (λ b. b || is_taken records stamp)
+      ∙ ap (λ b. key_is_stamp (key_of next) stamp || b) (known.stamps stamp)
+      ∙ ap (λ b. b || is_stamp_taken records stamp)
       (stamps_brought records next.by next.op next.clock (identifier_of next.op) stamp refl
       (λ given gives. no_clock kind next given fits gives));
   identifiers = λ identifier.
       identifiers identifier
-      ∙ ap (λ b. gives_brought (brought_by next) identifier || b) (known.identifiers identifier)
+      ∙ ap (λ b. key_is_identifier (key_of next) identifier || b) (known.identifiers identifier)
       ∙ ap (λ b. b || is_identifier_taken records identifier) (identifiers_brought next.by next.op next.clock (identifier_of next.op) identifier refl);
 }
 
--- there is room for what a label brings
-can_keep_with : (taken : Taken) (by : ℕ) (gives clock : Option ℕ) → HasRoom taken by → by < vec_len taken.clocks
-    → CanKeep taken (brought_with by gives clock)
+-- there is capacity for the label's stamp or identifier
+can_keep_with : (taken : UsedKeys) (by : ℕ) (gives clock : Option ℕ) → HasRoom taken by → by < vec_len taken.clocks
+    → CanKeep taken (key_with by gives clock)
 can_keep_with taken by (Some given) clock room there = room.identifier
 can_keep_with taken by None (Some at) room there = (there, room.clock)
 can_keep_with taken by None None room there = tt
 
-pub can_keep : (taken : Taken) (next : Next) → HasRoom taken next.by → next.by < vec_len taken.clocks
-    → CanKeep taken (brought_by next)
+pub can_keep : (taken : UsedKeys) (next : NextOperation) → HasRoom taken next.by → next.by < vec_len taken.clocks
+    → CanKeep taken (key_of next)
 can_keep taken next room there = can_keep_with taken next.by (identifier_of next.op) next.clock room there

@@ -1,12 +1,12 @@
--- What the fields of a monitor stand for, and what is kept true of them.
+-- What the fields of a monitor represent, and its representation invariant.
 use Rattle.std.specs.Prelude.{◌≡◌, ℕ, ◌-◌, ◌≤◌, length, min, vec_capacity}
 use Rattle.std.specs.Global as global
 use Rattle.ra_monitor.specs.declared.monitor.Monitor.TheInside.{Inside}
 use Rattle.ra_monitor.specs.Monitor.{Monitor, MonitorEntry, records_of, refused_count, IsLegalLog}
-use Rattle.ra_monitor.specs.History.{past_in, StandsFor}
+use Rattle.ra_monitor.specs.History.{history_in, Represents}
 use Rattle.ra_monitor.specs.Limits.{AreReplicas, IsLimit}
 
--- how many entries more a log has room for, up to its limit
+-- the number of further entries that a log has room for, up to its limit
 abbrev pub room_in : ℕ → global.Vec MonitorEntry → ℕ
 room_in limit log = min (vec_capacity log - length log.items) (limit - length log.items)
 
@@ -19,6 +19,6 @@ pub record MonitorKept (m : Inside) : Type 0 where
   pub limit : IsLimit m.setup.limit
   pub fits : length m.log.items ≤ m.setup.limit
   pub legal : IsLegalLog m.setup m.log.items
-  pub history : StandsFor m.history (past_in m.setup (records_of m.setup m.log.items))
+  pub history : Represents m.history (history_in m.setup (records_of m.setup m.log.items))
   pub labels : m.history.labels ≤ length m.log.items
   pub refused : m.refused ≡ refused_count m.log.items

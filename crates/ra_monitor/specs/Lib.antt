@@ -5,6 +5,6 @@ pub mod Limits
 pub mod Kept
 pub mod Order
 pub mod Clocks
-pub mod Taken
+pub mod UsedKeys
 pub mod History
 pub mod Trial

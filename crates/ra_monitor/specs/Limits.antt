@@ -1,4 +1,4 @@
--- How many replicas and entries there may be.
+-- The allowed numbers of replicas and of log entries.
 use Rattle.std.specs.Prelude.{ℕ, ◌≤◌}
 use Rattle.ra_journal.specs.declared.journal.TheConstants.{MOST_ENTRIES}
 use Rattle.ra_labels.specs.declared.limits.TheConstants.{MOST_REPLICAS}

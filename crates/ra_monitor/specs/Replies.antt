@@ -1,4 +1,4 @@
--- Which replies are a yes, and which a refusal.
+-- The replies `Ok` and `Yes`, and the reply that rejects a command.
 use Rattle.std.specs.Prelude.{Bool, true, false}
 use Rattle.ra_labels.specs.declared.reply.Reply.{Reply}
 use Rattle.ra_labels.specs.declared.reply.Reply.TheVariants.{Ok, Yes, Refused}

@@ -1,10 +1,10 @@
-/// Why no monitor was made, in the order in which the reasons are tested.
+/// The reason why no monitor was created. The variants stand in the order in which the reasons are tested.
 #[derive(Clone, Copy, Debug, PartialEq, Eq)]
 pub enum NewFault {
-    /// The number of replicas is outside 1 to 64.
+    /// The number of replicas is not in 1 to 64.
     BadReplicas,
-    /// The limit is outside 1 to 1,048,576 entries.
+    /// The limit is not in 1 to 1,048,576.
     BadLimit,
-    /// A growth was refused for want of memory.
+    /// Allocation failed.
     NoMemory,
 }

@@ -1,58 +1,62 @@
-//! The accepted commands as what they amount to: a command is taken here, refused or answered.
+//! The accepted commands in the form of data structures: here a command is accepted, rejected or answered.
 ghost use Rattle.std.specs.Prelude.{◌≡◌, ℕ, ◌+◌, ◌<◌, ◌≤◌, [], map, IfOk, OnErr, OnOk, Option, None};
 ghost use Rattle.ra_labels.specs.declared.operation.Op.{Op};
 ghost use Rattle.ra_labels.specs.Records.{Records, label_count, replica_count, next_label};
-ghost use Rattle.ra_labels.specs.Visibility.{had};
+ghost use Rattle.ra_labels.specs.Visibility.{has_delivered};
 ghost use Rattle.ra_labels.specs.NamedOrder.{named_sequence};
 ghost use Rattle.ra_labels.specs.Fault.{fault_of};
-ghost use Rattle.ra_labels.specs.Answer.{no_at, misfit_of, refusal_of, refusal_of_join, answer_to_accepted};
-ghost use Rattle.ra_labels.specs.Situation.{Past, past_with, replicas_of, IsAccepted, Next, next_of, operate};
+ghost use Rattle.ra_labels.specs.Answer.{no_reply, form_refusal, refusal_of, refusal_of_join, answer_to_accepted};
+ghost use Rattle.ra_labels.specs.HistorySoFar.{History, history_with, replicas_of, IsAccepted, NextOperation, next_operation, operate};
 ghost use Rattle.ra_witness.specs.Sequence.{ref_of};
 ghost use Rattle.ra_witness.specs.Witness.{IsWitnessOf};
 ghost use Rattle.ra_monitor.specs.Order.{IsOrderOf};
-ghost use Rattle.ra_monitor.specs.Taken.{brought_by, IsTakenIn};
+ghost use Rattle.ra_monitor.specs.UsedKeys.{key_of, AreUsedKeysOf};
 ghost use Rattle.ra_monitor.specs.Limits.{AreReplicas};
-ghost use Rattle.ra_monitor.specs.History.{StandsFor, IsAnswered, JoinsRecords, HasNewest, IsOfFew, IsFaultless, MayOperate, MayAccept, MayJoin, MayAnswer, past_in, before_fault};
+ghost use Rattle.ra_monitor.specs.History.{Represents, IsAnswered, JoinsRecords, HasNewest, IsOfFew, IsFaultless, MayOperate, MayAccept, MayJoin, MayAnswer, history_in, before_fault};
 ghost use Rattle.ra_monitor.specs.declared.setup.Setup.{Setup};
 
 use crate::order::Order;
 use crate::setup::Setup;
-use crate::taken::Taken;
-use crate::taken::brought::Brought;
+use crate::used_keys::UsedKeys;
+use crate::used_keys::unique_key::UniqueKey;
 use ra_labels::{Command, Fault, Label, MOST_REPLICAS, NoMemory, Op, Refusal, Reply, Stamp, fits};
 use ra_visibility::{DeliverFault, Tracker};
 use ra_witness::{PartRef, Witness};
 use std::alloc::Global;
 use std::mem;
 
-/// The accepted commands, as what they amount to.
+/// The data structures that represent the accepted commands.
 #[derive(Drop)]
-pub struct History {
-    /// How many labels there are.
+pub struct TrackedHistory {
+    /// The number of labels.
     pub labels: u32,
-    /// How many replicas there are.
+    /// The number of replicas.
     pub replicas: u8,
-    /// What each replica had, and what each label sees.
+    /// The updates that were delivered to each replica, and that each label sees.
     pub tracker: Tracker,
-    /// The labels before the fault in their order, and what each replica's updates before the fault lead to.
+    /// The labels before the fault in their order, and the state of each replica after its updates before the fault.
     pub witness: Witness<Order>,
-    /// What these labels have that no other may have.
-    pub taken: Taken,
+    /// The stamps and identifiers of the labels before the fault, which no other label may have.
+    pub taken: UsedKeys,
     /// The first label at which the named order failed.
     pub fault: Option<Fault>,
 }
 
-impl History {
-    /// No records.
-    pub fn new(alloc: Global, setup: &Setup) -> Result<History, NoMemory>
-        ensures { IfOk result (λ history. StandsFor history (past_in setup.now [])) }
+impl TrackedHistory {
+    /// Creates the representation of a history without commands.
+    ///
+    /// # Errors
+    ///
+    /// `NoMemory` if allocation fails.
+    pub fn new(alloc: Global, setup: &Setup) -> Result<TrackedHistory, NoMemory>
+        ensures { IfOk result (λ history. Represents history (history_in setup.now [])) }
     {
         let tracker = Tracker::new(alloc, setup.replicas)?;
-        let taken = Taken::new(alloc, setup.replicas)?;
+        let taken = UsedKeys::new(alloc, setup.replicas)?;
         let order = Order::of(alloc, setup.kind, setup.replicas)?;
-        // The witness comes last: what is let go where it gives up has fewer parts, and the proof goes through each.
+        // The witness is created last: if that fails, fewer parts are dropped, and the proof covers each drop.
         let witness = Witness::new(alloc, setup.kind, setup.replicas, order)?;
-        Ok(History {
+        Ok(TrackedHistory {
             labels: 0,
             replicas: setup.replicas,
             tracker,
@@ -62,43 +66,60 @@ impl History {
         })
     }
 
-    /// Had the replica the label by now? No where there is no such replica, or no such label.
-    pub fn had(&self, replica: u8, label: u32) -> bool
-        requires { (past : Past) × StandsFor self.now past }
-        ensures { (past : Past) → StandsFor self.now past → result ≡ had past.records replica label }
+    /// Returns `true` if the label was delivered to the replica, and `false` if the replica or the label does not
+    /// exist.
+    pub fn has_delivered(&self, replica: u8, label: u32) -> bool
+        requires { (past : History) × Represents self.now past }
+        ensures { (past : History) → Represents self.now past → result ≡ has_delivered past.records replica label }
     {
         replica < self.replicas && self.tracker.sees(replica, label)
     }
 
-    /// All parts in the named order, of the labels before the fault. Costs a step for each label, and by
-    /// timestamps one for each 256 labels before it.
+    /// Returns all parts of the labels before the fault, in the named order.
+    ///
+    /// # Errors
+    ///
+    /// `NoMemory` if allocation fails.
+    ///
+    /// # Complexity
+    ///
+    /// O(n) in execution order and O(n r) in timestamp order, where `n` is the number of labels and `r` the number of
+    /// the order's runs.
     pub fn sequence(&self) -> Result<Vec<PartRef>, NoMemory>
-        ensures { (past : Past) → StandsFor self.now past → IfOk result (λ parts.
+        ensures { (past : History) → Represents self.now past → IfOk result (λ parts.
             parts.items ≡ map ref_of (named_sequence past.kind (before_fault past).records)) }
     {
         self.witness.sequence()
     }
 
-    /// Takes a command and answers it as the one-thread monitor. After `NoMemory` the records are as before. The
-    /// command's operation is that of a label in between, and is given back, so no list is copied.
-    /// Costs what the tracker, the order and the witness ask, and of no label but the command's own; a join, a copy of
-    /// what is kept of the one replica.
+    /// Answers a command as the single-threaded monitor does. Its operation is moved into a label and back, so no list
+    /// is copied here.
+    ///
+    /// # Errors
+    ///
+    /// `NoMemory` if allocation fails, which happens only for a command that would join the records; the same records
+    /// are represented.
+    ///
+    /// # Complexity
+    ///
+    /// The calls of the tracker, the order and the witness that the command needs. They read no other label's
+    /// operation. A join copies the data of one replica.
     pub fn answer(&mut self, setup: &Setup, command: &mut Command) -> Result<Reply, NoMemory>
         requires { IsOfFew self.old setup.now }
-        ensures taken { (records : Records) → let past = past_in setup.now records in StandsFor self.old past
+        ensures taken { (records : Records) → let past = history_in setup.now records in Represents self.old past
             → IfOk result (IsAnswered self.new past command.old) }
         ensures command { command.new ≡ command.old }
-        ensures err { (records : Records) → StandsFor self.old (past_in setup.now records)
-            → OnErr result (StandsFor self.new (past_in setup.now records)) }
+        ensures err { (records : Records) → Represents self.old (history_in setup.now records)
+            → OnErr result (Represents self.new (history_in setup.now records)) }
         ensures one { self.new.labels ≤ self.old.labels + 1 }
         ensures kept { OnErr result (self.new.labels ≡ self.old.labels) }
         ensures replicas { AreReplicas self.old.replicas → AreReplicas self.new.replicas }
-        // It gives up only where the command joins the records.
-        ensures joins { (records : Records) → let past = past_in setup.now records in StandsFor self.old past
+        // Allocation fails only for a command that would join the records.
+        ensures joins { (records : Records) → let past = history_in setup.now records in Represents self.old past
             → OnErr result (JoinsRecords past command.old) }
     {
         if let Some(fault) = self.fault {
-            return Ok(no_at(fault));
+            return Ok(no_reply(fault));
         }
         let misfit = fits(setup.kind, command);
         match command {
@@ -109,7 +130,7 @@ impl History {
         }
     }
 
-    // Answers an operation, of which this is the first refusal that its form deserves, and gives it back.
+    // Answers an operation whose form has this reason to reject it, if any, and moves it back.
     fn operate(
         &mut self,
         replica: u8,
@@ -117,31 +138,36 @@ impl History {
         clock: Option<u32>,
         misfit: Option<Refusal>,
     ) -> Result<Reply, NoMemory>
-        requires { MayOperate self.old (next_of replica op.old clock) misfit }
-        ensures taken { (past : Past) → StandsFor self.old past → fault_of past.kind past.records ≡ None
-            → let command = Command.Operate replica op.old clock in misfit ≡ misfit_of past.kind command
+        requires { MayOperate self.old (next_operation replica op.old clock) misfit }
+        ensures taken { (past : History) → Represents self.old past → fault_of past.kind past.records ≡ None
+            → let command = Command.Operate replica op.old clock in misfit ≡ form_refusal past.kind command
             → IfOk result (IsAnswered self.new past command) }
-        ensures err { (past : Past) → StandsFor self.old past → OnErr result (StandsFor self.new past) }
-        ensures joins { (past : Past) → StandsFor self.old past → fault_of past.kind past.records ≡ None
-            → let command = Command.Operate replica op.old clock in misfit ≡ misfit_of past.kind command
+        ensures err { (past : History) → Represents self.old past → OnErr result (Represents self.new past) }
+        ensures joins { (past : History) → Represents self.old past → fault_of past.kind past.records ≡ None
+            → let command = Command.Operate replica op.old clock in misfit ≡ form_refusal past.kind command
             → OnErr result (JoinsRecords past command) }
         ensures op { op.new ≡ op.old }
         ensures replicas { self.new.replicas ≡ self.old.replicas }
         ensures one { self.new.labels ≤ self.old.labels + 1 }
         ensures kept { OnErr result (self.new.labels ≡ self.old.labels) }
     {
-        let brought = Brought::by(replica, op, clock);
+        let brought = UniqueKey::by(replica, op, clock);
         match self.refusal_of(replica, misfit, brought) {
             Some(refusal) => Ok(Reply::Refused(refusal)),
             None => self.accept(replica, op, clock, brought),
         }
     }
 
-    // The first refusal that an operation of the replica deserves which brings this, if any.
-    fn refusal_of(&self, replica: u8, misfit: Option<Refusal>, brought: Brought) -> Option<Refusal>
-        ensures { (past : Past) (next : Next) → IsTakenIn past.records self.now.taken
-            → self.now.replicas ≡ replicas_of past → next.by ≡ replica → misfit ≡ misfit_of past.kind (operate next)
-            → brought ≡ brought_by next → result ≡ refusal_of past.kind past.founders past.records (operate next) }
+    // Returns the first reason to reject an operation of the replica with this stamp or identifier, if any.
+    fn refusal_of(
+        &self,
+        replica: u8,
+        misfit: Option<Refusal>,
+        brought: UniqueKey,
+    ) -> Option<Refusal>
+        ensures { (past : History) (next : NextOperation) → AreUsedKeysOf past.records self.now.taken
+            → self.now.replicas ≡ replicas_of past → next.by ≡ replica → misfit ≡ form_refusal past.kind (operate next)
+            → brought ≡ key_of next → result ≡ refusal_of past.kind past.initial_replicas past.records (operate next) }
     {
         if replica >= self.replicas {
             return Some(Refusal::UnknownReplica);
@@ -152,13 +178,13 @@ impl History {
         }
     }
 
-    // Answers a join: where it is not refused, the next replica joins.
+    // Answers a join: adds the next replica, unless the join is rejected.
     fn join(&mut self, replica: u8, from: u8) -> Result<Reply, NoMemory>
         requires { IsFaultless self.old }
-        ensures taken { (past : Past) → StandsFor self.old past → fault_of past.kind past.records ≡ None
+        ensures taken { (past : History) → Represents self.old past → fault_of past.kind past.records ≡ None
             → IfOk result (IsAnswered self.new past (Command.Join replica from)) }
-        ensures err { (past : Past) → StandsFor self.old past → OnErr result (StandsFor self.new past) }
-        ensures joins { (past : Past) → StandsFor self.old past → fault_of past.kind past.records ≡ None
+        ensures err { (past : History) → Represents self.old past → OnErr result (Represents self.new past) }
+        ensures joins { (past : History) → Represents self.old past → fault_of past.kind past.records ≡ None
             → OnErr result (JoinsRecords past (Command.Join replica from)) }
         ensures replicas { AreReplicas self.old.replicas → AreReplicas self.new.replicas }
         ensures labels { self.new.labels ≡ self.old.labels }
@@ -169,10 +195,10 @@ impl History {
         }
     }
 
-    // The first refusal that a join deserves, if any.
+    // Returns the first reason to reject a join, if any.
     fn refusal_of_join(&self, replica: u8, from: u8) -> Option<Refusal>
-        ensures first { (founders : ℕ) (records : Records) → self.now.replicas ≡ replica_count founders records
-            → refusal_of_join founders records replica from ≡ result }
+        ensures first { (initial_replicas : ℕ) (records : Records) → self.now.replicas ≡ replica_count initial_replicas records
+            → refusal_of_join initial_replicas records replica from ≡ result }
         ensures few { result ≡ None → self.now.replicas < MOST_REPLICAS }
     {
         if from >= self.replicas || replica > self.replicas {
@@ -186,15 +212,15 @@ impl History {
         }
     }
 
-    // Has the next replica join from this one, which is not refused. All that is taken besides is asked for before the
-    // witness, and where that gives up, the tracker takes the replica back.
+    // Adds the next replica, which joins from this one. The witness comes last of all that allocates: if that fails,
+    // the tracker withdraws the replica.
     fn add_replica(&mut self, from: u8) -> Result<Reply, NoMemory>
         requires { MayJoin self.old from }
-        ensures taken { (past : Past) → StandsFor self.old past → fault_of past.kind past.records ≡ None
+        ensures taken { (past : History) → Represents self.old past → fault_of past.kind past.records ≡ None
             → let join = Command.Join (replicas_of past) from in IsAccepted past join
             → IfOk result (λ reply.
-            (reply ≡ Reply.Joined (replicas_of past)) × StandsFor self.new (past_with past join)) }
-        ensures err { (past : Past) → StandsFor self.old past → OnErr result (StandsFor self.new past) }
+            (reply ≡ Reply.Joined (replicas_of past)) × Represents self.new (history_with past join)) }
+        ensures err { (past : History) → Represents self.old past → OnErr result (Represents self.new past) }
         ensures one { OnOk result (self.new.replicas ≡ self.old.replicas + 1) }
         ensures kept { OnErr result (self.new.replicas ≡ self.old.replicas) }
         ensures labels { self.new.labels ≡ self.old.labels }
@@ -214,13 +240,13 @@ impl History {
         }
     }
 
-    // Answers a delivery: takes it, or refuses it.
+    // Answers a delivery: accepts or rejects it.
     fn deliver(&mut self, replica: u8, label: u32) -> Result<Reply, NoMemory>
         requires { IsFaultless self.old }
-        ensures taken { (past : Past) → StandsFor self.old past → fault_of past.kind past.records ≡ None
+        ensures taken { (past : History) → Represents self.old past → fault_of past.kind past.records ≡ None
             → IfOk result (IsAnswered self.new past (Command.Deliver replica label)) }
-        ensures err { (past : Past) → StandsFor self.old past → OnErr result (StandsFor self.new past) }
-        ensures joins { (past : Past) → StandsFor self.old past → fault_of past.kind past.records ≡ None
+        ensures err { (past : History) → Represents self.old past → OnErr result (Represents self.new past) }
+        ensures joins { (past : History) → Represents self.old past → fault_of past.kind past.records ≡ None
             → OnErr result (JoinsRecords past (Command.Deliver replica label)) }
         ensures labels { self.new.labels ≡ self.old.labels }
         ensures replicas { self.new.replicas ≡ self.old.replicas }
@@ -242,21 +268,21 @@ impl History {
         }
     }
 
-    // Takes an operation that is not refused, and gives it back. All that is taken besides is asked for before the
-    // witness, and where that gives up, the tracker takes the label back.
+    // Accepts an operation, and moves it back. The witness comes last of all that allocates: if that fails, the tracker
+    // withdraws the label.
     fn accept(
         &mut self,
         replica: u8,
         op: &mut Op,
         clock: Option<u32>,
-        brought: Brought,
+        brought: UniqueKey,
     ) -> Result<Reply, NoMemory>
-        requires { MayAccept self.old (next_of replica op.old clock) brought }
-        ensures taken { (past : Past) → StandsFor self.old past → fault_of past.kind past.records ≡ None
+        requires { MayAccept self.old (next_operation replica op.old clock) brought }
+        ensures taken { (past : History) → Represents self.old past → fault_of past.kind past.records ≡ None
             → IsAccepted past (Command.Operate replica op.old clock) → IfOk result (λ reply.
             (reply ≡ answer_to_accepted past.kind past.records (Command.Operate replica op.old clock))
-            × StandsFor self.new (past_with past (Command.Operate replica op.old clock))) }
-        ensures err { (past : Past) → StandsFor self.old past → OnErr result (StandsFor self.new past) }
+            × Represents self.new (history_with past (Command.Operate replica op.old clock))) }
+        ensures err { (past : History) → Represents self.old past → OnErr result (Represents self.new past) }
         ensures op { op.new ≡ op.old }
         ensures replicas { self.new.replicas ≡ self.old.replicas }
         ensures one { OnOk result (self.new.labels ≡ self.old.labels + 1) }
@@ -265,7 +291,7 @@ impl History {
         self.taken.reserve(replica)?;
         self.tracker.issue(replica, op.is_update())?;
         let label = label_of(self.labels, replica, mem::replace(op, Op::Inc), clock);
-        let answer = self.answer_newest(&label, brought);
+        let answer = self.check_label(&label, brought);
         *op = label.op;
         match answer {
             Ok(reply) => Ok(reply),
@@ -276,13 +302,13 @@ impl History {
         }
     }
 
-    // Answers the newest label, and keeps what it brings where all holds.
-    fn answer_newest(&mut self, label: &Label, brought: Brought) -> Result<Reply, NoMemory>
+    // Answers the newest label, and stores its stamp or identifier if the history holds with it.
+    fn check_label(&mut self, label: &Label, brought: UniqueKey) -> Result<Reply, NoMemory>
         requires { MayAnswer self.old label.now brought }
-        ensures answered { (past : Past) (next : Next) → HasNewest self.old past next label.now brought
+        ensures answered { (past : History) (next : NextOperation) → HasNewest self.old past next label.now brought
             → IfOk result (λ reply. (reply ≡ answer_to_accepted past.kind past.records (operate next))
-            × StandsFor self.new (past_with past (operate next))) }
-        ensures witness { (past : Past) → IsWitnessOf IsOrderOf self.old.witness past
+            × Represents self.new (history_with past (operate next))) }
+        ensures witness { (past : History) → IsWitnessOf IsOrderOf self.old.witness past
             → OnErr result (IsWitnessOf IsOrderOf self.new.witness past) }
         ensures one { OnOk result (self.new.labels ≡ self.old.labels + 1) }
         ensures tracker { self.new.tracker ≡ self.old.tracker }
@@ -306,13 +332,13 @@ impl History {
                     cause,
                 };
                 self.fault = Some(fault);
-                Ok(no_at(fault))
+                Ok(no_reply(fault))
             }
         }
     }
 }
 
-// The label with this number that the operation becomes.
+// Returns the label with this number that the operation becomes.
 fn label_of(number: u32, replica: u8, op: Op, clock: Option<u32>) -> Label
     ensures op { result.op ≡ op }
     ensures next { (records : Records) → number ≡ label_count records → result ≡ next_label records replica op clock }
@@ -326,9 +352,9 @@ fn label_of(number: u32, replica: u8, op: Op, clock: Option<u32>) -> Label
     }
 }
 
-// The reply that tells of a fault.
-fn no_at(fault: Fault) -> Reply
-    ensures { result ≡ no_at fault }
+// Returns the reply that names the fault.
+fn no_reply(fault: Fault) -> Reply
+    ensures { result ≡ no_reply fault }
 {
     Reply::No {
         label: fault.label,

@@ -1,18 +1,18 @@
-//! The monitor of one thread: a log, and the history that it amounts to.
+//! The single-threaded monitor: a log, and the representation of its history.
 ghost use Rattle.std.specs.Prelude.{◌≡◌, ℕ, ◌+◌, ◌-◌, ◌<◌, ◌≤◌, ◌++◌, ◌∷◌, ◌↔◌, [], length, map, min, cond, vec_len, vec_capacity, IsTrue, IfSome, IfOk, IfErr, IsOk, OnErr, OnOk, IsErrOf};
 ghost use Rattle.ra_labels.specs.Records.{label_count, replica_count};
-ghost use Rattle.ra_labels.specs.Visibility.{had};
+ghost use Rattle.ra_labels.specs.Visibility.{has_delivered};
 ghost use Rattle.ra_labels.specs.Linearization.{IsRaLinearization};
 ghost use Rattle.ra_labels.specs.NamedOrder.{named_sequence};
 ghost use Rattle.ra_labels.specs.Answer.{answer_of, records_after};
-ghost use Rattle.ra_laws.specs.AnyOrder.{is_of_any_order};
+ghost use Rattle.ra_theorems.specs.AnyOrder.{is_of_any_order};
 ghost use Rattle.ra_monitor.specs.Limits.{AreReplicas, IsLimit};
 ghost use Rattle.ra_journal.specs.Log.{last_ticket_of, unstepped};
 ghost use Rattle.ra_witness.specs.Sequence.{ref_of};
 ghost use Rattle.ra_monitor.specs.Replies.{is_yes, is_refused};
 
 use crate::faults::NewFault;
-use crate::history::History;
+use crate::history::TrackedHistory;
 use crate::report::Report;
 use crate::setup::Setup;
 use ra_journal::{Entry, Journal, MOST_ENTRIES, StepFault};
@@ -21,11 +21,11 @@ use ra_witness::PartRef;
 use std::alloc::Global;
 use std::marker::Model;
 
-/// A monitor of one history, for one thread.
+/// The single-threaded monitor of one history.
 pub struct Monitor {
     setup: Setup,
     log: Vec<Entry<Command, Reply>>,
-    history: History,
+    history: TrackedHistory,
     refused: u32,
 }
 
@@ -42,7 +42,7 @@ impl Model for Monitor {
 }
 
 impl Drop for Monitor {
-    // Written out, so that whoever lets a monitor go calls this, and not what lets each of its parts go.
+    // Written out, so that code that drops a monitor calls this function, instead of the drop of each part.
     fn drop(self) {
         let Monitor {
             setup: _,
@@ -56,8 +56,13 @@ impl Drop for Monitor {
 impl Monitor {
     ghost use Rattle.ra_monitor.specs.Monitor.{records_of, records_before_fault_in, fault_in, refused_count, IsLegalLog, IsFinalFault};
 
-    /// A monitor of a history of this kind, at this many replicas at first, whose log may have `limit` entries.
-    /// `BadReplicas` and `BadLimit` are tested in this order, before any memory is asked for.
+    /// Creates a monitor of a history of this kind, with the given number of initial replicas and the largest number of
+    /// entries of its log.
+    ///
+    /// # Errors
+    ///
+    /// `BadReplicas` if the number of replicas is not in 1 to 64, then `BadLimit` if the limit is not in 1 to
+    /// 1,048,576. Both are tested before any allocation. `NoMemory` if allocation fails.
     pub fn new(alloc: Global, kind: Kind, replicas: u8, limit: u32) -> Result<Monitor, NewFault>
         ensures log { IfOk result (λ monitor. monitor.log ≡ []) }
         ensures kind { IfOk result (λ monitor. monitor.setup.kind ≡ kind) }
@@ -77,7 +82,7 @@ impl Monitor {
             replicas,
             limit,
         };
-        match History::new(alloc, &setup) {
+        match TrackedHistory::new(alloc, &setup) {
             Ok(history) => Ok(Monitor {
                 setup,
                 log: Vec::new(alloc),
@@ -88,7 +93,7 @@ impl Monitor {
         }
     }
 
-    /// What the monitor was made with.
+    /// Returns the values with which the monitor was created.
     pub fn setup(&self) -> Setup
         ensures setup { result ≡ self.now.setup }
         ensures range { AreReplicas result.replicas × IsLimit result.limit }
@@ -96,7 +101,7 @@ impl Monitor {
         self.setup
     }
 
-    /// The log, the oldest entry first.
+    /// Returns the log, the oldest entry first.
     pub fn log(&self) -> &[Entry<Command, Reply>]
         ensures entries { result.now ≡ self.now.log }
         ensures legal { IsLegalLog self.now.setup self.now.log }
@@ -105,7 +110,7 @@ impl Monitor {
         self.log.as_slice()
     }
 
-    /// Gives its log up to the caller, and lets the rest go.
+    /// Returns the log, and consumes `self`.
     pub fn into_log(self) -> Vec<Entry<Command, Reply>>
         ensures entries { result.items ≡ self.log }
         ensures legal { IsLegalLog self.setup self.log }
@@ -119,7 +124,7 @@ impl Monitor {
         log
     }
 
-    /// How many replicas there are by now, those that joined included. It takes no memory.
+    /// Returns the number of replicas so far, those that joined included. Does not allocate.
     pub fn replicas(&self) -> u8
         ensures replicas { result ≡ replica_count self.now.setup.replicas (records_of self.now.setup self.now.log) }
         ensures range { AreReplicas result }
@@ -127,22 +132,27 @@ impl Monitor {
         self.history.replicas
     }
 
-    /// Had the replica the label by now: an update that it issued, got or joined with? No where there is no such
-    /// replica, or no such label. It takes no memory, and costs a look-up.
-    pub fn had(&self, replica: u8, label: u32) -> bool
-        ensures { result ≡ had (records_of self.now.setup self.now.log) replica label }
+    /// Returns `true` if the label was delivered to the replica so far: an update that it issued, received or joined
+    /// with. Returns `false` if the replica or the label does not exist. Does not allocate.
+    ///
+    /// # Complexity
+    ///
+    /// O(1).
+    pub fn has_delivered(&self, replica: u8, label: u32) -> bool
+        ensures { result ≡ has_delivered (records_of self.now.setup self.now.log) replica label }
     {
-        self.history.had(replica, label)
+        self.history.has_delivered(replica, label)
     }
 
-    /// How many updates were made so far, at the label's own replica and where it was delivered: what time goes with,
-    /// as `ra_witness` has it (`counted`, `settled`, `few_steps`). No more than 2^64 - 1 are counted. It takes no
-    /// memory.
+    /// Returns the number of steps so far: the updates applied to the states of replicas, at the issuer and at
+    /// receivers. No clause of this crate states it; those of `ra_witness` do (`counted`, `settled`, `few_steps`). It
+    /// stops growing at 2^64 - 1. Does not allocate.
     pub fn steps(&self) -> u64 {
         self.history.witness.steps()
     }
 
-    /// How many entries can be logged without a growth, as far as the limit lets them. It takes no memory.
+    /// Returns the number of entries, within the limit, that can be logged before the log has to allocate. Does not
+    /// allocate.
     pub fn room(&self) -> u32
         ensures room { result ≡ self.now.room }
         ensures within { length self.now.log + result ≤ self.now.setup.limit }
@@ -152,11 +162,17 @@ impl Monitor {
         free.min(left) as u32
     }
 
-    /// Makes room for this many entries, or for as many as the limit lets come. With room left, a call that leaves the
-    /// records as they are (`step`, clause `settled`) is never answered `NoMemory`. An entry takes 72 bytes.
+    /// Reserves room for this many entries, or for as many as the limit allows. While room is left, `step` does not
+    /// return `NoMemory` for a command that leaves the records unchanged (clause `settled`). An entry takes 72 bytes.
     ///
-    /// `NoMemory` where the growth was refused; none is asked for where the room is there. Log and records are as
-    /// before in each case. It may move the log, a step for each of its entries.
+    /// # Errors
+    ///
+    /// `NoMemory` if allocation fails, which is attempted only if the room is missing. The log is unchanged in each
+    /// case.
+    ///
+    /// # Complexity
+    ///
+    /// O(n), where `n` is the number of entries, since the log may be moved; O(1) if the room exists.
     pub fn reserve(&mut self, entries: u32) -> Result<(), NoMemory>
         ensures room { OnOk result (min entries (self.old.setup.limit - length self.old.log) ≤ self.new.room) }
         ensures there { min entries (self.old.setup.limit - length self.old.log) ≤ self.old.room → IsOk result }
@@ -172,8 +188,16 @@ impl Monitor {
         Ok(())
     }
 
-    /// All parts in the named order: of the labels before a fault, or of all where there is none.
-    /// Costs a step for each label, and by timestamps one for each 256 labels before it.
+    /// Returns all parts in the named order, of the labels before a fault, or of all labels if there is none.
+    ///
+    /// # Errors
+    ///
+    /// `NoMemory` if allocation fails.
+    ///
+    /// # Complexity
+    ///
+    /// O(n) for a counter or an OR-Set, and O(n r) for the other kinds, where `n` is the number of labels and `r` the
+    /// number of the order's runs.
     pub fn sequence(&self) -> Result<Vec<PartRef>, NoMemory>
         ensures named { IfOk result (λ parts. parts.items
             ≡ map ref_of (named_sequence self.now.setup.kind (records_before_fault_in self.now.setup self.now.log))) }
@@ -183,7 +207,7 @@ impl Monitor {
         self.history.sequence()
     }
 
-    /// What the log amounts to. It takes no memory and always answers.
+    /// Returns the summary of the log. Does not allocate.
     pub fn report(&self) -> Report
         ensures kind { result.kind ≡ self.now.setup.kind }
         ensures calls { result.calls ≡ length self.now.log }
@@ -222,17 +246,17 @@ impl Journal for Monitor {
 
     ghost limit_of = { λ setup. setup.limit };
 
-    /// The most entries that the log may have.
+    /// Returns the largest number of entries of the log.
     fn limit(&self) -> u32 {
         self.setup.limit
     }
 
-    /// How many entries the log has.
+    /// Returns the number of entries of the log.
     fn calls(&self) -> u32 {
         self.log.len() as u32
     }
 
-    /// The label of the fault, if there is one.
+    /// Returns the label of the fault, if there is one.
     fn fault(&self) -> Option<u32> {
         match self.history.fault {
             Some(fault) => Some(fault.label),
@@ -240,7 +264,7 @@ impl Journal for Monitor {
         }
     }
 
-    /// The ticket of the log's last entry, above which the next has to be.
+    /// Returns the ticket of the log's last entry, if there is one. The next ticket has to be greater.
     fn last_ticket(&self) -> Option<u64>
         ensures last { result ≡ last_ticket_of self.now.log }
         ensures next { (ticket : ℕ) → IfSome result (λ last. last < ticket) → IsNextTicket self.now ticket }
@@ -251,19 +275,21 @@ impl Journal for Monitor {
         }
     }
 
-    /// Takes a command and answers it. The reply is logged under the pass and the ticket.
+    /// Answers a command. The reply is logged with the pass and the ticket, and returned.
     ///
-    /// `Full` comes exactly where the log has as many entries as its limit allows, and is tested first;
-    /// `NoMemory` where a growth was refused. After both nothing changed, and the command is handed back.
+    /// # Errors
     ///
-    /// It costs what the tracker, the order and the witness ask, and looks at no label but the command's own. A join
-    /// costs a copy of what is kept of the one replica: its counts, and its state, which takes 45 to 48 bytes for each
-    /// element that a list ever had, 23 for each of a set, and 40 nanoseconds (measured: bench/README.md, *Replicas
-    /// that join*).
+    /// `Full` exactly if the log has reached its limit, which is tested first; `NoMemory` if allocation fails. Both
+    /// return the command, and leave the log unchanged.
+    ///
+    /// # Complexity
+    ///
+    /// The calls of the tracker, the order and the witness that the command needs; they read no other label's
+    /// operation. A join copies the counts and the state of one replica (measured in bench/README.md).
     fn step(&mut self, pass: u8, ticket: u64, command: Command) -> Result<Reply, StepFault<Command>>
         requires { IsNextTicket self.old ticket }
 
-        // The reply is the one-thread monitor's, and is logged.
+        // The reply is the single-threaded monitor's, and is logged.
         ensures reply { IfOk result (λ reply.
             reply ≡ answer_of self.old.setup.kind self.old.setup.replicas
             (records_of self.old.setup self.old.log) command) }
@@ -272,21 +298,21 @@ impl Journal for Monitor {
         ensures same_setup { self.new.setup ≡ self.old.setup }
         ensures legal { IsLegalLog self.new.setup self.new.log }
 
-        // A yes is evidence, and a no comes exactly where the fault is.
+        // A `Yes` is evidence, and a `No` comes exactly at the fault.
         ensures yes { IfOk result (λ reply. IsTrue (is_yes reply) → IsRaLinearizable self.new.setup self.new.log) }
         ensures no { IfOk result (λ reply. IsNoAtFault self.new.setup self.new.log reply) }
 
-        // A counter's no, or an OR-Set's, is final: no sequence at all linearizes the records up to its label.
+        // The `No` of a counter or an OR-Set is final: no sequence at all linearizes the records up to its label.
         ensures final_no { IfOk result (λ reply. IsTrue (is_of_any_order self.new.setup.kind)
             → IsFinalNo self.new.setup self.new.log reply) }
 
-        // After a fault nothing changed.
+        // After `Full` or `NoMemory` the log is unchanged.
         ensures full { (result ≡ Err (StepFault.Full command)) ↔ (length self.old.log ≡ self.old.setup.limit) }
         ensures unchanged { OnErr result (self.new.log ≡ self.old.log) }
         ensures handed_back { IfErr result (λ fault. unstepped fault ≡ command) }
 
-        // With room left, a command that leaves the records as they are is answered, and each answer takes room for one
-        // entry: a refusal, a yes, a no of an earlier label.
+        // With room left, a command that leaves the records unchanged is answered, and each answer uses the room of one
+        // entry. Such replies are a rejection, a `Yes`, and the `No` of an earlier label.
         ensures settled { 0 < self.old.room
             → records_after self.old.setup.kind self.old.setup.replicas
             (records_of self.old.setup self.old.log) command ≡ records_of self.old.setup self.old.log
@@ -318,7 +344,7 @@ impl Journal for Monitor {
     }
 }
 
-// How many refusals the reply is: one or none.
+// Returns the number of rejections in the reply: one or none.
 fn refusals(reply: Reply) -> u32
     ensures { result ≡ cond (is_refused reply) 1 0 }
 {
@@ -328,7 +354,7 @@ fn refusals(reply: Reply) -> u32
     }
 }
 
-// Makes room for one more entry, unless there is some.
+// Reserves room for one more entry, unless there is some.
 fn reserve_one(log: &mut Vec<Entry<Command, Reply>>) -> Result<(), NoMemory>
     ensures items { log.new.items ≡ log.old.items }
     ensures room { OnOk result (vec_len log.new < vec_capacity log.new) }
@@ -342,7 +368,7 @@ fn reserve_one(log: &mut Vec<Entry<Command, Reply>>) -> Result<(), NoMemory>
     Ok(())
 }
 
-// Puts the entry at the log's end, where room was made for it.
+// Appends the entry within the reserved room.
 fn append(log: &mut Vec<Entry<Command, Reply>>, entry: Entry<Command, Reply>)
     requires { vec_len log.old < vec_capacity log.old }
     ensures items { log.new.items ≡ log.old.items ++ entry ∷ [] }

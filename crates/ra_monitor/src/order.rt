@@ -1,7 +1,7 @@
 //! The named order of each kind.
 ghost use Rattle.std.specs.Prelude.{IfOk};
 ghost use Rattle.ra_monitor.specs.Order.{IsOrderOf};
-ghost use Rattle.ra_labels.specs.Situation.{nothing_yet};
+ghost use Rattle.ra_labels.specs.HistorySoFar.{empty_history};
 
 use ra_exec_order::ExecOrder;
 use ra_labels::{Kind, Label, NoMemory};
@@ -9,19 +9,23 @@ use ra_time_order::TimeOrder;
 use ra_visibility::{NamedOrder, Place, Seen};
 use std::alloc::Global;
 
-/// The order that a kind names.
+/// The named order of a kind.
 #[derive(Drop)]
 pub enum Order {
-    /// Of a counter and of an OR-Set: that of execution.
+    /// Counter and OR-Set: execution order.
     Execution(ExecOrder),
-    /// Of a register, of an LWW set and of an RGA: that of timestamps.
+    /// Register, LWW set and RGA: timestamp order.
     Time(TimeOrder),
 }
 
 impl Order {
-    /// The order that the kind names, of no labels, of so many replicas.
+    /// Creates the named order of the kind without labels, for the given number of initial replicas.
+    ///
+    /// # Errors
+    ///
+    /// `NoMemory` if allocation fails.
     pub fn of(alloc: Global, kind: Kind, replicas: u8) -> Result<Order, NoMemory>
-        ensures { IfOk result (λ order. IsOrderOf order (nothing_yet kind replicas)) }
+        ensures { IfOk result (λ order. IsOrderOf order (empty_history kind replicas)) }
     {
         match kind {
             Kind::Counter | Kind::OrSet => Ok(Order::Execution(ExecOrder::new())),

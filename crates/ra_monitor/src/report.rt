@@ -1,28 +1,28 @@
-//! What a monitor tells of its log as a whole.
+//! The summary of a monitor's log.
 ghost use Rattle.std.specs.Prelude.{◌≡◌, ◌&&◌, is_some};
-ghost use Rattle.ra_laws.specs.AnyOrder.{is_of_any_order};
+ghost use Rattle.ra_theorems.specs.AnyOrder.{is_of_any_order};
 
 use ra_labels::{Fault, Kind};
 
-/// What a monitor's log amounts to.
+/// The summary of a monitor's log.
 #[derive(Clone, Copy, Debug, PartialEq, Eq)]
 pub struct Report {
     /// The kind of the history.
     pub kind: Kind,
-    /// How many entries the log has.
+    /// The number of entries of the log.
     pub calls: u32,
-    /// How many labels were accepted, one at which the order failed included.
+    /// The number of accepted labels, with a violating one.
     pub labels: u32,
-    /// How many entries have a refusal as their reply.
+    /// The number of entries whose reply is a rejection.
     pub refused: u32,
-    /// The first label at which the named order failed, and why.
+    /// The first label at which the named order failed, with the cause.
     pub fault: Option<Fault>,
 }
 
 impl Report {
-    /// Is there a fault, and is it final: of a counter or an OR-Set, where no order that respects what was seen
-    /// explains the records up to its label (`Monitor::report`, clause `final_fault`)? Of the other kinds another order
-    /// than that of the timestamps might. It takes no memory.
+    /// Returns `true` if there is a fault and the kind is counter or OR-Set. Such a fault in a monitor's report is
+    /// final: no sequence at all linearizes the records up to its label (`Monitor::report`, clause `final_fault`). For
+    /// the other kinds, an order other than the timestamp order might. Does not allocate.
     pub fn is_final(&self) -> bool
         ensures { result ≡ (is_some self.now.fault && is_of_any_order self.now.kind) }
     {

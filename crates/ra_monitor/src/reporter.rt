@@ -1,7 +1,7 @@
-//! A monitor with its tickets, for programs that prove nothing of tickets themselves.
+//! A monitor with its tickets, for programs that prove nothing about tickets themselves.
 ghost use Rattle.std.specs.Prelude.{◌≡◌, ◌+◌, ◌-◌, ◌<◌, ◌≤◌, ◌++◌, ◌∷◌, ◌↔◌, [], length, min, IsTrue, IfOk, IfErr, IsOk, OnOk, OnErr, IsErrOf};
 ghost use Rattle.ra_labels.specs.Answer.{answer_of, records_after};
-ghost use Rattle.ra_laws.specs.AnyOrder.{is_of_any_order};
+ghost use Rattle.ra_theorems.specs.AnyOrder.{is_of_any_order};
 ghost use Rattle.ra_monitor.specs.Limits.{AreReplicas, IsLimit};
 ghost use Rattle.ra_monitor.specs.Replies.{is_yes};
 ghost use Rattle.ra_journal.specs.Log.{unstepped};
@@ -13,8 +13,8 @@ use ra_labels::{Command, Kind, NoMemory, Reply};
 use std::alloc::Global;
 use std::marker::Model;
 
-/// A monitor that one thread tells of each command in turn. It has the monitor's tickets with it: that of an entry is
-/// the number of entries before it.
+/// A monitor to which one thread reports each command in turn. It manages the monitor's tickets: the ticket of an entry
+/// is the number of entries before it.
 #[derive(Drop)]
 pub struct Reporter {
     monitor: Monitor,
@@ -35,8 +35,13 @@ impl Model for Reporter {
 impl Reporter {
     ghost use Rattle.ra_monitor.specs.Monitor.{records_of, IsLegalLog, IsRaLinearizable, IsNoAtFault, IsFinalNo};
 
-    /// A reporter with a monitor of a history of this kind, at this many replicas at first, whose log may have `limit`
-    /// entries. `BadReplicas` and `BadLimit` are tested in this order, before any memory is asked for.
+    /// Creates a reporter with a monitor of a history of this kind, with the given number of initial replicas and the
+    /// largest number of entries of its log.
+    ///
+    /// # Errors
+    ///
+    /// `BadReplicas` if the number of replicas is not in 1 to 64, then `BadLimit` if the limit is not in 1 to
+    /// 1,048,576. Both are tested before any allocation. `NoMemory` if allocation fails.
     pub fn new(alloc: Global, kind: Kind, replicas: u8, limit: u32) -> Result<Reporter, NewFault>
         ensures log { IfOk result (λ reporter. reporter.log ≡ []) }
         ensures kind { IfOk result (λ reporter. reporter.setup.kind ≡ kind) }
@@ -49,13 +54,18 @@ impl Reporter {
         Ok(Reporter { monitor })
     }
 
-    /// Tells the monitor of a command and answers its reply, which is logged under pass 0.
+    /// Reports a command to the monitor and returns its reply, which is logged under pass 0.
     ///
-    /// `Full` comes exactly where the log has as many entries as its limit, and is tested first; `NoMemory` where a
-    /// growth was refused. After both nothing changed, and the command is handed back. It costs what `Monitor::step`
-    /// does.
+    /// # Errors
+    ///
+    /// `Full` exactly if the log has reached its limit, which is tested first; `NoMemory` if allocation fails. Both
+    /// return the command, and leave the log unchanged.
+    ///
+    /// # Complexity
+    ///
+    /// As `Monitor::step`.
     pub fn tell(&mut self, command: Command) -> Result<Reply, StepFault<Command>>
-        // The reply is the one-thread monitor's, and is logged.
+        // The reply is the single-threaded monitor's, and is logged.
         ensures reply { IfOk result (λ reply.
             reply ≡ answer_of self.old.setup.kind self.old.setup.replicas
             (records_of self.old.setup self.old.log) command) }
@@ -64,21 +74,21 @@ impl Reporter {
         ensures same_setup { self.new.setup ≡ self.old.setup }
         ensures legal { IsLegalLog self.new.setup self.new.log }
 
-        // A yes is evidence, and a no comes exactly where the fault is.
+        // A `Yes` is evidence, and a `No` comes exactly at the fault.
         ensures yes { IfOk result (λ reply. IsTrue (is_yes reply) → IsRaLinearizable self.new.setup self.new.log) }
         ensures no { IfOk result (λ reply. IsNoAtFault self.new.setup self.new.log reply) }
 
-        // A counter's no, or an OR-Set's, is final: no sequence at all linearizes the records up to its label.
+        // The `No` of a counter or an OR-Set is final: no sequence at all linearizes the records up to its label.
         ensures final_no { IfOk result (λ reply. IsTrue (is_of_any_order self.new.setup.kind)
             → IsFinalNo self.new.setup self.new.log reply) }
 
-        // After a fault nothing changed.
+        // After `Full` or `NoMemory` the log is unchanged.
         ensures full { (result ≡ Err (StepFault.Full command)) ↔ (length self.old.log ≡ self.old.setup.limit) }
         ensures unchanged { OnErr result (self.new.log ≡ self.old.log) }
         ensures handed_back { IfErr result (λ fault. unstepped fault ≡ command) }
 
-        // With room left, a command that leaves the records as they are is answered, and each answer takes room for one
-        // entry: a refusal, a yes, a no of an earlier label.
+        // With room left, a command that leaves the records unchanged is answered, and each answer uses the room of one
+        // entry. Such replies are a rejection, a `Yes`, and the `No` of an earlier label.
         ensures settled { 0 < self.old.room
             → records_after self.old.setup.kind self.old.setup.replicas
             (records_of self.old.setup self.old.log) command ≡ records_of self.old.setup self.old.log
@@ -90,7 +100,15 @@ impl Reporter {
         self.monitor.step(0, ticket, command)
     }
 
-    /// Makes room for this many entries, as `Monitor::reserve` does, at the same cost.
+    /// Reserves room for this many entries, as `Monitor::reserve` does.
+    ///
+    /// # Errors
+    ///
+    /// As `Monitor::reserve`.
+    ///
+    /// # Complexity
+    ///
+    /// As `Monitor::reserve`.
     pub fn reserve(&mut self, entries: u32) -> Result<(), NoMemory>
         ensures room { OnOk result (min entries (self.old.setup.limit - length self.old.log) ≤ self.new.room) }
         ensures there { min entries (self.old.setup.limit - length self.old.log) ≤ self.old.room → IsOk result }
@@ -101,14 +119,14 @@ impl Reporter {
         self.monitor.reserve(entries)
     }
 
-    /// The monitor, to look at: its log, its sequence, its report.
+    /// Returns the monitor, for its log, its sequence and its report.
     pub fn monitor(&self) -> &Monitor
         ensures { result.now ≡ self.now }
     {
         &self.monitor
     }
 
-    /// Gives the monitor up to the caller.
+    /// Returns the monitor, and consumes `self`.
     pub fn into_monitor(self) -> Monitor
         ensures { result ≡ self }
     {

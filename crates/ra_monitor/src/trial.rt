@@ -1,24 +1,24 @@
-//! What a monitor would have answered to another course of a history.
+//! The trial: a monitor without a log, for the answers to a changed history.
 ghost use Rattle.std.specs.Prelude.{◌≡◌, ◌++◌, ◌∷◌, [], List, IfOk, OnErr};
 ghost use Rattle.ra_labels.specs.declared.command.Command.{Command};
 ghost use Rattle.ra_labels.specs.Answer.{answer_of, records_after_all};
-ghost use Rattle.ra_monitor.specs.Trial.{IsToldOf, IsToldOfSome};
+ghost use Rattle.ra_monitor.specs.Trial.{HasAnswered, HasAnsweredSome};
 
-use crate::history::History;
+use crate::history::TrackedHistory;
 use crate::setup::Setup;
 use ra_labels::{Command, NoMemory, Reply};
 use ra_visibility::MOST_LABELS;
 use std::alloc::Global;
 
-/// Answers commands as a monitor does, and logs nothing: for whoever asks what would have been answered to another
-/// course of a history. It takes what a monitor takes beside its log.
+/// A monitor without a log. It answers what a monitor would have answered to a changed history, and needs the memory of
+/// a monitor apart from the log.
 pub struct Trial {
     setup: Setup,
-    history: History,
+    history: TrackedHistory,
 }
 
 impl Drop for Trial {
-    // Written out, so that whoever lets a trial go calls this, and not what lets each of its parts go.
+    // Written out, so that code that drops a trial calls this function, instead of the drop of each part.
     fn drop(self) {
         let Trial {
             setup: _,
@@ -28,29 +28,39 @@ impl Drop for Trial {
 }
 
 impl Trial {
-    /// A trial of a history with this setup, which was told of nothing. Its limit is not looked at.
+    /// Creates a trial of a history with this setup, to which nothing was reported. The setup's limit has no effect.
+    ///
+    /// # Errors
+    ///
+    /// `NoMemory` if allocation fails.
     pub fn new(alloc: Global, setup: &Setup) -> Result<Trial, NoMemory>
-        ensures told { IfOk result (λ trial. IsToldOf trial []) }
+        ensures told { IfOk result (λ trial. HasAnswered trial []) }
         ensures setup { IfOk result (λ trial. trial.setup ≡ setup.now) }
     {
         Ok(Trial {
             setup: *setup,
-            history: History::new(alloc, setup)?,
+            history: TrackedHistory::new(alloc, setup)?,
         })
     }
 
-    /// Tells it of a command, and answers what a monitor would that was told of the same.
+    /// Reports a command to the trial, and returns what a monitor with the same reports would answer.
     ///
-    /// `NoMemory` where a growth was refused, or where it has 1,048,576 labels, as many as a log may have; then nothing
-    /// changed. It costs what `Monitor::step` does, but for the log.
+    /// # Errors
+    ///
+    /// `NoMemory` if allocation fails, or if the trial has 1,048,576 labels, the largest number of a log's entries; the
+    /// trial represents the same reports as before.
+    ///
+    /// # Complexity
+    ///
+    /// As `Monitor::step`, without the log.
     pub fn tell(&mut self, command: Command) -> Result<Reply, NoMemory>
-        requires { IsToldOfSome self.old }
-        ensures told { (commands : List Command) → IsToldOf self.old commands → IfOk result (λ reply.
+        requires { HasAnsweredSome self.old }
+        ensures told { (commands : List Command) → HasAnswered self.old commands → IfOk result (λ reply.
             (reply ≡ answer_of self.old.setup.kind self.old.setup.replicas
             (records_after_all self.old.setup.kind self.old.setup.replicas [] commands) command)
-            × IsToldOf self.new (commands ++ command ∷ [])) }
-        ensures same { (commands : List Command) → IsToldOf self.old commands
-            → OnErr result (IsToldOf self.new commands) }
+            × HasAnswered self.new (commands ++ command ∷ [])) }
+        ensures same { (commands : List Command) → HasAnswered self.old commands
+            → OnErr result (HasAnswered self.new commands) }
         ensures same_setup { self.new.setup ≡ self.old.setup }
     {
         if self.history.labels == MOST_LABELS {
@@ -58,7 +68,7 @@ impl Trial {
         }
         let mut command = command;
         let answer = self.history.answer(&self.setup, &mut command);
-        // Let go by a call: the proof goes through what a command may have there, and not at each return.
+        // Dropped by a call, so that the proof covers the command's parts there, and not at each return.
         drop(command);
         answer
     }

@@ -1,23 +1,27 @@
-//! The bench's line, and how the program ends behind a bench.
+//! The bench's line, and the end of the program after a bench.
 ghost use Rattle.std.specs.Prelude.{◌≡◌, IfErr, IfOk, OnOk, codes, string_bytes};
 ghost use Rattle.std.specs.Io.KnownBytes.{Appends};
 ghost use Rattle.ra_history_text.specs.Written.{StopsLine};
 ghost use Rattle.ra_monitor_cli.specs.Bench as bench;
-ghost use Rattle.ra_program.specs.Endings.{EndsTelling};
+ghost use Rattle.ra_cli_common.specs.Endings.{EndsTelling};
 ghost use Rattle.ra_monitor_cli.specs.Program.{EndsBench};
 
 use ra_bench::{BenchFault, BenchReport};
+use ra_cli_common::{Ending, stop};
+use ra_history_lines::kind_line::kind_word;
 use ra_history_text::{CheckFault, write_line};
 use ra_labels::{Kind, NoMemory, Reply};
-use ra_lines::kind_line::kind_word;
-use ra_program::{Ending, stop};
 use std::alloc::Global;
 use std::io::Write;
 
-/// What a bench answers.
+/// The result of a bench.
 pub type BenchAnswer = Result<BenchReport, BenchFault>;
 
-/// The line of a bench, with no line feed.
+/// Returns the line of a bench, without a line feed.
+///
+/// # Errors
+///
+/// `NoMemory` if an allocation fails.
 pub fn bench_line(
     alloc: Global,
     kind: Kind,
@@ -61,7 +65,7 @@ fn verdict_word(verdict: Reply) -> &'static str
     }
 }
 
-/// Ends the program behind a bench that had this answer: its line is written on `out`, or `bench fault` is told.
+/// Ends the program after a bench: writes its line on `out`, or the line `bench fault` on `err`.
 pub fn end_bench<W: Write, E: Write>(
     alloc: Global,
     kind: Kind,

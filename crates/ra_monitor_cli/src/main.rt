@@ -1,4 +1,5 @@
-//! Checks histories of replicated data types, given as a text on standard input, and runs benches of replicas.
+//! The program that checks histories of replicated data types, given as a text on standard input, and runs benches of
+//! replicas.
 #![tactic(auto)]
 
 mod bench;
@@ -6,7 +7,7 @@ mod run;
 
 use crate::run::run;
 use ra_bench::{OpenGate, run_bench};
-use ra_words::words_of;
+use ra_cli_common::words_of;
 use std::io;
 use std::process::ExitCode;
 

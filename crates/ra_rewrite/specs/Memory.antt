@@ -1,9 +1,9 @@
--- What takes memory.
+-- The operations whose parts need an allocation.
 use Rattle.std.specs.Prelude.{Bool, true, false}
 use Rattle.ra_labels.specs.declared.operation.Op.{Op}
 use Rattle.ra_labels.specs.declared.operation.Op.TheVariants.{LwwRead, OrRemove, OrRead, RgaRead}
 
--- do the parts of the operation take memory? Only where it has a list
+-- `true` if the parts of the operation need an allocation, which they do only if it has a list
 abbrev pub takes_memory : Op → Bool
 takes_memory (LwwRead list) = true
 takes_memory (OrRemove x ids) = true

@@ -1,4 +1,4 @@
--- What the parts of a label do and ask, as the definitions have it.
+-- The parts of a label as the definitions describe them.
 use Rattle.std.specs.Prelude.{List, [], ◌∷◌}
 use Rattle.ra_labels.specs.Rewriting.{Half, Whole, QueryHalf, UpdateHalf, Act, Does, Asks}
 use Rattle.ra_rewrite.specs.declared.part.Parts.{Parts}

@@ -1,8 +1,8 @@
-//! The rewriting: what a label asks and what it does.
+//! The rewriting of labels into parts: the query and the update of each label.
 //!
-//! The one contract for the layers above: `parts` gives the parts of a label, and `parts_of` those of an operation, as
-//! the definitions have them (`ra_labels/specs/Rewriting`). A remove of an OR-Set asks and changes at once, so it is
-//! taken apart into a query half and an update half; any other label is its own one part.
+//! Contract for the crates above: `parts` returns the parts of a label, and `parts_of` those of an operation, as
+//! defined in `ra_labels/specs/Rewriting`. An OR-Set's removal is a query and an update at once, so it is split into a
+//! query half and an update half. Every other label is one part.
 #![tactic(auto)]
 
 mod part;

@@ -1,30 +1,30 @@
-//! The parts of a label: what it asks and what it does.
+//! The parts of a label: queries and updates.
 ghost use Rattle.std.specs.Prelude.{◌≡◌, option_to_list, filter_map};
 ghost use Rattle.ra_labels.specs.Rewriting.{update_of, query_of};
 ghost use Rattle.ra_rewrite.specs.Parts.{acts_in};
 
 use ra_labels::{Query, Update};
 
-/// What one part of a label does, or asks.
+/// One part of a label.
 #[derive(Drop)]
 pub enum Part {
-    /// It asks.
+    /// A query with its answer.
     Query(Query),
-    /// It does.
+    /// An update.
     Update(Update),
 }
 
-/// What a label is rewritten into.
+/// All parts of a label.
 #[derive(Drop)]
 pub enum Parts {
-    /// It is its own one part.
+    /// The whole label as one part.
     One(Part),
-    /// A query half, and then an update half.
+    /// A query half, and the update half behind it.
     Two(Query, Update),
 }
 
 impl Parts {
-    /// What they do, if anything.
+    /// Returns the update among the parts, if any, and consumes `self`.
     pub fn into_update(self) -> Option<Update>
         ensures { option_to_list result ≡ filter_map (λ act. update_of act.1) (acts_in self) }
     {
@@ -35,7 +35,7 @@ impl Parts {
         }
     }
 
-    /// What they ask, if anything.
+    /// Returns the query among the parts, if any, and consumes `self`.
     pub fn into_query(self) -> Option<Query>
         ensures { option_to_list result ≡ filter_map (λ act. query_of act.1) (acts_in self) }
     {

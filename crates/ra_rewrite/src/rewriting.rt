@@ -1,4 +1,4 @@
-//! The rewriting of a label into its parts.
+//! The functions that rewrite a label or an operation into its parts.
 ghost use Rattle.std.specs.Prelude.{◌≡◌, false, IfOk, IsOk};
 ghost use Rattle.ra_labels.specs.declared.operation.Op.TheVariants.{OrRemove};
 ghost use Rattle.ra_labels.specs.Rewriting.{acts_of};
@@ -8,8 +8,15 @@ ghost use Rattle.ra_rewrite.specs.Memory.{takes_memory};
 use crate::part::{Part, Parts};
 use ra_labels::{Elements, Label, NoMemory, Op, Query, Update};
 
-/// The parts of the label. It is out of memory where a growth is refused: a read of a set or a list asks for one, as
-/// long as its list, and a remove of an OR-Set for two, as long as its identifiers.
+/// Returns the parts of the label.
+///
+/// # Errors
+///
+/// `NoMemory` if allocation fails. Only the read of a set or of an RGA, and an OR-Set's removal allocate.
+///
+/// # Complexity
+///
+/// O(n), where `n` is the length of the operation's list.
 pub fn parts(label: &Label) -> Result<Parts, NoMemory>
     ensures acts { IfOk result (λ parts. acts_in parts ≡ acts_of label.now.op) }
     ensures memory { takes_memory label.now.op ≡ false → IsOk result }
@@ -17,7 +24,15 @@ pub fn parts(label: &Label) -> Result<Parts, NoMemory>
     parts_of(&label.op)
 }
 
-/// The parts of a label with this operation. It costs what `parts` does.
+/// Returns the parts of a label with this operation.
+///
+/// # Errors
+///
+/// As `parts`.
+///
+/// # Complexity
+///
+/// As `parts`.
 pub fn parts_of(op: &Op) -> Result<Parts, NoMemory>
     ensures acts { IfOk result (λ parts. acts_in parts ≡ acts_of op.now) }
     ensures memory { takes_memory op.now ≡ false → IsOk result }
@@ -47,7 +62,7 @@ pub fn parts_of(op: &Op) -> Result<Parts, NoMemory>
     Ok(Parts::One(part))
 }
 
-// The halves of a remove: which identifiers the element has, and that it loses these.
+// Returns the halves of a removal: the query for the element's identifiers, and the removal of these pairs.
 fn halves(element: u32, ids: &Elements) -> Result<Parts, NoMemory>
     ensures { IfOk result (λ parts. acts_in parts ≡ acts_of (OrRemove element ids.now)) }
 {

@@ -1,4 +1,4 @@
--- A query with the answer of a state: that is right, and a query that is right has it.
+-- Lemmas on a query with the answer of a state: the answer is right, and each right query of the form has it.
 use Rattle.std.proofs.Common.{◌≡◌, ℕ, true, List, Option, Some, None, refl, sym, ap, subst}
 use Rattle.std.specs.Prelude.{◌==◌, IfSome}
 use Rattle.std.specs.Cmp.{unsigned_Decides}
@@ -8,9 +8,9 @@ use Rattle.std.proofs.lemmas.Bool.{eq-eqb, eqb-true}
 use Rattle.std.proofs.lemmas.Bool.Decides.{Decides-int_eq}
 use Rattle.ra_labels.specs.declared.operation.Query.{Query}
 use Rattle.ra_labels.specs.declared.operation.Query.TheVariants.{Count, Last, LwwRead, ReadIds, OrRead, RgaRead}
-use Rattle.ra_labels.specs.Lists.{is_among, rises, have_same, identifiers_of, elements_of, shown}
+use Rattle.ra_labels.specs.Lists.{is_among, rises, have_same_elements, identifiers_of, elements_of, shown}
 use Rattle.ra_labels.specs.Specification.{State, answers}
-use Rattle.ra_labels.proofs.TheLaws.{a_list_rises_where_each_is_below_the_later-sorted}
+use Rattle.ra_labels.proofs.TheoremIndex.{rises_iff_sorted-sorted}
 use Rattle.ra_seqspec.specs.declared.state.Form.{Form}
 use Rattle.ra_seqspec.specs.declared.state.Form.TheVariants.{Counter, Register, LwwSet, OrSet, Rga}
 use Rattle.ra_seqspec.specs.Form.{state_of, StateKept}
@@ -20,7 +20,7 @@ use Rattle.ra_seqspec.specs.Pairs.{distinct_elements}
 use Rattle.ra_seqspec.proofs.RisingLists.{is_answer, is_once}
 use Rattle.ra_seqspec.proofs.PairKeys.{identifiers_rise, distinct_rise, distinct_same}
 
--- the answer is right, and a query that is right has it
+-- the answer is right, and each right query of the form has it
 pub record IsTheAnswer (state : State) (query answer : Query) : Type 0 where
   pub right : answers state answer ≡ true
   pub only : asks_rising query ≡ true → answers state query ≡ true → query ≡ answer
@@ -35,9 +35,9 @@ value_same : (v : Option ℕ) → option_eq (λ x y. x == y) v v ≡ true
 value_same None = refl
 value_same (Some v) = eq-eqb v v refl
 
--- of a list that rises and has the same elements as these
+-- a rising list with the same elements is a right answer
 list_right : (once these : List ℕ) → rises once ≡ true → ((x : ℕ) → is_among x once ≡ is_among x these)
-    → have_same once these ≡ true
+    → have_same_elements once these ≡ true
 list_right once these up same = sym (is_answer once once these true up up same ((λ holds. refl), (λ is. refl)))
 
 the_answer : (form : Form) (query : Query) → StateKept form
@@ -51,7 +51,7 @@ the_answer (Register last) (Last value) kept = record {
   only = λ up is. ap Last (value_is value last is);
 }
 the_answer (LwwSet set) (LwwRead list) kept =
-    let rising = (a_list_rises_where_each_is_below_the_later-sorted set.keys).1 kept in
+    let rising = (rises_iff_sorted-sorted set.keys).1 kept in
     record {
       right = list_right set.keys set.keys rising (λ x. refl);
       only = λ up is. ap LwwRead (is_once list set.keys set.keys up rising (λ x. refl) is);
@@ -77,7 +77,7 @@ the_answer (Rga entries) (RgaRead list) kept = record {
 }
 the_answer _ _ kept = tt
 
--- what is told is the answer
+-- the returned query has the answer
 pub told : (form : Form) (now : State) (query answer : Query) → StateKept form → state_of form ≡ now
     → Some answer ≡ answered_in now query → IsTheAnswer now query answer
 told form now query answer kept view is =

@@ -1,4 +1,4 @@
--- Nodes of which one is shown no more.
+-- Lemmas on nodes of which one is hidden.
 use Rattle.std.proofs.Common.{◌≡◌, ℕ, ◌<◌, Bool, true, false, cond, List, [], ◌∷◌, length, map, Option, None, Some}
 use Rattle.std.proofs.Common.{refl, sym, ap, ◌∙◌, subst, inl, inr, length-set}
 use Rattle.std.specs.Prelude.{◌==◌, nat_lt, not, ◌&&◌, ◌||◌, is_some}
@@ -11,7 +11,7 @@ use Rattle.ra_seqspec.specs.Rga.{nodes_hiding}
 use Rattle.ra_seqspec.proofs.Links.{along_same}
 use Rattle.ra_seqspec.proofs.Nodes.{node_set, listed, read, has_anchor}
 
--- the nodes, once the one in a slot is shown no more: only that changes
+-- hiding the node in a slot changes only this node
 node_hiding : (slot : ℕ) (nodes : List Node) (k : ℕ) → slot < length nodes
     → node_at (nodes_hiding slot nodes) k ≡ cond (k == slot) (hidden (node_at nodes slot)) (node_at nodes k)
 node_hiding slot nodes k below = node_set nodes slot (hidden (node_at nodes slot)) k below
@@ -63,7 +63,7 @@ map_hide f g x (k ∷ slots) each =
     ∙ ap (λ es. ((f k).0, (f k).1 && not (x == (f k).0)) ∷ es)
     (map_hide f g x slots (λ j among. each j (or_right (j == k) _ among)))
 
--- what a read shows of a slot then
+-- whether a read then shows a slot
 shown_hiding : (slot : ℕ) (nodes : List Node) (k : ℕ) → slot < length nodes
     → (node_at (nodes_hiding slot nodes) k).is_shown ≡ ((node_at nodes k).is_shown && not (slot == k))
 shown_hiding slot nodes k below =
@@ -80,7 +80,7 @@ shown_hiding slot nodes k below =
           (not_from_false (slot == k) (ne_eqb slot k (λ same. eqb-false k slot away (sym same)))))
     ]
 
--- the list then
+-- the list afterwards
 pub hiding_entries : (first slot : ℕ) (nodes : List Node) (slot_of : ℕ → Option ℕ) (x : ℕ)
     → RgaListKept first nodes slot_of → slot_of x ≡ Some slot
     → entries_of first (nodes_hiding slot nodes) ≡ hide x (entries_of first nodes)
@@ -100,7 +100,7 @@ nothing : (is_root : Bool) → ((is_root || false) && not is_root) ≡ false
 nothing true = refl
 nothing false = refl
 
--- whether an element is shown no more
+-- the condition under which a removal hides an element
 pub hides : (x first : ℕ) (nodes : List Node) (slot_of : ℕ → Option ℕ) (now : List (ℕ × Bool)) (slot : ℕ)
     → RgaListKept first nodes slot_of → entries_of first nodes ≡ now → slot_of x ≡ Some slot → (x ≡ 0 → ⊥)
     → (is_in_list x now && not (x == 0)) ≡ true

@@ -1,4 +1,4 @@
--- What is left of keys in order when one is removed, by any order.
+-- Lemmas on removing a key from sorted keys, for any order.
 use Rattle.std.proofs.Common.{◌≡◌, ℕ, Bool, true, List, filter, refl, sym, ap, ◌∙◌, [], ◌∷◌, inl, inr, Ordering}
 use Rattle.std.specs.Prelude.{◌==◌, not}
 use Rattle.std.specs.List.Sorted.{IsStrictlySortedBy}
@@ -19,14 +19,14 @@ filter_none_left p [] all = refl
 filter_none_left p (k ∷ ks) all = cond-true (p k) (k ∷ filter p ks) (filter p ks) all.0
     ∙ ap (λ zs. k ∷ zs) (filter_none_left p ks all.1)
 
--- what is above an equal key is not that key
+-- keys greater than an equal key are different from it
 above_stay : {K : Type 0} {cmp : K → K → Ordering} → IsTotalOrder cmp → (k head : K) (ks : List K) → cmp k head ≡ Equal
     → AllByRecursion (λ y. cmp head y ≡ Less) ks → AllByRecursion (λ y. not (is_at (cmp k) y) ≡ true) ks
 above_stay order k head [] same all = all
 above_stay order k head (y ∷ ys) same all =
     (ap (λ o. not (is_eq o)) (order.congr k head y same ∙ all.0), above_stay order k head ys same all.1)
 
--- a key removed from keys in order is left out of them
+-- removing a key from sorted keys filters it out
 pub removed : {K : Type 0} {cmp : K → K → Ordering} → IsTotalOrder cmp → (k : K) (ks : List K)
     → IsStrictlySortedBy cmp ks → remove_key (is_at (cmp k)) ks ≡ filter (λ y. not (is_at (cmp k) y)) ks
 unfolding IsStrictlySortedBy
@@ -45,7 +45,7 @@ removed {K} {cmp} order k (y ∷ ys) ordered = elim (cases_Bool (is_at (cmp k) y
       (filter (λ z. not (is_at (cmp k) z)) ys) (not_from_false (is_at (cmp k) y) other))
 ]
 
--- of numbers
+-- the same for numbers
 pub taken_out : (x : ℕ) (ys : List ℕ) → IsStrictlySortedBy nat_cmp ys
     → remove_key (is_at (nat_cmp x)) ys ≡ filter (λ y. not (x == y)) ys
 taken_out x ys ordered = removed nat_cmp_total x ys ordered

@@ -1,4 +1,4 @@
--- Slots along links, when a slot is put behind one of them.
+-- Lemmas on the slots along links, if a slot is inserted behind one of them.
 use Rattle.std.proofs.Common.{◌≡◌, ℕ, zero, suc, Bool, true, false, cond, List, [], ◌∷◌, map, refl, sym, ap, ◌∙◌, subst, inl, inr}
 use Rattle.std.specs.Prelude.{◌==◌, ◌||◌}
 use Rattle.std.proofs.lemmas.Bool.{false≢true, cases_Bool, cond-true, cond-false, eqb-true, eqb-false, eq-eqb, ne_eqb}
@@ -6,12 +6,12 @@ use Rattle.std.proofs.lemmas.Bool.{or_cases, or_left, or_right, or_parts, or_fro
 use Rattle.ra_labels.specs.Lists.{is_among, insert_after}
 use Rattle.ra_seqspec.specs.Rga.{along, AreDistinct}
 
--- the slots with a new one behind the slot i
+-- the slots with a new one behind slot i
 abbrev pub put_behind : ℕ → ℕ → List ℕ → List ℕ
 put_behind i new [] = []
 put_behind i new (slot ∷ slots) = cond (i == slot) (slot ∷ new ∷ slots) (slot ∷ put_behind i new slots)
 
--- what is in a list is not what is not
+-- a member of a list differs from a non-member
 pub differs : (k other : ℕ) (slots : List ℕ) → is_among k slots ≡ true → is_among other slots ≡ false
     → (k == other) ≡ false
 differs k other slots there apart =
@@ -33,13 +33,13 @@ along_same next other (suc n) slot same =
     along_same next other n (next slot) (λ k there. same k (among_tail k slot (along next n (next slot)) there)) in
     ap (λ slots. slot ∷ slots) (ap (along other n) here ∙ rest)
 
--- the new slot's link leads where that of slot i led, which leads to the new one; each other link stays
+-- the new slot's link is the old link of slot i, which now leads to the new slot; all other links are unchanged
 pub record Relinked (next other : ℕ → ℕ) (i new : ℕ) : Type 0 where
   pub at_new : other new ≡ next i
   pub at_i : other i ≡ new
   pub others : (k : ℕ) → (k == new) ≡ false → (k == i) ≡ false → other k ≡ next k
 
--- the law of links
+-- relinking inserts the new slot behind slot i
 pub along_put : (next other : ℕ → ℕ) (n slot i new : ℕ) → Relinked next other i new → AreDistinct (along next n slot)
     → is_among i (along next n slot) ≡ true → is_among new (along next n slot) ≡ false
     → along other (suc n) slot ≡ put_behind i new (along next n slot)
@@ -87,7 +87,7 @@ map_same f g (slot ∷ slots) each =
     ap (λ z. z ∷ map g slots) (each slot (among_head slot slots))
     ∙ ap (λ z. f slot ∷ z) (map_same f g slots (λ k among. each k (among_tail k slot slots among)))
 
--- what is there once one is put behind another
+-- the members after a slot is inserted behind another
 pub among_put : (i new k : ℕ) (slots : List ℕ) → is_among i slots ≡ true
     → is_among k (put_behind i new slots) ≡ (k == new || is_among k slots)
 among_put i new k [] there = absurd (cc there)
@@ -102,7 +102,7 @@ among_put i new k (slot ∷ slots) there = elim (cases_Bool (i == slot)) [
       ∙ swapped (k == slot) (k == new) (is_among k slots)
 ]
 
--- no slot stands twice once a new one is put behind another
+-- no slot occurs twice after a new one is inserted behind another
 pub distinct_put : (i new : ℕ) (slots : List ℕ) → AreDistinct slots → is_among i slots ≡ true
     → is_among new slots ≡ false → AreDistinct (put_behind i new slots)
 distinct_put i new [] once there apart = once
@@ -122,7 +122,7 @@ distinct_put i new (slot ∷ slots) once there apart =
           )
     ]
 
--- the list's entries of slots, where a new one is put behind slot i, which alone has the anchor
+-- the entries of the slots, if a new one is inserted behind slot i, the only one with the anchor
 pub entries_put : (f g : ℕ → ℕ × Bool) (i new anchor x : ℕ) (slots : List ℕ) → is_among i slots ≡ true
     → g new ≡ (x, true)
     → ((k : ℕ) → is_among k slots ≡ true → (g k ≡ f k) × ((anchor == (f k).0) ≡ (i == k)))

@@ -1,4 +1,4 @@
--- Nodes with links, when one is put in.
+-- Lemmas on linked nodes, if one is inserted.
 use Rattle.std.proofs.Common.{◌≡◌, ℕ, zero, suc, ◌<◌, Bool, true, false, cond, List, [], ◌∷◌, ◌++◌, length, map, set}
 use Rattle.std.proofs.Common.{Option, None, Some, refl, sym, ap, ◌∙◌, subst, inl, inr, arith, add-one, length-set}
 use Rattle.std.specs.Prelude.{◌==◌, nat_lt, not, ◌&&◌, ◌||◌, is_some, option_map}
@@ -40,7 +40,7 @@ node_set (first ∷ nodes) (suc slot) node zero below =
 node_set (first ∷ nodes) (suc slot) node (suc k) below = node_set nodes slot node k (omega arith)
     ∙ ap (λ b. cond b node (node_at nodes k)) (sym (same_suc k slot))
 
--- what the index has is in the list
+-- an element in the index is in the list
 among_entries : (nodes : List Node) (slots : List ℕ) (x slot : ℕ) → is_among slot slots ≡ true
     → (node_at nodes slot).element ≡ x → is_in_list x (map (entry_at nodes) slots) ≡ true
 among_entries nodes [] x slot there has = absurd (cc there)
@@ -50,7 +50,7 @@ among_entries nodes (k ∷ slots) x slot there has = elim (or_cases (slot == k) 
   | inr later ↦ or_right (x == (node_at nodes k).element) _ (among_entries nodes slots x slot later has)
 ]
 
--- and what it has not is not
+-- and an element that is not is not
 not_among_entries : (nodes : List Node) (slots : List ℕ) (x : ℕ)
     → ((k : ℕ) → is_among k slots ≡ true → (x == (node_at nodes k).element) ≡ false)
     → is_in_list x (map (entry_at nodes) slots) ≡ false
@@ -70,17 +70,17 @@ indexed first nodes slot_of x kept (Some slot) some =
     let at = kept.there x slot some in
     among_entries nodes (slots_of first nodes) x slot (kept.all slot ∙ lt-ltb slot (length nodes) at.0) at.1
 
--- the index has the elements behind the root
+-- the index has the elements except the root
 pub listed : (first : ℕ) (nodes : List Node) (slot_of : ℕ → Option ℕ) (x : ℕ) → RgaListKept first nodes slot_of
     → is_in_list x (entries_of first nodes) ≡ (x == 0 || is_some (slot_of x))
 listed first nodes slot_of x kept = ap (λ b. x == 0 || b) (indexed first nodes slot_of x kept (slot_of x) refl)
 
--- a choice, read
+-- a function of a conditional
 pub read : {A B : Type 0} (f : A → B) (b : Bool) (x y : A) → f (cond b x y) ≡ cond b (f x) (f y)
 read f true x y = refl
 read f false x y = refl
 
--- the node in each slot, once a new one is put there
+-- the node in each slot, after a new one is inserted at the place
 abbrev pub node_after : Place → ℕ → List Node → ℕ → ℕ → Node
 node_after First first nodes x k = cond (k == length nodes) (shown_node x first) (node_at nodes k)
 node_after (Behind slot) first nodes x k =
@@ -98,7 +98,7 @@ node_linked (Behind slot) first nodes x k there =
     ∙ ap (λ z. cond (k == length nodes) (shown_node x (node_at nodes slot).next) z)
     (node_set nodes slot changed k there)
 
--- the new slot has the new element, shown
+-- the new slot has the new element, which is shown
 new_node : (place : Place) (first : ℕ) (nodes : List Node) (x : ℕ) → IsThere place (length nodes)
     → entry_at (nodes_after place first nodes x) (length nodes) ≡ (x, true)
 new_node First first nodes x there =
@@ -113,7 +113,7 @@ new_node (Behind slot) first nodes x there =
     (eq-eqb (length nodes) _ refl) in
     ap (λ node. (node.element, node.is_shown)) is
 
--- the others keep theirs
+-- the other slots keep their elements
 old_node : (place : Place) (first : ℕ) (nodes : List Node) (x k : ℕ) → IsThere place (length nodes) → k < length nodes
     → entry_at (nodes_after place first nodes x) k ≡ entry_at nodes k
 old_node First first nodes x k there below =
@@ -132,7 +132,7 @@ old_node (Behind slot) first nodes x k there below =
       | inr away ↦ cond-false (k == slot) (entry_at nodes slot) (entry_at nodes k) away
     ]
 
--- the links then
+-- the links afterwards
 relinked : (slot first : ℕ) (nodes : List Node) (x : ℕ) → slot < length nodes
     → Relinked (λ k. (node_at nodes k).next) (λ k. (node_at (nodes_after (Behind slot) first nodes x) k).next) slot
     (length nodes)
@@ -161,12 +161,12 @@ long (Behind slot) first nodes x =
     (shown_node x (node_at nodes slot).next)
     ∙ add-one _ ∙ ap suc (length-set nodes slot (linked_to (length nodes) (node_at nodes slot)))
 
--- the slots, once a new one is put there
+-- the slots, after a new one is inserted at the place
 abbrev pub slots_after : Place → ℕ → List ℕ → List ℕ
 slots_after First new slots = new ∷ slots
 slots_after (Behind slot) new slots = put_behind slot new slots
 
--- no node stands in the slot behind the last
+-- no node is in the slot behind the last one
 free : (first : ℕ) (nodes : List Node) (slot_of : ℕ → Option ℕ) → RgaListKept first nodes slot_of
     → is_among (length nodes) (slots_of first nodes) ≡ false
 free first nodes slot_of kept = kept.all (length nodes) ∙ le-ltb (length nodes) (length nodes) (omega arith)
@@ -175,7 +175,7 @@ taken : (first : ℕ) (nodes : List Node) (slot_of : ℕ → Option ℕ) (k : �
     → k < length nodes → is_among k (slots_of first nodes) ≡ true
 taken first nodes slot_of k kept below = kept.all k ∙ lt-ltb k (length nodes) below
 
--- where the links lead then
+-- the slots along the links afterwards
 slots_linked : (place : Place) (first : ℕ) (nodes : List Node) (slot_of : ℕ → Option ℕ) (x : ℕ)
     → RgaListKept first nodes slot_of → IsThere place (length nodes)
     → slots_of (first_after place first nodes) (nodes_after place first nodes x)
@@ -198,7 +198,7 @@ slots_linked (Behind slot) first nodes slot_of x kept there =
     (relinked slot first nodes x there) kept.distinct
     (taken first nodes slot_of slot kept there) (free first nodes slot_of kept)
 
--- the same of the list of slots
+-- the place exists in the list of slots
 abbrev IsPlaced : Place → List ℕ → Type 0
 IsPlaced First slots = Unit {0}
 IsPlaced (Behind slot) slots = is_among slot slots ≡ true
@@ -244,7 +244,7 @@ found_after place first nodes slot_of later x k kept there new put below = elim 
       ∙ some
 ]
 
--- and each slot that it has is its element's
+-- and each slot in the index has its element
 there_after : (place : Place) (first : ℕ) (nodes : List Node) (slot_of later : ℕ → Option ℕ) (x y k : ℕ)
     → RgaListKept first nodes slot_of → IsThere place (length nodes)
     → ((z : ℕ) → later z ≡ cond (x == z) (Some (length nodes)) (slot_of z)) → later y ≡ Some k
@@ -268,7 +268,7 @@ there_after place first nodes slot_of later x y k kept there put is = elim (case
       )
 ]
 
--- what is kept true of the nodes stays so
+-- the invariant of the nodes is preserved
 pub linked_kept : (place : Place) (first : ℕ) (nodes : List Node) (slot_of later : ℕ → Option ℕ) (x : ℕ)
     → RgaListKept first nodes slot_of → IsThere place (length nodes) → slot_of x ≡ None
     → ((y : ℕ) → later y ≡ cond (x == y) (Some (length nodes)) (slot_of y))
@@ -290,7 +290,7 @@ linked_kept place first nodes slot_of later x kept there new put =
       there = λ y k is. there_after place first nodes slot_of later x y k kept there put is;
     }
 
--- the list, once x is put before all
+-- the list, after x is inserted at the front
 first_entries : (first : ℕ) (nodes : List Node) (slot_of : ℕ → Option ℕ) (x : ℕ) → RgaListKept first nodes slot_of
     → entries_of (length nodes) (nodes_after First first nodes x)
     ≡ (0, false) ∷ (x, true) ∷ map (entry_at nodes) (slots_of first nodes)
@@ -303,7 +303,7 @@ first_entries first nodes slot_of x kept =
     (map_same (entry_at nodes) (entry_at (nodes_after First first nodes x)) (slots_of first nodes)
     (λ k among. old_node First first nodes x k tt (ltb-true k (length nodes) (sym (kept.all k) ∙ among))))
 
--- the slot of the anchor alone has it
+-- only the anchor's slot has the anchor
 pub has_anchor : (first : ℕ) (nodes : List Node) (slot_of : ℕ → Option ℕ) (anchor slot k : ℕ)
     → RgaListKept first nodes slot_of → slot_of anchor ≡ Some slot → k < length nodes
     → (anchor == (node_at nodes k).element) ≡ (slot == k)
@@ -317,7 +317,7 @@ has_anchor first nodes slot_of anchor slot k kept some below = elim (cases_Bool 
       ∙ sym away
 ]
 
--- behind another element
+-- the list, after x is inserted behind another element
 behind_entries : (place : Place) (first : ℕ) (nodes : List Node) (slot_of : ℕ → Option ℕ) (anchor x : ℕ)
     → RgaListKept first nodes slot_of → (found : Option ℕ) → slot_of anchor ≡ found
     → option_map Behind found ≡ Some place
@@ -338,7 +338,7 @@ behind_entries place first nodes slot_of anchor x kept (Some slot) some is =
     let less : k < length nodes = ltb-true k (length nodes) (sym (kept.all k) ∙ among) in
     (old_node (Behind slot) first nodes x k below less, has_anchor first nodes slot_of anchor slot k kept some less)))
 
--- the list then
+-- the list after an insertion
 pub linked_entries : (place : Place) (first : ℕ) (nodes : List Node) (slot_of : ℕ → Option ℕ) (anchor x : ℕ)
     → RgaListKept first nodes slot_of → place_behind anchor (slot_of anchor) ≡ Some place
     → entries_of (first_after place first nodes) (nodes_after place first nodes x)
@@ -373,7 +373,7 @@ behind_there anchor first nodes slot_of place kept (Some slot) some is =
     let at : place ≡ Behind slot = cc is in
     subst (λ p. IsThere p (length nodes)) (sym at) (kept.there anchor slot some).0
 
--- clauses on what the index has
+-- the place that the index finds exists
 pub place_there : (anchor : ℕ) (first : ℕ) (nodes : List Node) (slot_of : ℕ → Option ℕ) (place : Place)
     → RgaListKept first nodes slot_of → place_behind anchor (slot_of anchor) ≡ Some place → IsThere place (length nodes)
 place_there anchor first nodes slot_of place kept is = elim (cases_Bool (anchor == 0)) [
@@ -385,14 +385,14 @@ place_there anchor first nodes slot_of place kept is = elim (cases_Bool (anchor 
       (sym (cond-false (anchor == 0) (Some First) (option_map Behind (slot_of anchor)) other) ∙ is)
 ]
 
--- an element is in the list exactly where there is a place behind it
+-- an element is in the list exactly if there is a place behind it
 pub listed_place : (anchor : ℕ) (first : ℕ) (nodes : List Node) (slot_of : ℕ → Option ℕ)
     → RgaListKept first nodes slot_of → is_in_list anchor (entries_of first nodes)
     ≡ is_some (place_behind anchor (slot_of anchor))
 listed_place anchor first nodes slot_of kept = listed first nodes slot_of anchor kept
     ∙ some_place (anchor == 0) (slot_of anchor)
 
--- whether an element is put in
+-- the condition under which an insertion adds an element
 pub puts : (anchor x first : ℕ) (nodes : List Node) (slot_of : ℕ → Option ℕ) (now : List (ℕ × Bool)) (place : Place)
     → RgaListKept first nodes slot_of → entries_of first nodes ≡ now → place_behind anchor (slot_of anchor) ≡ Some place
     → (x == 0 || is_some (slot_of x)) ≡ false
@@ -421,7 +421,7 @@ pub none_from : (found : Option ℕ) → is_some found ≡ false → found ≡ N
 none_from None is = refl
 none_from (Some slot) is = absurd (cc is)
 
--- an index that finds the same
+-- an index with the same look-ups
 pub kept_same : (first : ℕ) (nodes : List Node) (slot_of later : ℕ → Option ℕ) → RgaListKept first nodes slot_of
     → ((x : ℕ) → later x ≡ slot_of x) → RgaListKept first nodes later
 kept_same first nodes slot_of later kept same = record {

@@ -1,4 +1,4 @@
--- Pairs that rise: what is taken out of them, and what is read from them.
+-- Lemmas on rising pairs: removing pairs, and reading identifiers and elements.
 use Rattle.std.proofs.Common.{◌≡◌, ℕ, ◌<◌, ◌≤◌, Bool, true, false, cond, List, [], ◌∷◌, ◌++◌, filter, map, Option, None}
 use Rattle.std.proofs.Common.{Some, refl, sym, ap, ◌∙◌, inl, inr, arith, Ordering}
 use Rattle.std.specs.Prelude.{◌==◌, nat_lt, not, ◌&&◌, ◌||◌}
@@ -33,7 +33,7 @@ pair_test p q =
     ∙ ap (λ b. b && is_eq (nat_cmp p.1 q.1)) (is_eq-nat_cmp p.0 q.0)
     ∙ ap (λ b. p.0 == q.0 && b) (is_eq-nat_cmp p.1 q.1)
 
--- one more identifier is taken out
+-- one more identifier is removed
 filter_twice : (p q r : ℕ × ℕ → Bool) → ((k : ℕ × ℕ) → r k ≡ (q k && p k)) → (ks : List (ℕ × ℕ))
     → filter p (filter q ks) ≡ filter r ks
 filter_twice p q r both [] = refl
@@ -68,7 +68,7 @@ taken_out_more x id ids pairs ordered =
     ∙ ap (λ b. not (x == q.0 && is_among q.1 ids) && not b)
     (ap (λ b. x == q.0 && b) (eqb-comm q.1 id) ∙ sym (pair_test (x, id) q))) pairs
 
--- pairs behind one: the element is no lower, and the identifier higher where it is the same
+-- pairs behind another: the element is not smaller, and for equal elements the identifier is greater
 record Behind (p q : ℕ × ℕ) : Type 0 where
   no_lower : p.0 ≤ q.0
   higher : p.0 ≡ q.0 → p.1 < q.1
@@ -89,7 +89,7 @@ all_behind : (p : ℕ × ℕ) (qs : List (ℕ × ℕ)) → AllByRecursion (λ q.
 all_behind p [] all = all
 all_behind p (q ∷ qs) all = (behind p q all.0, all_behind p qs all.1)
 
--- the identifiers, from a search on
+-- the identifiers from the start of a search
 from_by : (x : ℕ) (q : ℕ × ℕ) (a b : Ordering) → MatchOrdering a (x < q.0) (x ≡ q.0) (q.0 < x)
     → MatchOrdering b (0 < q.1) (0 ≡ q.1) (q.1 < 0) → (is_le (ordering_then a b) && true) ≡ not (nat_lt q.0 x)
 from_by x q Less b first second = grind (arith, nat_tests)
@@ -101,7 +101,7 @@ from_by x q Greater b first second = grind (arith, nat_tests)
 from_test : (x : ℕ) (q : ℕ × ℕ) → range_contains pair_cmp (Included (x, 0)) Unbounded q ≡ not (nat_lt q.0 x)
 from_test x q = from_by x q (nat_cmp x q.0) (nat_cmp 0 q.1) (ranked x q.0 _ refl) (ranked 0 q.1 _ refl)
 
--- none is the element's behind one with a higher element
+-- no pair behind one with a greater element has the element
 higher_none : (x : ℕ) (p : ℕ × ℕ) (qs : List (ℕ × ℕ)) → x < p.0 → AllByRecursion (Behind p) qs
     → identifiers_of x qs ≡ []
 higher_none x p [] less all = refl
@@ -112,7 +112,7 @@ higher_none x p (q ∷ qs) less all =
     (ne_eqb x q.0 (λ same. absurd (omega (arith, less, all.0.no_lower)))))
     ∙ higher_none x p qs less all.1
 
--- the identifiers of an element are found in front, from the search for it on
+-- the identifiers of an element are at the front of the range that starts at its first possible pair
 pub identifiers_found : (x : ℕ) (pairs : List (ℕ × ℕ)) → IsStrictlySortedBy pair_cmp pairs
     → identifiers_in_front x (filter (range_contains pair_cmp (Included (x, 0)) Unbounded) pairs)
     ≡ identifiers_of x pairs
@@ -184,7 +184,7 @@ identifiers_rise x (p ∷ ps) ordered =
           ∙ identifiers_rise x ps ordered.1
     ]
 
--- is x the last element?
+-- whether x is the last element
 abbrev is_last : ℕ → Option ℕ → Bool
 is_last x None = false
 is_last x (Some y) = x == y
@@ -230,7 +230,7 @@ pub distinct_same : (x : ℕ) (pairs : List (ℕ × ℕ))
 distinct_same x pairs = sym (or-false (is_among x (distinct_elements pairs))) ∙ among_behind x None pairs
     ∙ or-false (is_among x (elements_of pairs))
 
--- the elements listed are above the last
+-- the listed elements are greater than the last one
 no_lower : (p : ℕ × ℕ) (qs : List (ℕ × ℕ)) → AllByRecursion (Behind p) qs → AllByRecursion (λ q. p.0 ≤ q.0) qs
 no_lower p [] all = all
 no_lower p (q ∷ qs) all = (all.0.no_lower, no_lower p qs all.1)

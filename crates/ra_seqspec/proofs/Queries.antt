@@ -1,4 +1,4 @@
--- What a state of an OR-Set answers to a query whose list rises, and what is left of it.
+-- Lemmas on the answer of an OR-Set to a query with a rising list, and on its state after updates.
 use Rattle.std.proofs.Common.{◌≡◌, ℕ, Bool, true, List, refl, sym, ap, ◌∙◌, subst}
 use Rattle.std.specs.Prelude.{◌↔◌, IsTrue, unwrap_or}
 use Rattle.std.specs.BTreeSet.{BTreeSet, IsOrdered, insert_key}
@@ -16,7 +16,7 @@ use Rattle.ra_seqspec.specs.Pairs.{distinct_elements}
 use Rattle.ra_seqspec.proofs.RisingLists.{is_answer}
 use Rattle.ra_seqspec.proofs.PairKeys.{identifiers_rise, distinct_rise, distinct_same}
 use Rattle.std.specs.Ordering.{nat_cmp}
-use Rattle.ra_labels.proofs.TheLaws.{a_list_rises_where_each_is_below_the_later-sorted}
+use Rattle.ra_labels.proofs.TheoremIndex.{rises_iff_sorted-sorted}
 
 pub asked_identifiers : (form : Form) (pairs : BTreeSet (ℕ × ℕ)) (now : State) (query : Query) (x : ℕ)
     (list shown : List ℕ) (r : Bool) → StateKept form → state_of form ≡ now → form ≡ OrSet pairs
@@ -44,7 +44,7 @@ asked_elements form pairs now query list shown r kept view is asks up same answe
     ((λ holds. sym same ∙ answer.0 holds), (λ equal. answer.1 (same ∙ equal)))
     ∙ sym (λ i. answers (before i) (asks i))
 
--- the state without what is taken out of it
+-- the state after a removal
 pub taken_out_state : (form : Form) (pairs : BTreeSet (ℕ × ℕ)) (now : State) (update : Update) (x : ℕ)
     (ids shown : List ℕ) (left : List (ℕ × ℕ)) → state_of form ≡ now → form ≡ OrSet pairs → update ≡ TakeOut x ids
     → shown ≡ ids
@@ -54,7 +54,7 @@ taken_out_state form pairs now update x ids shown left view is takes same kept =
     ap Pairs (kept ∙ ap (λ list. without_pairs x list pairs.keys) same)
     ∙ sym (λ i. unwrap_or (step_of (before i) (takes i)) (before i))
 
--- the state with what is put into it
+-- the state after an addition
 pub grown_state : (form : Form) (pairs : BTreeSet (ℕ × ℕ)) (now : State) (update : Update) (x id : ℕ)
     (more : List (ℕ × ℕ)) → state_of form ≡ now → form ≡ OrSet pairs → update ≡ OrAdd x id
     → more ≡ insert_key pair_cmp pairs.keys (x, id) → Pairs more ≡ unwrap_or (step_of now update) now
@@ -62,7 +62,7 @@ grown_state form pairs now update x id more view is puts kept =
     let before : now ≡ Pairs pairs.keys = sym view ∙ ap state_of is in
     ap Pairs kept ∙ sym (λ i. unwrap_or (step_of (before i) (puts i)) (before i))
 
--- and the state of an LWW set
+-- and the answer of an LWW set
 pub asked : (form : Form) (elements : BTreeSet ℕ) (now : State) (query : Query) (list shown : List ℕ) (r : Bool)
     → StateKept form → state_of form ≡ now → form ≡ LwwSet elements → query ≡ LwwRead list → asks_rising query ≡ true
     → shown ≡ list → IsTrue r ↔ (shown ≡ elements.keys) → r ≡ answers now query
@@ -71,6 +71,6 @@ asked form elements now query list shown r kept view is asks up same answer =
     let before : now ≡ Members elements.keys = sym view ∙ ap state_of is in
     let rising : rises list ≡ true = sym (ap asks_rising asks) ∙ up in
     is_answer list elements.keys elements.keys r rising
-    ((a_list_rises_where_each_is_below_the_later-sorted elements.keys).1 ordered) (λ y. refl)
+    ((rises_iff_sorted-sorted elements.keys).1 ordered) (λ y. refl)
     ((λ holds. sym same ∙ answer.0 holds), (λ equal. answer.1 (same ∙ equal)))
     ∙ sym (λ i. answers (before i) (asks i))

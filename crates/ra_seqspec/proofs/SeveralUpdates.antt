@@ -1,4 +1,4 @@
--- Several updates of an RGA, on its list and on its state.
+-- Lemmas on several updates of an RGA, on its list and on its state.
 use Rattle.std.proofs.Common.{◌≡◌, ℕ, Bool, true, false, cond, List, [], ◌∷◌, Option, None, Some, refl, sym, ap, ◌∙◌, inl, inr}
 use Rattle.std.specs.Prelude.{◌==◌, ◌||◌, is_some, unwrap_or, Result, Ok, Err, IsOk, OnOk}
 use Rattle.std.proofs.lemmas.Bool.{false≢true, cases_Bool, cond-true, cond-false}
@@ -25,7 +25,7 @@ pub after_listed : (list : List (ℕ × Bool)) (updates : List Update) → after
 after_listed list [] = refl
 after_listed list (update ∷ updates) = ap (λ (s : State). after_all s updates) (list_steps list update) ∙ after_listed (list_step list update) updates
 
--- where a place for x is found, x is not there, and the place is behind the anchor
+-- if a place for x is found, x is not in the list, and the place is behind the anchor
 pub place_found : (anchor x : ℕ) (slot_of : ℕ → Option ℕ) (place : Place) → place_for anchor x slot_of ≡ Some place
     → ((x == 0 || is_some (slot_of x)) ≡ false) × (place_behind anchor (slot_of anchor) ≡ Some place)
 place_found anchor x slot_of place is = found (x == 0 || is_some (slot_of x)) (place_behind anchor (slot_of anchor)) is
@@ -34,7 +34,7 @@ place_found anchor x slot_of place is = found (x == 0 || is_some (slot_of x)) (p
     found true o is = absurd (cc is)
     found false o is = (refl, is)
 
--- there is one exactly where x may be put in
+-- there is one exactly if x may be inserted
 pub place_where_it_may : (anchor x first : ℕ) (nodes : List Node) (slot_of : ℕ → Option ℕ) (now : List (ℕ × Bool)) → RgaListKept first nodes slot_of → entries_of first nodes ≡ now
     → may_insert anchor x now ≡ is_some (place_for anchor x slot_of)
 place_where_it_may anchor x first nodes slot_of now kept view = elim (cases_Bool (x == 0 || is_some (slot_of x))) [
@@ -46,12 +46,12 @@ place_where_it_may anchor x first nodes slot_of now kept view = elim (cases_Bool
     behind None none new = puts_not_there anchor x first nodes slot_of now kept view (ap is_some none)
     behind (Some place) some new = puts anchor x first nodes slot_of now place kept view some new
 
--- what holds where a call succeeds that does
+-- the postcondition of a call that succeeds
 pub where_ok : {A B P : Type 0} (result : Result A B) → IsOk result → OnOk result P → P
 where_ok (Ok value) succeeds holds = holds
 where_ok (Err error) succeeds holds = absurd (false≢true succeeds)
 
--- and what follows from it
+-- and its consequence
 pub follows_where_ok : {A B P Q : Type 0} (result : Result A B) → (P → Q) → OnOk result P → OnOk result Q
 follows_where_ok (Ok value) to holds = to holds
 follows_where_ok (Err error) to holds = tt

@@ -1,4 +1,4 @@
--- What a walk along links shows.
+-- Lemmas on what a walk along the links shows.
 use Rattle.std.proofs.Common.{◌≡◌, ℕ, suc, ◌+◌, ◌-◌, ◌<◌, ◌≤◌, Bool, true, false, List, [], ◌∷◌, ◌++◌, length, map, filter, refl, sym, ap, ◌∙◌, subst, arith}
 use Rattle.std.specs.Prelude.{◌↔◌, ◌==◌, IsTrue}
 use Rattle.std.proofs.lemmas.List.{append_assoc, append-nil}
@@ -15,7 +15,7 @@ walk nodes n slot = along (λ k. (node_at nodes k).next) n slot
 abbrev pub shown_along : List Node → ℕ → ℕ → List ℕ
 shown_along nodes n slot = shown (map (entry_at nodes) (walk nodes n slot))
 
--- how far a walk is: whether the elements are those that are shown depends on what is left of both
+-- the progress of a walk: the elements equal those shown exactly if the remaining ones of both are equal
 pub record Walked (nodes : List Node) (first : ℕ) (elements left : List ℕ) (n slot : ℕ) : Type 0 where
   pub same : (elements ≡ shown_along nodes (length nodes) first) ↔ (left ≡ shown_along nodes n slot)
   pub there : (k : ℕ) → is_among k (walk nodes n slot) ≡ true → k < length nodes
@@ -51,7 +51,7 @@ hides_node nodes n slot is =
     (cond-false (node_at nodes slot).is_shown (entry_at nodes slot ∷ filter (λ (e : ℕ × Bool). e.1) rest)
     (filter (λ (e : ℕ × Bool). e.1) rest) is)
 
--- past a node that is not shown
+-- past a hidden node
 pub walked_hidden : (nodes : List Node) (first : ℕ) (elements left : List ℕ) (n slot : ℕ)
     → Walked nodes first elements left (suc n) slot → (node_at nodes slot).is_shown ≡ false
     → Walked nodes first elements left n (node_at nodes slot).next
@@ -64,7 +64,7 @@ walked_hidden nodes first elements left n slot walked is = record {
   there = later nodes first elements left n slot walked;
 }
 
--- past one that is shown, and whose element is the next one
+-- past a shown node whose element is the next one
 pub walked_shown : (nodes : List Node) (first : ℕ) (elements left rest : List ℕ) (n slot : ℕ)
     → Walked nodes first elements left (suc n) slot → (node_at nodes slot).is_shown ≡ true
     → left ≡ (node_at nodes slot).element ∷ rest
@@ -78,7 +78,7 @@ walked_shown nodes first elements left rest n slot walked is begins = record {
   there = later nodes first elements left n slot walked;
 }
 
--- and where it is not, the elements are others
+-- and if it is not, the elements differ
 pub walked_none_left : (nodes : List Node) (first : ℕ) (elements left : List ℕ) (n slot : ℕ)
     → Walked nodes first elements left (suc n) slot → (node_at nodes slot).is_shown ≡ true → left ≡ []
     → elements ≡ shown_along nodes (length nodes) first → ⊥
@@ -93,7 +93,7 @@ walked_other nodes first elements left rest x n slot walked is begins differs al
     ∙ walked.same.0 all ∙ shows_node nodes n slot is in
     let same : x ≡ (node_at nodes slot).element = cc both in differs same
 
--- while some slots are left, one is next
+-- before the last step, there is a next slot
 pub still : (nodes : List Node) (first : ℕ) (elements left : List ℕ) (step slot : ℕ) → step < length nodes
     → Walked nodes first elements left (length nodes - step) slot
     → Walked nodes first elements left (suc (length nodes - (step + 1))) slot
@@ -105,7 +105,7 @@ none_left : (left : List ℕ) → (length left == 0) ≡ true → left ≡ []
 none_left [] is = refl
 none_left (x ∷ xs) is = let none : suc (length xs) ≡ 0 = eqb-true (suc (length xs)) 0 is in absurd (omega (arith, none))
 
--- at the end the elements are those that are shown exactly where none is left
+-- at the end, the elements are those shown exactly if none remains
 pub walked_end : (nodes : List Node) (first : ℕ) (elements left : List ℕ) (step slot : ℕ) (r : Bool)
     → length nodes ≤ step → Walked nodes first elements left (length nodes - step) slot → r ≡ (length left == 0)
     → IsTrue r ↔ (elements ≡ shown_along nodes (length nodes) first)
@@ -121,9 +121,9 @@ pub nothing_left : (left : List ℕ) → length left ≡ 0 → left ≡ []
 nothing_left [] is = refl
 nothing_left (x ∷ xs) is = absurd (omega arith)
 
--- ---- the elements taken together, one by one
+-- ---- collecting the elements one by one
 
--- one that is shown is taken
+-- a shown element is collected
 pub taken_shown : (nodes : List Node) (first : ℕ) (taken left : List ℕ) (n slot : ℕ)
     → ((rest : List ℕ) → Walked nodes first (taken ++ rest) rest (suc n) slot)
     → (node_at nodes slot).is_shown ≡ true
@@ -134,7 +134,7 @@ taken_shown nodes first taken left n slot walked is =
     (sym (append_assoc taken (x ∷ []) left))
     (walked_shown nodes first (taken ++ x ∷ left) (x ∷ left) left n slot (walked (x ∷ left)) is refl)
 
--- at the end all are taken
+-- at the end, all shown elements are collected
 pub taken_end : (nodes : List Node) (first : ℕ) (taken : List ℕ) (step slot : ℕ) → length nodes ≤ step
     → ((rest : List ℕ) → Walked nodes first (taken ++ rest) rest (length nodes - step) slot)
     → taken ≡ shown_along nodes (length nodes) first

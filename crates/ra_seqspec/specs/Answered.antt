@@ -6,7 +6,7 @@ use Rattle.ra_labels.specs.Lists.{identifiers_of, shown}
 use Rattle.ra_labels.specs.Specification.{State, Number, Written, Members, Pairs, Listed}
 use Rattle.ra_seqspec.specs.Pairs.{distinct_elements}
 
--- the query, with what the state answers in the place of its own answer; none where it is of another kind
+-- the query with the state's answer in place of its own; none if it is of another kind
 abbrev pub answered_in : State → Query → Option Query
 answered_in (Number n) (Count v) = Some (Count n)
 answered_in (Written last) (Last value) = Some (Last last)

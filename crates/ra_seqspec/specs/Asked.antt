@@ -1,10 +1,10 @@
--- Which queries a state may be asked.
+-- The queries that can be evaluated in a state.
 use Rattle.std.specs.Prelude.{Bool, true}
 use Rattle.ra_labels.specs.declared.operation.Query.{Query}
 use Rattle.ra_labels.specs.declared.operation.Query.TheVariants.{LwwRead, ReadIds, OrRead}
 use Rattle.ra_labels.specs.Lists.{rises}
 
--- does the list rise that the query asks for, if it asks for one?
+-- `true` unless the query has a list that must be strictly increasing and is not
 abbrev pub asks_rising : Query → Bool
 asks_rising (LwwRead list) = rises list
 asks_rising (ReadIds x ids) = rises ids

@@ -1,4 +1,4 @@
--- The state that the fields of a `State` stand for, and what is kept true of them.
+-- The state that the fields of a `State` represent, and its representation invariant.
 use Rattle.std.specs.Ordering.{nat_cmp}
 use Rattle.std.specs.BTreeSet.{IsOrdered}
 use Rattle.ra_labels.specs.Lists.{pair_cmp}
@@ -13,7 +13,7 @@ state_of (LwwSet set) = Members set.keys
 state_of (OrSet set) = Pairs set.keys
 state_of (Rga list) = Listed list
 
--- a set's elements rise, and so do its pairs
+-- holds if a set's elements, or its pairs, are strictly increasing
 abbrev pub StateKept : Form → Type 0
 StateKept (Counter n) = Unit {0}
 StateKept (Register last) = Unit {0}

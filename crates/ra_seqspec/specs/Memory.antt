@@ -1,4 +1,4 @@
--- What takes memory.
+-- The copies and updates of a state that need an allocation.
 use Rattle.std.specs.Prelude.{Bool, true, false, not, ◌==◌, ◌&&◌}
 use Rattle.std.specs.List.{list_any}
 use Rattle.ra_labels.specs.declared.operation.Update.{Update}
@@ -7,7 +7,7 @@ use Rattle.ra_labels.specs.Lists.{is_among}
 use Rattle.ra_labels.specs.Specification.{State, Number, Written, Members, Pairs, Listed}
 use Rattle.ra_seqspec.specs.Rga.{may_insert}
 
--- does a state of this form take memory to be copied? A number and a value do not
+-- `true` if copying a state of this form needs an allocation; a number and a value do not
 abbrev pub takes_memory : State → Bool
 takes_memory (Number n) = false
 takes_memory (Written last) = false
@@ -15,7 +15,7 @@ takes_memory (Members xs) = true
 takes_memory (Pairs pairs) = true
 takes_memory (Listed list) = true
 
--- does the update take memory in this state? Only a new element or pair does, and what an RGA admits to be put in
+-- `true` if the update needs an allocation in this state: a new element or pair, or an insertion that an RGA admits
 abbrev pub update_takes_memory : State → Update → Bool
 update_takes_memory (Members xs) (LwwAdd x) = not (is_among x xs)
 update_takes_memory (Pairs pairs) (OrAdd x id) = not (list_any (λ pair. x == pair.0 && id == pair.1) pairs)

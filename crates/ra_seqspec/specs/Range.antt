@@ -1,9 +1,9 @@
--- How far a counter's number may go.
+-- The range of a counter's number.
 use Rattle.std.specs.Prelude.{pos, neg_ℤ, ◌≤ℤ◌}
 use Rattle.ra_labels.specs.Specification.{State, Number, Written, Members, Pairs, Listed}
 use Rattle.ra_seqspec.specs.declared.TheConstants.{FARTHEST_COUNT}
 
--- a counter's number is from -FARTHEST_COUNT to FARTHEST_COUNT
+-- holds if a counter's number is from -FARTHEST_COUNT to FARTHEST_COUNT
 abbrev pub IsInRange : State → Type 0
 IsInRange (Number n) = (neg_ℤ (pos FARTHEST_COUNT) ≤ℤ n) × (n ≤ℤ pos FARTHEST_COUNT)
 IsInRange (Written last) = Unit {0}

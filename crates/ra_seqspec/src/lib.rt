@@ -1,15 +1,15 @@
-//! The sequential specification of each kind, as a state that updates change and queries are held against.
+//! The sequential specification of each kind, as a state that updates change and queries are compared with.
 //!
-//! The one contract for the layers above: `State::apply` and `State::admits` are the specification's step and
-//! answer (`ra_labels/specs/Specification`).
+//! Contract for the crates above: `State::apply` and `State::admits` compute the specification's step and answer
+//! (`ra_labels/specs/Specification`).
 #![tactic(auto)]
 
-pub mod laws;
 mod pairs;
 mod rga;
 mod state;
+pub mod theorems;
 
 pub use state::State;
 
-/// How far from 0 a counter's number may go, up and down: an update that leads further is not to be made.
+/// The largest absolute value of a counter's number. An update that exceeds it must not be applied.
 pub const FARTHEST_COUNT: u32 = 1_048_576;

@@ -1,4 +1,4 @@
-//! The pairs of an OR-Set, which rise by element and then by identifier.
+//! The pairs of an OR-Set, sorted by element and then by identifier.
 ghost use Rattle.std.specs.Prelude.{◌≡◌, ◌↔◌, IsTrue, IfOk};
 ghost use Rattle.std.specs.BTreeSet.{IsOrdered};
 ghost use Rattle.ra_labels.specs.Lists.{pair_cmp, identifiers_of, without_pairs};
@@ -8,7 +8,11 @@ use ra_labels::{Elements, NoMemory};
 use std::alloc::Global;
 use std::collections::BTreeSet;
 
-/// Takes the pairs of the element with one of the identifiers out. Costs a search for each identifier.
+/// Removes the element's pairs with these identifiers.
+///
+/// # Complexity
+///
+/// O(k log n), where `k` is the number of identifiers and `n` the number of pairs.
 pub fn take_out(pairs: &mut BTreeSet<(u32, u32)>, element: u32, ids: &[u32])
     requires { IsOrdered pair_cmp pairs.old }
     ensures left { pairs.new.keys ≡ without_pairs element ids.now pairs.old.keys }
@@ -19,7 +23,11 @@ pub fn take_out(pairs: &mut BTreeSet<(u32, u32)>, element: u32, ids: &[u32])
     }
 }
 
-/// Are these the identifiers that the element is paired with, rising? Costs a search and the identifiers.
+/// Returns `true` if the list has the element's identifiers in increasing order.
+///
+/// # Complexity
+///
+/// O(log n + k), where `n` is the number of pairs and `k` the number of the element's identifiers.
 pub fn are_identifiers(pairs: &BTreeSet<(u32, u32)>, element: u32, ids: &[u32]) -> bool
     ensures { IsTrue result ↔ (ids.now ≡ identifiers_of element pairs.now.keys) }
 {
@@ -36,7 +44,11 @@ pub fn are_identifiers(pairs: &BTreeSet<(u32, u32)>, element: u32, ids: &[u32]) 
     left.is_empty()
 }
 
-/// Are these the elements that are paired, rising? Costs as much as there are pairs.
+/// Returns `true` if the list has the distinct elements of the pairs in increasing order.
+///
+/// # Complexity
+///
+/// O(n), where `n` is the number of pairs.
 pub fn are_elements(pairs: &BTreeSet<(u32, u32)>, list: &[u32]) -> bool
     ensures { IsTrue result ↔ (list.now ≡ distinct_elements pairs.now.keys) }
 {
@@ -54,7 +66,15 @@ pub fn are_elements(pairs: &BTreeSet<(u32, u32)>, list: &[u32]) -> bool
     left.is_empty()
 }
 
-/// The identifiers that the element is paired with, rising. Costs a search and the identifiers.
+/// Returns the element's identifiers in increasing order.
+///
+/// # Errors
+///
+/// `NoMemory` if allocation fails.
+///
+/// # Complexity
+///
+/// O(log n + k), where `n` is the number of pairs and `k` the number of the element's identifiers.
 pub fn identifiers(
     alloc: Global,
     pairs: &BTreeSet<(u32, u32)>,
@@ -73,7 +93,15 @@ pub fn identifiers(
     Ok(Elements::new(ids))
 }
 
-/// The elements that are paired, rising, each once. Costs as much as there are pairs.
+/// Returns the distinct elements of the pairs in increasing order.
+///
+/// # Errors
+///
+/// `NoMemory` if allocation fails.
+///
+/// # Complexity
+///
+/// O(n), where `n` is the number of pairs.
 pub fn elements(alloc: Global, pairs: &BTreeSet<(u32, u32)>) -> Result<Elements, NoMemory>
     ensures { IfOk result (λ list. list ≡ distinct_elements pairs.now.keys) }
 {

@@ -1,4 +1,4 @@
-//! The list of an RGA, as nodes with links.
+//! The list of an RGA as linked nodes.
 ghost use Rattle.std.specs.Prelude.{◌≡◌, ◌↔◌, ℕ, ◌+◌, ◌≤◌, ◌<◌, ◌||◌, ◌==◌, nat_eq, is_some, ◌∷◌, [], length, true, false, not, IsTrue, IfOk, IsOk, OnOk, OnErr, Some, if◌then◌else◌};
 ghost use Rattle.std.specs.Vec.{vec_len, vec_capacity};
 ghost use Rattle.std.specs.HashMap.{get, spare};
@@ -11,30 +11,30 @@ use std::collections::HashMap;
 use std::marker::Model;
 use std::mem;
 
-// The element before all others, which is never shown.
+// The root: the element before all others, which no read shows.
 const ROOT: u32 = 0;
 
 /// The elements of an RGA in their order, the root first, each with whether a read shows it.
 #[derive(Drop)]
 pub struct RgaList {
-    // The slot of the first node behind the root, where there are nodes.
+    // The slot of the first node behind the root, if there are nodes.
     first: usize,
-    // The nodes in the order of their arrival. A node's slot is its place here.
+    // The nodes in the order in which they were inserted. A node's slot is its index here.
     nodes: Vec<Node>,
-    // Each element's slot.
+    // The slot of each element.
     slots: HashMap<u32, usize>,
 }
 
-// An element behind the root.
+// An element other than the root.
 #[derive(Clone, Copy)]
 struct Node {
     element: u32,
     is_shown: bool,
-    // The slot of the node behind it. The last node's is never followed.
+    // The slot of the next node. That of the last node is never followed.
     next: usize,
 }
 
-// Where a new node is put: before all, or behind the node in a slot.
+// The position of a new node: before all others, or behind the node in a slot.
 #[derive(Clone, Copy)]
 enum Place {
     First,
@@ -55,7 +55,7 @@ impl Model for RgaList {
 }
 
 impl RgaList {
-    /// The root alone. It takes no memory.
+    /// Creates the list with the root alone. Does not allocate.
     pub fn new(alloc: Global) -> RgaList
         ensures { result ≡ (0, false) ∷ [] }
     {
@@ -66,7 +66,15 @@ impl RgaList {
         }
     }
 
-    /// An equal list of its own. Costs as much as the list is long.
+    /// Returns an equal list that owns its memory.
+    ///
+    /// # Errors
+    ///
+    /// `NoMemory` if allocation fails.
+    ///
+    /// # Complexity
+    ///
+    /// O(n), where `n` is the length of the list.
     pub fn copy(&self) -> Result<RgaList, NoMemory>
         ensures { IfOk result (λ copy. copy ≡ self.now) }
     {
@@ -77,8 +85,16 @@ impl RgaList {
         })
     }
 
-    /// Puts the element directly behind the anchor and answers true, or changes nothing and answers false where the
-    /// anchor is not in the list or the element is. Costs two look-ups.
+    /// Inserts the element directly behind the anchor and returns `true`. Returns `false` and changes nothing if the
+    /// anchor is not in the list or the element is.
+    ///
+    /// # Errors
+    ///
+    /// `NoMemory` if allocation fails; the list is unchanged.
+    ///
+    /// # Complexity
+    ///
+    /// A constant number of hash map operations.
     pub fn insert_after(&mut self, anchor: u32, element: u32) -> Result<bool, NoMemory>
         ensures done { IfOk result (λ is_done. is_done ≡ may_insert anchor element self.old) }
         ensures list { IfOk result (λ is_done.
@@ -101,8 +117,16 @@ impl RgaList {
         Ok(true)
     }
 
-    /// Makes the updates of an RGA among these, one after another; one that the list does not admit changes nothing.
-    /// What memory they take is asked for before the first of them. Costs two look-ups for each.
+    /// Applies those of the updates that are an RGA's, one after another. An update that the list does not admit
+    /// changes nothing. All memory is allocated before the first update.
+    ///
+    /// # Errors
+    ///
+    /// `NoMemory` if allocation fails; the list is unchanged.
+    ///
+    /// # Complexity
+    ///
+    /// A constant number of hash map operations for each update.
     pub fn apply_all(&mut self, updates: &[Update]) -> Result<(), NoMemory>
         ensures list { OnOk result (self.new ≡ list_after self.old updates.now) }
         ensures err { OnErr result (self.new ≡ self.old) }
@@ -113,8 +137,11 @@ impl RgaList {
         Ok(())
     }
 
-    /// Shows the element no more and answers true, or changes nothing and answers false where it is the root or not in
-    /// the list. Costs a look-up.
+    /// Hides the element and returns `true`. Returns `false` and changes nothing if it is the root or not in the list.
+    ///
+    /// # Complexity
+    ///
+    /// One hash map lookup.
     pub fn hide(&mut self, element: u32) -> bool
         ensures done { result ≡ may_hide element self.old }
         ensures list { self.new ≡ (if result then hide element self.old else self.old) }
@@ -122,14 +149,26 @@ impl RgaList {
         hide(&mut self.nodes, &self.slots, element)
     }
 
-    /// Are these the elements that are shown, in their order? Costs as much as the list is long.
+    /// Returns `true` if these are the elements that are shown, in their order.
+    ///
+    /// # Complexity
+    ///
+    /// O(n), where `n` is the length of the list.
     pub fn shows(&self, elements: &[u32]) -> bool
         ensures { IsTrue result ↔ (elements.now ≡ shown self.now) }
     {
         are_shown(self.first, &self.nodes, elements)
     }
 
-    /// The elements that are shown, in their order, as a list of its own. Costs as much as the list is long.
+    /// Returns the elements that are shown, in their order.
+    ///
+    /// # Errors
+    ///
+    /// `NoMemory` if allocation fails.
+    ///
+    /// # Complexity
+    ///
+    /// O(n), where `n` is the length of the list.
     pub fn shown(&self, alloc: Global) -> Result<Elements, NoMemory>
         ensures { IfOk result (λ elements. elements ≡ shown self.now) }
     {
@@ -137,14 +176,14 @@ impl RgaList {
     }
 }
 
-// Is the element in the list, of which these are the slots?
+// Returns `true` if the element is in the list with these slots.
 fn has(slots: &HashMap<u32, usize>, element: u32) -> bool
     ensures { result ≡ (element == 0 || is_some (get nat_eq slots.now element)) }
 {
     element == ROOT || slots.contains_key(&element)
 }
 
-// The place directly behind the element, if that is in the list.
+// Returns the position directly behind the element, if it is in the list.
 fn place_behind(slots: &HashMap<u32, usize>, element: u32) -> Option<Place>
     ensures { result ≡ place_behind element (get nat_eq slots.now element) }
 {
@@ -155,7 +194,7 @@ fn place_behind(slots: &HashMap<u32, usize>, element: u32) -> Option<Place>
     }
 }
 
-// The place directly behind the anchor, if that is in the list and the element is not.
+// Returns the position directly behind the anchor, if the anchor is in the list and the element is not.
 fn place_for(slots: &HashMap<u32, usize>, anchor: u32, element: u32) -> Option<Place>
     ensures { result ≡ place_for anchor element (get nat_eq slots.now) }
 {
@@ -166,7 +205,7 @@ fn place_for(slots: &HashMap<u32, usize>, anchor: u32, element: u32) -> Option<P
     Some(place)
 }
 
-// Makes these updates, for which there is room.
+// Applies these updates within the reserved capacity.
 fn make_all(
     first: &mut usize,
     nodes: &mut Vec<Node>,
@@ -185,7 +224,7 @@ fn make_all(
     }
 }
 
-// Makes the update, for which there is room.
+// Applies the update within the reserved capacity.
 fn make(first: &mut usize, nodes: &mut Vec<Node>, slots: &mut HashMap<u32, usize>, update: &Update)
     requires room { vec_len nodes.old < vec_capacity nodes.old }
     requires spare { 0 < spare slots.old }
@@ -209,7 +248,7 @@ fn make(first: &mut usize, nodes: &mut Vec<Node>, slots: &mut HashMap<u32, usize
     }
 }
 
-// Puts the element, which is not in the list, in there, for which there is room.
+// Inserts the element, which is not in the list, within the reserved capacity.
 fn put(
     first: &mut usize,
     nodes: &mut Vec<Node>,
@@ -228,12 +267,12 @@ fn put(
     ensures capacity { vec_capacity nodes.new ≡ vec_capacity nodes.old }
     ensures spare { spare slots.old ≤ spare slots.new + 1 }
 {
-    // There is room, so it is in.
+    // Capacity is reserved, so the insertion succeeds.
     let _ = slots.insert(element, nodes.len());
     link(first, nodes, place, element);
 }
 
-// Puts a new node there.
+// Links a new node at this position.
 fn link(first: &mut usize, nodes: &mut Vec<Node>, place: Place, element: u32)
     requires room { vec_len nodes.old < vec_capacity nodes.old }
     requires there { IsThere place (length nodes.old.items) }
@@ -257,7 +296,7 @@ fn link(first: &mut usize, nodes: &mut Vec<Node>, place: Place, element: u32)
     });
 }
 
-// Shows the element no more, if it is in the list and not the root.
+// Hides the element, if it is in the list and not the root.
 fn hide(nodes: &mut Vec<Node>, slots: &HashMap<u32, usize>, element: u32) -> bool
     requires { (first : ℕ) × RgaListKept first nodes.old.items (get nat_eq slots.now) }
     ensures done { (first : ℕ) → RgaListKept first nodes.old.items (get nat_eq slots.now)
@@ -282,7 +321,7 @@ fn hide(nodes: &mut Vec<Node>, slots: &HashMap<u32, usize>, element: u32) -> boo
     }
 }
 
-// Shows the node in the slot no more.
+// Hides the node in the slot.
 fn hide_node(nodes: &mut Vec<Node>, slot: usize)
     requires { slot < length nodes.old.items }
     ensures nodes { nodes.new.items ≡ nodes_hiding slot nodes.old.items }
@@ -293,7 +332,7 @@ fn hide_node(nodes: &mut Vec<Node>, slot: usize)
     node.is_shown = false;
 }
 
-// Are these the elements of the nodes that are shown, along the links from the first on?
+// Returns `true` if these are the shown elements of the nodes, along the links from the first one.
 fn are_shown(first: usize, nodes: &[Node], elements: &[u32]) -> bool
     requires { (slot : ℕ) → is_among slot (slots_of first nodes.now) ≡ true → slot < length nodes.now }
     ensures { IsTrue result ↔ (elements.now ≡ shown (entries_of first nodes.now)) }
@@ -313,7 +352,7 @@ fn are_shown(first: usize, nodes: &[Node], elements: &[u32]) -> bool
     left.is_empty()
 }
 
-// The elements of the nodes that are shown, along the links from the first on.
+// Returns the shown elements of the nodes, along the links from the first one.
 fn shown_elements(alloc: Global, first: usize, nodes: &[Node]) -> Result<Elements, NoMemory>
     requires { (slot : ℕ) → is_among slot (slots_of first nodes.now) ≡ true → slot < length nodes.now }
     ensures { IfOk result (λ elements. elements ≡ shown (entries_of first nodes.now)) }

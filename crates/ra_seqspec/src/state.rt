@@ -1,10 +1,10 @@
-//! The sequential specification as a state: its step, and its answer.
+//! The sequential specification as a data structure: its state, the step of an update, and the answer of a query.
 ghost use Rattle.std.specs.Prelude.{◌≡◌, ◌↔◌, ◌==◌, not, filter, IsTrue, IfOk, IsOk, IfSome, OnErr, true, false, is_some, unwrap_or, OnOk};
 ghost use Rattle.std.specs.Ordering.{nat_cmp};
 ghost use Rattle.std.specs.BTreeSet.{IsOrdered};
 ghost use Rattle.ra_labels.specs.declared.kind.Kind.TheVariants.{Rga};
-ghost use Rattle.ra_labels.specs.Specification.{start_of, step_of, answers};
-ghost use Rattle.ra_labels.specs.Laws.{kind_of_state};
+ghost use Rattle.ra_labels.specs.Specification.{initial_state, step_of, answers};
+ghost use Rattle.ra_labels.specs.TheoremTerms.{kind_of_state};
 ghost use Rattle.ra_seqspec.specs.Asked.{asks_rising};
 ghost use Rattle.ra_seqspec.specs.Range.{IsInRange};
 ghost use Rattle.ra_seqspec.specs.Memory.{takes_memory, update_takes_memory};
@@ -18,22 +18,22 @@ use std::alloc::Global;
 use std::collections::BTreeSet;
 use std::marker::Model;
 
-/// A state of the sequential specification of one kind.
+/// The state of one kind's sequential specification.
 #[derive(Drop)]
 pub struct State {
     form: Form,
 }
 
-// What each kind keeps.
+// The representation of each kind's state.
 #[derive(Drop)]
 enum Form {
-    // The counter's number.
+    // The number.
     Counter(i32),
-    // The value that was written last.
+    // The last value written, if any.
     Register(Option<u32>),
     // The elements.
     LwwSet(BTreeSet<u32>),
-    // Each element with each identifier that it is there under.
+    // The pairs of an element and the identifier of one of its additions.
     OrSet(BTreeSet<(u32, u32)>),
     // The list.
     Rga(RgaList),
@@ -52,9 +52,9 @@ impl Model for State {
 }
 
 impl State {
-    /// The state of the kind before any update. Where a kind's state is a collection, it lives in `alloc`.
+    /// Creates the kind's state before any update. It always succeeds. A state that is a collection lives in `alloc`.
     pub fn new(alloc: Global, kind: Kind) -> Result<State, NoMemory>
-        ensures start { IfOk result (λ state. state ≡ start_of kind) }
+        ensures start { IfOk result (λ state. state ≡ initial_state kind) }
         ensures memory { IsOk result }
     {
         let form = match kind {
@@ -67,7 +67,15 @@ impl State {
         Ok(State { form })
     }
 
-    /// An equal state of its own. Costs as much as the state is large.
+    /// Returns an equal state that owns its memory.
+    ///
+    /// # Errors
+    ///
+    /// `NoMemory` if allocation fails. The state of a counter or a register does not allocate.
+    ///
+    /// # Complexity
+    ///
+    /// O(n), where `n` is the size of the state.
     pub fn copy(&self) -> Result<State, NoMemory>
         ensures equal { IfOk result (λ copy. copy ≡ self.now) }
         ensures memory { takes_memory self.now ≡ false → IsOk result }
@@ -82,8 +90,18 @@ impl State {
         Ok(State { form })
     }
 
-    /// Makes the update and answers true, or changes nothing and answers false where the state does not admit it. Costs
-    /// a search in a set, which is one for each identifier that is taken out, and two look-ups in an RGA.
+    /// Applies the update and returns `true`, or changes nothing and returns `false` if the state does not admit it.
+    /// The caller ensures that a counter's number stays in range.
+    ///
+    /// # Errors
+    ///
+    /// `NoMemory` if allocation fails; the state is unchanged. Only a new element, a new pair, or an admitted insertion
+    /// into an RGA allocates.
+    ///
+    /// # Complexity
+    ///
+    /// O(1) for a counter or a register. O(log n) for a set with `n` entries, for each identifier of an OR-Set's
+    /// removal. A constant number of hash map operations for an RGA.
     pub fn apply(&mut self, update: &Update) -> Result<bool, NoMemory>
         requires { IfSome (step_of self.old update.now) IsInRange }
         ensures admitted { IfOk result (λ is_admitted. is_admitted ≡ is_some (step_of self.old update.now)) }
@@ -114,8 +132,16 @@ impl State {
         Ok(true)
     }
 
-    /// Makes these updates of an RGA one after another; one that the state does not admit then changes nothing. What
-    /// memory they take is asked for before the first of them. Costs two look-ups for each.
+    /// Applies the updates to an RGA one after another. An update that the state does not admit changes nothing. All
+    /// memory is allocated before the first update.
+    ///
+    /// # Errors
+    ///
+    /// `NoMemory` if allocation fails; the state is unchanged.
+    ///
+    /// # Complexity
+    ///
+    /// A constant number of hash map operations for each update.
     pub fn apply_all(&mut self, updates: &[Update]) -> Result<(), NoMemory>
         requires list { kind_of_state self.old ≡ Rga }
         ensures state { OnOk result (self.new ≡ after_all self.old updates.now) }
@@ -127,9 +153,13 @@ impl State {
         list.apply_all(updates)
     }
 
-    /// Is the query's answer that of this state? It takes no memory and always answers. A read costs a pass over an LWW
-    /// set's elements, an OR-Set's pairs, or an RGA's elements, shown or not; one of identifiers costs a search and
-    /// those of the element.
+    /// Returns `true` if the query's answer is that of this state. The caller ensures that an answer which has to be
+    /// strictly increasing is. Does not allocate.
+    ///
+    /// # Complexity
+    ///
+    /// O(1) for a counter or a register, and O(n) for a read of `n` elements or pairs, those that an RGA hides
+    /// included. O(log n + k) for the query of an element's `k` identifiers.
     pub fn admits(&self, query: &Query) -> bool
         requires { asks_rising query.now ≡ true }
         ensures { result ≡ answers self.now query.now }
@@ -152,9 +182,17 @@ impl State {
         }
     }
 
-    /// The query with the answer of this state in the place of its own, or none where it asks of another kind. That is
-    /// right, and a query that is right has it already. Where the answer is a list, it lives in `alloc`. Costs what
-    /// `admits` does.
+    /// Returns the query with the answer of this state instead of its own, or `None` if it belongs to another kind. The
+    /// new answer is right. If the query's own answer is right and any list that has to be strictly increasing is, the
+    /// result equals the query. A list lives in `alloc`.
+    ///
+    /// # Errors
+    ///
+    /// `NoMemory` if allocation fails. A query of a counter or a register does not allocate.
+    ///
+    /// # Complexity
+    ///
+    /// As `admits`.
     pub fn answer(&self, alloc: Global, query: &Query) -> Result<Option<Query>, NoMemory>
         ensures answer { IfOk result (λ answer. answer ≡ answered_in self.now query.now) }
         ensures right { IfOk result (λ answer. IfSome answer (λ it. answers self.now it ≡ true)) }
@@ -178,7 +216,7 @@ impl State {
     }
 }
 
-// The elements, rising, as a list of its own.
+// Returns a list of the elements in increasing order.
 fn listed(alloc: Global, elements: &BTreeSet<u32>) -> Result<Elements, NoMemory>
     ensures { IfOk result (λ list. list ≡ elements.now.keys) }
 {
@@ -189,7 +227,7 @@ fn listed(alloc: Global, elements: &BTreeSet<u32>) -> Result<Elements, NoMemory>
     Ok(Elements::new(items))
 }
 
-// Takes the element out, if it is in.
+// Removes the element, if it is present.
 #[tactic(auto, using(crate::proofs::Keys::taken_out))]
 fn take_out(elements: &mut BTreeSet<u32>, element: u32)
     requires { IsOrdered nat_cmp elements.old }
@@ -199,7 +237,7 @@ fn take_out(elements: &mut BTreeSet<u32>, element: u32)
     elements.remove(&element);
 }
 
-// Is this the list of the elements?
+// Returns `true` if the list has the elements in increasing order.
 fn are_elements(elements: &BTreeSet<u32>, list: &[u32]) -> bool
     ensures { IsTrue result ↔ (list.now ≡ elements.now.keys) }
 {

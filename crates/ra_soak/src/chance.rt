@@ -1,29 +1,29 @@
-//! Choices that look like chance, and are the same for the same seed.
+//! Pseudo-random choices, which are the same for the same seed.
 ghost use Rattle.std.specs.Prelude.{◌<◌};
 
 use rand_core::{Rng, SeedableRng};
 use rand_xoshiro::Xoshiro256PlusPlus;
 
-/// Where choices come from.
+/// A source of choices.
 #[derive(Drop)]
 pub struct Chance {
     numbers: Xoshiro256PlusPlus,
 }
 
 impl Chance {
-    /// The choices of this seed.
+    /// Creates the source with this seed.
     pub fn new(seed: u64) -> Chance {
         Chance {
             numbers: Xoshiro256PlusPlus::seed_from_u64(seed),
         }
     }
 
-    /// A seed for other choices.
+    /// Returns a seed for another source.
     pub fn seed(&mut self) -> u64 {
         self.numbers.next_u64()
     }
 
-    /// A number below this one.
+    /// Returns a number below this one.
     pub fn below(&mut self, count: u32) -> u32
         requires { 0 < count }
         ensures { result < count }
@@ -31,7 +31,7 @@ impl Chance {
         (self.numbers.next_u64() % u64::from(count)) as u32
     }
 
-    /// Yes, once in so many times.
+    /// Returns `true` once in `count` times.
     pub fn is_one_in(&mut self, count: u32) -> bool
         requires { 0 < count }
     {

@@ -1,4 +1,4 @@
-//! The laws of a closed log, in plain code: what it says is compared with what each pass was told.
+//! The theorems about a closed log, tested in plain code: the log is compared with the replies to each pass.
 ghost use Rattle.std.specs.Prelude.{◌≡◌, ◌≤◌, length, IfOk};
 
 use crate::finding::Finding;
@@ -11,13 +11,13 @@ use ra_monitor::Reporter;
 use ra_ticket::{Entry, Glance};
 use std::alloc::{AllocError, Global};
 
-// Whether a law holds.
+// Whether a theorem holds.
 type Law = Result<(), Finding>;
 
 // A call in the log.
 type Call = Entry<Command, Reply>;
 
-/// The first law that a round breaks, if it breaks one.
+/// Returns the first theorem that a round breaks, if it breaks one.
 pub fn finding_in(
     alloc: Global,
     setting: Setting,
@@ -48,14 +48,14 @@ fn of_whole_log(log: &[Call], records: &[Record], setting: Setting) -> Law {
     all_are_there(log, records, setting.limit)
 }
 
-// Where a log first answers no, and the label of that.
+// The index of a log's first violation, and its label.
 #[derive(Clone, Copy)]
 struct FirstNo {
     place: usize,
     label: u32,
 }
 
-// Where the log first answers no, if it does.
+// Returns the log's first violation, if there is one.
 fn first_no(log: &[Call]) -> Option<FirstNo> {
     for (place, call) in log.iter().enumerate() {
         if let Reply::No { label, .. } = call.reply {
@@ -65,7 +65,7 @@ fn first_no(log: &[Call]) -> Option<FirstNo> {
     None
 }
 
-// Tickets rise.
+// Tests that tickets ascend.
 fn tickets_rise(log: &[Call]) -> Law {
     let mut last = None;
     for (place, call) in log.iter().enumerate() {
@@ -77,7 +77,8 @@ fn tickets_rise(log: &[Call]) -> Law {
     Ok(())
 }
 
-// A no comes where this pass lied, and nowhere where none did. All behind it is answered as it.
+// Tests that the first reply `no` is to the pass that lied, and that there is none without a lie. All later replies are
+// the same.
 fn a_no_stays(log: &[Call], liar: Option<u8>) -> Law {
     let mut no = None;
     for (place, call) in log.iter().enumerate() {
@@ -95,7 +96,7 @@ fn a_no_stays(log: &[Call], liar: Option<u8>) -> Law {
     Ok(())
 }
 
-// The log has as many calls as all passes were answered, and is full where one was told so.
+// Tests that the log has as many calls as were answered, and that it is full if a pass found it so.
 fn all_are_there(log: &[Call], records: &[Record], limit: u32) -> Law {
     let mut told = 0u64;
     let mut is_full = false;
@@ -116,8 +117,8 @@ fn all_are_there(log: &[Call], records: &[Record], limit: u32) -> Law {
     Ok(())
 }
 
-// The calls of each pass are in the log, each once and in its order. Each call and each look comes behind all that its
-// pass had seen.
+// Tests that the calls of each pass are in the log, each once and in order. Each call and each look comes after all
+// that its pass had seen.
 fn each_has_its_own(
     alloc: Global,
     log: &[Call],
@@ -133,7 +134,7 @@ fn each_has_its_own(
     Ok(None)
 }
 
-// Where the calls of this pass stand.
+// Returns the indices of the calls of this pass.
 fn places_of(alloc: Global, log: &[Call], pass: u8) -> Result<Vec<usize>, AllocError> {
     let mut places = Vec::new(alloc);
     for (place, call) in log.iter().enumerate() {
@@ -144,7 +145,7 @@ fn places_of(alloc: Global, log: &[Call], pass: u8) -> Result<Vec<usize>, AllocE
     Ok(places)
 }
 
-// The same of one pass, whose calls stand at these places.
+// Tests the same of one pass, whose calls have these indices.
 fn has_its_own(log: &[Call], own: &[usize], record: &Record, no: Option<FirstNo>) -> Law {
     let pass = record.pass;
     let mut seen = 0usize;
@@ -173,7 +174,7 @@ fn has_its_own(log: &[Call], own: &[usize], record: &Record, no: Option<FirstNo>
     }
 }
 
-// Is this call in the log, at this place?
+// Returns `true` if this call is in the log, at this index.
 fn is_logged(log: &[Call], place: usize, command: &Command, reply: Reply) -> bool {
     match log.get(place) {
         Some(call) => call.command == *command && call.reply == reply,
@@ -181,7 +182,7 @@ fn is_logged(log: &[Call], place: usize, command: &Command, reply: Reply) -> boo
     }
 }
 
-// What a pass has seen that had seen so many calls and was told of so many.
+// Returns what a pass has seen after a look that returned this many calls.
 fn looked(log: &[Call], pass: u8, seen: usize, told: usize) -> Result<usize, Finding>
     ensures { IfOk result (λ calls. (calls ≡ told) × (seen ≤ told) × (told ≤ length log.now)) }
 {
@@ -192,7 +193,7 @@ fn looked(log: &[Call], pass: u8, seen: usize, told: usize) -> Result<usize, Fin
     }
 }
 
-// How many calls a glance told of. Its fault is that of these calls.
+// Returns the number of calls of a glance. Its fault is that of these calls.
 fn glanced(glance: Glance, pass: u8, no: Option<FirstNo>) -> Result<usize, Finding>
     ensures { IfOk result (λ calls. calls ≡ glance.calls) }
 {
@@ -208,7 +209,7 @@ fn glanced(glance: Glance, pass: u8, no: Option<FirstNo>) -> Result<usize, Findi
     }
 }
 
-// A monitor on one thread, which is told of the same commands, answers them the same.
+// Tests that a single-threaded monitor replies the same to the same commands.
 fn one_thread_answers(
     alloc: Global,
     log: &[Call],
@@ -231,7 +232,7 @@ fn answers_as(reporter: &mut Reporter, log: &[Call]) -> anyhow::Result<Option<Fi
     Ok(None)
 }
 
-// The reply. What is handed back in place of it is let go here, once.
+// Returns the reply. The error that carries the command is dropped here, once.
 fn replied(reporter: &mut Reporter, command: Command) -> Option<Reply> {
     reporter.tell(command).ok()
 }

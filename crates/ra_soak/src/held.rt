@@ -1,34 +1,34 @@
-//! What a replica holds that nothing but its own updates reaches: what it may do, and what its reads return.
+//! The data of a replica to which nothing is delivered: its possible updates, and the answers of its reads.
 
 use crate::chance::Chance;
 use ra_labels::{Elements, Kind, Op};
 use std::alloc::{AllocError, Global};
 
-/// A replica holds at most as many elements.
+/// The largest number of elements that a replica holds.
 const MOST_HELD: u32 = 8;
 
-/// Elements of one replica lie so far from those of the next one: no log has as many entries.
+/// The distance between the elements of two replicas, which is at least the length of any log.
 const ELEMENTS: u32 = 1_048_576;
 
-/// Values that are written are below this one.
+/// The bound below which written values are.
 const VALUES: u32 = 1_000;
 
-/// What the replica holds.
+/// The data of a replica.
 #[derive(Drop)]
 pub struct Held {
     kind: Kind,
     replica: u8,
     count: i32,
     last: Option<u32>,
-    // Elements in the order of the list, which rises in a set. Of an RGA none has a greater stamp than one before it
-    // that it was put behind, so a new one goes directly behind its anchor.
+    // The elements in the order of the list, which ascends in a set. A new element of an RGA has a greater stamp than
+    // all that the replica holds, so it goes directly behind its anchor.
     elements: Vec<u32>,
-    // How many elements were ever put in.
+    // The number of elements that were ever added.
     made: u32,
 }
 
 impl Held {
-    /// A replica before any update.
+    /// Creates the data of a replica before any update.
     pub fn new(alloc: Global, kind: Kind, replica: u8) -> Held {
         Held {
             kind,
@@ -40,7 +40,7 @@ impl Held {
         }
     }
 
-    /// An update that the replica may make. Where it takes an element out, that is one of its own.
+    /// Returns an update that the replica may make. A removal is of one of its own elements.
     pub fn update(&self, alloc: Global, chance: &mut Chance) -> Result<Op, AllocError> {
         let there = self.some_element(chance);
         Ok(match (self.kind, there) {
@@ -65,12 +65,12 @@ impl Held {
         })
     }
 
-    // One of the elements, the rather the more there are.
+    // Returns one of the elements, more probably the more there are.
     fn some_element(&self, chance: &mut Chance) -> Option<u32> {
         self.elements.get(chance.below(MOST_HELD) as usize).copied()
     }
 
-    // An element that no update has put in.
+    // Returns an element that no update has added.
     fn fresh(&self) -> u32 {
         u32::from(self.replica)
             .wrapping_mul(ELEMENTS)
@@ -78,7 +78,7 @@ impl Held {
             .wrapping_add(1)
     }
 
-    /// A read, with what it returns.
+    /// Returns a read with its right answer.
     pub fn read(&self) -> Result<Op, AllocError> {
         Ok(match self.kind {
             Kind::Counter => Op::Count(self.count),
@@ -89,7 +89,7 @@ impl Held {
         })
     }
 
-    /// A read, with what it does not return: a number more, or an element that is in none.
+    /// Returns a read with a wrong answer: a larger number, or an element that is never added.
     pub fn lie(&self) -> Result<Op, AllocError> {
         let mut elements = self.elements.clone()?;
         elements.push(u32::MAX)?;
@@ -102,7 +102,7 @@ impl Held {
         })
     }
 
-    /// The replica has made this operation.
+    /// Applies an operation of the replica.
     pub fn take(&mut self, op: &Op) -> Result<(), AllocError> {
         match op {
             Op::Inc => self.count = self.count.wrapping_add(1),
@@ -125,7 +125,7 @@ impl Held {
         self.elements.retain(|it| *it != element);
     }
 
-    // Directly behind the anchor, or at the beginning where that is not there.
+    // Inserts the element directly behind the anchor, or at the beginning if the anchor is missing.
     fn put_behind(&mut self, anchor: u32, element: u32) -> Result<(), AllocError> {
         let place = self.elements.iter().position(|it| *it == anchor);
         self.elements.insert(place.map_or(0, |at| at + 1), element)?;
@@ -133,7 +133,7 @@ impl Held {
     }
 }
 
-// A list of one identifier.
+// Returns a list of one identifier.
 fn only(alloc: Global, id: u32) -> Result<Elements, AllocError> {
     let mut ids = Vec::new(alloc);
     ids.push(id)?;

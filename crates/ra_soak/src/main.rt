@@ -1,10 +1,11 @@
-//! A soak of the desk: 64 threads on one desk of each kind do what a seed tells them, round after round, and what the
-//! closed desk logged is compared with what each of them was told.
+//! A soak test of the desk, round after round, each on a desk of the next kind. 64 threads with one pass each, and then
+//! 32 threads with two each, make reports that depend on a seed and on the replies. Each closed log is compared with
+//! the replies to each pass.
 //!
 //!     ra_soak SECONDS SEED
 //!
-//! It prints a line for each round and one at the end. Its status is 0 where nothing was found, 1 where something was,
-//! and 2 where it could not go on. Without a word on its command line it prints nothing, since the gate runs it so.
+//! It prints a line for each round and one at the end. Its exit status is 0 if nothing was found, 1 if something was,
+//! and 2 if it could not continue. Without arguments it prints nothing, since the gate runs it so.
 #![tactic(auto)]
 
 mod chance;

@@ -1,4 +1,4 @@
-//! Two passes that share a thread, and what is left of all of them.
+//! Pairs of passes that share a thread, and the results of all pairs.
 ghost use Rattle.std.specs.Prelude.{◌≡◌, ◌+◌, ◌≤◌, length, All, IfOk, IfSome};
 ghost use Rattle.ra_ticket.specs.Passes.{IsPassOf};
 
@@ -17,22 +17,22 @@ use std::alloc::Global;
 pub struct Pair {
     /// The one that has its turn first.
     pub one: Player,
-    /// The one that has its turn then.
+    /// The other one.
     pub other: Player,
 }
 
-/// What is left at the end.
+/// The results at the end.
 #[derive(Drop)]
 pub struct Left {
-    /// A pass, if there is one.
+    /// A remaining pass, if there is one.
     pub pass: Option<Pass<Monitor>>,
     /// All records.
     pub records: Vec<Record>,
-    /// How many passes were dropped.
+    /// The number of passes that were dropped.
     pub dropped: u64,
 }
 
-/// Pairs of any two passes.
+/// Forms pairs of passes at random.
 pub fn pair_up(
     alloc: Global,
     desk: &Desk,
@@ -54,7 +54,7 @@ pub fn pair_up(
     Ok(pairs)
 }
 
-// Any two of the players leave the others.
+// Removes two players at random, and returns them as a pair.
 fn draw_pair(desk: &Desk, players: &mut Vec<Player>, chance: &mut Chance) -> Pair
     requires two { 2 ≤ length players.old.items }
     requires passes { All (λ p. IfSome p.pass (IsPassOf desk.now)) players.old.items }
@@ -67,7 +67,7 @@ fn draw_pair(desk: &Desk, players: &mut Vec<Player>, chance: &mut Chance) -> Pai
     Pair { one, other }
 }
 
-// Any of the players leaves the others.
+// Removes a player at random, and returns it.
 fn draw(desk: &Desk, players: &mut Vec<Player>, chance: &mut Chance) -> Player
     requires one { 1 ≤ length players.old.items }
     requires passes { All (λ p. IfSome p.pass (IsPassOf desk.now)) players.old.items }
@@ -79,7 +79,7 @@ fn draw(desk: &Desk, players: &mut Vec<Player>, chance: &mut Chance) -> Player
     players.swap_remove(at)
 }
 
-/// What is left of the pairs.
+/// Returns the results of the pairs.
 pub fn part(alloc: Global, desk: &Desk, pairs: Vec<Pair>) -> Result<Left, NoMemory>
     requires { All (λ p. IfSome p.one.pass (IsPassOf desk.now) × IfSome p.other.pass (IsPassOf desk.now)) pairs.items }
     ensures { IfOk result (λ left. IfSome left.pass (IsPassOf desk.now)) }
@@ -105,7 +105,7 @@ pub fn part(alloc: Global, desk: &Desk, pairs: Vec<Pair>) -> Result<Left, NoMemo
     })
 }
 
-// The last pair leaves the others.
+// Removes the last pair, and returns it.
 fn last_of(desk: &Desk, pairs: &mut Vec<Pair>) -> Option<Pair>
     requires { All (λ p. IfSome p.one.pass (IsPassOf desk.now)
         × IfSome p.other.pass (IsPassOf desk.now)) pairs.old.items }
@@ -117,7 +117,7 @@ fn last_of(desk: &Desk, pairs: &mut Vec<Pair>) -> Option<Pair>
     pairs.pop()
 }
 
-// The first of two passes that is there.
+// Returns the first of two passes that exists.
 fn first_of(
     desk: &Desk,
     one: Option<Pass<Monitor>>,

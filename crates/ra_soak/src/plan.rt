@@ -1,4 +1,4 @@
-//! What a pass does: by its seed, by its number, and by what its replica holds.
+//! The plan of a pass, which depends on its seed, its number, and what its replica holds.
 
 use crate::chance::Chance;
 use crate::held::Held;
@@ -6,41 +6,41 @@ use ra_labels::{Command, Kind, NoMemory, Op, Refusal, Reply};
 use std::alloc::Global;
 use std::sync::atomic::{AtomicU32, Ordering};
 
-/// How many replicas there are.
+/// The number of replicas.
 pub const REPLICAS: u8 = 16;
 
-/// The passes below this number report for replicas that nothing reaches but their own updates: so they know what a
-/// read returns. Those from here to the quiet replica report for replicas that others' updates are delivered to.
+/// The passes below this number report for replicas to which nothing is delivered, so they know what a read returns.
+/// Those from here to the quiet replica report for replicas to which others' updates are delivered.
 pub const WRITERS: u8 = 8;
 
-// No update is made by this replica, and none is delivered to it. So whoever reads it finds nothing.
+// The replica that makes no update and to which none is delivered, so its reads find nothing.
 const QUIET: u8 = 15;
 
-/// What a pass does next.
+/// The next act of a pass.
 #[derive(Drop)]
 pub enum Act {
-    /// It makes a call, which may wait, or tries one.
+    /// A call, which may wait, or an attempt.
     Call { command: Command, waits: bool },
-    /// It glances.
+    /// A glance.
     Glance,
-    /// It meets another pass of its thread.
+    /// A meeting with another pass of its thread.
     Meet,
-    /// It is dropped.
+    /// The pass is dropped.
     Leave,
 }
 
-// Which commands a pass makes.
+// The commands that a pass makes.
 #[derive(Clone, Copy)]
 enum Part {
     // Updates and reads of its replica.
     Writes,
     // Updates of its replica, and deliveries to it.
     Hears,
-    // What changes nothing.
+    // Commands that change nothing.
     LooksOn,
 }
 
-/// What a pass does.
+/// The plan of a pass.
 #[derive(Drop)]
 pub struct Plan {
     chance: Chance,
@@ -48,16 +48,17 @@ pub struct Plan {
     replica: u8,
     held: Held,
     kind: Kind,
-    // All labels below this one have been delivered, as far as they can be.
+    // All labels below this one have been delivered, as far as possible.
     delivered: u32,
-    // So many commands before it reports a read falsely.
+    // The number of commands before it reports a read falsely.
     lies_after: Option<u32>,
-    // It is never dropped.
+    // Whether it is never dropped.
     stays: bool,
 }
 
 impl Plan {
-    /// What the pass of this number does on a desk of this kind. It lies after so many commands, where that is given.
+    /// Creates the plan of the pass with this number on a desk of this kind. If `lies_after` is given, it lies after
+    /// this many commands.
     pub fn new(alloc: Global, kind: Kind, pass: u8, seed: u64, lies_after: Option<u32>) -> Plan {
         let (part, replica) = if pass < WRITERS {
             (Part::Writes, pass)
@@ -78,12 +79,12 @@ impl Plan {
         }
     }
 
-    /// The same, of a pass that is not dropped, where it stays.
+    /// Returns the plan, of a pass that is never dropped if `stays` is set.
     pub fn staying(self, stays: bool) -> Plan {
         Plan { stays, ..self }
     }
 
-    /// What it does next. A stamp's clock is drawn here, from the one that all passes share.
+    /// Returns the next act. The clock of a stamp is drawn from the one that all passes share.
     pub fn next(&mut self, alloc: Global, clock: &AtomicU32) -> Result<Act, NoMemory> {
         if !self.stays && self.chance.is_one_in(1_000) {
             return Ok(Act::Leave);
@@ -114,7 +115,7 @@ impl Plan {
         }
     }
 
-    // Is this the command that is a lie?
+    // Returns `true` if this command is the lie.
     fn lies_now(&mut self) -> bool {
         let now = self.lies_after == Some(0);
         self.lies_after = match self.lies_after {
@@ -134,7 +135,8 @@ impl Plan {
         Ok(operation(self.replica, op, stamp))
     }
 
-    // Of the first label that has not been delivered, whose causes have been, or of a later one, whose may lack.
+    // Returns a delivery of the first label that has not been delivered, or, once in four times, of a label up to 15
+    // later, whose causes may be missing.
     fn delivery(&mut self) -> Command {
         let ahead = if self.chance.is_one_in(4) {
             self.chance.below(16)
@@ -147,7 +149,7 @@ impl Plan {
         }
     }
 
-    // What is refused, whatever was reported.
+    // Returns a command that is rejected, whatever was reported before.
     fn refused(&mut self) -> Result<Command, NoMemory> {
         Ok(match self.chance.below(4) {
             0 => Command::Deliver {
@@ -164,7 +166,7 @@ impl Plan {
         })
     }
 
-    /// The command was answered.
+    /// Records the reply to the command.
     pub fn answered(&mut self, command: &Command, reply: Reply) -> Result<(), NoMemory> {
         match command {
             Command::Operate { op, .. } if matches!(reply, Reply::Ok(_)) => self.held.take(op)?,
@@ -177,7 +179,7 @@ impl Plan {
     }
 }
 
-// Is the label there, or none that is delivered?
+// Returns `true` if the label was delivered, or is not an update.
 fn needs_no_more(reply: Reply) -> bool {
     matches!(
         reply,

@@ -1,4 +1,4 @@
-//! A pass with what it does and what it was told: its turns, alone or beside another pass.
+//! A pass with its plan and its record, and its turns, alone or beside another pass.
 ghost use Rattle.std.specs.Prelude.{◌≡◌, IfSome};
 ghost use Rattle.ra_ticket.specs.Passes.{IsPassOf};
 
@@ -17,13 +17,13 @@ use std::sync::atomic::AtomicU32;
 pub struct Player {
     /// The pass, until it is dropped.
     pub pass: Option<Pass<Monitor>>,
-    /// What it does.
+    /// Its plan.
     pub plan: Plan,
-    /// What it was told.
+    /// The record of its replies.
     pub record: Record,
 }
 
-/// One turn. Where the pass would meet another one, it glances.
+/// Takes one turn. A pass that would meet another one glances instead.
 pub fn take_turn<R: Wait>(
     rt: &R,
     alloc: Global,
@@ -38,7 +38,7 @@ pub fn take_turn<R: Wait>(
     do_alone(rt, desk, player, act)
 }
 
-/// One turn of the first of two passes.
+/// Takes one turn of the first of two passes.
 pub fn take_turn_beside<R: Wait>(
     rt: &R,
     alloc: Global,
@@ -72,7 +72,7 @@ fn do_alone<R: Wait>(rt: &R, desk: &Desk, player: &mut Player, act: Act) -> Resu
     }
 }
 
-// A call, or an attempt, of a pass that is there.
+// Makes a call, or an attempt, with the pass, if it was not dropped.
 fn call<R: Wait>(
     rt: &R,
     desk: &Desk,
@@ -89,7 +89,7 @@ fn call<R: Wait>(
             let mut pass = pass;
             let answer = answer_to(rt, desk, &mut pass, command, waits);
             player.pass = Some(pass);
-            heed(player, kept, answer)
+            record_reply(player, kept, answer)
         }
         None => Ok(()),
     }
@@ -112,8 +112,8 @@ fn answer_to<R: Wait>(
     }
 }
 
-// The plan and the record learn what was answered.
-fn heed(player: &mut Player, command: Command, answer: Answer) -> Result<(), NoMemory>
+// Passes the answer on to the plan and the record.
+fn record_reply(player: &mut Player, command: Command, answer: Answer) -> Result<(), NoMemory>
     ensures { player.new.pass ≡ player.old.pass }
 {
     match player.record.reply_in(answer) {
@@ -140,7 +140,7 @@ fn glance(desk: &Desk, player: &mut Player) -> Result<(), NoMemory>
     }
 }
 
-// Two passes meet, if both are there.
+// Lets two passes meet, if both exist.
 fn meet(desk: &Desk, player: &mut Player, other: &mut Player) -> Result<(), NoMemory>
     requires player { IfSome player.old.pass (IsPassOf desk.now) }
     requires other { IfSome other.old.pass (IsPassOf desk.now) }
@@ -157,7 +157,7 @@ fn meet(desk: &Desk, player: &mut Player, other: &mut Player) -> Result<(), NoMe
     Ok(())
 }
 
-// Both come back, with how many calls there are where both were there.
+// Returns both passes, with the number of calls if both exist.
 fn met(
     desk: &Desk,
     one: Option<Pass<Monitor>>,

@@ -1,43 +1,43 @@
-//! What a pass was told.
+//! The record of the replies to a pass.
 use ra_labels::{Command, NoMemory, Reply};
 use ra_ticket::{CallFault, Glance};
 use std::alloc::Global;
 
-/// What is answered to a command.
+/// The result of a command.
 pub type Answer = Result<Reply, CallFault<Command>>;
 
-/// What a pass was told at once.
+/// One event of a pass.
 #[derive(Drop)]
 pub enum Event {
-    /// A call was answered.
+    /// A call that was answered.
     Told { command: Command, reply: Reply },
     /// A glance.
     Glanced(Glance),
-    /// How many calls there were when it met another pass.
+    /// The number of calls at a meeting with another pass.
     Met(u32),
 }
 
-/// What a pass was told, in its order.
+/// The events of a pass, in order.
 #[derive(Drop)]
 pub struct Record {
     /// The number of the pass.
     pub pass: u8,
     /// The calls that were answered, and the looks.
     pub events: Vec<Event>,
-    /// How many calls were answered.
+    /// The number of calls that were answered.
     pub told: u64,
-    /// How many calls found the desk in use.
+    /// The number of calls that found the desk in use.
     pub busy: u64,
-    /// How many calls found the log full.
+    /// The number of calls that found the log full.
     pub full: u64,
-    /// How many looks there were.
+    /// The number of looks.
     pub looks: u64,
-    /// Was it refused memory?
+    /// Whether an allocation failed.
     pub is_short: bool,
 }
 
 impl Record {
-    /// A record of nothing.
+    /// Creates an empty record.
     pub fn new(alloc: Global, pass: u8) -> Record {
         Record {
             pass,
@@ -50,7 +50,8 @@ impl Record {
         }
     }
 
-    /// The reply. Where the command was handed back there is none, which is counted. The answer is let go here, once.
+    /// Returns the reply. If the command was handed back, it is counted and the result is `None`. The answer is dropped
+    /// here, once.
     pub fn reply_in(&mut self, answer: Answer) -> Option<Reply> {
         match &answer {
             Ok(reply) => Some(*reply),
@@ -69,14 +70,14 @@ impl Record {
         }
     }
 
-    /// The command was answered.
+    /// Records the reply to a command.
     pub fn answered(&mut self, command: Command, reply: Reply) -> Result<(), NoMemory> {
         self.events.push(Event::Told { command, reply })?;
         self.told = self.told.wrapping_add(1);
         Ok(())
     }
 
-    /// The pass looked at the desk.
+    /// Records a look at the desk.
     pub fn looked(&mut self, event: Event) -> Result<(), NoMemory> {
         self.events.push(event)?;
         self.looks = self.looks.wrapping_add(1);

@@ -1,4 +1,5 @@
-//! A round: 64 threads with a pass each, and then 32 with two each, on one desk, which is closed at the end.
+//! A round on one desk: 64 threads with one pass each, then 32 threads with two passes each. The desk is closed at the
+//! end.
 ghost use Rattle.std.specs.Prelude.{All, IfOk, IfSome};
 ghost use Rattle.ra_ticket.specs.Passes.{IsPassOf};
 
@@ -17,32 +18,32 @@ use std::sync::Wait;
 use std::sync::atomic::AtomicU32;
 use std::thread::Threads;
 
-/// How many passes there are.
+/// The number of passes.
 pub const PASSES: u8 = 64;
 
-/// What a round is made from.
+/// The parameters of a round.
 #[derive(Clone, Copy)]
 pub struct Setting {
     /// The kind of the desk's monitor.
     pub kind: Kind,
-    /// What the plans of all passes come from.
+    /// The seed of the plans of all passes.
     pub seed: u64,
-    /// How many entries the log may have.
+    /// The limit of the log.
     pub limit: u32,
-    /// How many turns each pass has.
+    /// The number of turns of each pass, both alone and beside another one.
     pub turns: u32,
-    /// The pass that lies, and after how many commands, where one does.
+    /// The pass that lies, and the number of commands before the lie, if there is one.
     pub lie: Option<(u8, u32)>,
 }
 
-/// What a round leaves: the monitor that was in the desk, and what each pass was told.
+/// The results of a round: the monitor of the closed desk, and the record of each pass.
 #[derive(Drop)]
 pub struct Closed {
     /// The monitor.
     pub monitor: Monitor,
     /// A record for each pass.
     pub records: Vec<Record>,
-    /// How many passes were dropped before the end.
+    /// The number of passes that were dropped before the end.
     pub dropped: u64,
 }
 
@@ -57,7 +58,7 @@ pub fn play<R: Threads + Wait + Sync>(rt: &R, alloc: Global, setting: Setting) -
     }
 }
 
-// Plays it on this desk, and closes it.
+// Plays the round on this desk, and closes it.
 fn play_on<R: Threads + Wait + Sync>(
     rt: &R,
     alloc: Global,
@@ -73,7 +74,7 @@ fn play_on<R: Threads + Wait + Sync>(
     }
 }
 
-// Threads with a pass each, and then threads with two each.
+// Plays with threads of one pass each, and then with threads of two each.
 fn play_both<R: Threads + Wait + Sync>(
     rt: &R,
     alloc: Global,

@@ -22,7 +22,7 @@ const KINDS: [Kind; 5] = [
     Kind::Rga,
 ];
 
-// What a round came to, or all rounds.
+// The counts of one round, or of all rounds.
 #[derive(Clone, Copy)]
 struct Sum {
     rounds: u64,
@@ -49,7 +49,7 @@ impl Sum {
         lies: 0,
     };
 
-    // What one round came to.
+    // Returns the counts of one round.
     fn of(closed: &Closed) -> Sum {
         let report = closed.monitor.report();
         let mut sum = Sum {
@@ -82,7 +82,8 @@ impl Sum {
     }
 }
 
-/// Plays rounds for so many seconds, and prints a line for each and one for all of them. Was nothing found?
+/// Plays rounds for this many seconds, and prints a line for each and one for all of them. Returns `true` if nothing
+/// was found.
 pub fn soak<R: Threads + Wait + Clock + Print + Sync>(
     rt: &R,
     alloc: Global,
@@ -111,7 +112,7 @@ pub fn soak<R: Threads + Wait + Clock + Print + Sync>(
     Ok(true)
 }
 
-// The next round. One in four has a lie, and one in four a log that may be too short.
+// Returns the parameters of the next round. One in four has a lie, and one in four a log that may be too short.
 fn setting_of(number: u32, chance: &mut Chance) -> Setting {
     let kind = KINDS[(number % 5) as usize];
     let lie = if chance.is_one_in(4) {
@@ -137,7 +138,7 @@ fn play_and_check<R: Threads + Wait + Sync>(
     let closed = play(rt, alloc, setting)?;
     let finding = finding_in(alloc, setting, &closed);
     let sum = Sum::of(&closed);
-    // What is closed has many parts, so it is let go by a call: the proof goes through them once.
+    // What is closed has many fields. Dropping it by a call lets the proof unfold them once.
     drop(closed);
     Ok((sum, finding?))
 }

@@ -1,4 +1,4 @@
-//! The threads of a round, which start together: each has a pass, or two.
+//! The threads of a round, which start together. Each has one pass, or two.
 ghost use Rattle.std.specs.Prelude.{All, IfOk, IfSome};
 ghost use Rattle.ra_ticket.specs.Passes.{IsPassOf};
 
@@ -16,10 +16,10 @@ use std::sync::atomic::{AtomicU32, AtomicUsize, Ordering};
 use std::thread;
 use std::thread::Threads;
 
-// How often a thread looks whether all have started.
+// The number of times that a thread looks whether all have started.
 const MOST_LOOKS: u32 = 100_000;
 
-// Waits until so many threads stand here, or for so long that some cannot run beside this one.
+// Waits until this many threads have arrived, for a bounded time, since some may be unable to run beside this one.
 fn start_together(started: &AtomicUsize, count: usize) {
     started.fetch_add(1, Ordering::SeqCst);
     for _ in 0..MOST_LOOKS {
@@ -30,7 +30,7 @@ fn start_together(started: &AtomicUsize, count: usize) {
     }
 }
 
-/// Each pass has its turns on a thread of its own.
+/// Plays the turns of each pass on a thread of its own.
 pub fn play_apart<R: Threads + Wait + Sync>(
     rt: &R,
     alloc: Global,
@@ -77,7 +77,7 @@ fn play_alone<R: Wait>(
     player
 }
 
-// The pass with its plan. The last one stays to the end.
+// Returns the pass with its plan. The last pass stays to the end.
 fn player_of(alloc: Global, desk: &Desk, pass: Pass<Monitor>, setting: Setting) -> Player
     requires { IsPassOf desk.now pass }
     ensures { IfSome result.pass (IsPassOf desk.now) }
@@ -98,7 +98,7 @@ fn player_of(alloc: Global, desk: &Desk, pass: Pass<Monitor>, setting: Setting) 
     }
 }
 
-/// Each two passes have their turns on a thread of their own.
+/// Plays the turns of each pair of passes on a thread of its own.
 pub fn play_in_pairs<R: Threads + Wait + Sync>(
     rt: &R,
     alloc: Global,
@@ -127,7 +127,7 @@ pub fn play_in_pairs<R: Threads + Wait + Sync>(
     )
 }
 
-// The two have their turns one after the other.
+// Plays the turns of both passes, one after the other.
 fn play_beside<R: Wait>(
     rt: &R,
     alloc: Global,

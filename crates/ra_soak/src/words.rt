@@ -1,19 +1,19 @@
-//! The words of the command line.
+//! The command-line arguments.
 use anyhow::{Result, bail};
 use std::alloc::AllocGlobal;
 use std::env;
 use std::env::Env;
 
-/// How long a soak lasts, and the number that all its choices come from.
+/// The duration of a soak test, and the seed of all its choices.
 #[derive(Clone, Copy)]
 pub struct Words {
-    /// In seconds.
+    /// The duration in seconds.
     pub seconds: u64,
     /// The first seed.
     pub seed: u64,
 }
 
-/// What the words say, or none where there is none.
+/// Returns the parsed arguments, or `None` if there are none.
 pub fn words_of<R: Env + AllocGlobal>(rt: &R) -> Result<Option<Words>> {
     let mut words = env::args(rt)?;
     let _program = words.next();

@@ -1,4 +1,4 @@
--- One seat goes from one view to another, and the words go up: what the rule of the lock asks of that.
+-- Lemmas on changes: one seat changes its view, the lock's words may increase, and the rule of the lock is preserved.
 use Rattle.std.proofs.Common.{◌≡◌, ◌≢◌, ◌⊎◌, ℕ, ◌+◌, ◌^◌, ◌<◌, ◌≤◌, List, [], ◌∷◌, set, Option, Some, None}
 use Rattle.std.proofs.Common.{refl, sym, ap, ◌∙◌, subst, ⊎_elim, le_refl, le_trans, arith}
 use Rattle.std.proofs.lemmas.Option.{none-some}
@@ -34,16 +34,16 @@ module _ {M C R S : Type 0} (j : Readings M C R S) (opened : S) where
   abbrev pub Rule : Table → Type 0
   Rule = TurnsKept j opened
 
-  -- the words as the rule spells them
+  -- the words, as the rule states them
   abbrev pub words : (s : Table) → Rule s → List ℕ
   words s r = r.next ∷ r.serving ∷ r.mark ∷ r.others
 
-  -- the rule once the words are these, the slots these and the seat id has this view
+  -- the rule, for these words and slots and this view of seat id
   abbrev pub Then : (s : Table) → Rule s → ℕ → ℕ → ℕ → ℕ → Homes → View C R S → Type 0
   Then s r id next' serving' mark' homes' w =
       Rule record { words = next' ∷ serving' ∷ mark' ∷ r.others; homes = homes'; views = set s.views id w }
 
-  -- who holds has a ticket
+  -- a holding seat has a ticket
   held_at_all : (st : Stage) (t : ℕ) → held_at st ≡ Some t → ticket_at st ≡ Some t
   held_at_all (Holding n) t e = e
   held_at_all _ t e = absurd (cc)
@@ -52,14 +52,14 @@ module _ {M C R S : Type 0} (j : Readings M C R S) (opened : S) where
   held_ticket (Knows k) t e = held_at_all k.stage t e
   held_ticket _ t e = absurd (cc)
 
-  -- the seat whose ticket is served is the only one that can hold
+  -- only the seat whose ticket is served can hold the lock
   pub holder_is : (s : Table) (r : Rule s) (id t : ℕ) → At ticket_of s.views id t → t ≡ r.serving → (seat u : ℕ)
       → At held_of s.views seat u → seat ≡ id
   holder_is s r id t mine served seat u a =
       r.tickets_apart seat id t
       (subst (At ticket_of s.views seat) ((r.out seat u a).0 ∙ sym served) (a.0, a.1, held_ticket a.0 u a.2)) mine
 
-  -- so nobody holds while it waits
+  -- so no seat holds the lock while this one is waiting
   pub nobody_holds : (s : Table) (r : Rule s) (id t : ℕ) (k : Known C R S) → get_elem? s.views id ≡ some (Knows k)
       → k.stage ≡ Waiting t → t ≡ r.serving → NobodyHolds s.views
   nobody_holds s r id t k here waits served seat u a =
@@ -68,11 +68,12 @@ module _ {M C R S : Type 0} (j : Readings M C R S) (opened : S) where
       let held : held_at k.stage ≡ Some u = ap held_of me ∙ a.2 in
       let none_held = ap held_at waits in cc
 
-  -- nobody holds where no ticket is out
+  -- no seat holds the lock if no ticket is outstanding
   pub nobody_out : (s : Table) (r : Rule s) → r.next ≡ r.serving → NobodyHolds s.views
   nobody_out s r same seat u a = let b = r.drawn seat u (a.0, a.1, held_ticket a.0 u a.2) in omega arith
 
-  -- the seat id goes from v to w, the words to next', serving' and mark', the slots to homes' and the front to front'
+  -- seat id changes its view from v to w, the words become next', serving' and mark', the slots homes', and the front
+  -- front'
   pub record Change (s : Table) (r : Rule s) (id : ℕ) (v w : View C R S) (next' serving' mark' : ℕ) (homes' : Homes)
       (front' : Log) : Type 0 where
     pub order : serving' ≤ next'
@@ -112,7 +113,7 @@ module _ {M C R S : Type 0} (j : Readings M C R S) (opened : S) where
         ))
         (λ (t : (seat ≢ id) × (get_elem? s.views seat ≡ some a.0)). (a.0, t.1, a.2)) (at_set s.views id seat w a.0 a.1)
 
-    -- such a change keeps the rule
+    -- such a change preserves the rule
     pub changed : (next' serving' mark' : ℕ) (homes' : Homes) (front' : Log)
         → Change s r id v w next' serving' mark' homes' front' → Then s r id next' serving' mark' homes' w
     changed next' serving' mark' homes' front' c = record {
@@ -148,7 +149,7 @@ module _ {M C R S : Type 0} (j : Readings M C R S) (opened : S) where
       home_set_up = c.home_set_up;
     }
 
-    -- a change that leaves the slot, `serving` and the front alone, of which the seat may see more
+    -- a change that leaves the slots, `serving` and the front unchanged, after which the seat may see more
     pub seeing : (next' : ℕ) → next' < 2 ^ 64 → r.next ≤ next' → (next_of w ≤ next') × (serving_of w ≤ r.serving)
         → numbers_of w ≡ numbers_of v → held_of w ≡ held_of v
         → IsSetUp opened w → HasBegun w r.front → HasOwn w r.front
@@ -183,7 +184,7 @@ module _ {M C R S : Type 0} (j : Readings M C R S) (opened : S) where
           home_set_up = r.home_set_up;
         }
 
-  -- a view that a seat may have anew while words, slots and front stay: no ticket is out with it
+  -- a new view that a seat may have with the same words, slots and front: it has no ticket
   pub record Fits (s : Table) (r : Rule s) (u : View C R S) : Type 0 where
     pub reached : (next_of u ≤ r.next) × (serving_of u ≤ r.serving)
     pub no_ticket : ticket_of u ≡ None
@@ -191,7 +192,7 @@ module _ {M C R S : Type 0} (j : Readings M C R S) (opened : S) where
     pub begun : HasBegun u r.front
     pub own : HasOwn u r.front
 
-  -- each seat has the view that it had, or one that fits
+  -- each seat keeps its view, or has one that fits
   module _ (s : Table) (r : Rule s) (views : List (View C R S))
       (who : (seat : ℕ) (u : View C R S) → get_elem? views seat ≡ some u
       → (get_elem? s.views seat ≡ some u) ⊎ Fits s r u)

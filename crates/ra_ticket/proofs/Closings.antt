@@ -1,4 +1,4 @@
--- What is left of a lock when its table is closed.
+-- Lemmas on a lock whose table is closed.
 use Rattle.std.proofs.Common.{◌≡◌, ℕ, List, ◌∷◌, Option, Some, refl, sym, ap, ◌∙◌, subst}
 use mathlib.Core.Option.{some, some-injective}
 use lib.ListN.{get_elem?}
@@ -20,7 +20,7 @@ module _ {C R S : Type 0} where
   begun (Knows k) idle log has = has
   begun _ idle log has = absurd (cc)
 
-  -- a view that may make any step has a setup
+  -- an idle view has a setup
   pub idle_set_up : (v : View C R S) → stage_of v ≡ Some Idle → (setup : S) × (setup_of v ≡ Some setup)
   idle_set_up (Knows k) idle = (k.setup, refl)
   idle_set_up _ idle = absurd (cc)

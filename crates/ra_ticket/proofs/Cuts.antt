@@ -1,4 +1,4 @@
--- The first state keeps the rule of the lock, and so does a seat that is cut in two.
+-- Lemmas on cutting an idle seat in two, and on the initial state: both satisfy the rule of the lock.
 use Rattle.std.proofs.Common.{◌≡◌, ◌≢◌, ◌⊎◌, ℕ, zero, suc, ◌+◌, ◌^◌, ◌<◌, ◌≤◌, List, [], ◌∷◌, ◌++◌, length, set, Option}
 use Rattle.std.proofs.Common.{Some, None, refl, sym, ap, ◌∙◌, subst, ⊎_elim, inl, inr, le_refl, arith, length-set}
 use mathlib.Core.Option.{some, some-ne-none, some-injective}
@@ -23,7 +23,7 @@ use Rattle.ra_ticket.proofs.Seats.{inside, elsewhere}
 use Rattle.ra_ticket.proofs.Logs.{begins_same}
 use Rattle.std.proofs.lemmas.List.Elements.{All-nil}
 
--- an element of a list with one more at its end
+-- an element of a list with one more element at its end
 at_end : {A : Type 0} (l : List A) (a b : A) (j : ℕ) → get_elem? (l ++ a ∷ []) j ≡ some b
     → ((j < length l) × (get_elem? l j ≡ some b)) ⊎ ((j ≡ length l) × (a ≡ b))
 at_end [] a b zero e = inr (refl, some-injective a b e)
@@ -33,7 +33,7 @@ at_end (x ∷ xs) a b (suc j) e =
     ⊎_elim (λ (t : (j < length xs) × (get_elem? xs j ≡ some b)). let l = t.0 in inl (omega arith, t.1))
     (λ (t : (j ≡ length xs) × (a ≡ b)). inr (ap suc t.0, t.1)) (at_end xs a b j e)
 
--- the j-th of some numbers from k on
+-- element j of consecutive numbers from k on
 number_at : (k n j x : ℕ) → get_elem? (range_with_len k n) j ≡ some x → x ≡ k + j
 number_at k zero j x e = absurd (some-ne-none x (sym e))
 number_at k (suc n) zero x e = let s = some-injective k x e in omega arith
@@ -48,7 +48,7 @@ at_first_only [] j x e = absurd (some-ne-none x (sym e))
 at_first_only (y ∷ ys) zero x e = (refl, e)
 at_first_only (y ∷ ys) (suc j) x e = absurd (some-ne-none x (sym e))
 
--- the only seat of the first table
+-- the only seat of the initial table
 only : {C R S : Type 0} (v u : View C R S) (seat : ℕ) → get_elem? (v ∷ []) seat ≡ some u → (seat ≡ 0) × (v ≡ u)
 only v u zero e = (refl, some-injective v u e)
 only v u (suc seat) e = absurd (some-ne-none u (sym e))
@@ -112,7 +112,7 @@ module _ {M C R S : Type 0} (j : Readings M C R S) (opened : S) where
     IsCut seat u = (((seat ≡ id) × (left ≡ u)) ⊎ ((seat ≢ id) × (get_elem? s.views seat ≡ some u)))
         ⊎ ((seat ≡ length s.views) × (right ≡ u))
 
-    -- who sits at a seat after the cut
+    -- the view of a seat after the cut
     cut_at : (seat : ℕ) (u : View C R S) → get_elem? cut seat ≡ some u → IsCut seat u
     cut_at seat u e = ⊎_elim
         (λ (t : (seat < length (set s.views id left)) × (get_elem? (set s.views id left) seat ≡ some u)).
@@ -120,7 +120,7 @@ module _ {M C R S : Type 0} (j : Readings M C R S) (opened : S) where
         (λ (t : (seat ≡ length (set s.views id left)) × (right ≡ u)). inr (t.0 ∙ length-set s.views id left, t.1))
         (at_end (set s.views id left) right u seat e)
 
-    -- either part fits
+    -- both parts fit
     fits : (numbers : List ℕ) → SeesOwn (record k { numbers = numbers }) r.front
         → changes.Fits j opened s r (Knows (record k { numbers = numbers }))
     fits numbers own = record {
@@ -139,7 +139,7 @@ module _ {M C R S : Type 0} (j : Readings M C R S) (opened : S) where
     fitting seat u (inr x) = inr (subst (changes.Fits j opened s r) x.1 (fits (first_only k.numbers)
         (λ i n at. r.own id (Knows k) here 0 n (at_first_only k.numbers i n at).1)))
 
-    -- who holds does so still
+    -- a seat that held the lock still does
     forth : (seat t : ℕ) → At held_of s.views seat t → At held_of cut seat t
     forth seat t a = (
       a.0,
@@ -148,7 +148,7 @@ module _ {M C R S : Type 0} (j : Readings M C R S) (opened : S) where
       a.2,
     )
 
-    -- where a pass sat before the cut
+    -- the seat of a pass before the cut
     abbrev Was : ℕ → ℕ → ℕ → ℕ → Type 0
     Was seat j seat' j' = ((seat ≡ id) × (seat' ≡ id) × (j' ≡ suc j))
         ⊎ (((seat ≢ id) × (seat < length s.views) × (seat' ≡ seat) × (j' ≡ j))
@@ -172,7 +172,7 @@ module _ {M C R S : Type 0} (j : Readings M C R S) (opened : S) where
         at_first_only k.numbers j number (ap (λ (u : View C R S). get_elem? (numbers_of u) j) x.1 ∙ a.2) in
         (id, 0, (Knows k, here, f.1), inr (inr (x.0, refl, refl, f.0)))
 
-    -- who sat in one seat sits in one seat
+    -- two positions after the cut are equal if the positions before it are
     kept_apart : (a b i j a' b' i' j' : ℕ) → id < length s.views → (a' ≡ b') × (i' ≡ j') → Was a i a' i' → Was b j b' j'
         → (a ≡ b) × (i ≡ j)
     kept_apart a b i j a' b' i' j' within same p q = (omega arith, omega arith)
@@ -189,7 +189,7 @@ module _ {M C R S : Type 0} (j : Readings M C R S) (opened : S) where
   splits id (Knows k) idle s r at = let is : k.stage ≡ Idle = cc in splits_here s r id k at is
   splits id _ idle s r at = absurd (cc)
 
--- what an idle seat is cut into
+-- the parts of an idle seat
 module _ {C R S : Type 0} where
   pub first_part : (v : View C R S) → stage_of v ≡ Some Idle → IsPart v (first_pass v) (first_only (numbers_of v))
   first_part (Knows k) idle =

@@ -1,4 +1,4 @@
--- What the lock reads off a journal, in proofs that have the journal's bound.
+-- Definitions for proofs with a journal's bound: what the lock reads of a journal.
 use Rattle.ra_journal.specs.declared.journal.Journal.{Ghosts}
 use Rattle.ra_journal.specs.Log.{Readings, readings}
 

@@ -1,4 +1,4 @@
--- Legal logs, and what a log begins with.
+-- Lemmas on legal logs and their prefixes.
 use Rattle.std.proofs.Common.{◌≡◌, ℕ, List, [], ◌∷◌, ◌++◌, Some, refl, sym, ap, ◌∙◌, subst}
 use Rattle.std.proofs.lemmas.List.{append-nil, append_assoc}
 use Rattle.ra_journal.specs.declared.entry.Entry.{Entry}
@@ -17,7 +17,7 @@ module _ {C R : Type 0} where
   begins_trans xs ys zs p q =
       (q.0 ++ p.0, p.1 ∙ (ap (λ (l : List (Entry C R)). l ++ p.0) q.1 ∙ append_assoc zs q.0 p.0))
 
-  -- what a seat has seen of a log it has seen of a longer one
+  -- what a seat has seen of a log, it has seen of a longer one
   pub begun_more : {S : Type 0} (v : View C R S) (log more : List (Entry C R)) → BeginsWith more log → HasBegun v log
       → HasBegun v more
   begun_more Spent log more grows begun = tt
@@ -36,7 +36,7 @@ module _ {C R : Type 0} where
           (subst (λ (l : List (Entry C R)). MayFollow answer l e) (sym (append_assoc before (x ∷ []) xs)) follows),
     )
 
-    -- an entry that may follow a legal log makes a legal log
+    -- a legal log with an entry that may follow it is legal
     pub legal_push : (log : List (Entry C R)) (e : Entry C R) → IsLegal answer log → MayFollow answer log e
         → IsLegal answer (log ++ e ∷ [])
     legal_push log e legal follows = legal_after [] log e legal follows

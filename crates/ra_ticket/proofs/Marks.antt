@@ -1,4 +1,4 @@
--- What is read off the mark of a log.
+-- Lemmas on what is read from the mark of a log.
 use Rattle.std.proofs.Common.{◌≡◌, ℕ, ◌^◌, ◌<◌, length, Option, Some, None, IfSome, arith}
 use Rattle.ra_ticket.specs.declared.board.View.{View}
 use Rattle.ra_ticket.specs.declared.board.View.TheVariants.{Knows}
@@ -12,11 +12,11 @@ numbered : (o : Option ℕ) (n : ℕ) → IfSome o (λ f. f < n) → n < 2 ^ 32 
 numbered None n below short = tt
 numbered (Some f) n below short = omega arith
 
--- these are the calls and the fault that the mark was made of
+-- the number of calls and the fault from which the mark was made
 abbrev IsReadOff : ℕ → ℕ → Option ℕ → Type 0
 IsReadOff mark calls fault = (n : ℕ) (o : Option ℕ) → IsNumbered o → mark ≡ mark_of n o → (calls ≡ n) × (fault ≡ o)
 
--- the calls that an idle seat reads are as many as it has seen, and the fault is that of what it has seen
+-- the number of calls that an idle seat reads is the length of the log that it has seen, and the fault is that log's
 pub read_off : {M C R S : Type 0} (j : Readings M C R S) (v : View C R S) (mark calls : ℕ) (fault : Option ℕ)
     → stage_of v ≡ Some Idle → SeesMarked j v mark → IsReadOff mark calls fault
     → (calls ≡ length (seen_of v)) × IfSome (setup_of v) (λ s. fault ≡ j.fault_of s (seen_of v))

@@ -1,4 +1,4 @@
--- An idle seat is joined to another one, which looks at the log: both keep the rule of the lock.
+-- Lemmas on joining an idle seat to another one, which then reads the mark: both steps preserve the rule of the lock.
 use Rattle.std.proofs.Common.{◌≡◌, ◌≢◌, ◌⊎◌, ℕ, zero, suc, ◌+◌, ◌<◌, ◌≤◌, List, [], ◌∷◌, ◌++◌, length, set, max}
 use Rattle.std.proofs.Common.{Option, Some, refl, sym, ap, ◌∙◌, subst, ⊎_elim, inl, inr, le_refl, arith}
 use mathlib.Core.Option.{some, some-ne-none}
@@ -18,7 +18,7 @@ use Rattle.ra_ticket.proofs.Steps.{spelled}
 use Rattle.ra_ticket.proofs.Seats.{elsewhere}
 use Rattle.ra_ticket.proofs.Changes as changes
 
--- an element of two lists, one behind the other
+-- an element of two concatenated lists
 at_either : (l m : List ℕ) (i n : ℕ) → get_elem? (l ++ m) i ≡ some n
     → ((i < length l) × (get_elem? l i ≡ some n)) ⊎ ((j : ℕ) × (i ≡ length l + j) × (get_elem? m j ≡ some n))
 at_either [] m i n e = inr (i, omega arith, e)
@@ -44,7 +44,7 @@ module _ {M C R S : Type 0} (j : Readings M C R S) (opened : S) where
     abbrev IsJoined : ℕ → View C R S → Type 0
     IsJoined seat u = ((seat ≡ other) × (Spent ≡ u)) ⊎ (((seat ≡ id) × (Met k l ≡ u)) ⊎ IsElse seat u)
 
-    -- who sits at a seat then
+    -- the view of a seat after joining
     joined_at : (seat : ℕ) (u : View C R S) → get_elem? joined seat ≡ some u → IsJoined seat u
     joined_at seat u e = ⊎_elim (λ (t : (seat ≡ other) × (Spent ≡ u)). inl t)
         (λ (t : (seat ≢ other) × (get_elem? (set s.views id (Met k l)) seat ≡ some u)). inr
@@ -71,7 +71,7 @@ module _ {M C R S : Type 0} (j : Readings M C R S) (opened : S) where
     fitting seat u (inr (inl x)) = inr (subst (changes.Fits j opened s r) x.1 joined_fits)
     fitting seat u (inr (inr x)) = inl x.2
 
-    -- who holds does so still
+    -- a seat that held the lock still does
     forth : (seat t : ℕ) → At held_of s.views seat t → At held_of joined seat t
     forth seat t a = (
       a.0,
@@ -82,7 +82,7 @@ module _ {M C R S : Type 0} (j : Readings M C R S) (opened : S) where
       a.2,
     )
 
-    -- where a pass sat before
+    -- the seat of a pass before joining
     abbrev Was : ℕ → ℕ → ℕ → ℕ → Type 0
     Was seat i seat' i' = ((seat ≡ id) × (seat' ≡ id) × (i' ≡ i) × (i < length k.numbers))
         ⊎ (((seat ≡ id) × (seat' ≡ other) × (i ≡ length k.numbers + i'))
@@ -117,7 +117,7 @@ module _ {M C R S : Type 0} (j : Readings M C R S) (opened : S) where
       joins_here s r id other k l apart here (sym (set_else s.views id other (Met k l) apart) ∙ there) is is_too
   joins id _ other _ idle idle_too s r here apart there = absurd (cc)
 
-  -- a seat to which another was joined looks at `mark`, and sees the front
+  -- a seat to which another was joined reads `mark`, and has then seen the front
   pub looks_together : (slots id : ℕ) (v : View C R S) (c : List (ℕ × Option M)) (st : Step (Option M)) → IsMet v
       → Allows Rule slots id (v, c) 2 (λ n. n) (looked_together j st (v, c))
   looks_together slots id (Met k l) c st is s r deep here fits =

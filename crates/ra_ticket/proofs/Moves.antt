@@ -1,4 +1,4 @@
--- What a seat may do to a word, as the table asks for it: each step, by the view that the seat has.
+-- Lemmas on the steps that a seat may make on a word, in the form that the table requires.
 use Rattle.std.proofs.Common.{◌≡◌, ℕ, ◌+◌, ◌%◌, ◌^◌, ◌<◌, ◌≤◌, eqb, List, [], ◌∷◌, Option, Some, refl, sym, ap, ◌∙◌}
 use Rattle.std.proofs.Common.{le_refl, le_trans, arith}
 use mathlib.Core.Logic.{dite}
@@ -26,7 +26,7 @@ module _ {M C R S : Type 0} (j : Readings M C R S) (opened : S) where
   abbrev Slots : Type 0
   Slots = List (ℕ × Option M)
 
-  -- an idle seat learns `next`
+  -- an idle seat reads `next`
   pub learns : (slots id : ℕ) (v : View C R S) (c : Slots) (st : Step (Option M)) → stage_of v ≡ Some Idle
       → Allows Rule slots id (v, c) 0 (λ n. n) (learned st (v, c))
   learns slots id (Knows k) c st idle s r deep at fits = let low = r.reached id (Knows k) at in
@@ -42,7 +42,7 @@ module _ {M C R S : Type 0} (j : Readings M C R S) (opened : S) where
       )))
   learns slots id _ c st idle s r deep at fits = absurd (cc)
 
-  -- an idle seat learns `serving`
+  -- an idle seat reads `serving`
   pub learns_serving : (slots id : ℕ) (v : View C R S) (c : Slots) (st : Step (Option M)) → stage_of v ≡ Some Idle
       → Allows Rule slots id (v, c) 1 (λ n. n) (learned_serving st (v, c))
   learns_serving slots id (Knows k) c st idle s r deep at fits = let low = r.reached id (Knows k) at in
@@ -52,7 +52,7 @@ module _ {M C R S : Type 0} (j : Readings M C R S) (opened : S) where
       (λ _. ((stays k k.next r.serving k.stage k.seen (le_refl k.next) low.1, refl), refl, idle, refl)))
   learns_serving slots id _ c st idle s r deep at fits = absurd (cc)
 
-  -- an idle seat looks at `mark`, and sees the front
+  -- an idle seat reads `mark`, and has then seen the front
   pub glances : (slots id : ℕ) (v : View C R S) (c : Slots) (st : Step (Option M)) → stage_of v ≡ Some Idle
       → Allows Rule slots id (v, c) 2 (λ n. n) (glanced j st (v, c))
   glances slots id (Knows k) c st idle s r deep at fits =
@@ -71,7 +71,7 @@ module _ {M C R S : Type 0} (j : Readings M C R S) (opened : S) where
       )))
   glances slots id _ c st idle s r deep at fits = absurd (cc)
 
-  -- an idle seat draws the ticket t
+  -- an idle seat draws ticket t
   pub draws : (slots id : ℕ) (v : View C R S) (c : Slots) (t : ℕ) (st : Step (Option M)) → st.first ≡ t
       → st.second ≡ t + 1 → t + 1 < 2 ^ 64 → stage_of v ≡ Some Idle
       → Allows Rule slots id (v, c) 0 (λ n. either (eqb n t) (t + 1) n) (drew st (v, c))
@@ -106,7 +106,7 @@ module _ {M C R S : Type 0} (j : Readings M C R S) (opened : S) where
       ))))
   draws slots id _ c t st asked one_more room idle s r deep at fits = absurd (cc)
 
-  -- an idle seat that has seen the ticket t served draws it and gets the slot
+  -- an idle seat that has seen ticket t served draws it and receives the slot
   pub draws_served : (slots id : ℕ) (v : View C R S) (c : Slots) (t : ℕ) (st : Step (Option M)) → st.first ≡ t
       → st.second ≡ t + 1 → t + 1 < 2 ^ 64 → stage_of v ≡ Some Idle → serving_of v ≡ t
       → Allows Rule slots id (v, c) 0 (λ n. either (eqb n t) (t + 1) n) (drew_served j st (v, c))
@@ -133,7 +133,7 @@ module _ {M C R S : Type 0} (j : Readings M C R S) (opened : S) where
       ))))
   draws_served slots id _ c t st asked one_more room idle seen s r deep at fits = absurd (cc)
 
-  -- a waiting seat looks at `serving`, and gets the slot where its ticket is served
+  -- a waiting seat reads `serving`, and receives the slot if its ticket is served
   pub looks : (slots id : ℕ) (v : View C R S) (c : Slots) (t : ℕ) (st : Step (Option M)) → stage_of v ≡ Some (Waiting t)
       → Allows Rule slots id (v, c) 1 (λ n. n) (looked j st (v, c))
   looks slots id (Knows k) c t st waits s r deep at fits = let is = stage_is k (Waiting t) waits in
@@ -142,7 +142,7 @@ module _ {M C R S : Type 0} (j : Readings M C R S) (opened : S) where
       (λ ne. steps.waits_on j opened s r id k at t c st is (λ e. ne (sym e))))
   looks slots id _ c t st waits s r deep at fits = absurd (cc)
 
-  -- a holding seat gives the journal back, and the next ticket is served
+  -- a holding seat returns the journal, and the next ticket is served
   pub releases : (slots id : ℕ) (v : View C R S) (journal : M) (t : ℕ) (st : Step (Option M))
       → stage_of v ≡ Some (Holding t) → IsAsSeen j v journal
       → Allows Rule slots id (v, (0, Some journal) ∷ []) 1 (λ n. (n + 1) % 2 ^ 64)
@@ -153,7 +153,7 @@ module _ {M C R S : Type 0} (j : Readings M C R S) (opened : S) where
       (steps.leaves j opened s r id k at t (stage_is k (Holding t) holds) journal st seen)
   releases slots id _ journal t st holds seen s r deep at fits = absurd (cc)
 
-  -- a holding seat stores the mark of the journal that it carries, which is one entry ahead
+  -- a holding seat stores the mark of its journal, which is one entry ahead
   pub publishes : (slots id : ℕ) (v : View C R S) (journal : M) (t mark : ℕ) (st : Step (Option M))
       → stage_of v ≡ Some (Holding t) → IsAhead j v t journal
       → IsMarkOf j (j.setup journal) (j.log journal) mark

@@ -1,4 +1,4 @@
--- Two passes that met and part again.
+-- Lemmas on two passes that met and part again.
 use Rattle.std.proofs.Common.{◌≡◌, ℕ, ◌≤◌, List, [], ◌∷◌, ◌++◌, max, Some, IfSome, sym, ap, ◌∙◌, subst, arith}
 use lib.ListN.{get_elem?}
 use Rattle.ra_journal.specs.declared.entry.Entry.{Entry}
@@ -20,7 +20,7 @@ module _ {C R S : Type 0} where
   met_so (Knows k) (Knows l) idle idle_too = tt
   met_so _ _ idle idle_too = absurd (cc)
 
-  -- one of them, whose seat is this part of the one that has seen for both
+  -- one of them, whose seat is this part of the seat that has seen the log for both
   goes_on : (k : Known C R S) (u w : View C R S) (numbers : List ℕ) (n : ℕ) → k.numbers ≡ n ∷ [] → numbers ≡ n ∷ []
       → stage_of u ≡ Some Idle → k.next ≤ next_of u → k.serving ≤ serving_of u → setup_of u ≡ Some k.setup
       → BeginsWith (seen_of u) k.seen → SeesOwn k (seen_of u) → IsPart u w numbers → GoesOn (Knows k) w n
@@ -34,7 +34,7 @@ module _ {C R S : Type 0} where
     mine = ap (entries_of n) part.seen ∙ sym (own 0 n (ap (λ (l : List ℕ). get_elem? l 0) of));
   }
 
-  -- two seats, of one pass each, were joined to one, which looked, and was then cut
+  -- two seats of one pass each were joined into one, which read the mark and was then cut
   pub parted : (v w joined u own rest : View C R S) (n m : ℕ) → stage_of v ≡ Some Idle → numbers_of v ≡ n ∷ []
       → stage_of w ≡ Some Idle → numbers_of w ≡ m ∷ [] → joined ≡ met v w → stage_of u ≡ Some Idle
       → numbers_of u ≡ numbers_of joined → SeesFor joined u → next_of u ≡ next_of joined
@@ -62,7 +62,7 @@ module _ {C R S : Type 0} where
   bounds_are _ _ joined u own numbers i i' is learned part = absurd (cc)
 
 module _ {M C R S : Type 0} (j : Readings M C R S) where
-  -- a part has seen the log of which its whole had the mark
+  -- a part has seen the log whose mark its whole had
   pub part_marked : (u own : View C R S) (numbers : List ℕ) (mark : ℕ) → IsPart u own numbers → SeesMarked j u mark
       → SeesMarked j own mark
   part_marked u own numbers mark part sees =
@@ -71,7 +71,7 @@ module _ {M C R S : Type 0} (j : Readings M C R S) where
       (subst (λ log. IfSome (setup_of u) (λ s. IsLegal (j.reply_of s) log × IsMarkOf j s log mark))
       (sym part.seen) sees)
 
--- the pass whose seat went on
+-- the pass whose seat continues
 module _ {M C R S : Type 0} {g : Ghosts M C R S} where
   pub pass_goes_on : (p q : Pass M C R S g) → number_of q ≡ number_of p → q.seat.table_id ≡ p.seat.table_id
       → GoesOn p.seat.me.0 q.seat.me.0 (number_of p) → IsSamePass p q

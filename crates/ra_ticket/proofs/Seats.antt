@@ -1,4 +1,4 @@
--- The views of the seats, after one of them has changed.
+-- Lemmas on the views of the seats after one of them changed.
 use Rattle.std.proofs.Common.{◌≡◌, ◌≢◌, ◌⊎◌, ℕ, zero, suc, ◌<◌, List, length, [], ◌∷◌, set}
 use Rattle.std.proofs.Common.{Option, Some, None, sym, ap, ◌∙◌, subst, ⊎_elim, inl, inr, arith}
 use mathlib.Core.Logic.{dite}
@@ -10,19 +10,19 @@ use Rattle.atomic_table.proofs.Lists.{at_set, set_else, set_here}
 use Rattle.ra_ticket.specs.declared.board.View.{View}
 use Rattle.ra_ticket.specs.Rule.{At}
 
--- an element that is there stands within the list
+-- the index of an element is less than the length of the list
 pub inside : {A : Type 0} (l : List A) (j : ℕ) (b : A) → get_elem? l j ≡ some b → j < length l
 inside [] j b e = absurd (some-ne-none b (sym e))
 inside (x ∷ xs) zero b e = omega arith
 inside (x ∷ xs) (suc j) b e = let l = inside xs j b e in omega arith
 
--- who has such a ticket sits elsewhere than one who has none
+-- a seat with such a value is not the seat that has none
 pub elsewhere : {C R S X : Type 0} (of : View C R S → Option X) (views : List (View C R S)) (seat place : ℕ) (x : X)
     (v : View C R S) → get_elem? views place ≡ some v → of v ≡ None → At of views seat x → seat ≢ place
 elsewhere of views seat place x v there nothing a same = none-some x (sym nothing
     ∙ (ap of (some-injective v a.0 (sym there ∙ (ap (get_elem? views) (sym same) ∙ a.1))) ∙ a.2))
 
--- what holds of each seat, after one has changed
+-- a property of each seat, after one changed
 pub each_after : {C R S : Type 0} (P : View C R S → Type 0) (views : List (View C R S)) (id : ℕ) (w : View C R S) → P w
     → ((seat : ℕ) (u : View C R S) → seat ≢ id → get_elem? views seat ≡ some u → P u)
     → (seat : ℕ) (u : View C R S) → get_elem? (set views id w) seat ≡ some u → P u
@@ -31,21 +31,21 @@ each_after P views id w new others seat u at = ⊎_elim (λ (t : (seat ≡ id) �
 
 module _ {C R S X : Type 0} (of : View C R S → Option X) (views : List (View C R S)) (id : ℕ) (v w : View C R S)
     (here : get_elem? views id ≡ some v) where
-  -- what stands at a seat after the change stood there before, or is new at the seat id
+  -- the value at a seat after the change was there before, or is the new one of seat id
   pub at_after : (seat : ℕ) (x : X) → At of (set views id w) seat x
       → ((seat ≡ id) × (of w ≡ Some x)) ⊎ ((seat ≢ id) × At of views seat x)
   at_after seat x a = ⊎_elim (λ (t : (seat ≡ id) × (w ≡ a.0)). inl (t.0, ap of t.1 ∙ a.2))
       (λ (t : (seat ≢ id) × (get_elem? views seat ≡ some a.0)). inr (t.0, (a.0, t.1, a.2)))
       (at_set views id seat w a.0 a.1)
 
-  -- what stood at another seat stands there still
+  -- the values at other seats are unchanged
   pub at_others : (seat : ℕ) (x : X) → seat ≢ id → At of views seat x → At of (set views id w) seat x
   at_others seat x other a = (a.0, set_else views id seat w other ∙ a.1, a.2)
 
   pub at_new : (x : X) → of w ≡ Some x → At of (set views id w) id x
   at_new x e = (w, set_here views id w (inside views id v here), e)
 
-  -- where the reading stays, what stands at a seat is what stood there
+  -- if the value does not change, the values at all seats are those from before
   module _ (same : of w ≡ of v) where
     pub at_back : (seat : ℕ) (x : X) → At of (set views id w) seat x → At of views seat x
     at_back seat x a = ⊎_elim
@@ -58,7 +58,7 @@ module _ {C R S X : Type 0} (of : View C R S → Option X) (views : List (View C
         (at_new x (same ∙ (ap of (some-injective v a.0 (sym here ∙ (ap (get_elem? views) (sym e) ∙ a.1))) ∙ a.2))))
         (λ other. at_others seat x other a)
 
-  -- a seat with a value that no other seat has keeps them apart
+  -- a seat whose value no other seat has keeps the values distinct
   pub apart_after : ((a b : ℕ) (x : X) → At of views a x → At of views b x → a ≡ b)
       → ((seat : ℕ) (x : X) → of w ≡ Some x → seat ≢ id → At of views seat x → ⊥)
       → (a b : ℕ) (x : X) → At of (set views id w) a x → At of (set views id w) b x → a ≡ b

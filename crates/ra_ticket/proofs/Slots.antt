@@ -1,4 +1,4 @@
--- What is out with a seat.
+-- Lemma on the resource that a seat carries.
 use Rattle.std.proofs.Common.{◌≡◌, ℕ, List, [], ◌∷◌, Option, Some, ap}
 
 module _ {M : Type 0} where

@@ -1,4 +1,4 @@
--- Each step on a word keeps the rule of the lock, and tells what it says.
+-- Lemmas on each step on a word: it preserves the rule of the lock and has its postcondition.
 use Rattle.std.proofs.Common.{◌≡◌, ◌≢◌, ℕ, ◌+◌, ◌%◌, ◌^◌, ◌<◌, ◌≤◌, List}
 use Rattle.std.proofs.Common.{[], ◌∷◌, ◌++◌, set, get_or, Option, Some, None}
 use Rattle.std.proofs.Common.{refl, sym, ap, ◌∙◌, subst, inl, inr, ◌⊎◌, le_refl, le_trans, mod-eq_of_lt, arith}
@@ -29,7 +29,7 @@ module _ {C R S : Type 0} where
   pub stage_is : (k : Known C R S) (st : Stage) → stage_of (Knows k) ≡ Some st → k.stage ≡ st
   stage_is k st e = cc
 
-  -- the same seat, once it knows this of the words, is about this and has seen this
+  -- the view of the same seat with these bounds of the words, this stage and this seen log
   abbrev pub knowing : Known C R S → ℕ → ℕ → Stage → List (Entry C R) → View C R S
   knowing k n m st log = Knows (record k { next = n; serving = m; stage = st; seen = log })
 
@@ -41,13 +41,13 @@ module _ {M C R S : Type 0} (j : Readings M C R S) (opened : S) where
   abbrev Slots : Type 0
   Slots = List (ℕ × Option M)
 
-  -- a step on the word i, which becomes n, has a view and an act that keep the rule, and tells `then`
+  -- a step on word i, which becomes n, has a view and an act that preserve the rule and establish `then`
   abbrev pub Goes : changes.Table j opened → ℕ → Slots → List ℕ → (View C R S × Slots → Type 0) → Type 0
   Goes s id c words then = (w : View C R S) × (a : Act (Option M)) × Valid s.homes c a
       × changes.Rule j opened record { words = words; homes = homes_after s.homes c a; views = set s.views id w }
       × then (w, carried_after c a)
 
-  -- the words are as the rule spells them
+  -- the words, as the rule states them
   pub spelled : (s : changes.Table j opened) (r : changes.Rule j opened s) (id : ℕ) (c : Slots) (i : ℕ) (f : ℕ → ℕ)
       (then : ℕ → View C R S × Slots → Type 0)
       → Goes s id c (set (changes.words j opened s r) i (f (get_or (changes.words j opened s r) i 0)))
@@ -58,7 +58,7 @@ module _ {M C R S : Type 0} (j : Readings M C R S) (opened : S) where
 
   module _ (s : changes.Table j opened) (r : changes.Rule j opened s) (id : ℕ) (k : Known C R S)
       (here : get_elem? s.views id ≡ some (Knows k)) where
-    -- the rule once the words are these, the slots these and the seat has this view
+    -- the rule, for these words and slots and this view of the seat
     abbrev Then : ℕ → ℕ → ℕ → changes.Homes j opened → View C R S → Type 0
     Then next' serving' mark' homes' w = changes.Then j opened s r id next' serving' mark' homes' w
 
@@ -68,7 +68,7 @@ module _ {M C R S : Type 0} (j : Readings M C R S) (opened : S) where
     set_up : k.setup ≡ opened
     set_up = r.set_up id (Knows k) here
 
-    -- a seat that does not hold learns more of the words, or sees more of the log
+    -- a seat that does not hold the lock learns more of the words, or sees more of the log
     pub learns_more : (n m : ℕ) (log : List (Entry C R)) (c : Slots) (then : View C R S × Slots → Type 0)
         → held_at k.stage ≡ None → (n ≤ r.next) × (m ≤ r.serving) → BeginsWith r.front log
         → HasOwn (knowing k n m k.stage log) r.front → then (knowing k n m k.stage log, c)
@@ -83,7 +83,7 @@ module _ {M C R S : Type 0} (j : Readings M C R S) (opened : S) where
       says,
     )
 
-    -- of the words alone
+    -- only of the words
     pub learns_words : (n m : ℕ) (c : Slots) (then : View C R S × Slots → Type 0) → held_at k.stage ≡ None
         → (n ≤ r.next) × (m ≤ r.serving) → then (knowing k n m k.stage k.seen, c)
         → Goes s id c (changes.words j opened s r) then
@@ -112,7 +112,7 @@ module _ {M C R S : Type 0} (j : Readings M C R S) (opened : S) where
           λ _. (is, refl, refl),
         ))
 
-    -- the journal is at home, and the seat gets it by the ticket that is served
+    -- the journal is in its slot, and the seat receives it with the ticket that is served
     carrying : (n next' t : ℕ) → next' < 2 ^ 64 → r.next ≤ next' → n ≤ next' → t ≡ r.serving → t < next'
         → ((seat : ℕ) → seat ≢ id → At ticket_of s.views seat t → ⊥)
         → (journal : M) → s.homes ≡ some (Some journal) ∷ [] → NobodyHolds s.views
@@ -156,7 +156,7 @@ module _ {M C R S : Type 0} (j : Readings M C R S) (opened : S) where
         held_by seat u (inl h) = let e = h.1 in let is : t ≡ u = cc in sym is ∙ served
         held_by seat u (inr h) = absurd (nobody seat u h.1)
 
-    -- what the seat then knows of it
+    -- what the seat then knows of the journal
     entered : (n t : ℕ) → t ≡ r.serving → (journal : M) → s.homes ≡ some (Some journal) ∷ []
         → HasEntered j (knowing k n r.serving (Holding t) r.front) t journal
     entered n t served journal home = let so = r.home_set_up journal home in record {
@@ -190,7 +190,7 @@ module _ {M C R S : Type 0} (j : Readings M C R S) (opened : S) where
           ),
         )
 
-    -- an idle seat that has seen its ticket served, and finds `next` there, enters with it
+    -- an idle seat that has seen its ticket served, and reads this ticket from `next`, enters with it
     pub enters_at_once : (t : ℕ) (c : Slots) (st : Step (Option M)) → k.stage ≡ Idle → k.serving ≡ t → r.next ≡ t
         → t + 1 < 2 ^ 64 → st.first ≡ t → st.second ≡ t + 1
         → Goes s id c ((t + 1) ∷ r.serving ∷ r.mark ∷ r.others) (drew_served j st (Knows k, c) r.next)
@@ -219,7 +219,7 @@ module _ {M C R S : Type 0} (j : Readings M C R S) (opened : S) where
           ),
         )
 
-    -- what a seat that holds knows of the table
+    -- what a holding seat knows of the table
     module _ (t : ℕ) (holds : k.stage ≡ Holding t) where
       mine : At ticket_of s.views id t
       mine = (Knows k, here, ap ticket_at holds)
@@ -236,7 +236,7 @@ module _ {M C R S : Type 0} (j : Readings M C R S) (opened : S) where
       opened_so : (journal : M) → setup_of (Knows k) ≡ Some (j.setup journal) → j.setup journal ≡ opened
       opened_so journal e = let same : k.setup ≡ j.setup journal = cc in sym same ∙ set_up
 
-      -- the seat gives the journal back
+      -- the seat returns the journal
       leaving : (journal : M) → IsAsSeen j (Knows k) journal
           → Then r.next (t + 1) r.mark (set s.homes 0 (some (Some journal))) (knowing k k.next (t + 1) Idle k.seen)
       leaving journal seen = changes.changed j opened s r id (Knows k) w here r.next (t + 1) r.mark
@@ -314,7 +314,7 @@ module _ {M C R S : Type 0} (j : Readings M C R S) (opened : S) where
           up : (r.serving + 1) % 2 ^ 64 ≡ t + 1
           up = mod-eq_of_lt room ∙ ap (λ (n : ℕ). n + 1) (sym slot.0)
 
-      -- the seat publishes the log of the journal that it carries, which is one entry ahead
+      -- the seat publishes the log of its journal, which is one entry ahead
       module _ (journal : M) (ahead : IsAhead j (Knows k) t journal) where
         grown : j.log journal ≡ r.front ++ ahead.last ∷ []
         grown = ahead.log ∙ ap (λ (l : List (Entry C R)). l ++ ahead.last ∷ []) has_front

@@ -1,4 +1,4 @@
--- The tickets in a log, before and after a step.
+-- Lemmas on the tickets in a log, before and after a step.
 use Rattle.std.proofs.Common.{◌≡◌, ℕ, zero, suc, ◌+◌, ◌<◌, List, []}
 use Rattle.std.proofs.Common.{◌∷◌, Some, option_map, slice_get, length, ◌-◌, subst, arith}
 use Rattle.ra_journal.specs.declared.entry.Entry.{Entry}
@@ -12,7 +12,7 @@ module _ {C R : Type 0} where
       subst (λ (n : ℕ). n < t) is (below 0 y (omega arith))
   at_below (y ∷ ys) t (suc k) below x e = at_below ys t k (λ j d l. below (suc j) d (omega arith)) x e
 
-  -- a ticket above all is above the last
+  -- a ticket greater than all is greater than the last one
   pub above_last : (log : List (Entry C R)) (t : ℕ) → AllBelow t log → IsAboveLast log t
   above_last log t below = at_below log t (length log - 1) below
 

@@ -1,4 +1,4 @@
--- What callers see of a pass that has its lock with it.
+-- A pass together with its lock, as callers see it.
 use Rattle.std.specs.Prelude.{◌≡◌, ◌<◌, ◌≤◌, List, map, All}
 use Rattle.std.specs.Arc.{arc_value}
 use Rattle.ra_journal.specs.declared.journal.Journal.{Ghosts}
@@ -19,16 +19,16 @@ module _ {M C R S : Type 0} {g : Ghosts M C R S} where
   abbrev pub passes_of : List (Caller M C R S g) → List (Pass M C R S g)
   passes_of callers = map pass_of callers
 
-  -- one lock gave them all
+  -- holds if all these passes are of one lock
   abbrev pub AreOfOneLock : List (Pass M C R S g) → Type 0
   AreOfOneLock passes = (lock : TicketLock M C R S) × All (IsPassOf lock) passes
 
-  -- the caller that `Shared` hands back is this one
+  -- holds if the caller that `Shared` returns is this one
   abbrev pub HandsBack : CloseFault M C R S g → Caller M C R S g → Type 0
   HandsBack (Shared c) caller = (pass_of c ≡ pass_of caller) × (lock_of c ≡ lock_of caller)
   HandsBack (Unsettled u) caller = Unit {0}
 
-  -- `Unsettled` tells two numbers, the first below the second, which are no less than what the pass knew
+  -- holds if `Unsettled` reports two numbers, the first below the second, each at least the one that the pass knew
   abbrev pub TellsUnsettled : CloseFault M C R S g → Pass M C R S g → Type 0
   TellsUnsettled (Shared c) p = Unit {0}
   TellsUnsettled (Unsettled u) p =

@@ -1,11 +1,11 @@
--- What a call that failed tells.
+-- What a failed call returns.
 use Rattle.ra_journal.specs.declared.journal.StepFault as step
 use Rattle.ra_journal.specs.declared.journal.StepFault.TheVariants as step_is
 use Rattle.ra_ticket.specs.declared.fault.CallFault.{CallFault}
 use Rattle.ra_ticket.specs.declared.fault.CallFault.TheVariants.{Worn, Full, NoMemory, Busy}
 
 module _ {C : Type 0} where
-  -- the command that comes back
+  -- the command that the fault returns
   abbrev pub unserved : CallFault C → C
   unserved (Worn command) = command
   unserved (Full command) = command

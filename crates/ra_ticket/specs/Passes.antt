@@ -1,4 +1,4 @@
--- What callers see of a lock and its passes.
+-- A lock and its passes, as callers see them.
 use Rattle.std.specs.Prelude.{◌≡◌, ℕ, ◌+◌, ◌<◌, ◌≤◌, List, [], ◌∷◌, ◌++◌, max, Option, Some, IfSome}
 use Rattle.ra_journal.specs.declared.entry.Entry.{Entry}
 use Rattle.ra_ticket.specs.declared.fault.CallFault.{CallFault}
@@ -13,18 +13,18 @@ module _ {M C R S : Type 0} {g : Ghosts M C R S} where
   abbrev pub number_of : Pass M C R S g → ℕ
   number_of p = p.number
 
-  -- numbers that the words `next` and `serving` have reached
+  -- a number that the word `next` has reached; below, one that `serving` has reached
   abbrev pub next_reached : Pass M C R S g → ℕ
   next_reached p = next_of p.seat.me.0
 
   abbrev pub serving_reached : Pass M C R S g → ℕ
   serving_reached p = serving_of p.seat.me.0
 
-  -- the setup of the journal, as `open` gave it
+  -- the setup of the journal, as it was given to `open`
   abbrev pub pass_setup : Pass M C R S g → Option S
   pass_setup p = setup_of p.seat.me.0
 
-  -- it has a setup
+  -- holds if the pass has a setup
   abbrev pub HasSetup : Pass M C R S g → Type 0
   HasSetup p = (setup : S) × (pass_setup p ≡ Some setup)
 
@@ -36,15 +36,15 @@ module _ {M C R S : Type 0} {g : Ghosts M C R S} where
   abbrev pub mine : Pass M C R S g → List (Entry C R)
   mine p = entries_of (number_of p) (seen p)
 
-  -- what it has seen is a legal log under its setup
+  -- holds if the log that the pass has seen is legal under its setup
   abbrev pub KnowsLegal : (S → List (Entry C R) → C → R) → Pass M C R S g → Type 0
   KnowsLegal reply_of p = IfSome (pass_setup p) (λ s. IsLegal (reply_of s) (seen p))
 
-  -- the lock gave this pass
+  -- holds if the pass is of this lock
   abbrev pub IsPassOf : TicketLock M C R S → Pass M C R S g → Type 0
   IsPassOf lock p = p.seat.table_id ≡ lock.table.shared.table_id
 
-  -- the same pass of the same lock, which knows no less of the words and of the log
+  -- holds if q is the same pass of the same lock, and knows no less of the words and of the log
   pub record IsSamePass (p q : Pass M C R S g) : Type 0 where
     pub number : number_of q ≡ number_of p
     pub lock : q.seat.table_id ≡ p.seat.table_id
@@ -53,8 +53,8 @@ module _ {M C R S : Type 0} {g : Ghosts M C R S} where
     pub setup : pass_setup q ≡ pass_setup p
     pub seen_more : BeginsWith (seen q) (seen p)
 
-  -- what the pass has seen ends with this call of its own, which comes after all that it had seen before. Its ticket
-  -- was served during the call
+  -- Holds if the log that the pass has seen ends with this call of its own, after all that it had seen before. Its
+  -- ticket was served during the call.
   pub record IsLogged (p q : Pass M C R S g) (command : C) (reply : R) : Type 0 where
     pub before : List (Entry C R)
     pub ticket : ℕ
@@ -63,16 +63,16 @@ module _ {M C R S : Type 0} {g : Ghosts M C R S} where
     pub since : serving_reached p ≤ ticket
     pub until : serving_reached q ≡ ticket + 1
 
-  -- its own calls are those that it had made and then this one
+  -- holds if its own calls are those that it had made, followed by this one
   abbrev pub IsMineAndThen : Pass M C R S g → Pass M C R S g → C → R → Type 0
   IsMineAndThen p q command reply = (ticket : ℕ) × (mine q ≡ mine p ++ entry (number_of p) ticket command reply ∷ [])
 
-  -- of two passes that met, this one knows of the words what either knew, and no more
+  -- holds if, of two passes that met, this one knows of the words exactly what either knew
   abbrev pub KnowsWhatEitherKnew : Pass M C R S g → Pass M C R S g → Pass M C R S g → Type 0
   KnowsWhatEitherKnew p q met = (next_reached met ≡ max (next_reached p) (next_reached q))
       × (serving_reached met ≡ max (serving_reached p) (serving_reached q))
 
-  -- what a call found busy: what its pass has learned of `serving` and, above it, of `next`
+  -- holds if a call found the lock busy, and reports what its pass has learned: `serving`, and `next` above it
   abbrev pub IsFoundBusy : Pass M C R S g → CallFault C → Type 0
   IsFoundBusy q (Busy at found command) =
       (at < found) × (serving_reached q ≡ at) × (next_reached q ≡ found)

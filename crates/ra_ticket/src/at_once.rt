@@ -1,4 +1,4 @@
-//! How a pass enters with a ticket that is served at once.
+//! The entry of a pass with a ticket that is served at once.
 ghost use Rattle.std.specs.Prelude.{◌≡◌, ◌≢◌, ◌≤◌, ◌<◌, [], Some, IfSome, IfNone, IfOk, IfErr};
 ghost use Rattle.ra_journal.specs.Log.{readings, BeginsWith};
 ghost use Rattle.ra_ticket.specs.Steps.{IsSeated, IsSameSeat, Carries, HasLifted, KeepsOwn};
@@ -12,10 +12,10 @@ use crate::plays::{DrawServed, LearnServing};
 use crate::slot::lift_out;
 use ra_journal::Journal;
 
-// How often a call tries for a ticket that is served at once, before it draws one to wait with.
+// The number of tries for a ticket that is served at once, before a call draws one to wait with.
 const TRIES_AT_ONCE: u32 = 64;
 
-/// A load of `serving`: a number that it has reached.
+/// Loads `serving`, and returns a number that it has reached.
 pub(crate) fn learn_serving<M: Journal>(board: &Board<M>, seat: &mut LockSeat<M>) -> u64
     requires table { IsSeated seat.old.table_id board.now.table_id }
     requires idle { stage_of seat.old.me.0 ≡ Some Idle }
@@ -28,8 +28,8 @@ pub(crate) fn learn_serving<M: Journal>(board: &Board<M>, seat: &mut LockSeat<M>
     board.load::<LearnServing>(seat, SERVING)
 }
 
-// A compare-exchange of `next`, to draw a ticket that the seat has seen served: the number found, which is the ticket
-// where it was drawn. Then the seat has the slot with the journal.
+// Tries, by a compare-exchange of `next`, to draw a ticket that the seat has seen served. Returns the number found,
+// which equals the ticket if it was drawn. The seat then holds the slot with the journal.
 fn try_draw_served<M: Journal>(board: &Board<M>, seat: &mut LockSeat<M>, ticket: u64) -> u64
     requires table { IsSeated seat.old.table_id board.now.table_id }
     requires idle { (stage_of seat.old.me.0 ≡ Some Idle) × (seat.old.me.1 ≡ []) }
@@ -47,8 +47,8 @@ fn try_draw_served<M: Journal>(board: &Board<M>, seat: &mut LockSeat<M>, ticket:
     board.compare_exchange::<DrawServed<M>>(seat, NEXT, ticket, ticket + 1)
 }
 
-/// Enters with a ticket that the seat has seen served, in one step, where `next` is found equal to it; else what `next`
-/// was, which is above it.
+/// Enters, in one step, with a ticket that the seat has seen served, if `next` equals it. Otherwise returns the value
+/// of `next`, which is greater, as the error.
 pub(crate) fn enter_served<M: Journal>(
     board: &Board<M>,
     seat: &mut LockSeat<M>,
@@ -72,9 +72,9 @@ pub(crate) fn enter_served<M: Journal>(
     }
 }
 
-/// Enters with a ticket that is served at once, where within some tries `next` is found equal to `serving`: the ticket
-/// and the journal. Between two tries it spins, then yields, with no ticket drawn. A lock whose tickets are all drawn
-/// ends the tries.
+/// Tries repeatedly to enter with a ticket that is served at once, which needs `next` equal to `serving`. Returns the
+/// ticket and the journal. Between two tries it spins and later yields, without a ticket drawn. It stops when all
+/// tickets are drawn.
 pub(crate) fn enter_at_once<M: Journal>(
     board: &Board<M>,
     seat: &mut LockSeat<M>,

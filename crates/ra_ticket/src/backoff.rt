@@ -1,18 +1,17 @@
-//! How a waiting call spends its time.
+//! The backoff of a waiting call.
 use std::{hint, thread};
 
-// The longest spin is two to this power.
+// The binary logarithm of the longest spin.
 const LAST_SPIN: u32 = 6;
 
-/// A wait that grows: each is twice as long as the one before, up to 64 spins, and from then on the processor is left
-/// to others.
+/// A backoff: each wait spins twice as long as the one before, up to 64 spins. After that it yields the processor.
 #[derive(Drop)]
 pub(crate) struct Backoff {
     waits: u32,
 }
 
 impl Backoff {
-    /// The first wait is one spin.
+    /// Creates a backoff whose first wait is one spin.
     pub(crate) fn new() -> Backoff {
         Backoff { waits: 0 }
     }

@@ -1,7 +1,6 @@
-//! The table that the passes share.
-//! Word 0 is `next`, the next ticket to be drawn, word 1 is `serving`, the ticket that may enter, and word 2 is `mark`,
-//! how many calls the log has and the number of its fault.
-//! Slot 0 holds the journal. It is out only with the seat whose ticket is served.
+//! The table that the passes share. Word 0 is `next`, the next ticket to be drawn, and word 1 is `serving`, the ticket
+//! that may enter. Word 2 is `mark`, the number of calls in the log and the number of its fault. Slot 0 contains the
+//! journal. It is out only with the seat whose ticket is served.
 use atomic_table::{Seat, Shared, Table, TableRule};
 use ra_journal::{Entry, Journal};
 use std::alloc::Global;
@@ -9,66 +8,66 @@ use std::collections::LinkedList;
 use std::marker::PhantomData;
 use std::snapshot::Snapshot;
 
-/// The word that has the next ticket to be drawn.
+/// The index of the word with the next ticket to be drawn.
 pub const NEXT: usize = 0;
 
-/// The word that has the ticket that may enter.
+/// The index of the word with the ticket that may enter.
 pub const SERVING: usize = 1;
 
-/// The word that has the calls and the fault.
+/// The index of the word with the number of calls and the fault.
 pub const MARK: usize = 2;
 
-/// The slot of the journal.
+/// The index of the journal's slot.
 pub const JOURNAL: usize = 0;
 
-/// What a seat is about. The number is its ticket.
+/// The stage of a seat, with its ticket.
 pub enum Stage {
-    /// No ticket of its own is out.
+    /// The seat has no ticket.
     Idle,
-    /// It has drawn the ticket, and has not entered.
+    /// The seat has drawn the ticket and has not entered.
     Waiting(u64),
-    /// Its ticket is served, and the slot of the journal is out with it.
+    /// The seat's ticket is served, and the seat holds the journal's slot.
     Holding(u64),
 }
 
-/// What a seat knows.
+/// The knowledge of a seat.
 pub struct Known<C, R, S> {
-    /// The numbers of the passes that sit there.
+    /// The numbers of the passes that share the seat.
     pub numbers: LinkedList<u8>,
     /// A number that the word `next` has reached.
     pub next: u64,
     /// A number that the word `serving` has reached.
     pub serving: u64,
-    /// What it is about.
+    /// The stage of the seat.
     pub stage: Stage,
     /// The setup of the journal.
     pub setup: S,
-    /// The log as far as it was seen.
+    /// The log as far as the seat has seen it.
     pub seen: LinkedList<Entry<C, R>>,
 }
 
-/// The view of a seat at the table. No value of it is made.
+/// The view of a seat at the table. It exists in proofs alone.
 pub enum View<C, R, S> {
-    /// Its seat was joined to another one, which knows what it knew.
+    /// The seat was joined to another one, which took over its knowledge.
     Spent,
-    /// It knows this.
+    /// The seat has this knowledge.
     Knows(Known<C, R, S>),
-    /// Another seat was joined to it, and it knows what each of the two knew, until it looks at the log.
+    /// Another seat was joined to this one. It has the knowledge of both until it looks at the log.
     Met(Known<C, R, S>, Known<C, R, S>),
 }
 
-/// What the table is made with.
+/// The parameters of a table.
 #[derive(Drop)]
 pub struct About<M> {
     /// The number of passes.
     pub passes: u8,
-    /// The ticket at which both words begin.
+    /// The initial value of `next` and `serving`.
     pub first: u64,
-    /// The journal as it was put in.
+    /// The journal at the opening.
     pub opening: Snapshot<M>,
 }
 
-/// The rule of the table.
+/// The invariant of the table.
 pub struct Turns<M> {
     journal: PhantomData<M>,
 }
@@ -83,14 +82,14 @@ impl<M: Journal> TableRule<Option<M>, JournalView<M>, About<M>> for Turns<M> {
     ghost first = { λ about. starting about.passes about.first (M.setup about.opening.value) };
 }
 
-/// What a seat of a lock over this journal knows.
+/// The view of a seat of a lock over this journal.
 pub type JournalView<M> = View<
     <M as Journal>::Command,
     <M as Journal>::Reply,
     <M as Journal>::Setup,
 >;
 
-/// The steps on the table.
+/// The shared part of the table, on which the steps act.
 pub type Board<M> = Shared<Option<M>, JournalView<M>, About<M>, Turns<M>>;
 
 /// The table with its memory.

@@ -1,4 +1,4 @@
-//! A pass together with its lock, for programs that prove nothing of passes themselves.
+//! A pass together with its lock, for programs that prove nothing about passes themselves.
 ghost use Rattle.std.specs.Arc.{arc_value};
 ghost use Rattle.ra_ticket.specs.Passes.{IsPassOf};
 
@@ -11,8 +11,8 @@ use ra_journal::Journal;
 use std::alloc::{AllocError, Global};
 use std::sync::{Arc, Wait};
 
-/// A pass with its lock, which it shares with the other callers. It may go to another thread. It may be dropped between
-/// calls, and the journal goes with the last of them.
+/// A pass with its lock, which it shares with the other callers. It may move to another thread, and be dropped between
+/// calls. The last caller that is dropped drops the journal.
 #[derive(Drop)]
 pub struct Caller<M: Journal> {
     pub(crate) lock: Arc<TicketLock<M>, Global>,
@@ -20,12 +20,12 @@ pub struct Caller<M: Journal> {
     ghost own: { IsPassOf (arc_value lock) pass },
 }
 
-/// Why the journal did not come back.
+/// Why `close` does not return the journal.
 #[derive(Drop)]
 pub enum CloseFault<M: Journal> {
-    /// Other callers of the lock are left. This one comes back with its lock and pass.
+    /// Other callers of the lock exist. Carries this caller, with its lock and pass.
     Shared(Caller<M>),
-    /// A ticket was drawn and not served. The journal is given up.
+    /// A ticket was drawn and not served. The journal is dropped.
     Unsettled(Unsettled),
 }
 
@@ -42,8 +42,16 @@ impl<M: Journal> Caller<M> {
     ghost use Rattle.ra_ticket.specs.declared.open.TheConstants.{MOST_PASSES};
     ghost use Rattle.ra_ticket.specs.Callers.{pass_of, passes_of, AreOfOneLock, HandsBack, TellsUnsettled};
 
-    /// Makes a lock over a journal with an empty log, and 1 to `MOST_PASSES` callers of it, numbered from 0 in the
-    /// list's order. The first ticket is 0. Its cost is linear in the number of callers.
+    /// Creates a lock over a journal with an empty log, and 1 to `MOST_PASSES` callers of it, numbered from 0 in the
+    /// list's order. The first ticket is 0.
+    ///
+    /// # Errors
+    ///
+    /// `BadPasses`, with the journal, for any other number of callers; otherwise `NoMemory` if an allocation fails.
+    ///
+    /// # Complexity
+    ///
+    /// O(n) for n callers.
     pub fn open(alloc: Global, state: M, callers: u8) -> Result<Vec<Caller<M>>, OpenFault<M>>
         requires { M.log state ≡ [] }
         ensures numbers { IfOk result (λ v. map number_of (passes_of v.items) ≡ range_with_len 0 callers) }
@@ -62,7 +70,7 @@ impl<M: Journal> Caller<M> {
         Ok(Caller::share(alloc, &lock, passes)?)
     }
 
-    // Gives each of the passes its lock.
+    // Combines each pass with the lock.
     fn share(
         alloc: Global,
         lock: &Arc<TicketLock<M>, Global>,
@@ -79,7 +87,7 @@ impl<M: Journal> Caller<M> {
         Ok(callers)
     }
 
-    /// The place of its pass in the list that `open` gave, from 0. Every pass has a setup.
+    /// Returns the index of its pass in the list that `open` returned, from 0. Every pass has a setup.
     pub fn number(&self) -> u8
         ensures number { result ≡ number_of (pass_of self.now) }
         ensures setup { HasSetup (pass_of self.now) }
@@ -87,7 +95,11 @@ impl<M: Journal> Caller<M> {
         self.pass.number()
     }
 
-    /// As `TicketLock::submit` by its pass, at the same cost.
+    /// Submits the command as `TicketLock::submit` does, with the caller's pass, at the same cost.
+    ///
+    /// # Errors
+    ///
+    /// Those of `TicketLock::submit`.
     pub fn submit<R: Wait>(
         &mut self,
         rt: &R,
@@ -105,7 +117,7 @@ impl<M: Journal> Caller<M> {
         ensures worn_unchanged { IfErr result (λ f. IsWorn f → seen (pass_of self.new) ≡ seen (pass_of self.old)) }
         ensures full_at_the_limit { IfErr result (λ f. IsFull f → IfSome (pass_setup (pass_of self.new))
             (λ s. length (seen (pass_of self.new)) ≡ M.limit_of s)) }
-        // After these two the ticket that was drawn is served.
+        // After `Full` and `NoMemory` the drawn ticket is served.
         ensures served { IfErr result (λ f. IsFull f ⊎ IsNoMemory f
             → serving_reached (pass_of self.old) < serving_reached (pass_of self.new)) }
         ensures no_memory_below_the_limit { IfErr result (λ f. IsNoMemory f → IfSome (pass_setup (pass_of self.new))
@@ -115,7 +127,11 @@ impl<M: Journal> Caller<M> {
         self.lock.submit(rt, &mut self.pass, command)
     }
 
-    /// As `TicketLock::try_submit` by its pass, at the same cost: it waits for nobody.
+    /// Submits the command as `TicketLock::try_submit` does, with the caller's pass, at the same cost. Does not wait.
+    ///
+    /// # Errors
+    ///
+    /// Those of `TicketLock::try_submit`.
     pub fn try_submit(&mut self, command: M::Command) -> Result<M::Reply, CallFault<M::Command>>
         ensures pass { IsSamePass (pass_of self.old) (pass_of self.new) }
         ensures legal { IfOk result (λ _. KnowsLegal M.reply_of (pass_of self.new)) }
@@ -128,7 +144,7 @@ impl<M: Journal> Caller<M> {
             → next_reached (pass_of self.new) ≡ GREATEST_TICKET + 1) }
         ensures full_at_the_limit { IfErr result (λ f. IsFull f → IfSome (pass_setup (pass_of self.new))
             (λ s. length (seen (pass_of self.new)) ≡ M.limit_of s)) }
-        // After these two the ticket that was drawn is served.
+        // After `Full` and `NoMemory` the drawn ticket is served.
         ensures served { IfErr result (λ f. IsFull f ⊎ IsNoMemory f
             → serving_reached (pass_of self.old) < serving_reached (pass_of self.new)) }
         ensures no_memory_below_the_limit { IfErr result (λ f. IsNoMemory f → IfSome (pass_setup (pass_of self.new))
@@ -142,12 +158,12 @@ impl<M: Journal> Caller<M> {
         self.lock.try_submit(&mut self.pass, command)
     }
 
-    /// As `TicketLock::glance` by its pass, at the same cost: it waits for nobody and always answers.
+    /// Returns what `TicketLock::glance` does, with the caller's pass, at the same cost. Does not wait and cannot fail.
     pub fn glance(&mut self) -> Glance
         ensures pass { IsSamePass (pass_of self.old) (pass_of self.new) }
         ensures legal { KnowsLegal M.reply_of (pass_of self.new) }
         ensures mine { mine (pass_of self.new) ≡ mine (pass_of self.old) }
-        // It draws no ticket.
+        // What the pass knows of the tickets is unchanged.
         ensures draws_none { (next_reached (pass_of self.new) ≡ next_reached (pass_of self.old))
             × (serving_reached (pass_of self.new) ≡ serving_reached (pass_of self.old)) }
         ensures calls { result.calls ≡ length (seen (pass_of self.new)) }
@@ -157,8 +173,8 @@ impl<M: Journal> Caller<M> {
         self.lock.glance(&mut self.pass)
     }
 
-    /// Two callers of one lock share what they know, as `TicketLock::meet` by their passes, at the same cost:
-    /// it waits for nobody and always answers.
+    /// Shares what two callers of one lock know, as `TicketLock::meet` does with their passes, at the same cost. Does
+    /// not wait and cannot fail.
     pub fn meet(self, other: Caller<M>) -> (Caller<M>, Caller<M>, u32)
         requires one_lock { AreOfOneLock (pass_of self ∷ pass_of other ∷ []) }
         ensures first { IsSamePass (pass_of self) (pass_of result.0) }
@@ -167,7 +183,7 @@ impl<M: Journal> Caller<M> {
         ensures mine_second { mine (pass_of result.1) ≡ mine (pass_of other) }
         ensures one_log { seen (pass_of result.1) ≡ seen (pass_of result.0) }
         ensures legal { KnowsLegal M.reply_of (pass_of result.0) × KnowsLegal M.reply_of (pass_of result.1) }
-        // It draws no ticket.
+        // Of the tickets, each knows what either knew.
         ensures draws_none { KnowsWhatEitherKnew (pass_of self) (pass_of other) (pass_of result.0)
             × KnowsWhatEitherKnew (pass_of self) (pass_of other) (pass_of result.1) }
         ensures calls { result.2 ≡ length (seen (pass_of result.0)) }
@@ -186,8 +202,11 @@ impl<M: Journal> Caller<M> {
         (first, second, calls)
     }
 
-    /// Takes the journal out of the lock, as `TicketLock::close` by its pass, where no other caller of the lock is
-    /// left; else `Shared` hands this one back. It waits for nobody and needs no memory.
+    /// Returns the journal, as `TicketLock::close` does with the caller's pass. Does not wait and does not allocate.
+    ///
+    /// # Errors
+    ///
+    /// `Shared`, with this caller, if other callers of the lock exist; `Unsettled` if a drawn ticket was not served.
     pub fn close(self) -> Result<M, CloseFault<M>>
         ensures setup { IfOk result (λ m. pass_setup (pass_of self) ≡ Some (M.setup m)) }
         ensures legal { IfOk result (λ m. IsLegal (M.reply_of (M.setup m)) (M.log m)) }

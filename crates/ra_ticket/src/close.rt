@@ -1,4 +1,4 @@
-//! How a lock is closed.
+//! The closing of a lock.
 ghost use Rattle.std.specs.Prelude.{◌≡◌, Some, Option};
 ghost use Rattle.ra_journal.specs.Log.{readings};
 ghost use Rattle.ra_ticket.specs.Steps.{IsLeft};
@@ -10,16 +10,17 @@ use crate::lock::TicketLock;
 use crate::pass::Pass;
 use ra_journal::Journal;
 
-/// A ticket was drawn and not served when the lock was closed. The journal is given up. No public call leaves one so.
+/// The state of a lock that was closed while a drawn ticket was not served. The journal is dropped. No public call
+/// leaves its ticket unserved.
 #[derive(Debug, PartialEq, Eq, Clone, Copy)]
 pub struct Unsettled {
-    /// What `serving` was.
+    /// The value of `serving`.
     pub serving: u64,
-    /// What `next` was, which is above it.
+    /// The value of `next`, which is greater.
     pub next: u64,
 }
 
-// What a table has when it is closed: the words `next` and `serving`, and what the slot of the journal has.
+// Closes the table and returns the words `next` and `serving`, and the content of the journal's slot.
 fn close_table<M: Journal>(table: LockTable<M>, seat: LockSeat<M>) -> (u64, u64, Option<M>)
     requires table { seat.table_id ≡ table.shared.table_id }
     requires idle { stage_of seat.me.0 ≡ Some Idle }
@@ -40,9 +41,12 @@ impl<M: Journal> TicketLock<M> {
     ghost use Rattle.ra_ticket.specs.Passes.{IsPassOf, number_of, next_reached, serving_reached};
     ghost use Rattle.ra_ticket.specs.Passes.{pass_setup, seen, mine};
 
-    /// Takes the journal out of the lock, where each ticket that was drawn is served. Its log begins with all that the
-    /// pass had seen and has all of the pass's own calls. Other passes that are left are of no use then. It waits for
-    /// nobody and needs no memory. Else the journal is given up, and the two words are told.
+    /// Closes the lock and returns the journal, whose log begins with all that the pass had seen and contains all of
+    /// the pass's own calls. Remaining passes can no longer be used. Does not wait and does not allocate.
+    ///
+    /// # Errors
+    ///
+    /// `Unsettled`, with the two words, if a drawn ticket was not served. The journal is then dropped.
     pub fn close(self, pass: Pass<M>) -> Result<M, Unsettled>
         requires own { IsPassOf self pass }
         ensures setup { IfOk result (λ m. pass_setup pass ≡ Some (M.setup m)) }

@@ -1,4 +1,4 @@
-//! How a pass draws a ticket.
+//! The drawing of a ticket.
 ghost use Rattle.std.specs.Prelude.{◌≡◌, ◌≢◌, ◌+◌, ◌≤◌, Some, IfSome, IfNone};
 ghost use Rattle.ra_ticket.specs.Steps.{IsSeated, IsSameSeat};
 ghost use Rattle.ra_ticket.specs.Views.{stage_of, next_of, serving_of, seen_of};
@@ -9,10 +9,10 @@ use crate::plays::{Draw, Learn};
 use ra_journal::Journal;
 use std::sync::Wait;
 
-/// The last ticket that can be drawn. After that all are, and `next` stays one above it.
+/// The last ticket that can be drawn. After it `next` stays one greater.
 pub const GREATEST_TICKET: u64 = 18_446_744_073_709_551_614;
 
-/// A load of `next`: a number that it has reached, and which is not below what `serving` has.
+/// Loads `next`, and returns a number that it has reached. It is at least what the seat knows of `serving`.
 pub(crate) fn learn_next<M: Journal>(board: &Board<M>, seat: &mut LockSeat<M>) -> u64
     requires table { IsSeated seat.old.table_id board.now.table_id }
     requires idle { stage_of seat.old.me.0 ≡ Some Idle }
@@ -26,7 +26,8 @@ pub(crate) fn learn_next<M: Journal>(board: &Board<M>, seat: &mut LockSeat<M>) -
     board.load::<Learn>(seat, NEXT)
 }
 
-/// A compare-exchange of `next`: the number found, which is the ticket where it was drawn.
+/// Tries to draw the ticket by a compare-exchange of `next`. Returns the number found, which equals the ticket if it
+/// was drawn.
 pub(crate) fn try_draw<M: Journal>(board: &Board<M>, seat: &mut LockSeat<M>, ticket: u64) -> u64
     requires table { IsSeated seat.old.table_id board.now.table_id }
     requires idle { stage_of seat.old.me.0 ≡ Some Idle }
@@ -40,8 +41,8 @@ pub(crate) fn try_draw<M: Journal>(board: &Board<M>, seat: &mut LockSeat<M>, tic
     board.compare_exchange::<Draw>(seat, NEXT, ticket, ticket + 1)
 }
 
-/// Draws the next ticket, or answers that all are drawn. It tries again where another pass drew the one that it had
-/// found, so it costs one atomic step more for each pass that draws at the same time.
+/// Draws the next ticket, or returns `None` if all are drawn. Tries again if another pass drew the ticket first, which
+/// costs one more atomic step for each such pass.
 pub(crate) fn draw_ticket<M: Journal, R: Wait>(
     rt: &R,
     board: &Board<M>,

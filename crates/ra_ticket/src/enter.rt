@@ -1,4 +1,4 @@
-//! How a pass enters: with a ticket that is served at once, or by waiting for its turn.
+//! The entry of a pass, with a ticket that is served at once or by waiting for its turn.
 ghost use Rattle.std.specs.Prelude.{◌≡◌, ◌+◌, [], Some, IfSome, IfNone, MatchBool};
 ghost use Rattle.ra_journal.specs.Log.{readings, BeginsWith};
 ghost use Rattle.ra_ticket.specs.Steps.{IsSeated, IsSameSeat, Carries, HasLifted, KeepsOwn};
@@ -14,7 +14,7 @@ use crate::slot::lift_out;
 use ra_journal::Journal;
 use std::sync::Wait;
 
-// A load of `serving`: whether the ticket is served. Then the seat has the slot with the journal.
+// Loads `serving`, and returns `true` if the ticket is served. The seat then holds the slot with the journal.
 fn look<M: Journal>(board: &Board<M>, seat: &mut LockSeat<M>, ticket: u64) -> bool
     requires table { IsSeated seat.old.table_id board.now.table_id }
     requires waits { (stage_of seat.old.me.0 ≡ Some (Waiting ticket)) × (seat.old.me.1 ≡ []) }
@@ -31,8 +31,8 @@ fn look<M: Journal>(board: &Board<M>, seat: &mut LockSeat<M>, ticket: u64) -> bo
     board.load::<Look<M>>(seat, SERVING) == ticket
 }
 
-// Waits until the ticket is served, and lifts the journal out of its slot. It looks at `serving` after each wait, and
-// each wait is longer, until it yields the processor.
+// Waits until the ticket is served, and takes the journal out of its slot. Between two looks at `serving` it backs off:
+// the waits grow until they yield the processor.
 fn wait_for_turn<M: Journal, R: Wait>(
     rt: &R,
     board: &Board<M>,
@@ -54,8 +54,8 @@ fn wait_for_turn<M: Journal, R: Wait>(
     unreachable!()
 }
 
-/// Enters with a ticket that is served at once, or else draws the next one and waits until it is served: the ticket and
-/// the journal. None where all tickets are drawn.
+/// Enters with a ticket that is served at once, or draws the next one and waits until it is served. Returns the ticket
+/// and the journal, or `None` if all tickets are drawn.
 pub(crate) fn enter<M: Journal, R: Wait>(
     rt: &R,
     board: &Board<M>,

@@ -1,13 +1,13 @@
-//! Why a lock was not opened, and why a call was not served.
+//! The errors of opening a lock and of calls.
 use ra_journal::StepFault;
 use std::alloc::AllocError;
 
-/// Why a lock was not opened.
+/// Why a lock is not opened.
 #[derive(Debug, PartialEq, Eq, Drop)]
 pub enum OpenFault<M> {
-    /// The number of passes is not 1 to `MOST_PASSES`. The journal comes back.
+    /// The number of passes is not 1 to `MOST_PASSES`. Carries the journal.
     BadPasses(M),
-    /// A growth was refused. The journal, whose log was empty, is given up.
+    /// An allocation failed. The journal, whose log was empty, is dropped.
     NoMemory,
 }
 
@@ -22,22 +22,22 @@ impl<M> From<AllocError> for OpenFault<M> {
     }
 }
 
-/// Why a call was not served. The command comes back, and nothing was logged.
+/// Why a call was not served. Each variant carries the command; nothing was logged.
 #[derive(Debug, PartialEq, Eq, Drop)]
 pub enum CallFault<C> {
     /// All tickets are drawn: `next` is one above `GREATEST_TICKET`.
     Worn(C),
-    /// The log has as many entries as its limit.
+    /// The number of the log's entries has reached its limit.
     Full(C),
-    /// A growth was refused.
+    /// An allocation failed.
     NoMemory(C),
-    /// The lock is in use, which a call of `submit` never answers.
+    /// The lock is in use. `submit` never returns this.
     Busy {
-        /// What `serving` was.
+        /// The value of `serving`.
         at: u64,
-        /// What `next` was, which is above it.
+        /// The value of `next`, which is greater.
         found: u64,
-        /// The command that comes back.
+        /// The command.
         command: C,
     },
 }

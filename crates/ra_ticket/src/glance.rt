@@ -1,4 +1,4 @@
-//! How a pass looks at the log without a call.
+//! A look at the log without a call.
 ghost use Rattle.std.specs.Prelude.{◌≡◌, Some};
 ghost use Rattle.ra_journal.specs.Log.{readings, BeginsWith};
 ghost use Rattle.ra_ticket.specs.Steps.{IsSeated, IsSameSeat, SeesMarked};
@@ -12,16 +12,16 @@ use crate::pass::Pass;
 use crate::plays::LookAtMark;
 use ra_journal::Journal;
 
-/// What the log of a lock came to, at one point.
+/// The length and the fault of a lock's log, at one point.
 #[derive(Debug, PartialEq, Eq, Clone, Copy)]
 pub struct Glance {
-    /// How many entries it has.
+    /// The number of its entries.
     pub calls: u32,
-    /// The number by which the journal names its fault, if it has one.
+    /// The number that the journal gives to its fault, if it has one.
     pub fault: Option<u32>,
 }
 
-/// A load of `mark`: the seat has then seen the log that it tells.
+/// Loads `mark`. The seat has then seen the log that the word describes.
 pub(crate) fn look_at_mark<M: Journal>(board: &Board<M>, seat: &mut LockSeat<M>) -> u64
     requires table { IsSeated seat.old.table_id board.now.table_id }
     requires idle { stage_of seat.old.me.0 ≡ Some Idle }
@@ -42,15 +42,19 @@ impl<M: Journal> TicketLock<M> {
     ghost use Rattle.ra_ticket.specs.Passes.{IsPassOf, IsSamePass, KnowsLegal, pass_setup, seen, mine};
     ghost use Rattle.ra_ticket.specs.Passes.{next_reached, serving_reached};
 
-    /// How many entries the log has and its fault, at a point during this call. The log is one that the pass has then
-    /// seen, so it begins with all that the pass had seen before, and it has all of the pass's own calls. It waits for
-    /// nobody, needs no memory and always answers. It costs one atomic load.
+    /// Returns the number of the log's entries and its fault, at a point during this call. The pass has then seen that
+    /// log: it begins with all that the pass had seen, and contains all of the pass's own calls. Does not wait, does
+    /// not allocate and cannot fail.
+    ///
+    /// # Complexity
+    ///
+    /// O(1): one atomic load.
     pub fn glance(&self, pass: &mut Pass<M>) -> Glance
         requires own { IsPassOf self.now pass.old }
         ensures pass { IsSamePass pass.old pass.new }
         ensures legal { KnowsLegal M.reply_of pass.new }
         ensures mine { mine pass.new ≡ mine pass.old }
-        // It draws no ticket.
+        // What the pass knows of the tickets is unchanged.
         ensures draws_none { (next_reached pass.new ≡ next_reached pass.old)
             × (serving_reached pass.new ≡ serving_reached pass.old) }
         ensures calls { result.calls ≡ length (seen pass.new) }

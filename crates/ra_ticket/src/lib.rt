@@ -1,23 +1,23 @@
-//! A ticket lock over a journal: threads that hold passes take turns at one object, in the order of the tickets that
-//! they draw.
+//! A ticket lock over a journal: threads that hold passes take turns at one object, in the order of their tickets.
 //!
-//! The crate's contract is that of the calls of `TicketLock`, for any `Journal`. A pass has seen a log, at first none,
-//! and each reply adds to it: what the pass has seen then is a legal log under the setup of the journal that was put
-//! in, it begins with what the pass had seen before, and it ends with this call. The pass's own entries in it are those
-//! that it had seen before and this one: each of its calls is there once, in its order. `submit` may wait for that;
-//! `try_submit` answers `Busy` instead. After `Full` the log has as many entries as the setup allows. A fault hands the
-//! command back and logs nothing. `glance` answers how many entries such a log has and what its fault is, and the pass
-//! has then seen it. `meet` has two passes see one such log, which begins with what each had seen. `close` gives the
-//! journal back, with such a log.
+//! The contract is that of the calls of `TicketLock`, for any `Journal`. A pass has seen a log, which is initially
+//! empty, and each reply extends it. The extended log is legal under the setup of the journal, begins with what the
+//! pass had seen, and ends with this call. Its entries of this pass are those that the pass had seen and this one: each
+//! of its calls occurs once, in order.
 //!
-//! A `Caller` is a pass that has its lock with it. Its calls are those of the lock; `open` asks for a journal with an
-//! empty log, `meet` for two callers of one lock, and the others for nothing.
+//! `submit` may wait; `try_submit` returns `Busy` instead. After `Full` the log has as many entries as the setup
+//! allows. A fault hands the command back and logs nothing. `glance` returns the length and the fault of such a log,
+//! which the pass has then seen. `meet` lets two passes see one such log, which begins with what each had seen. `close`
+//! returns the journal, with such a log.
 //!
-//! Behind it stands the rule of the lock (`specs/Rule`), which each step on the table keeps: no two calls hold one
-//! ticket, the journal is out of its slot with one call at most, the one whose ticket is served, and there is one legal
-//! log, the front, of which each pass has seen a beginning with all its own entries, and which the word `mark` tells.
-//! Only the holder of the journal makes it longer, by one entry, with its store of `mark`.
-//! That anyone is ever served is not said.
+//! A `Caller` is a pass together with its lock, and its calls are those of the lock. `open` requires a journal with an
+//! empty log, `meet` two callers of one lock, and the others nothing.
+//!
+//! The contract rests on the rule of the lock (`specs/Rule`), which each step on the table preserves. No two calls hold
+//! one ticket. The journal is out of its slot with at most one call, whose ticket is served. There is one legal log,
+//! the front, which the word `mark` describes. Each pass has seen a prefix of it with all its own entries. Only the
+//! holder of the journal extends it, by one entry, with its store of `mark`. Nothing is claimed about whether a call is
+//! ever served.
 #![tactic(auto)]
 
 mod at_once;
@@ -29,7 +29,6 @@ mod draw;
 mod enter;
 mod fault;
 mod glance;
-pub mod laws;
 mod lock;
 mod mark;
 mod meet;
@@ -39,6 +38,7 @@ mod plays;
 mod release;
 mod serve;
 mod slot;
+pub mod theorems;
 
 pub use caller::{Caller, CloseFault};
 pub use close::Unsettled;

@@ -1,4 +1,4 @@
-//! The lock, and a call on it.
+//! The lock and its calls.
 ghost use Rattle.std.specs.Prelude.{◌≡◌};
 
 use crate::at_once::{enter_served, learn_serving};
@@ -11,7 +11,7 @@ use crate::serve::serve;
 use ra_journal::Journal;
 use std::sync::Wait;
 
-/// A journal that passes take turns at, in the order of the tickets that they draw.
+/// A journal at which passes take turns, in the order of their tickets.
 #[derive(Drop)]
 pub struct TicketLock<M: Journal> {
     pub(crate) table: LockTable<M>,
@@ -24,17 +24,22 @@ impl<M: Journal> TicketLock<M> {
     ghost use Rattle.ra_ticket.specs.Passes.{IsPassOf, IsSamePass, IsLogged, KnowsLegal, IsMineAndThen};
     ghost use Rattle.ra_ticket.specs.Passes.{next_reached, serving_reached, pass_setup, seen, mine, IsFoundBusy};
 
-    /// Draws a ticket, waits until it is served, lets the journal answer the command and publishes the answer.
-    /// `Worn` comes before a ticket is drawn; after `Full` and `NoMemory` the ticket is served and leaves no entry.
+    /// Draws a ticket, waits until it is served, lets the journal answer the command, and publishes the answer.
     ///
-    /// How it waits: it first tries up to 64 times for a ticket that is served at once, and has none in its hands
-    /// between two tries. Then it draws the next ticket to wait with, and tries again each time that another call draws
-    /// first. Up to there others may overtake it; once it has drawn, no call that draws after it is served before it.
-    /// Between two tries, and then between two looks at the ticket that is served, it pauses for 1, 2, 4 .. 64 spins,
-    /// and from then on leaves the processor to others.
+    /// It first tries up to 64 times for a ticket that is served at once, and holds none between two tries. Then it
+    /// draws the next ticket to wait with, and tries again whenever another call draws first. Until then others may
+    /// overtake it; a call that draws later is not served before it. It pauses between two tries, and then between two
+    /// looks at the ticket that is served: for 1, 2, 4 .. 64 spins, and after that by yielding the processor.
     ///
-    /// It costs the journal's step, a few atomic steps, two or three more for each try and one for each pass that
-    /// draws at the same time, and the wait. The journal's own bytes, not what it owns, are copied twice.
+    /// # Errors
+    ///
+    /// `Worn` if all tickets are drawn; no ticket was drawn. `Full` or `NoMemory` from the journal: the ticket is
+    /// served and leaves no entry.
+    ///
+    /// # Complexity
+    ///
+    /// The journal's step, a few atomic steps, two or three more for each try, one for each pass that draws at the same
+    /// time, and the wait. The journal's own bytes, not what it owns, are copied twice.
     pub fn submit<R: Wait>(
         &self,
         rt: &R,
@@ -53,7 +58,7 @@ impl<M: Journal> TicketLock<M> {
         ensures worn_unchanged { IfErr result (λ f. IsWorn f → seen pass.new ≡ seen pass.old) }
         ensures full_at_the_limit { IfErr result (λ f. IsFull f
             → IfSome (pass_setup pass.new) (λ s. length (seen pass.new) ≡ M.limit_of s)) }
-        // After these two the ticket that was drawn is served.
+        // After `Full` and `NoMemory` the drawn ticket is served.
         ensures served { IfErr result (λ f. IsFull f ⊎ IsNoMemory f
             → serving_reached pass.old < serving_reached pass.new) }
         ensures no_memory_below_the_limit { IfErr result (λ f. IsNoMemory f
@@ -74,12 +79,17 @@ impl<M: Journal> TicketLock<M> {
         }
     }
 
-    /// Makes the call at once, where no other one is under way, and else answers `Busy` or, where all tickets are
-    /// drawn, `Worn`. It waits for nobody. After `Full` and `NoMemory` its ticket is served and leaves no entry, and
-    /// after `Worn` and `Busy` it has drawn none.
+    /// Serves the call at once, if no other one is in progress. Does not wait.
     ///
-    /// It costs two atomic steps and, where it enters, the journal's step, two more atomic steps and two copies of the
-    /// journal's own bytes.
+    /// # Errors
+    ///
+    /// `Busy` if another call is in progress, or `Worn` if all tickets are drawn: it has drawn none. `Full` or
+    /// `NoMemory` from the journal: its ticket is served and leaves no entry.
+    ///
+    /// # Complexity
+    ///
+    /// Two atomic steps. If it enters, also the journal's step, two more atomic steps and two copies of the journal's
+    /// own bytes.
     pub fn try_submit(
         &self,
         pass: &mut Pass<M>,
@@ -96,7 +106,7 @@ impl<M: Journal> TicketLock<M> {
         ensures worn_at_the_end { IfErr result (λ f. IsWorn f → next_reached pass.new ≡ GREATEST_TICKET + 1) }
         ensures full_at_the_limit { IfErr result (λ f. IsFull f
             → IfSome (pass_setup pass.new) (λ s. length (seen pass.new) ≡ M.limit_of s)) }
-        // After these two the ticket that was drawn is served.
+        // After `Full` and `NoMemory` the drawn ticket is served.
         ensures served { IfErr result (λ f. IsFull f ⊎ IsNoMemory f
             → serving_reached pass.old < serving_reached pass.new) }
         ensures no_memory_below_the_limit { IfErr result (λ f. IsNoMemory f

@@ -1,11 +1,11 @@
-//! The word `mark`: how many calls a log has, and the number of its fault, in one word.
+//! The word `mark`: the number of calls in a log and the number of its fault, in one word.
 ghost use Rattle.std.specs.Prelude.{◌≡◌, ◌<◌, ℕ, Option, IfSome};
 ghost use Rattle.ra_ticket.specs.Mark.{mark_of, IsNumbered};
 
-/// A mark is the calls times this, and one more than the number of the fault where there is one.
+/// A mark is the number of calls times this factor, plus one more than the number of the fault if there is one.
 const MARKS: u64 = 4_294_967_296;
 
-/// The mark of this many calls and this fault, which is below them.
+/// Returns the mark of this many calls and this fault, whose number is smaller.
 pub(crate) fn pack(calls: u32, fault: Option<u32>) -> u64
     requires { IfSome fault (λ f. f < calls) }
     ensures { result ≡ mark_of calls fault }
@@ -17,7 +17,7 @@ pub(crate) fn pack(calls: u32, fault: Option<u32>) -> u64
     u64::from(calls) * MARKS + part
 }
 
-/// The calls and the fault of a mark.
+/// Returns the number of calls and the fault of a mark.
 pub(crate) fn read(mark: u64) -> (u32, Option<u32>)
     ensures whole { mark ≡ mark_of result.0 result.1 }
     ensures packed { (calls : ℕ) (fault : Option ℕ) → IsNumbered fault → mark ≡ mark_of calls fault

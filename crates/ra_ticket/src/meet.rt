@@ -1,4 +1,4 @@
-//! How two passes share what they know.
+//! The meeting of two passes, which share what they know.
 ghost use Rattle.std.specs.Prelude.{◌≡◌, ℕ, max, [], ◌∷◌, Some};
 ghost use Rattle.ra_journal.specs.Log.{readings};
 ghost use Rattle.ra_ticket.specs.Steps.{IsSeated, SeesMarked, SeesFor, GoesOn};
@@ -25,7 +25,7 @@ fn join<M: Journal>(board: &Board<M>, seat: &mut LockSeat<M>, other: LockSeat<M>
     board.join_seat::<Meet>(seat, other);
 }
 
-// A load of `mark` by a seat to which another was joined: it has then seen the log that it tells.
+// Loads `mark` with a seat to which another was joined. The seat has then seen the log that the word describes.
 fn look_together<M: Journal>(board: &Board<M>, seat: &mut LockSeat<M>) -> u64
     requires table { IsSeated seat.old.table_id board.now.table_id }
     requires both { IsMet seat.old.me.0 }
@@ -41,7 +41,7 @@ fn look_together<M: Journal>(board: &Board<M>, seat: &mut LockSeat<M>) -> u64
     board.load::<LookTogether<M>>(seat, MARK)
 }
 
-// Joins the seats of two passes, looks at `mark` and cuts the seat again: the first pass's seat, and what was found.
+// Joins the seats of two passes, loads `mark` and splits the seat again. Returns the first pass's seat and the mark.
 fn look_and_part<M: Journal>(
     board: &Board<M>,
     seat: &mut LockSeat<M>,
@@ -72,10 +72,13 @@ impl<M: Journal> TicketLock<M> {
     ghost use Rattle.std.specs.Prelude.{◌≡◌, length};
     ghost use Rattle.ra_ticket.specs.Passes.{IsPassOf, IsSamePass, KnowsWhatEitherKnew, KnowsLegal, seen, mine};
 
-    /// Two passes share what they know: both come back, in the order in which they were given, and have then
-    /// seen one log, at a point during this call. It begins with all that either had seen before, and it has all calls
-    /// of both. The number answered is how many entries it has. It waits for nobody, needs no memory and always
-    /// answers. It costs three atomic loads.
+    /// Shares what two passes know, and returns both, in the given order. They have then seen one log, at a point
+    /// during this call. It begins with all that either had seen, and contains all calls of both. The returned number
+    /// is its length. Does not wait, does not allocate and cannot fail.
+    ///
+    /// # Complexity
+    ///
+    /// O(1): three atomic loads.
     pub fn meet(&self, first: Pass<M>, second: Pass<M>) -> (Pass<M>, Pass<M>, u32)
         requires own { IsPassOf self.now first × IsPassOf self.now second }
         ensures first { IsSamePass first result.0 }
@@ -84,7 +87,7 @@ impl<M: Journal> TicketLock<M> {
         ensures mine_second { mine result.1 ≡ mine second }
         ensures one_log { seen result.1 ≡ seen result.0 }
         ensures legal { KnowsLegal M.reply_of result.0 × KnowsLegal M.reply_of result.1 }
-        // It draws no ticket.
+        // Of the tickets, each pass knows what either knew.
         ensures draws_none { KnowsWhatEitherKnew first second result.0 × KnowsWhatEitherKnew first second result.1 }
         ensures calls { result.2 ≡ length (seen result.0) }
     {

@@ -1,4 +1,4 @@
-//! How a lock is opened and its passes are dealt out.
+//! The opening of a lock and the distribution of its passes.
 ghost use Rattle.std.specs.Prelude.{◌≡◌, ◌-◌, ◌<◌, ◌≤◌, ◌⊎◌, [], map, All, IfOk, IsOkUnless, Some};
 ghost use Rattle.std.specs.List.{range_with_len};
 ghost use Rattle.ra_ticket.specs.Steps.{IsSeated, IsPart};
@@ -19,7 +19,7 @@ use ra_journal::Journal;
 use std::alloc::{AllocError, Global};
 use std::snapshot::Snapshot;
 
-/// The most passes that a lock may have.
+/// The largest number of passes of a lock.
 pub const MOST_PASSES: u8 = 64;
 
 /// Splits a seat: the first pass gets a seat of its own.
@@ -34,7 +34,7 @@ pub(crate) fn split_first<M: Journal>(board: &Board<M>, rest: &mut LockSeat<M>) 
     board.split_seat::<CutFirst>(rest)
 }
 
-// The table with the journal in its slot, and a seat with all passes.
+// Creates the table with the journal in its slot, and a seat with all passes.
 fn set_table<M: Journal>(
     alloc: Global,
     state: M,
@@ -60,7 +60,7 @@ fn set_table<M: Journal>(
     }
 }
 
-// Deals out seats of their own to the passes, in order.
+// Distributes the seats to the passes, in order.
 fn deal<M: Journal>(
     alloc: Global,
     board: &Board<M>,
@@ -81,8 +81,16 @@ fn deal<M: Journal>(
 }
 
 impl<M: Journal> TicketLock<M> {
-    /// Makes a lock over a journal with an empty log, and 1 to `MOST_PASSES` passes of it, numbered from 0 in the
-    /// list's order. The first ticket is `first`. Its cost is linear in the number of passes.
+    /// Creates a lock over a journal with an empty log, and 1 to `MOST_PASSES` passes of it, numbered from 0 in the
+    /// list's order. The first ticket is `first`.
+    ///
+    /// # Errors
+    ///
+    /// `BadPasses`, with the journal, for any other number of passes; otherwise `NoMemory` if an allocation fails.
+    ///
+    /// # Complexity
+    ///
+    /// O(n) for n passes.
     pub fn open(
         alloc: Global,
         state: M,

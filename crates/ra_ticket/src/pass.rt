@@ -6,8 +6,8 @@ ghost use Rattle.ra_ticket.specs.declared.board.Stage.TheVariants.{Idle};
 use crate::board::LockSeat;
 use ra_journal::Journal;
 
-/// The right to make calls on one lock, one after another. It may go to another thread, and one that is dropped between
-/// calls harms nobody.
+/// The right to make calls on one lock, one after another. It may move to another thread. Dropping it between calls
+/// does not affect other passes.
 #[derive(Drop)]
 pub struct Pass<M: Journal> {
     pub(crate) number: u8,
@@ -20,7 +20,7 @@ pub struct Pass<M: Journal> {
 impl<M: Journal> Pass<M> {
     ghost use Rattle.ra_ticket.specs.Passes.{number_of, HasSetup};
 
-    /// Its place in the list that `open` gave, from 0. Every pass has a setup.
+    /// Returns its index in the list that `open` returned, from 0. Every pass has a setup.
     pub fn number(&self) -> u8
         ensures number { result ≡ number_of self.now }
         ensures setup { HasSetup self.now }

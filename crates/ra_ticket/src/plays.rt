@@ -1,4 +1,4 @@
-//! What each step on the table tells.
+//! The steps on the table, with what each lets its seat know.
 ghost use Rattle.ra_journal.specs.Log.{readings};
 ghost use Rattle.ra_ticket.specs.Steps.{learned, learned_serving, glanced, looked_together, drew};
 ghost use Rattle.ra_ticket.specs.Steps.{drew_served, looked, published, released};
@@ -17,7 +17,7 @@ impl<M, C, R, S> Play<Option<M>, View<C, R, S>> for Learn {
     ghost then = { learned };
 }
 
-/// A load of `serving` by a seat with no ticket.
+/// A load of `serving` by a seat without a ticket.
 pub(crate) struct LearnServing;
 
 impl<M, C, R, S> Play<Option<M>, View<C, R, S>> for LearnServing {
@@ -83,7 +83,7 @@ impl<M, C, R, S> Play<Option<M>, View<C, R, S>> for Release {
     ghost then = { released };
 }
 
-/// The first pass gets a seat of its own.
+/// The split of a seat: the first pass gets a seat of its own.
 pub(crate) struct CutFirst;
 
 impl<C, R, S> Split<View<C, R, S>> for CutFirst {
@@ -92,7 +92,7 @@ impl<C, R, S> Split<View<C, R, S>> for CutFirst {
     ghost right = { first_pass };
 }
 
-/// A seat is joined to another one.
+/// The join of a seat to another one.
 pub(crate) struct Meet;
 
 impl<C, R, S> Join<View<C, R, S>> for Meet {

@@ -1,4 +1,4 @@
-//! How a pass publishes its entry and gives the journal back.
+//! The publication of an entry and the release of the journal.
 ghost use Rattle.std.specs.Prelude.{◌≡◌, ℕ, ◌+◌, ◌≤◌, [], ◌∷◌, Some};
 ghost use Rattle.ra_journal.specs.Log.{readings, IsLegal};
 ghost use Rattle.ra_ticket.specs.Steps.{IsSeated, IsSameSeat, HoldsPublished, HoldsAhead, MayPublish};
@@ -11,7 +11,7 @@ use crate::plays::{Publish, Release};
 use crate::slot::put_back;
 use ra_journal::Journal;
 
-// A store of `mark`: the log of the journal in the slot becomes the front.
+// Stores `mark`: the log of the journal in the slot becomes the front.
 fn store_mark<M: Journal>(board: &Board<M>, seat: &mut LockSeat<M>, mark: u64)
     requires table { IsSeated seat.old.table_id board.now.table_id }
     requires ahead { MayPublish (readings M.setup M.log M.reply_of M.fault_of) seat.old mark }
@@ -39,7 +39,7 @@ pub(crate) fn publish<M: Journal>(board: &Board<M>, seat: &mut LockSeat<M>, jour
     store_mark(board, seat, mark);
 }
 
-/// An addition to `serving`: the slot goes home, and the next ticket is served.
+/// Adds one to `serving`: the seat releases the slot, and the next ticket is served.
 pub(crate) fn release<M: Journal>(board: &Board<M>, seat: &mut LockSeat<M>)
     requires table { IsSeated seat.old.table_id board.now.table_id }
     requires holds { HoldsPublished (readings M.setup M.log M.reply_of M.fault_of) seat.old }

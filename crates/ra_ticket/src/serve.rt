@@ -1,4 +1,4 @@
-//! What a pass does while it has the journal.
+//! The call of a pass that has the journal.
 ghost use Rattle.std.specs.Prelude.{◌≡◌, ◌≢◌, ◌+◌, ◌≤◌, [], ◌∷◌, ◌++◌, length, Some, None, IfOk, IfErr, IfSome};
 ghost use Rattle.ra_ticket.specs.Faults.{unserved, IsWorn, IsFull, IsNoMemory, IsBusy};
 ghost use Rattle.ra_journal.specs.Log.{readings, entry, IsLegal};
@@ -12,8 +12,8 @@ use crate::release::{publish, release};
 use crate::slot::put_back;
 use ra_journal::Journal;
 
-/// Lets the journal, which the seat has lifted out with this ticket, answer the command, publishes the answer and gives
-/// the journal back.
+/// Lets the journal answer the command, publishes the answer and releases the journal. The seat has taken the journal
+/// out of its slot with this ticket. A fault of the journal publishes nothing.
 pub(crate) fn serve<M: Journal>(
     board: &Board<M>,
     seat: &mut LockSeat<M>,

@@ -1,4 +1,4 @@
--- What holds of each element, and of each that one more leaves.
+-- Lemmas on properties of all elements of a list, and of a list with one more element.
 use Rattle.std.proofs.Common.{ℕ, zero, suc, ◌<◌, List, [], ◌∷◌, ◌++◌, length, get_or, arith}
 use Rattle.std.specs.Prelude.{set}
 use Rattle.std.specs.List.{AllByRecursion, insert}

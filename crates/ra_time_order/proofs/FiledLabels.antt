@@ -1,4 +1,4 @@
--- A label put into its run, and labels found in theirs.
+-- Lemmas on inserting a label into its run, and on finding labels in their runs.
 use Rattle.std.proofs.Common.{◌≡◌, ℕ, zero, suc, ◌+◌, ◌-◌, ◌<◌, ◌≤◌, true, List, [], ◌∷◌, ◌++◌, length, get_or, sym, ap, ◌∙◌, subst, refl, inl, inr, arith}
 use Rattle.std.specs.Prelude.{take, drop, set, nat_lt}
 use Rattle.std.specs.List.{AllByRecursion, insert, list_all, slice_get}
@@ -43,7 +43,7 @@ lowest_set [] at new d there first lowest e = absurd (omega arith)
 lowest_set (run ∷ runs) zero new d there first lowest e = first ∙ lowest e
 lowest_set (run ∷ runs) (suc at) new d there first lowest e = lowest e
 
--- where there is room, there is in each run
+-- if there is room, there is room in each run
 pub room_says : (runs : List Run) (sorted : Sorted) → sorted_of runs ≡ sorted → 0 < sorted.room
     → list_all (λ run. nat_lt 0 run.chunk.room) runs ≡ true
 room_says runs sorted view room = elim (cases_Bool (list_all (λ (r : Run). nat_lt 0 r.chunk.room) runs)) [
@@ -58,7 +58,7 @@ pub record IsFiled (runs : List Run) (labels at : ℕ) (e : Entry) (new : List R
   pub made : joined new ≡ insert (joined runs) position e
   pub kept : RunsKept new (labels + 1) at
 
--- a label put into its run
+-- a label is inserted into its run
 pub filed : (runs : List Run) (labels newest at : ℕ) (run : Run) (chunk : Chunk) (e : Entry)
     → RunsKept runs labels newest
     → list_all (λ run. nat_lt 0 run.chunk.room) runs ≡ true → IsRunOf runs e.rank at → run ≡ get_or runs at run
@@ -107,7 +107,7 @@ filed runs labels newest at run chunk e kept room of is inserted =
       },
     )
 
--- the labels of the runs from one on
+-- the labels of the runs from a given one on
 from_run : (runs : List Run) (at n : ℕ) → n ≡ length runs
     → joined (take (n - at) (drop at runs)) ≡ joined (drop at runs)
 from_run runs at n is = ap joined (take_all (n - at) (drop at runs) (omega (arith, is, length-drop at runs)))
@@ -117,7 +117,7 @@ pub behind_is : (slice runs : List Run) (at : ℕ) → slice ≡ runs
 behind_is slice runs at same =
     ap (λ (rs : List Run). joined (take (length rs - at) (drop at rs))) same ∙ from_run runs at (length runs) refl
 
--- the position in all, from the position in the run
+-- the position in the whole list, from the position in the run
 pub position_in_all : (runs : List Run) (labels newest at p behind : ℕ) (rank : Stamp) (run : Run)
     → RunsKept runs labels newest → IsRunOf runs rank at → run ≡ get_or runs at run
     → (IsPartitionedBy (not_above rank) run.chunk.entries → IsPositionOf rank run.chunk.entries p)
@@ -137,7 +137,7 @@ pub few_behind : (runs : List Run) (labels newest at : ℕ) → RunsKept runs la
     → length (joined (drop at runs)) ≤ labels
 few_behind runs labels newest at kept few = omega (arith, kept.count, offset_rest runs at few)
 
--- a label at a position of two lists
+-- the label at a position of two concatenated lists
 get_first : (xs ys : List Entry) (i : ℕ) → i < length xs → slice_get (xs ++ ys) i ≡ slice_get xs i
 get_first [] ys i there = absurd (omega arith)
 get_first (x ∷ xs) ys zero there = refl
@@ -175,14 +175,14 @@ label_further runs at i run there is far =
     ap (λ xs. slice_get xs i) (from_here runs at run there is)
     ∙ get_then run.chunk.entries (joined (drop (at + 1) runs)) i (i - length run.chunk.entries) (omega arith)
 
--- there is room where there is in each run
+-- there is room if there is room in each run
 pub room_given : (runs : List Run) → AllByRecursion HasRoom runs → 0 < (sorted_of runs).room
 room_given runs each =
     let is : (sorted_of runs).room ≡ 1 = cond-true (list_all (λ (r : Run). nat_lt 0 r.chunk.room) runs) 1 0
     (room_in_each runs each) in
     omega (arith, is)
 
--- there is, where there is in the newest label's run
+-- there is room if there is room in the newest label's run
 pub room_there : (runs : List Run) (labels newest : ℕ) (run : Run) (sorted : Sorted) → RunsKept runs labels newest
     → run ≡ get_or runs newest run
     → nat_lt 0 run.chunk.room ≡ true → sorted_of runs ≡ sorted → 0 < sorted.room
@@ -199,7 +199,7 @@ room_there runs labels newest run sorted kept is room view =
     ])) in
     omega (arith, room_given runs each, ap (λ (s : Sorted). s.room) view)
 
--- no label is above the greatest of all, also with one more
+-- no label is greater than the greatest of all, also with one more label
 pub under_with : (entries new : List Entry) (p : ℕ) (e : Entry) (last greatest : Stamp)
     → greatest ≡ greater_of last e.rank → new ≡ insert entries p e → AllByRecursion (UpTo last) entries
     → AllByRecursion (UpTo greatest) new

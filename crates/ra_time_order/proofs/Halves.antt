@@ -1,4 +1,4 @@
--- A run that is made two.
+-- Lemmas on a run that is split into two.
 use Rattle.std.proofs.Common.{◌≡◌, ◌≢◌, ℕ, zero, suc, ◌+◌, ◌<◌, true, List, [], ◌∷◌, ◌++◌, length, get_or, sym, ap, ◌∙◌, subst, refl, arith, append_assoc}
 use Rattle.std.specs.Prelude.{set, nat_lt}
 use Rattle.std.specs.List.{AllByRecursion, list_all}
@@ -16,7 +16,7 @@ use Rattle.ra_time_order.proofs.RisingRanks.{rise_round}
 use Rattle.ra_time_order.proofs.Runs.{before_first, own_first}
 
 module _ (left right : Run) where
-  -- the labels stay
+  -- the labels are unchanged
   joined_split : (runs : List Run) (at : ℕ) (d : Run) → at < length runs
       → left.chunk.entries ++ right.chunk.entries ≡ (get_or runs at d).chunk.entries
       → joined (halved runs at left right) ≡ joined runs
@@ -26,7 +26,7 @@ module _ (left right : Run) where
   joined_split (run ∷ runs) (suc at) d there same =
       ap (λ xs. run.chunk.entries ++ xs) (joined_split runs at d (omega arith) same)
 
-  -- each has room, where each other one had
+  -- each run has room if each other one had
   room_split : (runs : List Run) (at : ℕ) → at < length runs → 0 < left.chunk.room → 0 < right.chunk.room
       → ((k : ℕ) (d : Run) → k < length runs → k ≢ at → 0 < (get_or runs k d).chunk.room)
       → AllByRecursion HasRoom (halved runs at left right)
@@ -131,7 +131,7 @@ head_of : (xs : List Entry) (d : Entry) → 0 < length xs
 head_of [] d some = absurd (omega arith)
 head_of (x ∷ xs) d some = (x, xs, refl, refl)
 
--- what a split leaves
+-- the result of a split
 pub split_keeps : (runs new : List Run) (labels at : ℕ) → RunsKept runs labels at → IsSplit runs at new
     → (joined new ≡ joined runs) × RunsKept new labels at × AllByRecursion HasRoom new
 split_keeps runs new labels at kept (left, right, halves, made) =
@@ -156,7 +156,7 @@ split_keeps runs new labels at kept (left, right, halves, made) =
       subst (AllByRecursion HasRoom) (sym is) room,
     )
 
--- room in each, as a test
+-- there is room in each run, as a test
 pub room_in_each : (runs : List Run) → AllByRecursion HasRoom runs
     → list_all (λ run. nat_lt 0 run.chunk.room) runs ≡ true
 room_in_each [] each = refl

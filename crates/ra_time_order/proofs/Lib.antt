@@ -10,4 +10,4 @@ pub mod Bounds
 pub mod Places
 pub mod NewLabels
 pub mod Members
-pub mod TheLaws
+pub mod TheoremIndex

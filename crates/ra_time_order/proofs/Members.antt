@@ -1,4 +1,4 @@
--- The greatest stamps of all replicas, one by one.
+-- Lemmas on the greatest stamps of all replicas, one by one.
 use Rattle.std.proofs.Common.{◌≡◌, ℕ, zero, suc, ◌+◌, ◌<◌, ◌≤◌, true, List, [], length, get_or, sym, ap, ◌∙◌, inl, inr, arith, add-one, Option}
 use Rattle.std.specs.Prelude.{All, set, nat_lt, replicate, take}
 use Rattle.std.proofs.Math.Nat.{min-le_left, min-le_right}
@@ -27,7 +27,7 @@ stamps_pushed members q new had own there is made =
     map-set (λ (m : RunningMaximum). m.stamps) members q new
     ∙ ap (set (stamps_of members) q) (made ∙ ap (λ row. with_stamp row own) (sym (stamps_there members q had there is)))
 
--- of the first so many replicas one more
+-- one more of the first replicas
 pub greatest_more : (members : List RunningMaximum) (n : ℕ) (stamps : List (List Stamp)) (count : ℕ → ℕ) (q : ℕ)
     (g new : Stamp) (had : RunningMaximum)
     → stamps_of members ≡ stamps → q < length (take n members) → had ≡ get_or (take n members) q had
@@ -43,7 +43,7 @@ greatest_more members n stamps count q g new had same first is so_far made =
     ∙ ap (λ r. greater_of (greatest_in stamps count q) (greatest_among r (count q))) (sym row)
     ∙ ap (greatest_in stamps count) (sym (add-one q))
 
--- replicas without stamps add nothing
+-- replicas without stamps contribute nothing
 pub greatest_without : (stamps : List (List Stamp)) (count : ℕ → ℕ) (used q : ℕ)
     → ((k : ℕ) → used ≤ k → stamps_at stamps k ≡ []) → used ≤ q
     → greatest_in stamps count used ≡ greatest_in stamps count q
@@ -101,7 +101,7 @@ module _ (members : List RunningMaximum) (newest used : ℕ) (kept : RunningMaxi
             λ k over. ap (λ ss. stamps_at ss k) (stamps_spared members newest new had is same) ∙ kept.unused k over;
       }
 
-  -- with room for the newest one there is room for each
+  -- if there is room for the newest replica, there is room for each
   pub room_for_all : 0 < new.room → have_room (set members newest new) ≡ true
   room_for_all some =
       list_all-from_AllPass (λ (m : RunningMaximum). nat_lt 0 m.room) (set members newest new) (λ k d below.

@@ -1,4 +1,4 @@
--- The order with a new label.
+-- Lemmas on the order with a new label.
 use Rattle.std.proofs.Common.{◌≡◌, ℕ, Bool, true, false, List, [], ◌∷◌, ◌++◌, length, Option, Some, None, refl, sym, ap, ◌∙◌, subst, inl, inr, arith}
 use Rattle.std.specs.Prelude.{Contains, All, map, take, drop, unwrap_or}
 use Rattle.std.specs.List.{insert}
@@ -14,9 +14,9 @@ use Rattle.ra_labels.specs.Answer.{carries_stamp}
 use Rattle.ra_labels.specs.NamedOrder.{named_labels}
 use Rattle.ra_labels.specs.Records.{Records, label_count, labels_of, next_label}
 use Rattle.ra_labels.specs.Visibility.{is_update}
-use Rattle.ra_labels.specs.Situation.{Past, past_with, Next, operate, label_of}
+use Rattle.ra_labels.specs.HistorySoFar.{History, history_with, NextOperation, operate, label_of}
 use Rattle.ra_labels.proofs.Members.{head_or_behind}
-use Rattle.ra_laws.proofs.TheLaws.{forms_that_deserve_no_refusal, operations_are_accepted_where_nothing_is_taken}
+use Rattle.ra_theorems.proofs.TheoremIndex.{well_formed_iff, operation_accepted_iff}
 use Rattle.ra_visibility.specs.Seen.{Seen, count_in}
 use Rattle.ra_visibility.specs.Order.{ComesNext}
 use Rattle.ra_time_order.specs.declared.entry.Entry.{Entry}
@@ -41,7 +41,7 @@ map_insert f xs p x =
     ∙ ap (λ es. es ++ f x ∷ map f (drop p xs)) (sym (take-map f p xs))
     ∙ ap (λ es. take p (map f xs) ++ f x ∷ es) (sym (drop-map f p xs))
 
--- what carries a stamp is an update
+-- an operation that carries a stamp is an update
 carrier_updates : (operation : Op) → carries_stamp operation ≡ true → is_update operation ≡ true
 carrier_updates op.Inc carries = refl
 carrier_updates op.Dec carries = refl
@@ -67,7 +67,7 @@ stamp_carries records by operation (Some at) stamp none is = elim (cases_Bool (c
   | inr plain ↦ let absent = none plain in absurd (cc absent)
 ]
 
-pub put_stands : (order after : TimeOrder) (past : Past) (next : Next) (seen : Seen) (p : ℕ)
+pub put_stands : (order after : TimeOrder) (past : History) (next : NextOperation) (seen : Seen) (p : ℕ)
     → (stands : IsTimeOrderOf order past) (comes : ComesNext past next (label_of past.records next) seen)
     → IsPositionOf (its_rank order past next seen stands comes) order.entries p
     → after.entries ≡ insert order.entries p (record {
@@ -76,14 +76,14 @@ pub put_stands : (order after : TimeOrder) (past : Past) (next : Next) (seen : S
           label_count past.records;
     })
     → after.stamps ≡ stamps_with order.stamps next.by (is_update next.op) (label_of past.records next).stamp
-    → IsTimeOrderOf after (past_with past (operate next))
+    → IsTimeOrderOf after (history_with past (operate next))
 put_stands order after past next seen p stands comes is entries stamps =
     let now = operate next ∷ past.records in
     let x = label_of past.records next in
     let named = named_labels past.kind past.records in
     let new_entry : Label → Entry = entry_of past.kind now in
     let rank = its_rank order past next seen stands comes in
-    let free = (operations_are_accepted_where_nothing_is_taken past.kind past.founders past.records next).0 comes.accepted in
+    let free = (operation_accepted_iff past.kind past.initial_replicas past.records next).0 comes.accepted in
     let kept : map (entry_of past.kind past.records) named ≡ map new_entry named =
     map_same (entry_of past.kind past.records) new_entry named
     (All-weaker (Contains named) (λ l. entry_of past.kind past.records l ≡ new_entry l)
@@ -102,12 +102,12 @@ put_stands order after past next seen p stands comes is entries stamps =
           ∙ ap (insert (map new_entry named) p) (sym its)
           ∙ sym (map_insert new_entry named p x)
           ∙ ap (map new_entry) (sym (inserted order past next seen stands comes p is));
-      stamps = subst (λ ss. AreGreatestOf ss past.founders now) (sym stamps)
-          (greatest_with_label past.records next order.stamps past.founders stands.stamps
+      stamps = subst (λ ss. AreGreatestOf ss past.initial_replicas now) (sym stamps)
+          (greatest_with_label past.records next order.stamps past.initial_replicas stands.stamps
           (omega (arith, free.0, stands.stamps.replicas)));
       stamped = λ l stamp found has. elim (head_or_behind x (labels_of past.records) l found) [
         | inl newest ↦
-            let fits = (forms_that_deserve_no_refusal past.kind next).0 free.1 in
+            let fits = (well_formed_iff past.kind next).0 free.1 in
             let carries = stamp_carries past.records next.by next.op next.clock stamp fits.2.1
             (ap (λ (m : Label). m.stamp) newest ∙ has) in
             sym (ap (λ (m : Label). is_update m.op) newest) ∙ carrier_updates next.op carries
@@ -115,19 +115,19 @@ put_stands order after past next seen p stands comes is entries stamps =
       ];
     }
 
--- what the order's parts made, said of the order
+-- the results of the order's parts, in terms of the order
 pub put_made : (sorted made : Sorted) (replicas grown : RunningMaxima) (order : TimeOrder)
     (view : time_order_of sorted replicas ≡ order)
     (label : Label) (seen : Seen) (found rank : Stamp) (update : Bool)
     (found_is : found ≡ greatest_in replicas.stamps (count_in seen) (length replicas.stamps))
     (rank_made : rank ≡ unwrap_or label.stamp found)
-    (past : Past) (next : Next)
+    (past : History) (next : NextOperation)
     (stands : IsTimeOrderOf order past) (comes : ComesNext past next label seen)
     → (IsPartitionedBy (not_above rank) sorted.entries
     → (p : ℕ) × IsPositionOf rank sorted.entries p × (made.entries
     ≡ insert sorted.entries p (record { rank = rank; label = label.number })))
     → update ≡ is_update label.op → grown.stamps ≡ stamps_with replicas.stamps label.replica update label.stamp
-    → IsTimeOrderOf (time_order_of made grown) (past_with past (operate next))
+    → IsTimeOrderOf (time_order_of made grown) (history_with past (operate next))
 put_made sorted made replicas grown order view label seen found rank update found_is rank_made past next stands comes
     inserted_at update_is grows =
     let split = inserted_at (splits sorted replicas order view label seen found rank found_is rank_made past next stands

@@ -1,4 +1,4 @@
--- The place of a new label, and the order with it.
+-- Lemmas on the place of a new label, and on the order with it.
 use Rattle.std.proofs.Common.{◌≡◌, ℕ, ◌+◌, ◌-◌, ◌<◌, ◌≤◌, Bool, true, false, List, [], ◌∷◌, length, get_or, Option, Some, None, refl, sym, ap, ◌∙◌, subst, inl, inr, arith, Ordering}
 use Rattle.std.specs.Prelude.{◌==◌, ◌&&◌, nat_lt, Contains, map, drop, unwrap_or, not}
 use Rattle.std.specs.List.{insert, slice_get, list_all}
@@ -24,13 +24,13 @@ use Rattle.ra_labels.specs.Records.{Records, label_count, labels_of}
 use Rattle.ra_labels.specs.Visibility.{sees}
 use Rattle.ra_labels.proofs.InLists.{bool_same}
 use Rattle.ra_labels.proofs.Counted.{numbers_below_count}
-use Rattle.ra_labels.specs.Situation.{Past, Next, operate, label_of}
+use Rattle.ra_labels.specs.HistorySoFar.{History, NextOperation, operate, label_of}
 use Rattle.ra_labels.proofs.Members.{there-kept}
-use Rattle.ra_laws.proofs.TheLaws.{named_labels_are_sorted-sorted, named_labels_are_sorted-same, a_timestamp_is_kept}
+use Rattle.ra_theorems.proofs.TheoremIndex.{named_labels_sorted-sorted, named_labels_sorted-same, timestamp_persists}
 use Rattle.ra_visibility.specs.declared.order.Place.{Place}
 use Rattle.ra_visibility.specs.Seen.{Seen, count_in}
 use Rattle.ra_visibility.specs.Order.{ComesNext, IsPlaceOf, must_stand_before}
-use Rattle.ra_visibility.proofs.TheLaws.{a_label_goes_behind_no_greater_ranks}
+use Rattle.ra_visibility.proofs.TheoremIndex.{new_label_position}
 use Rattle.ra_time_order.specs.Sorted.{Sorted}
 use Rattle.ra_time_order.specs.Positions.{not_above, IsPositionOf, IsPastAll}
 use Rattle.ra_time_order.specs.Stamps.{AtMost, greatest_in}
@@ -50,21 +50,21 @@ first_not_lt Less p none = absurd (true≢false none)
 first_not_lt Equal p none = refl
 first_not_lt Greater p none = refl
 
--- in the named order ranks do not fall
+-- ranks do not decrease in the named order
 ranks_rise : (kind : Kind) (records : Records) (i j : ℕ) (d : Label) → i ≤ j → j < length (named_labels kind records)
     → AtMost (rank_of kind records (get_or (named_labels kind records) i d))
     (rank_of kind records (get_or (named_labels kind records) j d))
 ranks_rise kind records i j d before there =
     let rank : Label → Stamp = rank_of kind records in
     let named = named_labels kind records in
-    let sorted = named_labels_are_sorted-sorted kind records in
+    let sorted = named_labels_sorted-sorted kind records in
     at_most_from (rank (get_or named j d)) (rank (get_or named i d))
     (sorted_far (λ l m. is_lt (stamp_cmp (rank l) (rank m))) (ranks_by stamp_total rank) named
     (λ k e low high. first_not_lt (stamp_cmp (rank (get_or named (k + 1) e)) (rank (get_or named k e)))
     (nat_cmp (get_or named (k + 1) e).number (get_or named k e).number) (sorted k e low high))
     i j d before there)
 
--- and so they split at each rank
+-- so each rank partitions the named order
 pub partitioned : (kind : Kind) (records : Records) (rank : Stamp) (d : Label)
     → IsPartitionedBy (not_above rank) (map (entry_of kind records) (named_labels kind records))
 partitioned kind records rank d i j e before there passes =
@@ -110,8 +110,8 @@ module _ (kind : Kind) (records : Records) (rank : Stamp) (p : ℕ)
   pub split : IsPartitionPoint (λ m. above m ≡ false) (λ m. above m ≡ true) named p
   split = ((λ k d low high. not_above_before k d high), (λ k d low high. above_behind k d low high))
 
--- the new label, with what its order knows of it
-module _ (order : TimeOrder) (past : Past) (next : Next) (seen : Seen)
+-- the new label, with the facts about its order
+module _ (order : TimeOrder) (past : History) (next : NextOperation) (seen : Seen)
     (stands : IsTimeOrderOf order past) (comes : ComesNext past next (label_of past.records next) seen) where
   abbrev now : Records
   now = operate next ∷ past.records
@@ -126,19 +126,19 @@ module _ (order : TimeOrder) (past : Past) (next : Next) (seen : Seen)
   its_rank = unwrap_or x.stamp greatest
 
   its_greatest : IsGreatestOf (all_seen past.records next) greatest
-  its_greatest = greatest_seen past.records next seen comes.sees order.stamps past.founders stands.stamps
+  its_greatest = greatest_seen past.records next seen comes.sees order.stamps past.initial_replicas stands.stamps
 
-  -- the rank of the new label, and of those before
+  -- the ranks of the new label and of the earlier ones
   pub rank_is : rank_of past.kind now x ≡ its_rank
   rank_is =
-      stands.sorts now x ∙ ap (unwrap_or x.stamp) (greatest_is past.records next seen comes.sees order.stamps past.founders
+      stands.sorts now x ∙ ap (unwrap_or x.stamp) (greatest_is past.records next seen comes.sees order.stamps past.initial_replicas
       stands.stamps)
 
   pub rank_before : (m : Label) → Contains (labels_of past.records) m
       → rank_of past.kind now m ≡ rank_of past.kind past.records m
   rank_before m found =
       stands.sorts now m
-      ∙ a_timestamp_is_kept (operate next ∷ []) past.records m
+      ∙ timestamp_persists (operate next ∷ []) past.records m
       (All-contains (λ l. l.number < label_count past.records) (labels_of past.records) m
       (numbers_below_count past.records) found)
       ∙ sym (stands.sorts past.records m)
@@ -147,7 +147,7 @@ module _ (order : TimeOrder) (past : Past) (next : Next) (seen : Seen)
   is_label m found =
       Contains-permutation (named_labels past.kind past.records) (labels_of past.records) m
       (IsPermutation-sym (labels_of past.records) (named_labels past.kind past.records)
-      (named_labels_are_sorted-same past.kind past.records)) found
+      (named_labels_sorted-same past.kind past.records)) found
 
   module _ (p : ℕ) (is : IsPositionOf its_rank order.entries p) where
     is_named : IsPositionOf its_rank (map (entry_of past.kind past.records) (named_labels past.kind past.records)) p
@@ -155,7 +155,7 @@ module _ (order : TimeOrder) (past : Past) (next : Next) (seen : Seen)
 
     pub inserted : named_labels past.kind now ≡ insert (named_labels past.kind past.records) p x
     inserted =
-        a_label_goes_behind_no_greater_ranks past.kind past.records next p
+        new_label_position past.kind past.records next p
         (few past.kind past.records its_rank p is_named)
         (subst (λ r. IsPartitionPoint (λ m. is_lt (stamp_cmp r (rank_of past.kind past.records m)) ≡ false)
         (λ m. is_lt (stamp_cmp r (rank_of past.kind past.records m)) ≡ true) (named_labels past.kind past.records) p)
@@ -172,7 +172,7 @@ module _ (order : TimeOrder) (past : Past) (next : Next) (seen : Seen)
     abbrev pub must_not : Label → Bool
     must_not m = not (must_stand_before now m x)
 
-    -- where the greatest stamp that it sees is no greater, it fits
+    -- the label fits if the greatest stamp that it sees is at most its rank
     fits_where : AtMost greatest its_rank → list_all must_not (drop p (named_labels past.kind past.records)) ≡ true
     fits_where under =
         let behind_it = drop p (named_labels past.kind past.records) in
@@ -196,7 +196,7 @@ module _ (order : TimeOrder) (past : Past) (next : Next) (seen : Seen)
     abbrev must_earlier : Label → Bool
     must_earlier m = m.replica == x.replica && nat_lt m.number x.number
 
-    -- where it fits, no stamp that it sees is greater
+    -- if the label fits, it sees no greater stamp
     pub no_greater_where : list_all must_not (drop p (named_labels past.kind past.records)) ≡ true
         → is_lt (stamp_cmp its_rank greatest) ≡ false
     no_greater_where fits = false_from_ne_true (is_lt (stamp_cmp its_rank greatest)) (λ less. elim (its_greatest.own) [
@@ -213,7 +213,7 @@ module _ (order : TimeOrder) (past : Past) (next : Next) (seen : Seen)
           (timestamp_of past.records (record { number = m.number; replica = m.replica; op = m.op; stamp = None })))
           one.2 in
           let named_m = Contains-permutation (labels_of past.records) (named_labels past.kind past.records) m
-          (named_labels_are_sorted-same past.kind past.records) found in
+          (named_labels_sorted-same past.kind past.records) found in
           let k = named_m.0 in
           let at : get_or (named_labels past.kind past.records) k m ≡ m = named_m.2 in
           elim (cases_lt k p) [
@@ -250,12 +250,12 @@ module _ (order : TimeOrder) (past : Past) (next : Next) (seen : Seen)
           ∙ ap (λ k. list_all must_not (drop k (named_labels past.kind past.records))) (sym at);
     }
 
--- what the order's parts found, said of the order
+-- the results of the order's parts, in terms of the order
 module _ (sorted : Sorted) (replicas : RunningMaxima) (order : TimeOrder) (view : time_order_of sorted replicas ≡ order)
     (label : Label) (seen : Seen) (found rank : Stamp)
     (found_is : found ≡ greatest_in replicas.stamps (count_in seen) (length replicas.stamps))
     (rank_made : rank ≡ unwrap_or label.stamp found)
-    (past : Past) (next : Next)
+    (past : History) (next : NextOperation)
     (stands : IsTimeOrderOf order past) (comes : ComesNext past next label seen) where
   pub next_there : ComesNext past next (label_of past.records next) seen
   next_there = subst (λ l. ComesNext past next l seen) comes.becomes comes
@@ -288,7 +288,7 @@ module _ (sorted : Sorted) (replicas : RunningMaxima) (order : TimeOrder) (view 
       refl
       (is ∙ (λ i. not (is_lt (stamp_cmp (rank_same i) (found_same i)))))
 
-  -- a label whose stamp is past all goes to the end, and fits
+  -- a label whose stamp is greater than all goes to the end, and fits
   pub place_at_end : IsPositionOf rank sorted.entries (length sorted.entries)
       → IsPlaceOf past.kind past.records next (record { at = length sorted.entries; fits = true })
   place_at_end is =
@@ -314,10 +314,10 @@ own_past_all : (entries : List Entry) (own : Option Stamp) → IsPastAll entries
 own_past_all entries (Some stamp) is = (stamp, refl, is)
 own_past_all entries None is = absurd is
 
--- the place of a label whose own stamp is past all
+-- the place of a label whose own stamp is greater than all
 pub place_past_all : (sorted : Sorted) (replicas : RunningMaxima) (order : TimeOrder)
     (view : time_order_of sorted replicas ≡ order) (label : Label) (seen : Seen)
-    (past : Past) (next : Next)
+    (past : History) (next : NextOperation)
     (stands : IsTimeOrderOf order past) (comes : ComesNext past next label seen) (at : ℕ)
     → at ≡ length sorted.entries → IsPastAll sorted.entries label.stamp
     → IsPlaceOf past.kind past.records next (record { at = at; fits = true })

@@ -1,4 +1,4 @@
--- Stamps in their order, and the greatest of some.
+-- Lemmas on the order of stamps, and on the greatest of some stamps.
 use Rattle.std.proofs.Common.{◌≡◌, true, false, List, [], ◌∷◌, Option, Some, None, refl, sym, ap, ◌∙◌, subst, inl, inr, arith}
 use Rattle.std.specs.Prelude.{◌⊎◌, Contains}
 use Rattle.std.specs.Option.{option_map_or}
@@ -7,14 +7,14 @@ use Rattle.std.proofs.lemmas.Bool.{true≢false, cases_lt, cases_order, cond-fal
 use Rattle.ra_labels.specs.declared.label.Stamp.{Stamp}
 use Rattle.ra_labels.specs.declared.label.Label.{Label}
 use Rattle.ra_labels.specs.NamedOrder.{lowest_rank, stamp_cmp, greater_of, greatest_stamp}
-use Rattle.ra_labels.specs.Laws.{IsStampBelow}
+use Rattle.ra_labels.specs.TheoremTerms.{IsStampBelow}
 use Rattle.ra_labels.proofs.StampOrder.{below_tested}
 use Rattle.ra_labels.proofs.Members.{head_or_behind, behind_head}
-use Rattle.ra_laws.proofs.TheLaws.{stamps_by_clock_and_then_by_replica-less}
+use Rattle.ra_theorems.proofs.TheoremIndex.{stamp_order_lexicographic-less}
 use Rattle.ra_time_order.specs.Stamps.{AtMost}
 
 pub below_to : (s t : Stamp) → IsStampBelow s t → is_lt (stamp_cmp s t) ≡ true
-below_to s t below = ap is_lt ((stamps_by_clock_and_then_by_replica-less s t).1 below)
+below_to s t below = ap is_lt ((stamp_order_lexicographic-less s t).1 below)
 
 pub at_most_itself : (s : Stamp) → AtMost s s
 at_most_itself s = record { is = inr (refl, omega arith) }
@@ -52,7 +52,7 @@ same_stamp s t there back = elim (there.is) [
   ]
 ]
 
--- s is not below t where t is at most s
+-- s is not below t if t is at most s
 pub not_below : (s t : Stamp) → AtMost t s → is_lt (stamp_cmp s t) ≡ false
 not_below s t most = false_from_ne_true (is_lt (stamp_cmp s t)) (λ less. elim (most.is) [
   | inl more ↦ elim (below_tested s t less) [
@@ -92,11 +92,11 @@ no_greater labels s t is_s is_t = elim (is_s.own) [
   | inr found ↦ is_t.above found.0 s found.1 found.2
 ]
 
--- there is one such alone
+-- there is only one such stamp
 pub one_greatest : (labels : List Label) (s t : Stamp) → IsGreatestOf labels s → IsGreatestOf labels t → s ≡ t
 one_greatest labels s t is_s is_t = same_stamp s t (no_greater labels s t is_s is_t) (no_greater labels t s is_t is_s)
 
--- the greater of two is no less than either
+-- the greater of two stamps is at least each of them
 pub greater_above : (s t : Stamp) → AtMost s (greater_of s t) × AtMost t (greater_of s t)
 greater_above s t =
     cond_both (is_lt (stamp_cmp s t)) t s (λ r. AtMost s r × AtMost t r)

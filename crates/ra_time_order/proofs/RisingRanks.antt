@@ -1,4 +1,4 @@
--- Labels whose ranks rise, and one more among them.
+-- Lemmas on labels whose ranks rise, and on inserting one more.
 use Rattle.std.proofs.Common.{◌≡◌, ℕ, zero, suc, ◌+◌, ◌-◌, true, false, List, [], ◌∷◌, ◌++◌, length, get_or, ap, ◌∙◌, inl, inr, arith, length-append}
 use Rattle.std.specs.List.{AllByRecursion, insert}
 use Rattle.std.specs.List.Sorted.{IsPartitionedBy}
@@ -24,7 +24,7 @@ under_to rank entry most = not_from_false (is_lt (stamp_cmp rank entry.rank)) (n
 over_from : (rank : Stamp) (entry : Entry) → not_above rank entry ≡ false → AtMost rank entry.rank
 over_from rank entry fails = at_most_below rank entry.rank (not-false (is_lt (stamp_cmp rank entry.rank)) fails)
 
--- ranks that rise are split by each rank
+-- each rank partitions rising ranks
 pub rise_partitioned : (rank : Stamp) (xs : List Entry) → Rise xs → IsPartitionedBy (not_above rank) xs
 rise_partitioned rank [] rise i j d before there passes = absurd (omega arith)
 rise_partitioned rank (x ∷ xs) rise zero zero d before there passes = passes
@@ -35,7 +35,7 @@ rise_partitioned rank (x ∷ xs) rise (suc i) zero d before there passes = absur
 rise_partitioned rank (x ∷ xs) rise (suc i) (suc j) d before there passes =
     rise_partitioned rank xs rise.1 i j d (omega arith) (omega arith) passes
 
--- one more at its position
+-- one more label at its position
 pub rise_insert : (xs : List Entry) (p : ℕ) (e : Entry) → Rise xs → IsPositionOf e.rank xs p → Rise (insert xs p e)
 rise_insert [] zero e rise is = (tt, tt)
 rise_insert [] (suc p) e rise is = (tt, tt)
@@ -55,7 +55,7 @@ rise_insert (x ∷ xs) (suc p) e rise is =
     let first : AtMost x.rank e.rank = under_from e.rank x (is.split.0 0 x (omega arith) (omega arith)) in
     (each_insert (From x.rank) xs p e rise.0 first, rise_insert xs p e rise.1 rest)
 
--- what is before an element, and what is from it on
+-- the labels before an element, and those from it on
 pub rise_round : (xs : List Entry) (y : Entry) (ys : List Entry) → Rise (xs ++ y ∷ ys)
     → AllByRecursion (UpTo y.rank) xs × AllByRecursion (From y.rank) ys
 rise_round [] y ys rise = (tt, rise.0)

@@ -1,4 +1,4 @@
--- A label in its run.
+-- Lemmas on a label in its run.
 use Rattle.std.proofs.Common.{◌≡◌, ℕ, zero, suc, ◌+◌, ◌-◌, ◌<◌, ◌≤◌, true, false, List, [], ◌∷◌, ◌++◌, length, get_or, sym, ap, ◌∙◌, subst, refl, inl, inr, arith, length-append}
 use Rattle.std.specs.Prelude.{drop, set}
 use Rattle.std.specs.List.{AllByRecursion, insert}
@@ -17,7 +17,7 @@ use Rattle.ra_time_order.proofs.Ranks.{at_most_below, at_most_through, below_to}
 use Rattle.ra_time_order.proofs.Each.{each_append, each_left, each_right, each_at, each_from, each_insert, each_set, each_weaker}
 use Rattle.ra_time_order.proofs.RisingRanks.{under_to, position_left, position_right}
 
--- how many labels stand before the run
+-- the number of labels before the run
 pub offset : List Run → ℕ → ℕ
 offset [] at = 0
 offset (run ∷ runs) zero = 0
@@ -32,7 +32,7 @@ offset_rest (run ∷ runs) zero few = omega arith
 offset_rest (run ∷ runs) (suc at) few =
     omega (arith, offset_rest runs at (omega arith), length-append run.chunk.entries (joined runs))
 
--- a label put into a run is put among all
+-- inserting into a run inserts into the whole list
 pub joined_set : (runs : List Run) (at p : ℕ) (new d : Run) (e : Entry) → at < length runs
     → new.chunk.entries ≡ insert (get_or runs at d).chunk.entries p e
     → p ≤ length (get_or runs at d).chunk.entries → joined (set runs at new)
@@ -51,7 +51,7 @@ joined_set (run ∷ runs) (suc at) p new d e there made few =
     ∙ ap (λ k. run.chunk.entries ++ insert (joined runs) k e) (sym short)
     ∙ sym (insert-append_right run.chunk.entries (joined runs) long (long + offset runs at + p) e refl (omega arith))
 
--- no label before a run is above its first rank
+-- no label before a run is greater than its first rank
 pub before_first : (before : List Entry) (runs : List Run) (at : ℕ) (d : Run) → AreBetween before runs
     → at < length runs
     → AllByRecursion (UpTo (get_or runs at d).first) before
@@ -61,7 +61,7 @@ before_first before (run ∷ runs) (suc at) d between there =
     each_left (UpTo (get_or runs at d).first) before run.chunk.entries
     (before_first (before ++ run.chunk.entries) runs at d between.3 (omega arith))
 
--- and none of the run is below it
+-- and no label of the run is less
 pub own_first : (before : List Entry) (runs : List Run) (at : ℕ) (d : Run) → AreBetween before runs → at < length runs
     → AllByRecursion (From (get_or runs at d).first) (get_or runs at d).chunk.entries
 own_first before [] at d between there = absurd (omega arith)
@@ -70,7 +70,7 @@ own_first before (run ∷ runs) zero d between there =
 own_first before (run ∷ runs) (suc at) d between there =
     own_first (before ++ run.chunk.entries) runs at d between.3 (omega arith)
 
--- below what is at most another is below that one
+-- less than something that is at most t is less than t
 less_through : (r s t : Stamp) → is_lt (stamp_cmp r s) ≡ true → AtMost s t → is_lt (stamp_cmp r t) ≡ true
 less_through r s t less most = elim (below_tested r s less) [
   | inl under ↦ elim (most.is) [
@@ -105,7 +105,7 @@ behind_over before run (next ∷ runs) rank between is =
     (λ later most. over_all rank later next.first (is.over 1 run (omega arith) (omega arith)) most)
     (next.chunk.entries ++ joined runs) between.3.1
 
--- a position in the run is one among all
+-- the position in the run gives the position in the whole list
 pub position_joined : (before : List Entry) (runs : List Run) (at p : ℕ) (d : Run) (rank : Stamp)
     → AreBetween before runs → IsRunOf runs rank at
     → IsPositionOf rank (get_or runs at d).chunk.entries p → IsPositionOf rank (joined runs) (offset runs at + p)
@@ -129,7 +129,7 @@ position_joined before (run ∷ runs) (suc at) p d rank between of is =
     (later.under d))) run.chunk.entries under)
     rest)
 
--- one more label before runs
+-- one more label before the runs
 between_more : (before more : List Entry) (e : Entry) (runs : List Run)
     → ((s : Stamp) → AllByRecursion (UpTo s) before → AtMost e.rank s → AllByRecursion (UpTo s) more)
     → AllByRecursion (StartsFrom e.rank) runs → AreBetween before runs → AreBetween more runs

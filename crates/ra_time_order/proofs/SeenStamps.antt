@@ -1,4 +1,4 @@
--- The greatest stamp that a new label sees, found from the counts.
+-- Lemmas on the greatest stamp that a new label sees, found from the counts.
 use Rattle.std.proofs.Common.{◌≡◌, ℕ, zero, suc, ◌<◌, ◌≤◌, true, false, List, ◌∷◌, length, Option, Some, refl, sym, ap, ◌∙◌, subst, inl, inr, arith}
 use Rattle.std.specs.Prelude.{◌⊎◌, ◌&&◌, nat_lt, Contains, filter}
 use Rattle.std.specs.Option.{option_map_or}
@@ -7,13 +7,13 @@ use Rattle.std.proofs.lemmas.List.Elements.{All-contains}
 use Rattle.ra_labels.specs.declared.label.Stamp.{Stamp}
 use Rattle.ra_labels.specs.declared.label.Label.{Label}
 use Rattle.ra_labels.specs.NamedOrder.{lowest_rank, greater_of, greatest_stamp}
-use Rattle.ra_labels.specs.Places.{place_of}
+use Rattle.ra_labels.specs.Places.{issue_position}
 use Rattle.ra_labels.specs.Records.{Records, label_count, label_at, labels_of}
 use Rattle.ra_labels.specs.Visibility.{sees, is_update}
 use Rattle.ra_labels.proofs.Counted.{numbers_below_count}
-use Rattle.ra_labels.specs.Situation.{Next, operate, label_of}
+use Rattle.ra_labels.specs.HistorySoFar.{NextOperation, operate, label_of}
 use Rattle.ra_labels.proofs.Members.{head_or_behind, behind_head, kept-there, there-kept}
-use Rattle.ra_laws.proofs.TheLaws.{each_number_has_its_label-found, sees_earlier_updates-earlier}
+use Rattle.ra_theorems.proofs.TheoremIndex.{label_at_each_number-found, sees_earlier_updates-earlier}
 use Rattle.ra_visibility.specs.Seen.{Seen, count_in}
 use Rattle.ra_visibility.specs.Order.{IsSeenBy}
 use Rattle.ra_time_order.specs.RunningMaximum.{greatest_among}
@@ -21,7 +21,7 @@ use Rattle.ra_time_order.specs.Stamps.{AtMost, stamps_at, IsAmong, AreGreatestOf
 use Rattle.ra_time_order.proofs.Ranks.{at_most_through, greater_above, greater_is_one, IsGreatestOf, one_greatest, greatest_of}
 use Rattle.ra_time_order.proofs.Table.{place_before}
 
-module _ (records : Records) (next : Next) (seen : Seen)
+module _ (records : Records) (next : NextOperation) (seen : Seen)
     (sees_it : IsSeenBy (operate next ∷ records) (label_count records) seen) where
   abbrev now : Records
   now = operate next ∷ records
@@ -36,30 +36,30 @@ module _ (records : Records) (next : Next) (seen : Seen)
   number_below l found =
       All-contains (λ m. m.number < label_count records) (labels_of records) l (numbers_below_count records) found
 
-  -- a label before is seen where it is among the first updates of its replica
+  -- an earlier label is seen exactly if it is among the first updates of its replica
   seen_as : (l : Label) → Contains (labels_of records) l
-      → sees now n l.number ≡ (is_update l.op && nat_lt (place_of records l.number) (count l.replica))
+      → sees now n l.number ≡ (is_update l.op && nat_lt (issue_position records l.number) (count l.replica))
   seen_as l found =
       let below = number_below l found in
-      let there : label_at records l.number ≡ Some l = each_number_has_its_label-found records l found in
-      let still : label_at now l.number ≡ Some l = each_number_has_its_label-found now l
+      let there : label_at records l.number ≡ Some l = label_at_each_number-found records l found in
+      let still : label_at now l.number ≡ Some l = label_at_each_number-found now l
       (behind_head (label_of records next) (labels_of records) l found) in
       sees_it.first l.number (omega (arith, below))
-      ∙ ap (λ (o : Option Label). option_map_or (λ m. is_update m.op) o false && nat_lt (place_of now l.number)
+      ∙ ap (λ (o : Option Label). option_map_or (λ m. is_update m.op) o false && nat_lt (issue_position now l.number)
       (count (option_map_or (λ m. m.replica) o 0))) still
       ∙ ap (λ p. is_update l.op && nat_lt p (count l.replica)) (place_before records next l found)
 
   pub seen_among : (q : ℕ) (l : Label) → Contains (labels_of records) l → l.replica ≡ q → sees now n l.number ≡ true
       → IsAmong records q (count q) l
   seen_among q l found same is =
-      let parts = and_parts (is_update l.op) (nat_lt (place_of records l.number) (count l.replica))
+      let parts = and_parts (is_update l.op) (nat_lt (issue_position records l.number) (count l.replica))
       (sym (seen_as l found) ∙ is) in (
         found,
         parts.0,
         same,
         omega (
           arith,
-          ltb-true (place_of records l.number) (count l.replica) parts.1,
+          ltb-true (issue_position records l.number) (count l.replica) parts.1,
           ap count
               same,
         ),
@@ -68,10 +68,10 @@ module _ (records : Records) (next : Next) (seen : Seen)
   among_seen : (q : ℕ) (l : Label) → IsAmong records q (count q) l → sees now n l.number ≡ true
   among_seen q l among =
       seen_as l among.0
-      ∙ and_from (is_update l.op) (nat_lt (place_of records l.number) (count l.replica)) among.1
-      (lt-ltb (place_of records l.number) (count l.replica) (omega (arith, among.3, ap count among.2)))
+      ∙ and_from (is_update l.op) (nat_lt (issue_position records l.number) (count l.replica)) among.1
+      (lt-ltb (issue_position records l.number) (count l.replica) (omega (arith, among.3, ap count among.2)))
 
-  -- the label sees only labels before
+  -- the label sees only earlier labels
   pub seen_before : (l : Label) → Contains (labels_of now) l → sees now n l.number ≡ true
       → Contains (labels_of records) l
   seen_before l found is = elim (head_or_behind (label_of records next) (labels_of records) l found) [
@@ -81,8 +81,8 @@ module _ (records : Records) (next : Next) (seen : Seen)
     | inr older ↦ older
   ]
 
-  module _ (stamps : List (List Stamp)) (founders : ℕ) (are : AreGreatestOf stamps founders records) where
-    -- so far: of the first replicas
+  module _ (stamps : List (List Stamp)) (initial_replicas : ℕ) (are : AreGreatestOf stamps initial_replicas records) where
+    -- the greatest stamp so far: of the first replicas
     record SoFar (q : ℕ) (s : Stamp) : Type 0 where
       above : (l : Label) (t : Stamp) → Contains (labels_of records) l → sees now n l.number ≡ true → l.replica < q
           → l.stamp ≡ Some t → AtMost t s
@@ -122,7 +122,7 @@ module _ (records : Records) (next : Next) (seen : Seen)
           ];
         }
 
-    -- the greatest own stamp of what the label sees
+    -- the greatest own stamp of the labels that the label sees
     pub greatest_seen : IsGreatestOf (filter (λ other. sees now n other.number) (labels_of now))
         (greatest_in stamps count (length stamps))
     greatest_seen =

@@ -1,4 +1,4 @@
--- The greatest stamps of each replica, with one more label.
+-- Lemmas on the greatest stamps of each replica after one more label.
 use Rattle.std.proofs.Common.{◌≡◌, ℕ, ◌+◌, ◌-◌, ◌<◌, ◌≤◌, Bool, true, false, List, [], ◌∷◌, length, Option, Some, None, refl, sym, ap, ◌∙◌, subst, inl, inr, arith, length-append}
 use Rattle.std.specs.Prelude.{◌⊎◌, ◌==◌, ◌&&◌, Contains}
 use Rattle.std.specs.Option.{option_map_or}
@@ -8,17 +8,17 @@ use Rattle.std.proofs.lemmas.List.Elements.{All-contains}
 use Rattle.ra_labels.specs.declared.label.Stamp.{Stamp}
 use Rattle.ra_labels.specs.declared.label.Label.{Label}
 use Rattle.ra_labels.specs.NamedOrder.{lowest_rank, greater_of}
-use Rattle.ra_labels.specs.Places.{updates_issued, place_of}
+use Rattle.ra_labels.specs.Places.{updates_issued, issue_position}
 use Rattle.ra_labels.specs.Records.{Records, label_count, labels_of}
 use Rattle.ra_labels.specs.Visibility.{is_update}
 use Rattle.ra_labels.proofs.Counted.{numbers_below_count}
-use Rattle.ra_labels.specs.Situation.{Next, operate, label_of}
+use Rattle.ra_labels.specs.HistorySoFar.{NextOperation, operate, label_of}
 use Rattle.ra_labels.proofs.Members.{head_or_behind, behind_head}
 use Rattle.ra_time_order.specs.RunningMaximum.{last_of, greatest_among, with_stamp}
 use Rattle.ra_time_order.specs.Stamps.{AtMost, stamps_at, IsAmong, AreGreatestOf, stamps_with}
 use Rattle.ra_time_order.proofs.Ranks.{at_most_itself, at_most_through, greater_above, greater_is_one}
 
--- the greatest of all, with one more
+-- the greatest of all stamps, with one more
 abbrev next_of : List Stamp → Option Stamp → Stamp
 next_of row own = option_map_or (greater_of (last_of row)) own (last_of row)
 
@@ -40,7 +40,7 @@ next_above : (row : List Stamp) (own : Option Stamp) → AtMost (last_of row) (n
 next_above row None = at_most_itself (last_of row)
 next_above row (Some stamp) = (greater_above (last_of row) stamp).0
 
--- a further stamp lessens none
+-- another stamp decreases no maximum
 row_above : (row : List Stamp) (own : Option Stamp) (k : ℕ)
     → AtMost (greatest_among row k) (greatest_among (with_stamp row own) k)
 row_above row own k = elim (cases_lt (length row) k) [
@@ -51,7 +51,7 @@ row_above row own k = elim (cases_lt (length row) k) [
       subst (AtMost (greatest_among row k)) (sym (among_before row own k few)) (at_most_itself (greatest_among row k))
 ]
 
--- and is itself no greater than what is kept
+-- and is at most the maximum
 row_own : (row : List Stamp) (own : Option Stamp) (k : ℕ) (t : Stamp) → own ≡ Some t → length row < k
     → AtMost t (greatest_among (with_stamp row own) k)
 row_own row None k t is many = absurd (cc is)
@@ -69,7 +69,7 @@ grows_at_end row (Some stamp) k many = elim (greater_is_one (last_of row) stamp)
   | inr newer ↦ inr (many, ap Some (sym (among_with row (Some stamp) k many ∙ newer)))
 ]
 
--- what is kept was kept before, or is the new one
+-- the maximum is the previous one, or the new stamp
 row_grows : (row : List Stamp) (own : Option Stamp) (k : ℕ)
     → (greatest_among (with_stamp row own) k ≡ greatest_among row k)
     ⊎ ((length row < k) × (own ≡ Some (greatest_among (with_stamp row own) k)))
@@ -78,27 +78,27 @@ row_grows row own k = elim (cases_lt (length row) k) [
   | inr few ↦ inl (among_before row own k few)
 ]
 
-module _ (records : Records) (next : Next) where
+module _ (records : Records) (next : NextOperation) where
   abbrev now : Records
   now = operate next ∷ records
 
   abbrev x : Label
   x = label_of records next
 
-  -- the place of a label before, and of the new one
-  pub place_before : (l : Label) → Contains (labels_of records) l → place_of now l.number ≡ place_of records l.number
+  -- the position of an earlier label, and of the new one
+  pub place_before : (l : Label) → Contains (labels_of records) l → issue_position now l.number ≡ issue_position records l.number
   place_before l found =
       let below = All-contains (λ m. m.number < label_count records) (labels_of records) l (numbers_below_count records)
       found in
-      cond-false (l.number == label_count records) (updates_issued records next.by) (place_of records l.number)
+      cond-false (l.number == label_count records) (updates_issued records next.by) (issue_position records l.number)
       (ne_eqb l.number (label_count records) (λ e. omega (arith, e, below)))
 
-  place_new : place_of now (label_count records) ≡ updates_issued records next.by
+  place_new : issue_position now (label_count records) ≡ updates_issued records next.by
   place_new =
       cond-true (label_count records == label_count records) (updates_issued records next.by)
-      (place_of records (label_count records)) (eq-eqb (label_count records) (label_count records) refl)
+      (issue_position records (label_count records)) (eq-eqb (label_count records) (label_count records) refl)
 
-  -- who is among the first updates now
+  -- the labels among the first updates
   among_older : (q k : ℕ) (l : Label) → Contains (labels_of records) l → IsAmong now q k l → IsAmong records q k l
   among_older q k l found among = (found, among.1, among.2, omega (arith, among.3, place_before l found))
 
@@ -112,10 +112,10 @@ module _ (records : Records) (next : Next) where
       let number : l.number ≡ label_count records = sym (ap (λ (m : Label). m.number) is) in (
         ap (λ (m : Label). is_update m.op) is ∙ among.1,
         ap (λ (m : Label). m.replica) is ∙ among.2,
-        omega (arith, among.3, ap (place_of now) number, place_new),
+        omega (arith, among.3, ap (issue_position now) number, place_new),
       )
 
-  -- whether the label is an update of the replica
+  -- the number of updates of the replica, if the label is one of them or not
   updates_now : (q : ℕ) → next.by ≡ q → is_update next.op ≡ true → updates_issued now q ≡ updates_issued records q + 1
   updates_now q same is =
       cond-true (next.by == q && is_update next.op) (updates_issued records q + 1) (updates_issued records q)
@@ -128,7 +128,7 @@ module _ (records : Records) (next : Next) where
       (λ both. let parts = and_parts (next.by == q) (is_update next.op) both in
       not_own (eqb-true next.by q parts.0) parts.1))
 
-  module _ (stamps : List (List Stamp)) (founders : ℕ) (are : AreGreatestOf stamps founders records)
+  module _ (stamps : List (List Stamp)) (initial_replicas : ℕ) (are : AreGreatestOf stamps initial_replicas records)
       (known : next.by < length stamps) where
     abbrev with_it : List (List Stamp)
     with_it = stamps_with stamps next.by (is_update next.op) x.stamp
@@ -137,7 +137,7 @@ module _ (records : Records) (next : Next) where
     length_with true = length-set stamps next.by (with_stamp (stamps_at stamps next.by) x.stamp)
     length_with false = refl
 
-    -- the replica's stamps have one more, and others have not
+    -- the replica's stamps have one more, and the others are unchanged
     own_with : (q : ℕ) (update : Bool) → next.by ≡ q → update ≡ true
         → stamps_at (stamps_with stamps next.by update x.stamp) q ≡ with_stamp (stamps_at stamps q) x.stamp
     own_with q true same is =
@@ -152,7 +152,7 @@ module _ (records : Records) (next : Next) where
         get_or-set_other stamps next.by q (with_stamp (stamps_at stamps next.by) x.stamp) [] (λ e. not_own (sym e) refl)
     else_with q false not_own = refl
 
-    -- by cases on whether the label is an update of the replica
+    -- by cases: the label is an update of the replica or not
     own_or_not : (q : ℕ) → ((next.by ≡ q) × (is_update next.op ≡ true)) ⊎ (next.by ≡ q → is_update next.op ≡ true → ⊥)
     own_or_not q = elim (cases_eq next.by q) [
       | inl same ↦ elim (cases_Bool (is_update next.op)) [
@@ -240,7 +240,7 @@ module _ (records : Records) (next : Next) where
       | inr older ↦ omega (arith, are.known label older, length_with (is_update next.op))
     ]
 
-    pub greatest_with_label : AreGreatestOf with_it founders now
+    pub greatest_with_label : AreGreatestOf with_it initial_replicas now
     greatest_with_label = record {
       replicas = omega (arith, are.replicas, length_with (is_update next.op));
       places = omega (arith, are.places, length_with (is_update next.op));

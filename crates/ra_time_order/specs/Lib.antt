@@ -5,4 +5,4 @@ pub mod Positions
 pub mod Chunk
 pub mod Sorted
 pub mod Standing
-pub mod Lawful
+pub mod NamedOrderTheorems

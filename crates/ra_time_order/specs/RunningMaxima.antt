@@ -1,4 +1,4 @@
--- What contracts see of the greatest stamps of all replicas.
+-- The greatest stamps of all replicas, as contracts describe them.
 use Rattle.std.specs.Prelude.{◌≡◌, ℕ, ◌<◌, ◌≤◌, nat_lt, Bool, List, [], length, map, get_or}
 use Rattle.std.specs.List.{list_all}
 use Rattle.ra_labels.specs.declared.label.Stamp.{Stamp}
@@ -7,7 +7,7 @@ use Rattle.ra_time_order.specs.Stamps.{stamps_at}
 
 pub record RunningMaxima : Type 0 where
   pub stamps : List (List Stamp)
-  -- is there room for one more update, whichever replica issues it?
+  -- `true` if there is room for one more update, whichever replica issues it
   pub has_room : Bool
 
 abbrev pub stamps_of : List RunningMaximum → List (List Stamp)
@@ -16,7 +16,7 @@ stamps_of members = map (λ member. member.stamps) members
 abbrev pub have_room : List RunningMaximum → Bool
 have_room members = list_all (λ member. nat_lt 0 member.room) members
 
--- each but the newest has room for one more update, and none has updates but the used ones
+-- holds if each member but the newest has room for one more update, and only the used ones have updates
 pub record RunningMaximaKept (members : List RunningMaximum) (newest used : ℕ) : Type 0 where
   pub few : length members < 256
   pub there : newest < length members

@@ -1,4 +1,4 @@
-//! A few labels, sorted by rank, with what a search needs of them.
+//! A chunk: a few labels, sorted by rank.
 ghost use Rattle.std.specs.Prelude.{◌≡◌, ℕ, ◌+◌, ◌<◌, ◌≤◌, nat_lt, false, [], length, take, drop, IfOk, OnOk, OnErr, option_map, slice_index_or};
 ghost use Rattle.std.specs.List.{insert, slice_get};
 ghost use Rattle.std.specs.List.Sorted.{IsPartitionedBy};
@@ -9,7 +9,7 @@ use ra_labels::{NoMemory, Stamp};
 use std::alloc::Global;
 use std::marker::Model;
 
-/// The most labels of a chunk: room for them is made once.
+/// The number of labels that a new chunk has room for.
 const MOST_IN_CHUNK: usize = 256;
 
 /// A few labels, sorted by rank.
@@ -31,7 +31,11 @@ impl Model for Chunk {
 }
 
 impl Chunk {
-    /// No labels, and room for the most.
+    /// Creates an empty chunk with room for labels.
+    ///
+    /// # Errors
+    ///
+    /// `NoMemory` if allocation fails.
     pub fn new(alloc: Global) -> Result<Chunk, NoMemory>
         ensures entries { IfOk result (λ chunk. chunk.entries ≡ []) }
         ensures room { IfOk result (λ chunk. 0 < chunk.room) }
@@ -41,14 +45,14 @@ impl Chunk {
         })
     }
 
-    /// How many labels there are.
+    /// Returns the number of labels.
     pub fn len(&self) -> usize
         ensures { result ≡ length self.now.entries }
     {
         self.entries.len()
     }
 
-    /// Is there room for one more?
+    /// Returns `true` if there is room for one more label.
     pub fn has_room(&self) -> bool
         ensures room { result ≡ nat_lt 0 self.now.room }
         ensures full { result ≡ false → 1 < length self.now.entries }
@@ -56,7 +60,11 @@ impl Chunk {
         self.entries.len() < self.entries.capacity()
     }
 
-    /// How many labels have no greater rank than this one.
+    /// Returns how many labels have no greater rank than this one.
+    ///
+    /// # Complexity
+    ///
+    /// O(log n), where `n` is the number of labels.
     pub fn position(&self, rank: Stamp) -> usize
         ensures among { result ≤ length self.now.entries }
         ensures split { IsPartitionedBy (not_above rank) self.now.entries → IsPositionOf rank self.now.entries result }
@@ -68,7 +76,7 @@ impl Chunk {
         )
     }
 
-    /// Puts a label behind those that have no greater rank.
+    /// Inserts a label behind those that have no greater rank. Does not allocate.
     pub fn insert(&mut self, entry: Entry)
         requires room { 0 < self.old.room }
         ensures one { length self.new.entries ≡ length self.old.entries + 1 }
@@ -80,7 +88,11 @@ impl Chunk {
         let _ = self.entries.insert(position, entry);
     }
 
-    /// Moves the labels from a position on into a chunk of their own.
+    /// Moves the labels from a position on into a new chunk.
+    ///
+    /// # Errors
+    ///
+    /// `NoMemory` if allocation fails; the chunk is unchanged.
     pub fn split_off(&mut self, position: usize) -> Result<Chunk, NoMemory>
         requires some { 0 < position }
         requires rest { position < length self.old.entries }
@@ -96,7 +108,7 @@ impl Chunk {
         Ok(Chunk { entries: moved })
     }
 
-    /// The rank at a position.
+    /// Returns the rank at a position.
     pub fn rank(&self, position: usize) -> Stamp
         requires { position < length self.now.entries }
         ensures { result ≡ (slice_index_or self.now.entries position no_entry).rank }
@@ -104,7 +116,7 @@ impl Chunk {
         self.entries[position].rank
     }
 
-    /// The label at a position.
+    /// Returns the label at a position, or `None` behind the last one.
     pub fn at(&self, position: usize) -> Option<u32>
         ensures { result ≡ option_map (λ entry. entry.label) (slice_get self.now.entries position) }
     {

@@ -1,6 +1,6 @@
 use ra_labels::Stamp;
 
-/// What is kept of a label: 12 bytes.
+/// A label with its rank: 12 bytes.
 #[derive(Clone, Copy)]
 pub struct Entry {
     /// Its timestamp.

@@ -1,10 +1,10 @@
 use crate::chunk::Chunk;
 use ra_labels::Stamp;
 
-/// Labels that stand one behind the other.
+/// Adjacent labels of the order.
 #[derive(Drop)]
 pub struct Run {
-    /// No label before the run has a greater rank, and none from it on a lesser one.
+    /// A bound: no label before the run has a greater rank, and none from its start on has a smaller one.
     pub first: Stamp,
     pub chunk: Chunk,
 }

@@ -1,4 +1,4 @@
-//! The greatest own stamp that a label sees, by how many updates of each replica it sees.
+//! The greatest own stamp that a label sees, from the number of updates of each replica that it sees.
 ghost use Rattle.std.specs.Prelude.{◌≡◌, ◌<◌, true, [], length, replicate, unwrap_or, IfOk, OnOk};
 ghost use Rattle.ra_visibility.specs.Seen.{count_in};
 ghost use Rattle.ra_time_order.specs.Stamps.{greatest_in, stamps_with};
@@ -9,14 +9,14 @@ use ra_visibility::Seen;
 use std::alloc::Global;
 use std::marker::Model;
 
-/// Of each replica the greatest own stamp among its first updates, for each number of them. There are members for
-/// replicas that come later as well.
+/// The running maxima of all replicas: the greatest own stamp among the first updates, for each number of them.
+/// Replicas that may join later have a member too.
 #[derive(Drop)]
 pub struct RunningMaxima {
     members: Vec<RunningMaximum>,
-    /// The one that was pushed last: all others have room for one more update.
+    /// The member that was extended last. All others have room for one more update.
     newest: usize,
-    /// None with this number or a higher one has updates.
+    /// A bound: no member with this index or a greater one has updates.
     used: usize,
 }
 
@@ -31,7 +31,11 @@ impl Model for RunningMaxima {
 }
 
 impl RunningMaxima {
-    /// So many replicas without updates, each with room for one.
+    /// Creates the maxima of the given number of replicas without updates, each with room for one.
+    ///
+    /// # Errors
+    ///
+    /// `NoMemory` if allocation fails.
     pub fn new(alloc: Global, replicas: u8) -> Result<RunningMaxima, NoMemory>
         requires { 0 < replicas }
         ensures { IfOk result (λ made. made.stamps ≡ replicate replicas []) }
@@ -47,8 +51,15 @@ impl RunningMaxima {
         })
     }
 
-    /// Room for one more update, whichever replica issues it. Costs a look at the replica that issued the newest
-    /// one.
+    /// Reserves room for one more update of any replica. Only the member that was extended last may lack it.
+    ///
+    /// # Errors
+    ///
+    /// `NoMemory` if allocation fails; the stamps are unchanged.
+    ///
+    /// # Complexity
+    ///
+    /// Amortized O(1).
     pub fn reserve(&mut self) -> Result<(), NoMemory>
         ensures stamps { self.new.stamps ≡ self.old.stamps }
         ensures room { OnOk result (self.new.has_room ≡ true) }
@@ -57,8 +68,11 @@ impl RunningMaxima {
         self.members[newest].reserve()
     }
 
-    /// The greatest own stamp of the updates in the set, or the lowest rank. Costs a look-up for each replica up to the
-    /// one with the highest number that issued an update.
+    /// Returns the greatest own stamp of the updates in the set, or the lowest rank if there is none.
+    ///
+    /// # Complexity
+    ///
+    /// O(u), where `u - 1` is the highest number of a replica with updates.
     pub fn greatest(&self, seen: &Seen<'_>) -> Stamp
         ensures { result ≡ greatest_in self.now.stamps (count_in seen.now) (length self.now.stamps) }
     {
@@ -69,7 +83,11 @@ impl RunningMaxima {
         greatest
     }
 
-    /// The label's own stamp, or the greatest one that it sees, which costs what `greatest` does.
+    /// Returns the label's own stamp, or the greatest one that it sees.
+    ///
+    /// # Complexity
+    ///
+    /// O(1) if the label has a stamp; otherwise as `greatest`.
     pub fn rank(&self, own: Option<Stamp>, seen: &Seen<'_>) -> Stamp
         ensures { result ≡ unwrap_or own (greatest_in self.now.stamps (count_in seen.now) (length self.now.stamps)) }
     {
@@ -79,7 +97,7 @@ impl RunningMaxima {
         }
     }
 
-    /// The next label of the replica, an update or not, with its own stamp or without.
+    /// Adds the next label of the replica, an update or not, with its own stamp if it has one. Does not allocate.
     pub fn push(&mut self, replica: u8, update: bool, own: Option<Stamp>)
         requires { self.old.has_room ≡ true }
         ensures { self.new.stamps ≡ stamps_with self.old.stamps replica update own }

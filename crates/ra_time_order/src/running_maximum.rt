@@ -1,4 +1,4 @@
-//! The greatest own stamp among a replica's first updates, for each number of them.
+//! The running maximum of one replica: the greatest own stamp among its first updates, for each number of them.
 ghost use Rattle.std.specs.Prelude.{◌≡◌, ◌<◌, [], not, IfOk, OnOk};
 ghost use Rattle.std.specs.Ordering.{is_lt};
 ghost use Rattle.ra_labels.specs.NamedOrder.{stamp_cmp, greater_of};
@@ -8,7 +8,7 @@ use ra_labels::{NoMemory, Stamp};
 use std::alloc::Global;
 use std::marker::Model;
 
-/// Of a replica, the greatest own stamp among its first updates, for each number of them.
+/// The greatest own stamp among a replica's first updates, for each number of them.
 #[derive(Drop)]
 pub struct RunningMaximum {
     stamps: Vec<Stamp>,
@@ -24,7 +24,11 @@ impl Model for RunningMaximum {
 }
 
 impl RunningMaximum {
-    /// No updates, and room for one.
+    /// Creates the maximum of no updates, with room for one.
+    ///
+    /// # Errors
+    ///
+    /// `NoMemory` if allocation fails.
     pub fn new(alloc: Global) -> Result<RunningMaximum, NoMemory>
         ensures stamps { IfOk result (λ made. made.stamps ≡ []) }
         ensures room { IfOk result (λ made. 0 < made.room) }
@@ -34,7 +38,11 @@ impl RunningMaximum {
         })
     }
 
-    /// Room for one more update.
+    /// Reserves room for one more update.
+    ///
+    /// # Errors
+    ///
+    /// `NoMemory` if allocation fails; the stamps are unchanged.
     pub fn reserve(&mut self) -> Result<(), NoMemory>
         ensures stamps { self.new.stamps ≡ self.old.stamps }
         ensures room { OnOk result (0 < self.new.room) }
@@ -43,7 +51,7 @@ impl RunningMaximum {
         Ok(())
     }
 
-    /// The greatest own stamp among so many first updates, or the lowest rank.
+    /// Returns the greatest own stamp among the given number of first updates, or the lowest rank if there is none.
     pub fn among(&self, count: u32) -> Stamp
         ensures { result ≡ greatest_among self.now.stamps count }
     {
@@ -54,7 +62,7 @@ impl RunningMaximum {
         self.stamps[count - 1]
     }
 
-    /// The next update, with its own stamp or without.
+    /// Adds the next update, with its own stamp if it has one. Does not allocate.
     pub fn push(&mut self, own: Option<Stamp>)
         requires { 0 < self.old.room }
         ensures { self.new.stamps ≡ with_stamp self.old.stamps own }
@@ -71,20 +79,20 @@ impl RunningMaximum {
     }
 }
 
-/// Below every stamp.
+/// The lowest rank, which is less than every stamp with a clock of at least 1.
 pub const LOWEST: Stamp = Stamp {
     clock: 0,
     replica: 0,
 };
 
-/// The greater of two stamps.
+/// Returns the greater of two stamps.
 pub fn greater(one: Stamp, other: Stamp) -> Stamp
     ensures { result ≡ greater_of one other }
 {
     if one < other { other } else { one }
 }
 
-/// Is the first stamp no greater than the other?
+/// Returns `true` if the first stamp is not greater than the other one.
 pub fn is_at_most(one: Stamp, other: Stamp) -> bool
     ensures { result ≡ not (is_lt (stamp_cmp other one)) }
 {

@@ -1,4 +1,4 @@
-//! Labels sorted by rank, in runs, so that a late one moves few others.
+//! Labels sorted by rank, in runs, so that a late label moves few others.
 ghost use Rattle.std.specs.Prelude.{◌≡◌, ℕ, ◌+◌, ◌<◌, ◌≤◌, true, [], length, get_or, vec_len, IfOk, OnOk, OnErr, option_map};
 ghost use Rattle.std.specs.List.{insert, slice_get};
 ghost use Rattle.std.specs.List.Sorted.{IsPartitionedBy};
@@ -15,14 +15,14 @@ use ra_labels::{NoMemory, Stamp};
 use std::alloc::Global;
 use std::marker::Model;
 
-/// Labels, sorted by rank: in these contracts a list, which is split at a rank where it is sorted.
+/// Labels, sorted by rank. Contracts see a list, and state positions for a rank at which the list is partitioned.
 #[derive(Drop)]
 pub struct Sorted {
     runs: Vec<Run>,
     labels: usize,
-    /// The run in which the newest label stands: no other one is full.
+    /// The index of the run with the newest label. No other run is full.
     newest: usize,
-    /// No label has a greater rank.
+    /// A bound: no label has a greater rank.
     last: Stamp,
 }
 
@@ -37,7 +37,11 @@ impl Model for Sorted {
 }
 
 impl Sorted {
-    /// No labels.
+    /// Creates the list without labels.
+    ///
+    /// # Errors
+    ///
+    /// `NoMemory` if allocation fails.
     pub fn new(alloc: Global) -> Result<Sorted, NoMemory>
         ensures { IfOk result (λ sorted. sorted.entries ≡ []) }
     {
@@ -51,7 +55,11 @@ impl Sorted {
         })
     }
 
-    /// Room for one more label: a run that is full is split.
+    /// Reserves room for one more label: splits the newest label's run if it is full.
+    ///
+    /// # Errors
+    ///
+    /// `NoMemory` if allocation fails; the labels are unchanged.
     pub fn reserve(&mut self) -> Result<(), NoMemory>
         ensures entries { self.new.entries ≡ self.old.entries }
         ensures room { OnOk result (0 < self.new.room) }
@@ -64,21 +72,29 @@ impl Sorted {
         Ok(())
     }
 
-    /// How many labels there are.
+    /// Returns the number of labels.
     pub fn len(&self) -> usize
         ensures { result ≡ length self.now.entries }
     {
         self.labels
     }
 
-    /// Is it known that no label has a greater rank than this one?
+    /// Returns `true` only if no label has a greater rank than this one.
+    ///
+    /// # Complexity
+    ///
+    /// O(1).
     pub fn is_past_all(&self, rank: Stamp) -> bool
         ensures { result ≡ true → IsPositionOf rank self.now.entries (length self.now.entries) }
     {
         is_at_most(self.last, rank)
     }
 
-    /// How many labels have no greater rank than this one. Costs a step for each run behind and a search in one.
+    /// Returns how many labels have no greater rank than this one.
+    ///
+    /// # Complexity
+    ///
+    /// O(r + log n), where `r` is the number of runs behind the position and `n` the length of a run.
     pub fn position(&self, rank: Stamp) -> usize
         ensures among { result ≤ length self.now.entries }
         ensures split { IsPartitionedBy (not_above rank) self.now.entries → IsPositionOf rank self.now.entries result }
@@ -89,7 +105,11 @@ impl Sorted {
         labels - behind + self.runs[at].chunk.position(rank)
     }
 
-    /// Puts a label behind those that have no greater rank. Costs a step for each run behind, and a move within a run.
+    /// Inserts a label behind those that have no greater rank. Does not allocate.
+    ///
+    /// # Complexity
+    ///
+    /// O(r + n), where `r` is the number of runs behind the position and `n` the length of a run.
     pub fn insert(&mut self, entry: Entry)
         requires room { 0 < self.old.room }
         requires few { length self.old.entries < 4294967295 }
@@ -105,7 +125,11 @@ impl Sorted {
         self.last = greater(self.last, entry.rank);
     }
 
-    /// The label at a position. Costs a step for each run before it.
+    /// Returns the label at a position, or `None` behind the last one.
+    ///
+    /// # Complexity
+    ///
+    /// O(r), where `r` is the number of runs before the position.
     pub fn at(&self, position: usize) -> Option<u32>
         ensures { result ≡ option_map (λ entry. entry.label) (slice_get self.now.entries position) }
     {
@@ -120,7 +144,7 @@ impl Sorted {
     }
 }
 
-// The last run whose first rank is no greater: there labels of this rank stand. Costs a step for each run behind it.
+// Returns the last run whose first rank is not greater: labels of this rank belong there. O(number of runs behind it).
 fn run_of(runs: &[Run], rank: Stamp) -> usize
     requires some { 0 < length runs.now }
     requires lowest { (d : Run) → (get_or runs.now 0 d).first ≡ lowest_rank }
@@ -133,7 +157,7 @@ fn run_of(runs: &[Run], rank: Stamp) -> usize
     at
 }
 
-// How many labels these runs have.
+// Returns the number of labels in these runs.
 fn count(runs: &[Run]) -> usize
     requires { length (joined runs.now) < 18446744073709551616 }
     ensures { result ≡ length (joined runs.now) }
@@ -145,7 +169,8 @@ fn count(runs: &[Run]) -> usize
     labels
 }
 
-// Splits a full run: the last one before its last label, since mostly labels come at the end; another in the middle.
+// Splits a full run. The last run is split before its last label, since most labels are added at the end; others in the
+// middle.
 fn split(runs: &mut Vec<Run>, at: usize) -> Result<(), NoMemory>
     requires at { at < vec_len runs.old }
     requires many { (d : Run) → 1 < length (get_or runs.old.items at d).chunk.entries }

@@ -1,7 +1,7 @@
-//! The named order of registers, LWW sets and RGAs: by timestamp, and then by number.
+//! The named order of registers, LWW sets and RGAs: labels by timestamp, then by number.
 ghost use Rattle.std.specs.Prelude.{◌≡◌, true, [], map, IfOk};
 ghost use Rattle.ra_labels.specs.declared.kind.Kind.{Kind};
-ghost use Rattle.ra_labels.specs.Situation.{nothing_yet};
+ghost use Rattle.ra_labels.specs.HistorySoFar.{empty_history};
 ghost use Rattle.ra_visibility.specs.Order.{IsByTimestamp};
 ghost use Rattle.ra_time_order.specs.Positions.{IsPastAll};
 
@@ -14,7 +14,7 @@ use ra_visibility::{NamedOrder, Place, Seen};
 use std::alloc::Global;
 use std::marker::Model;
 
-/// Labels in the order of their timestamps, and at one timestamp of their numbers.
+/// Labels in timestamp order; labels with the same timestamp by their numbers.
 #[derive(Drop)]
 pub struct TimeOrder {
     sorted: Sorted,
@@ -32,12 +32,16 @@ impl Model for TimeOrder {
 impl TimeOrder {
     ghost use Rattle.ra_time_order.specs.Standing.{IsTimeOrderOf};
 
-    /// The order of no labels, of so many replicas and of those that join. Costs room for a run, and for an update of
-    /// each replica that may come.
+    /// Creates the order without labels, of a history with this number of initial replicas. It allocates one run, and
+    /// room for an update of each possible replica.
+    ///
+    /// # Errors
+    ///
+    /// `NoMemory` if allocation fails.
     pub fn new(alloc: Global, replicas: u8) -> Result<TimeOrder, NoMemory>
         ensures listed { IfOk result (λ order. ⟦<TimeOrder as NamedOrder>⟧.listed order ≡ []) }
         ensures stands { IfOk result (λ order. (kind : Kind) → IsByTimestamp kind
-            → ⟦<TimeOrder as NamedOrder>⟧.stands_for order (nothing_yet kind replicas)) }
+            → ⟦<TimeOrder as NamedOrder>⟧.stands_for order (empty_history kind replicas)) }
     {
         let replicas = RunningMaxima::new(alloc, replicas.max(MOST_REPLICAS))?;
         Ok(TimeOrder {
@@ -49,7 +53,7 @@ impl TimeOrder {
 
 impl NamedOrder for TimeOrder {
     ghost use Rattle.ra_time_order.specs.Standing.{IsTimeOrderOf};
-    ghost use Rattle.ra_time_order.specs.Lawful.{listed-named, stands_joined, stands_delivered};
+    ghost use Rattle.ra_time_order.specs.NamedOrderTheorems.{listed-named, stands_joined, stands_delivered};
 
     ghost listed = { λ order. map (λ entry. entry.label) order.entries };
 
@@ -57,9 +61,13 @@ impl NamedOrder for TimeOrder {
 
     ghost stands_for = { λ order past. IsTimeOrderOf order past };
 
-    /// Costs a constant where the label has a stamp of its own above those of all labels. Else a look-up for each
-    /// replica up to the one with the highest number that issued an update, a step for each run behind the place and a
-    /// binary search in one.
+    /// Returns the position of the next label, as the trait requires.
+    ///
+    /// # Complexity
+    ///
+    /// O(1) if the label's own stamp is not less than any rank so far. Otherwise O(u + r + log n). Here `u - 1` is the
+    /// highest number of a replica with updates, `r` the number of runs behind the position, and `n` the length of a
+    /// run.
     fn place(&self, label: &Label, seen: &Seen<'_>) -> Place {
         if is_past_all(&self.sorted, label) {
             return Place {
@@ -75,15 +83,22 @@ impl NamedOrder for TimeOrder {
         }
     }
 
-    /// Costs a look at the replica that issued the newest update, and a move of half a run where the newest label
-    /// filled it.
+    /// Reserves room for one more label, as the trait requires.
+    ///
+    /// # Complexity
+    ///
+    /// Amortized O(1). If the newest label filled its run, the run is split.
     fn spare(&mut self) -> Result<(), NoMemory> {
         self.replicas.reserve()?;
         self.sorted.reserve()
     }
 
-    /// Costs a step for each run behind the place and a move within one, and where the label has no stamp of its own a
-    /// look-up for each replica up to the one with the highest number that issued an update.
+    /// Adds the next label, as the trait requires.
+    ///
+    /// # Complexity
+    ///
+    /// O(r + n), where `r` is the number of runs behind the position and `n` the length of a run; for a label without a
+    /// stamp of its own O(u) more, as for `place`.
     fn put(&mut self, label: &Label, seen: &Seen<'_>, _place: Place) {
         let rank = self.replicas.rank(label.stamp, seen);
         self.sorted.insert(Entry {
@@ -94,7 +109,11 @@ impl NamedOrder for TimeOrder {
             .push(label.replica, label.op.is_update(), label.stamp);
     }
 
-    /// Costs a step for each run before the position.
+    /// Returns the number of the label at a position, as the trait requires.
+    ///
+    /// # Complexity
+    ///
+    /// O(r), where `r` is the number of runs before the position.
     fn at(&self, position: usize) -> Option<u32> {
         self.sorted.at(position)
     }
@@ -106,7 +125,7 @@ impl NamedOrder for TimeOrder {
     ghost keeps = { λ order past to n stands. stands_delivered order past to n stands };
 }
 
-// Has the label a stamp of its own, above those of all labels?
+// Returns `true` only if the label has a stamp of its own that is not less than any rank so far.
 fn is_past_all(sorted: &Sorted, label: &Label) -> bool
     ensures { result ≡ true → IsPastAll sorted.now.entries label.now.stamp }
 {

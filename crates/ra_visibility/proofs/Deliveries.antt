@@ -1,15 +1,15 @@
--- What holds after a delivery of a replica's next update.
+-- Lemmas on the tracker after a delivery of the next update of its issuer.
 use Rattle.std.proofs.Common.{◌≡◌, ◌≢◌, ℕ, ◌+◌, ◌<◌, ◌≤◌, Bool, true, false, length, get_or, refl, sym, ap, ◌∙◌, subst, arith}
 use Rattle.std.specs.Prelude.{◌==◌, ◌&&◌, ◌||◌, nat_lt, set}
 use Rattle.std.proofs.lemmas.List.{length-set, get_or-set_same, get_or-set_other}
 use Rattle.std.proofs.lemmas.Bool.{eq-eqb, ne_eqb, lt-ltb}
 use Rattle.ra_labels.specs.declared.command.Command.TheVariants.{Deliver}
-use Rattle.ra_labels.specs.Visibility.{had, is_update_at}
-use Rattle.ra_labels.specs.Situation.{Past, past_with}
-use Rattle.ra_laws.proofs.TheLaws.{none_had_before_it_joined-delivery}
+use Rattle.ra_labels.specs.Visibility.{has_delivered, is_update_at}
+use Rattle.ra_labels.specs.HistorySoFar.{History, history_with}
+use Rattle.ra_theorems.proofs.TheoremIndex.{nothing_delivered_before_join-delivery}
 use Rattle.ra_visibility.specs.Replica.{Replica, new_replica, with_next}
 use Rattle.ra_visibility.specs.Seen.{is_in, count_in}
-use Rattle.ra_visibility.specs.Tracked.{Tracked, seen_count, IsVisibilityOf, replicas_in, labels_in, replica_at, row_at, had_count, had_in, seen_in}
+use Rattle.ra_visibility.specs.Tracked.{Tracked, seen_count, IsVisibilityOf, replicas_in, labels_in, replica_at, row_at, delivered_count, has_delivered_in, seen_in}
 use Rattle.ra_visibility.specs.Changes.{with_delivery}
 use Rattle.ra_visibility.specs.Kept.{TrackedKept, IsUpdateOf, issued_count, issued_at}
 use Rattle.ra_visibility.proofs.Tests.{at_or_else, below_or_not, lt_same, in_same, update_there}
@@ -17,14 +17,14 @@ use Rattle.ra_visibility.proofs.Tests.{at_or_else, below_or_not, lt_same, in_sam
 abbrev gained : Tracked → ℕ → ℕ → Tracked
 gained t to from = record { replicas = set t.replicas to (with_next (replica_at t to) from); rows = t.rows; stored = t.stored }
 
--- the label is the receiver's next one of its replica
+-- the label is the next update of its issuer for the receiver
 pub record IsNext (t : Tracked) (to label : ℕ) : Type 0 where
   pub there : label < labels_in t
   pub update : (row_at t label).is_update ≡ true
   pub receiver : to < replicas_in t
   pub other : to ≢ (row_at t label).replica
-  pub place : had_count t to (row_at t label).replica ≡ (row_at t label).place
-  pub all : (of : ℕ) → of < replicas_in t → seen_count t label of ≤ had_count t to of
+  pub place : delivered_count t to (row_at t label).replica ≡ (row_at t label).place
+  pub all : (of : ℕ) → of < replicas_in t → seen_count t label of ≤ delivered_count t to of
 
 replica_there : (t : Tracked) (to from q : ℕ) → to < replicas_in t → q ≡ to → replica_at (gained t to from) q ≡ with_next (replica_at t to) from
 replica_there t to from q below same = rw same (get_or-set_same t.replicas to (with_next (replica_at t to) from) (new_replica 0) below)
@@ -37,18 +37,18 @@ issued_same t to from q below = at_or_else q to
     (λ same. ap (λ (r : Replica). r.issued) (replica_there t to from q below same) ∙ ap (λ k. (replica_at t k).issued) (sym same))
     (λ other. ap (λ (r : Replica). r.issued) (replica_else t to from q other))
 
-had_else : (t : Tracked) (to from q of : ℕ) → q ≢ to → had_count (gained t to from) q of ≡ had_count t q of
+had_else : (t : Tracked) (to from q of : ℕ) → q ≢ to → delivered_count (gained t to from) q of ≡ delivered_count t q of
 had_else t to from q of other = ap (λ (r : Replica). get_or r.counts of 0) (replica_else t to from q other)
 
-had_others : (t : Tracked) (to from of : ℕ) → to < replicas_in t → of ≢ from → had_count (gained t to from) to of ≡ had_count t to of
+had_others : (t : Tracked) (to from of : ℕ) → to < replicas_in t → of ≢ from → delivered_count (gained t to from) to of ≡ delivered_count t to of
 had_others t to from of below other =
     ap (λ (r : Replica). get_or r.counts of 0) (replica_there t to from to below refl)
-    ∙ get_or-set_other (replica_at t to).counts from of (had_count t to from + 1) 0 other
+    ∙ get_or-set_other (replica_at t to).counts from of (delivered_count t to from + 1) 0 other
 
-had_more : (t : Tracked) (to from : ℕ) → to < replicas_in t → from < length (replica_at t to).counts → had_count (gained t to from) to from ≡ had_count t to from + 1
+had_more : (t : Tracked) (to from : ℕ) → to < replicas_in t → from < length (replica_at t to).counts → delivered_count (gained t to from) to from ≡ delivered_count t to from + 1
 had_more t to from below inside =
     ap (λ (r : Replica). get_or r.counts from 0) (replica_there t to from to below refl)
-    ∙ get_or-set_same (replica_at t to).counts from (had_count t to from + 1) 0 inside
+    ∙ get_or-set_same (replica_at t to).counts from (delivered_count t to from + 1) 0 inside
 
 count_same : (t : Tracked) (to from : ℕ) → replicas_in (gained t to from) ≡ replicas_in t
 count_same t to from = length-set t.replicas to (with_next (replica_at t to) from)
@@ -59,7 +59,7 @@ seen_same t to from n = refl
 update_same : (t : Tracked) (to from q p n : ℕ) → IsUpdateOf t q p n → IsUpdateOf (gained t to from) q p n
 update_same t to from q p n is = record { there = is.there; replica = is.replica; update = is.update; place = is.place }
 
--- two updates of one replica at one place are one
+-- two updates of one replica at the same position are the same label
 only_at : (t : Tracked) (m n : ℕ) → TrackedKept t → (row_at t m).is_update ≡ true → (row_at t n).is_update ≡ true
     → (row_at t m).replica ≡ (row_at t n).replica → (row_at t m).place ≡ (row_at t n).place → m ≡ n
 only_at t m n kept m_update n_update replica place =
@@ -69,56 +69,56 @@ only_at t m n kept m_update n_update replica place =
     ∙ (kept.row_issued n (update_there t n n_update) n_update).1
 
 had_more_at : (t : Tracked) (to from q of : ℕ) → to < replicas_in t → from < length (replica_at t to).counts → q ≡ to → of ≡ from
-    → had_count (gained t to from) q of ≡ had_count t q of + 1
+    → delivered_count (gained t to from) q of ≡ delivered_count t q of + 1
 had_more_at t to from q of below inside same here = rw (same, here) (had_more t to from below inside)
 
 had_others_at : (t : Tracked) (to from q of : ℕ) → to < replicas_in t → q ≡ to → of ≢ from
-    → had_count (gained t to from) q of ≡ had_count t q of
+    → delivered_count (gained t to from) q of ≡ delivered_count t q of
 had_others_at t to from q of below same other = rw same (had_others t to from of below other)
 
-had_no_less : (t : Tracked) (to from q of : ℕ) → to < replicas_in t → from < length (replica_at t to).counts → had_count t q of ≤ had_count (gained t to from) q of
+had_no_less : (t : Tracked) (to from q of : ℕ) → to < replicas_in t → from < length (replica_at t to).counts → delivered_count t q of ≤ delivered_count (gained t to from) q of
 had_no_less t to from q of below inside = at_or_else q to
     (λ same. at_or_else of from
     (λ here. omega (arith, had_more_at t to from q of below inside same here))
     (λ there. omega (arith, had_others_at t to from q of below same there)))
     (λ other. omega (arith, had_else t to from q of other))
 
--- what replicas had stays closed, since the receiver had all that the label sees
+-- the delivered updates stay causally closed, since all that the label sees was delivered to the receiver
 closed_gained : (t : Tracked) (to label q n of : ℕ) → TrackedKept t → IsNext t to label → q < replicas_in t → n < labels_in t → of < replicas_in t
-    → (row_at t n).is_update ≡ true → (row_at t n).place < had_count (gained t to (row_at t label).replica) q (row_at t n).replica
-    → seen_count t n of ≤ had_count (gained t to (row_at t label).replica) q of
-closed_gained t to label q n of kept next known there inside_of update had =
+    → (row_at t n).is_update ≡ true → (row_at t n).place < delivered_count (gained t to (row_at t label).replica) q (row_at t n).replica
+    → seen_count t n of ≤ delivered_count (gained t to (row_at t label).replica) q of
+closed_gained t to label q n of kept next known there inside_of update has_delivered =
     let from = (row_at t label).replica in
     let below : to < replicas_in t = next.receiver in
     let inside : from < length (replica_at t to).counts = omega (arith, kept.had_length to below, kept.row_replica label next.there) in
     let r = (row_at t n).replica in
     let p = (row_at t n).place in
     let more = had_no_less t to from q of below inside in
-    below_or_not p (had_count t q r)
+    below_or_not p (delivered_count t q r)
     (λ before. omega (arith, more, kept.closed q n of known there inside_of update before))
     (λ after. at_or_else q to
     (λ same. at_or_else r from
     (λ own.
-    let at : p ≡ had_count t q r = omega (arith, after, had, had_more_at t to from q r below inside same own) in
-    let was : had_count t q r ≡ (row_at t label).place = rw (same, own) next.place in
+    let at : p ≡ delivered_count t q r = omega (arith, after, has_delivered, had_more_at t to from q r below inside same own) in
+    let was : delivered_count t q r ≡ (row_at t label).place = rw (same, own) next.place in
     let is : n ≡ label = only_at t n label kept update next.update own (at ∙ was) in
-    omega (arith, more, ap (λ k. seen_count t k of) is, next.all of inside_of, ap (λ k. had_count t k of) same))
-    (λ foreign. absurd (omega (arith, after, had, had_others_at t to from q r below same foreign))))
-    (λ other. absurd (omega (arith, after, had, had_else t to from q r other))))
+    omega (arith, more, ap (λ k. seen_count t k of) is, next.all of inside_of, ap (λ k. delivered_count t k of) same))
+    (λ foreign. absurd (omega (arith, after, has_delivered, had_others_at t to from q r below same foreign))))
+    (λ other. absurd (omega (arith, after, has_delivered, had_else t to from q r other))))
 
 kept_gained : (t : Tracked) (to label : ℕ) → TrackedKept t → IsNext t to label → TrackedKept (gained t to (row_at t label).replica)
 kept_gained t to label kept next =
     let from = (row_at t label).replica in
     let below : to < replicas_in t = next.receiver in
     let differ : to ≢ from = next.other in
-    let more : had_count t to from < issued_count t from = omega (arith, next.place, (kept.row_issued label next.there next.update).0) in
+    let more : delivered_count t to from < issued_count t from = omega (arith, next.place, (kept.row_issued label next.there next.update).0) in
     let from_below : from < replicas_in t = kept.row_replica label next.there in
     let count : replicas_in (gained t to from) ≡ replicas_in t = count_same t to from in
     let issued : (q : ℕ) → (replica_at (gained t to from) q).issued ≡ (replica_at t q).issued = λ q. issued_same t to from q below in
     let inside : from < length (replica_at t to).counts = omega (arith, kept.had_length to below) in
     let long_enough : (q : ℕ) → length (replica_at (gained t to from) q).counts ≡ length (replica_at t q).counts = λ q. at_or_else q to
     (λ same. ap (λ (r : Replica). length r.counts) (replica_there t to from q below same)
-    ∙ length-set (replica_at t to).counts from (had_count t to from + 1) ∙ ap (λ k. length (replica_at t k).counts) (sym same))
+    ∙ length-set (replica_at t to).counts from (delivered_count t to from + 1) ∙ ap (λ k. length (replica_at t k).counts) (sym same))
     (λ other. ap (λ (r : Replica). length r.counts) (replica_else t to from q other)) in
     record {
       few_replicas = omega (arith, kept.few_replicas);
@@ -174,45 +174,45 @@ kept_gained t to label kept next =
           ∙ sym (had_else t to from q of other));
     }
 
-had_delivered : (t : Tracked) (past : Past) (to label q m : ℕ) → TrackedKept t → IsVisibilityOf t past → IsNext t to label
+had_delivered : (t : Tracked) (past : History) (to label q m : ℕ) → TrackedKept t → IsVisibilityOf t past → IsNext t to label
     → q < replicas_in t
-    → had_in (gained t to (row_at t label).replica) q m ≡ ((to == q && m == label && is_update_at past.records m) || had past.records q m)
+    → has_delivered_in (gained t to (row_at t label).replica) q m ≡ ((to == q && m == label && is_update_at past.records m) || has_delivered past.records q m)
 had_delivered t past to label q m kept stands next below =
     let from = (row_at t label).replica in
     let new = gained t to from in
     let inside : from < length (replica_at t to).counts = omega (arith, kept.had_length to next.receiver, kept.row_replica label next.there) in
-    let had_as : had_in t q m ≡ had past.records q m = stands.had q m below in
+    let had_as : has_delivered_in t q m ≡ has_delivered past.records q m = stands.had q m below in
     at_or_else q to
     (λ same. at_or_else m label
     (λ here.
-    let left : had_in new q m ≡ true = rw (same, here) (
-    ap (λ (b : Bool). b && nat_lt (row_at t label).place (had_count new to from)) next.update
-    ∙ lt-ltb (row_at t label).place (had_count new to from) (omega (arith, had_more t to from next.receiver inside, next.place))) in
+    let left : has_delivered_in new q m ≡ true = rw (same, here) (
+    ap (λ (b : Bool). b && nat_lt (row_at t label).place (delivered_count new to from)) next.update
+    ∙ lt-ltb (row_at t label).place (delivered_count new to from) (omega (arith, had_more t to from next.receiver inside, next.place))) in
     let right : (to == q && m == label && is_update_at past.records m) ≡ true =
     rw (eq-eqb to q (sym same), eq-eqb m label here, here, ← stands.updates label) next.update in
-    left ∙ sym (ap (λ b. b || had past.records q m) right))
+    left ∙ sym (ap (λ b. b || has_delivered past.records q m) right))
     (λ else.
     let right : (to == q && m == label && is_update_at past.records m) ≡ false = rw (eq-eqb to q (sym same), ne_eqb m label else) refl in
-    let left : had_in new q m ≡ had_in t q m =
+    let left : has_delivered_in new q m ≡ has_delivered_in t q m =
     in_same (record { rows = t.rows; counts = (replica_at t q).counts }) (record { rows = t.rows; counts = (replica_at new q).counts }) m refl (λ update.
     let r = (row_at t m).replica in
     let p = (row_at t m).place in
     at_or_else r from
     (λ own.
-    let more : had_count new q r ≡ had_count t q r + 1 = had_more_at t to from q r next.receiver inside same own in
-    let was : had_count t q r ≡ (row_at t label).place = rw (same, own) next.place in
-    let not_next : p ≢ had_count t q r = λ e. else (only_at t m label kept update next.update own (e ∙ was)) in
-    lt_same p (had_count new q r) p (had_count t q r) (λ l. omega (arith, l, more, not_next)) (λ l. omega (arith, l, more)))
+    let more : delivered_count new q r ≡ delivered_count t q r + 1 = had_more_at t to from q r next.receiver inside same own in
+    let was : delivered_count t q r ≡ (row_at t label).place = rw (same, own) next.place in
+    let not_next : p ≢ delivered_count t q r = λ e. else (only_at t m label kept update next.update own (e ∙ was)) in
+    lt_same p (delivered_count new q r) p (delivered_count t q r) (λ l. omega (arith, l, more, not_next)) (λ l. omega (arith, l, more)))
     (λ foreign. ap (nat_lt p) (had_others_at t to from q r next.receiver same foreign)))
-    in left ∙ had_as ∙ sym (ap (λ b. b || had past.records q m) right)))
+    in left ∙ had_as ∙ sym (ap (λ b. b || has_delivered past.records q m) right)))
     (λ other.
     let right : (to == q) ≡ false = ne_eqb to q (λ e. other (sym e)) in
     ap (λ (r : Replica). is_in (record { rows = t.rows; counts = r.counts }) m) (replica_else t to from q other)
-    ∙ had_as ∙ sym (ap (λ b. (b && m == label && is_update_at past.records m) || had past.records q m) right))
+    ∙ had_as ∙ sym (ap (λ b. (b && m == label && is_update_at past.records m) || has_delivered past.records q m) right))
 
--- the visibility with the delivery
-pub stands_delivered : (t : Tracked) (past : Past) (to label : ℕ) → TrackedKept t → IsNext t to label → IsVisibilityOf t past
-    → IsVisibilityOf (with_delivery t to label) (past_with past (Deliver to label))
+-- the tracker represents the visibility with the delivery
+pub stands_delivered : (t : Tracked) (past : History) (to label : ℕ) → TrackedKept t → IsNext t to label → IsVisibilityOf t past
+    → IsVisibilityOf (with_delivery t to label) (history_with past (Deliver to label))
 stands_delivered t past to label kept next stands =
     let from = (row_at t label).replica in
     let same = count_same t to from in
@@ -225,17 +225,17 @@ stands_delivered t past to label kept next stands =
       issuer = stands.issuer;
       place = stands.place;
       issued = λ q below. ap length (issued_same t to from q next.receiver) ∙ stands.issued q (omega (arith, same, below));
-      beyond = none_had_before_it_joined-delivery past.founders past.records to label (omega (arith, stands.replicas, next.receiver)) stands.beyond;
+      beyond = nothing_delivered_before_join-delivery past.initial_replicas past.records to label (omega (arith, stands.replicas, next.receiver)) stands.beyond;
     }
 
--- what is kept, with the delivery
+-- the invariant holds after the delivery
 pub kept_delivered : (t : Tracked) (to label : ℕ) → TrackedKept t → IsNext t to label → TrackedKept (with_delivery t to label)
 kept_delivered t to label kept next = kept_gained t to label kept next
 
--- there are as many replicas, and the receiver had one update more of the label's
+-- the number of replicas is the same, and one more update of the label's issuer was delivered to the receiver
 pub gained_more : (t : Tracked) (to label : ℕ) → TrackedKept t → IsNext t to label
     → (replicas_in (with_delivery t to label) ≡ replicas_in t)
-    × (had_count (with_delivery t to label) to (row_at t label).replica ≡ had_count t to (row_at t label).replica + 1)
+    × (delivered_count (with_delivery t to label) to (row_at t label).replica ≡ delivered_count t to (row_at t label).replica + 1)
 gained_more t to label kept next =
     let from = (row_at t label).replica in
     (count_same t to from, had_more t to from next.receiver (omega (arith, kept.had_length to next.receiver, kept.row_replica label next.there)))

@@ -1,4 +1,4 @@
--- When a sequence extends an order of its parts, piece by piece.
+-- Lemmas on when a sequence extends an order of its parts, piece by piece.
 use Rattle.std.proofs.Common.{◌≡◌, Bool, true, false, List, [], ◌∷◌, ◌++◌, refl, ap, ◌∙◌, arith}
 use Rattle.std.specs.Prelude.{◌&&◌, not, Contains}
 use Rattle.std.specs.List.{list_all}
@@ -10,11 +10,12 @@ use Rattle.ra_labels.proofs.Members.{behind_head}
 use Rattle.ra_labels.proofs.Parts.{extends-first, extends-behind, extends-apart}
 
 module _ {A : Type 0} where
-  -- none of the later ones must stand before the earlier ones
+  -- no later element must precede an earlier one
   pub record Apart (precedes : A → A → Bool) (xs ys : List A) : Type 0 where
     pub none : (p q : A) → Contains xs p → Contains ys q → precedes q p ≡ false
 
-  -- a sequence of two pieces extends the order where both do, and no part of the second must stand before one of the first
+  -- a sequence of two pieces extends the order exactly if both pieces do and no part of the second must precede one of
+  -- the first
   pub extends_pieces : (precedes : A → A → Bool) (xs ys : List A) → extends precedes (xs ++ ys) ≡ true
       → (extends precedes xs ≡ true) × (extends precedes ys ≡ true) × Apart precedes xs ys
   extends_pieces precedes xs ys extended =
@@ -38,7 +39,7 @@ module _ {A : Type 0} where
       ap (λ b. b && list_all p xs) (same x (0, omega arith, refl))
       ∙ ap (λ b. r x && b) (all_same p r xs (λ y there. same y (behind_head x xs y there)))
 
-  -- two orders that agree on the elements are extended alike
+  -- a sequence extends two orders alike if they agree on its elements
   pub extends_same : (precedes other : A → A → Bool) (xs : List A) → ((p q : A) → Contains xs p → Contains xs q → precedes q p ≡ other q p)
       → extends precedes xs ≡ extends other xs
   extends_same precedes other [] same = refl

@@ -1,4 +1,4 @@
--- Where a label is inserted in the named order.
+-- Lemmas on the position at which a label is inserted in the named order.
 use Rattle.std.proofs.Common.{◌≡◌, ℕ, zero, suc, ◌+◌, ◌-◌, ◌<◌, ◌≤◌, List, [], ◌∷◌, true, false, length, get_or, Some, refl, sym, ap, ◌∙◌, inl, inr, arith, Ordering}
 use Rattle.std.specs.Prelude.{All, Contains}
 use Rattle.std.specs.List.{insert, slice_get}
@@ -16,17 +16,17 @@ use Rattle.ra_labels.specs.declared.command.Command.TheVariants.{Verdict}
 use Rattle.ra_labels.specs.Records.{Records, label_count, labels_of}
 use Rattle.ra_labels.specs.NamedOrder.{rank_of, stamp_cmp, label_cmp, insert_by, named_labels}
 use Rattle.ra_labels.proofs.Counted.{numbers_below_count}
-use Rattle.ra_labels.specs.Situation.{Next, operate, label_of}
-use Rattle.ra_laws.proofs.TheLaws.{named_labels_are_sorted-same, a_later_command_leaves_the_order-rank, a_later_command_leaves_the_order-labels}
+use Rattle.ra_labels.specs.HistorySoFar.{NextOperation, operate, label_of}
+use Rattle.ra_theorems.proofs.TheoremIndex.{named_labels_sorted-same, later_command_preserves_order-rank, later_command_preserves_order-labels}
 use Rattle.ra_visibility.specs.declared.order.Place.{Place}
 use Rattle.ra_visibility.specs.Order.{IsPlaceOf}
 
 pub named_below_count : (kind : Kind) (records : Records) → All (λ label. label.number < label_count records) (named_labels kind records)
 named_below_count kind records =
-    All-permutation (λ label. label.number < label_count records) (labels_of records) (named_labels kind records) (named_labels_are_sorted-same kind records) (numbers_below_count records)
+    All-permutation (λ label. label.number < label_count records) (labels_of records) (named_labels kind records) (named_labels_sorted-same kind records) (numbers_below_count records)
 
 module _ {A : Type 0} where
-  -- an insertion is one behind those that the element is not below
+  -- `insert_by` inserts the element behind those that it is not below
   insert_by_split : (cmp : A → A → Ordering) (x : A) (ys : List A) (p : ℕ) → p ≤ length ys
       → IsPartitionPoint (λ y. is_lt (cmp x y) ≡ false) (λ y. is_lt (cmp x y) ≡ true) ys p → insert_by cmp x ys ≡ insert ys p x
   insert_by_split cmp x [] zero few split = refl
@@ -37,7 +37,7 @@ module _ {A : Type 0} where
       cond-false (is_lt (cmp x y)) (x ∷ y ∷ ys) (y ∷ insert_by cmp x ys) (split.0 0 x (omega arith) (omega arith))
       ∙ ap (λ zs. y ∷ zs) (insert_by_split cmp x ys p (omega arith) ((λ k d low high. split.0 (suc k) d (omega arith) (omega arith)), (λ k d low high. split.1 (suc k) d (omega arith) (omega arith))))
 
-  -- an insertion is one at some position
+  -- `insert_by` inserts at some position
   insert_by_somewhere : (cmp : A → A → Ordering) (x : A) (ys : List A) → (p : ℕ) × (p ≤ length ys) × (insert_by cmp x ys ≡ insert ys p x)
   insert_by_somewhere cmp x [] = (0, omega arith, refl)
   insert_by_somewhere cmp x (y ∷ ys) =
@@ -47,13 +47,13 @@ module _ {A : Type 0} where
 
 pub order_after_verdict : (kind : Kind) (records : Records)
     → named_labels kind (Verdict ∷ records) ≡ named_labels kind records
-order_after_verdict kind records = a_later_command_leaves_the_order-labels kind Verdict records
+order_after_verdict kind records = later_command_preserves_order-labels kind Verdict records
 
--- a new label is inserted in the order of those before
-pub order_with : (kind : Kind) (records : Records) (next : Next)
+-- a new label is inserted into the order of the earlier labels
+pub order_with : (kind : Kind) (records : Records) (next : NextOperation)
     → named_labels kind (operate next ∷ records) ≡ insert_by (label_cmp kind (operate next ∷ records)) (label_of records next) (named_labels kind records)
 order_with kind records next =
-    ap (insert_by (label_cmp kind (operate next ∷ records)) (label_of records next)) (a_later_command_leaves_the_order-labels kind (operate next) records)
+    ap (insert_by (label_cmp kind (operate next ∷ records)) (label_of records next)) (later_command_preserves_order-labels kind (operate next) records)
 
 not_lt_then : (o p : Ordering) → is_lt p ≡ false → is_lt (ordering_then o p) ≡ is_lt o
 not_lt_then Less p none = refl
@@ -63,20 +63,20 @@ not_lt_then Greater p none = refl
 number_not_below : (m n : ℕ) → m < n → is_lt (nat_cmp n m) ≡ false
 number_not_below m n below = rw (le-ltb n m (omega arith), ne_eqb n m (λ is. absurd (omega arith)))
 
--- the new label is below those of greater rank alone
-below_by_rank : (kind : Kind) (records : Records) (next : Next) (m : Label) → Contains (named_labels kind records) m
+-- the new label is below exactly the labels of greater rank
+below_by_rank : (kind : Kind) (records : Records) (next : NextOperation) (m : Label) → Contains (named_labels kind records) m
     → is_lt (label_cmp kind (operate next ∷ records) (label_of records next) m)
     ≡ is_lt (stamp_cmp (rank_of kind (operate next ∷ records) (label_of records next)) (rank_of kind records m))
 below_by_rank kind records next m named =
     let now = operate next ∷ records in
     let x = label_of records next in
     let below = All-contains (λ label. label.number < label_count records) (named_labels kind records) m (named_below_count kind records) named in
-    let found = Contains-permutation (named_labels kind records) (labels_of records) m (IsPermutation-sym (labels_of records) (named_labels kind records) (named_labels_are_sorted-same kind records)) named in
+    let found = Contains-permutation (named_labels kind records) (labels_of records) m (IsPermutation-sym (labels_of records) (named_labels kind records) (named_labels_sorted-same kind records)) named in
     not_lt_then (stamp_cmp (rank_of kind now x) (rank_of kind now m)) (nat_cmp x.number m.number) (number_not_below m.number x.number below)
-    ∙ ap (λ r. is_lt (stamp_cmp (rank_of kind now x) r)) (a_later_command_leaves_the_order-rank kind (operate next) records m found)
+    ∙ ap (λ r. is_lt (stamp_cmp (rank_of kind now x) r)) (later_command_preserves_order-rank kind (operate next) records m found)
 
--- a new label goes behind those of no greater rank
-pub behind_no_greater : (kind : Kind) (records : Records) (next : Next) (at : ℕ) → at ≤ length (named_labels kind records)
+-- a new label goes behind all labels whose rank is not greater
+pub behind_no_greater : (kind : Kind) (records : Records) (next : NextOperation) (at : ℕ) → at ≤ length (named_labels kind records)
     → IsPartitionPoint
     (λ m. is_lt (stamp_cmp (rank_of kind (operate next ∷ records) (label_of records next)) (rank_of kind records m)) ≡ false)
     (λ m. is_lt (stamp_cmp (rank_of kind (operate next ∷ records) (label_of records next)) (rank_of kind records m)) ≡ true)
@@ -92,7 +92,7 @@ behind_no_greater kind records next at few split =
       (λ k d low high. below_by_rank kind records next (get_or named k d) (Contains-get_or named k d high) ∙ split.1 k d low high),
     )
 
--- the new label is at one position alone
+-- the new label stands at only one position
 only_position : (xs : List Label) (p at : ℕ) (x : Label) → All (λ label. label.number < x.number) xs → p ≤ length xs → slice_get (insert xs p x) at ≡ Some x → at ≡ p
 only_position xs p at x below inside found =
     let is : get_or (insert xs p x) at x ≡ x = get_or_from_slice_get (insert xs p x) at x x found in
@@ -111,8 +111,8 @@ only_position xs p at x below inside found =
           absurd (omega (arith, less, ap (λ (l : Label). l.number) older))
     ]
 
--- with a new label the order is the one before, and the label inserted at its place
-pub at_its_place : (kind : Kind) (records : Records) (next : Next) (place : Place) → IsPlaceOf kind records next place
+-- with a new label, the order is the previous one with the label inserted at its place
+pub at_its_place : (kind : Kind) (records : Records) (next : NextOperation) (place : Place) → IsPlaceOf kind records next place
     → (place.at ≤ length (named_labels kind records))
     × (named_labels kind (operate next ∷ records) ≡ insert (named_labels kind records) place.at (label_of records next))
 at_its_place kind records next place is =

@@ -1,4 +1,4 @@
--- What is where after a replica's next label.
+-- Lemmas on the tracker's rows and counts after a replica's next label.
 use Rattle.std.proofs.Common.{◌≡◌, ◌≢◌, ℕ, ◌+◌, ◌<◌, ◌≤◌, Bool, true, false, List, [], ◌∷◌, ◌++◌, length, get_or, Option, Some, None, refl, sym, ap, ◌∙◌, arith, length-append}
 use Rattle.std.specs.Prelude.{set, take, drop}
 use Rattle.std.proofs.lemmas.List.{length-set, get_or-set_same, get_or-set_other, get_or_past, get_or_push, get_or-take, take-append-le, drop-append-le, length-drop, length-take-le}
@@ -8,17 +8,17 @@ use Rattle.ra_visibility.specs.declared.row.Row.{Row}
 use Rattle.ra_visibility.specs.declared.stored.Stored.{Stored}
 use Rattle.ra_visibility.specs.Replica.{Replica, new_replica, with_own, stored_at}
 use Rattle.ra_visibility.specs.Seen.{no_row}
-use Rattle.ra_visibility.specs.Tracked.{Tracked, replicas_in, labels_in, replica_at, row_at, had_count, seen_in, seen_count, counts_at}
+use Rattle.ra_visibility.specs.Tracked.{Tracked, replicas_in, labels_in, replica_at, row_at, delivered_count, seen_in, seen_count, counts_at}
 use Rattle.ra_visibility.specs.Changes.{stored_for, stored_with, with_label}
 use Rattle.ra_visibility.specs.Kept.{TrackedKept, issued_count, issued_at}
 use Rattle.ra_visibility.proofs.Tests.{at_or_else, below_or_not}
 
--- how many updates a label is
+-- the number of updates of one label: 1 or 0
 abbrev pub ones : Bool → ℕ
 ones true = 1
 ones false = 0
 
--- the replica with its own next label
+-- the issuer, after its own next label
 pub own_length : (r : Replica) (by n : ℕ) (update : Bool) → length (with_own r by update n).counts ≡ length r.counts
 own_length r by n true = length-set r.counts by (get_or r.counts by 0 + 1)
 own_length r by n false = refl
@@ -72,14 +72,14 @@ pub own_there : (s : Option Stored) (stored counts : List ℕ) (k : ℕ) → len
 own_there (Some at) stored counts k long there = there at refl
 own_there None stored counts k long there = omega (arith, length-append stored counts, long)
 
--- the replica's own count is one of them, and each is one of a replica that is there
+-- the counts cover the issuer, and only existing replicas
 pub own_width : (s : Option Stored) (end k by : ℕ) → by < k
     → ((there : Stored) → s ≡ Some there → (by < there.width) × (there.width ≤ k))
     → (by < (stored_for s end k).width) × ((stored_for s end k).width ≤ k)
 own_width (Some there) end k by below within = within there refl
 own_width None end k by below within = (below, omega arith)
 
--- where the label's counts stand, its replica and its row
+-- where the new label's counts are stored, the issuer's new state, and the new row
 abbrev pub counts_of_label : Tracked → ℕ → Stored
 counts_of_label t by = stored_for (replica_at t by).stored (length t.stored) (replicas_in t)
 
@@ -95,7 +95,7 @@ new_row t by update = record {
 abbrev pub own_replica : Tracked → ℕ → Bool → Replica
 own_replica t by update = with_own (replica_at t by) by update (labels_in t)
 
--- its counts of those that are there
+-- the issuer's new counts for the existing replicas
 abbrev pub own_counts : Tracked → ℕ → Bool → List ℕ
 own_counts t by update = take (replicas_in t) (own_replica t by update).counts
 
@@ -126,7 +126,7 @@ replica_there t by q update below same =
 pub replica_else : (t : Tracked) (by q : ℕ) (update : Bool) → q ≢ by → replica_at (with_label t by update) q ≡ replica_at t q
 replica_else t by q update other = get_or-set_other t.replicas by q (stored_at (own_replica t by update) (Some (counts_of_label t by))) (new_replica 0) other
 
--- what each replica issued
+-- the number of updates that each replica issued
 pub issued_there : (t : Tracked) (by q : ℕ) (update : Bool) → by < replicas_in t → q ≡ by → issued_count (with_label t by update) q ≡ issued_count t q + ones update
 issued_there t by q update below same =
     ap (λ (r : Replica). length r.issued) (replica_there t by q update below same)
@@ -154,34 +154,34 @@ issued_last t by q p update below is same at =
     ap (λ (r : Replica). get_or r.issued p 0) (replica_there t by q update below same)
     ∙ own_last (replica_at t by) by (labels_in t) p update is (at ∙ ap (issued_count t) same)
 
--- what each replica had
-pub had_there : (t : Tracked) (by q of : ℕ) (update : Bool) → by < replicas_in t → q ≡ by → of ≢ by → had_count (with_label t by update) q of ≡ had_count t q of
+-- the number of updates delivered to each replica
+pub had_there : (t : Tracked) (by q of : ℕ) (update : Bool) → by < replicas_in t → q ≡ by → of ≢ by → delivered_count (with_label t by update) q of ≡ delivered_count t q of
 had_there t by q of update below same other =
     ap (λ (r : Replica). get_or r.counts of 0) (replica_there t by q update below same)
     ∙ own_other (replica_at t by) by (labels_in t) of update other
-    ∙ ap (λ k. had_count t k of) (sym same)
+    ∙ ap (λ k. delivered_count t k of) (sym same)
 
 pub had_own : (t : Tracked) (by q of : ℕ) (update : Bool) → by < replicas_in t → by < length (replica_at t by).counts → q ≡ by → of ≡ by
-    → had_count (with_label t by update) q of ≡ had_count t q of + ones update
+    → delivered_count (with_label t by update) q of ≡ delivered_count t q of + ones update
 had_own t by q of update below inside same own =
     ap (λ (r : Replica). get_or r.counts of 0) (replica_there t by q update below same)
     ∙ ap (λ k. get_or (own_replica t by update).counts k 0) own
     ∙ own_count (replica_at t by) by (labels_in t) update inside
-    ∙ ap (λ k. had_count t k by + ones update) (sym same)
-    ∙ ap (λ k. had_count t q k + ones update) (sym own)
+    ∙ ap (λ k. delivered_count t k by + ones update) (sym same)
+    ∙ ap (λ k. delivered_count t q k + ones update) (sym own)
 
-pub had_else : (t : Tracked) (by q of : ℕ) (update : Bool) → q ≢ by → had_count (with_label t by update) q of ≡ had_count t q of
+pub had_else : (t : Tracked) (by q of : ℕ) (update : Bool) → q ≢ by → delivered_count (with_label t by update) q of ≡ delivered_count t q of
 had_else t by q of update other = ap (λ (r : Replica). get_or r.counts of 0) (replica_else t by q update other)
 
--- what each label sees
+-- the number of updates that each label sees
 pub counts_same : (t : Tracked) (by at width : ℕ) (update : Bool) → at + width ≤ length t.stored → counts_at (with_label t by update) at width ≡ counts_at t at width
 counts_same t by at width update fits =
     stored_before (replica_at t by).stored t.stored (own_counts t by update) at width fits
 
 pub counts_new : (t : Tracked) (by of : ℕ) (update : Bool) → TrackedKept t → by < replicas_in t → of < replicas_in t → of ≢ by
-    → get_or (counts_at (with_label t by update) (counts_of_label t by).at (counts_of_label t by).width) of 0 ≡ had_count t by of
+    → get_or (counts_at (with_label t by update) (counts_of_label t by).at (counts_of_label t by).width) of 0 ≡ delivered_count t by of
 counts_new t by of update kept below inside other =
-    let had : get_or (own_counts t by update) of 0 ≡ had_count t by of =
+    let had : get_or (own_counts t by update) of 0 ≡ delivered_count t by of =
     get_or-take (replicas_in t) (own_replica t by update).counts of 0 inside ∙ own_other (replica_at t by) by (labels_in t) of update other in
     own_stored (replica_at t by).stored t.stored (own_counts t by update) of (replicas_in t) (own_counts_length t by update kept below)
     (λ there e. kept.stored_same by there of below e inside other ∙ sym had)
@@ -203,9 +203,9 @@ seen_before t by n update kept before =
     ap (λ (r : Row). set (counts_at (with_label t by update) r.counts r.width) r.replica r.place) (row_else t by n update (omega (arith, before)))
     ∙ ap (λ xs. set xs (row_at t n).replica (row_at t n).place) (counts_same t by (row_at t n).counts (row_at t n).width update (kept.row_counts n before))
 
--- the new label sees what its replica had
+-- the new label sees what was delivered to its replica
 pub seen_new : (t : Tracked) (by n of : ℕ) (update : Bool) → TrackedKept t → by < replicas_in t → of < replicas_in t → n ≡ labels_in t
-    → seen_count (with_label t by update) n of ≡ had_count t by of
+    → seen_count (with_label t by update) n of ≡ delivered_count t by of
 seen_new t by n of update kept below inside new =
     let there = counts_of_label t by in
     let counts = counts_at (with_label t by update) there.at there.width in
@@ -222,5 +222,5 @@ seen_new t by n of update kept below inside new =
     ap (λ k. get_or (set counts by (issued_count t by)) k 0) own
     ∙ get_or-set_same counts by (issued_count t by) 0 long
     ∙ sym (kept.had_own by below)
-    ∙ ap (had_count t by) (sym own))
+    ∙ ap (delivered_count t by) (sym own))
     (λ other. get_or-set_other counts by of (issued_count t by) 0 other ∙ counts_new t by of update kept below inside other)

@@ -1,4 +1,4 @@
--- What holds after a replica joined.
+-- Lemmas on the tracker after a replica joined.
 use Rattle.std.proofs.Common.{◌≡◌, ℕ, ◌+◌, ◌<◌, ◌≤◌, true, [], ◌∷◌, length, get_or, Some, sym, ap, ◌∙◌, subst, arith, length-append}
 use Rattle.std.specs.Prelude.{drop, ◌&&◌, ◌||◌}
 use Rattle.std.proofs.lemmas.Bool.{ne_eqb}
@@ -6,14 +6,14 @@ use Rattle.std.proofs.lemmas.List.{get_or_past, get_or_push, length-take-le, len
 use Rattle.std.proofs.Math.ListN.{get_or-append}
 use Rattle.ra_labels.specs.declared.limits.TheConstants.{MOST_REPLICAS}
 use Rattle.ra_labels.specs.declared.command.Command.TheVariants.{Join}
-use Rattle.ra_labels.specs.Situation.{Past, past_with, replicas_of}
-use Rattle.ra_labels.specs.Visibility.{had}
+use Rattle.ra_labels.specs.HistorySoFar.{History, history_with, replicas_of}
+use Rattle.ra_labels.specs.Visibility.{has_delivered}
 use Rattle.ra_labels.specs.Places.{updates_issued}
-use Rattle.ra_laws.proofs.TheLaws.{none_had_before_it_joined-join, a_new_replica_had_what_the_other_had-labels, a_new_replica_had_what_the_other_had-issued}
+use Rattle.ra_theorems.proofs.TheoremIndex.{nothing_delivered_before_join-join, join_copies_delivered-labels, join_copies_delivered-issued}
 use Rattle.ra_visibility.specs.declared.stored.Stored.{Stored}
 use Rattle.ra_visibility.specs.Replica.{Replica, new_replica, joined_from}
 use Rattle.ra_visibility.specs.Seen.{is_in}
-use Rattle.ra_visibility.specs.Tracked.{Tracked, IsVisibilityOf, replicas_in, labels_in, replica_at, row_at, had_count, seen_count, counts_at}
+use Rattle.ra_visibility.specs.Tracked.{Tracked, IsVisibilityOf, replicas_in, labels_in, replica_at, row_at, delivered_count, seen_count, counts_at}
 use Rattle.ra_visibility.specs.Changes.{with_joined}
 use Rattle.ra_visibility.specs.Kept.{TrackedKept, IsUpdateOf, issued_at}
 use Rattle.ra_visibility.proofs.Tests.{at_or_else, below_or_not}
@@ -26,14 +26,14 @@ module _ (t : Tracked) (from : ℕ) where
   pub one_more : replicas_in new ≡ replicas_in t + 1
   one_more = length-append t.replicas (joined_from (replica_at t from) ∷ [])
 
-  -- the new one, those before it, and none behind it
+  -- the new replica, those before it, and none above it
   joined_there : (q : ℕ) → q ≡ replicas_in t → replica_at new q ≡ joined_from (replica_at t from)
   joined_there q same = get_or_push t.replicas (joined_from (replica_at t from)) (new_replica 0) q (sym same)
 
   joined_else : (q : ℕ) → q < replicas_in t → replica_at new q ≡ replica_at t q
   joined_else q before = get_or-append t.replicas (joined_from (replica_at t from) ∷ []) (new_replica 0) q before
 
-  -- what each issued
+  -- the updates that each replica issued
   issued_same : (q : ℕ) → (replica_at new q).issued ≡ (replica_at t q).issued
   issued_same q = below_or_not q (replicas_in t)
       (λ before. ap (λ (r : Replica). r.issued) (joined_else q before))
@@ -42,21 +42,21 @@ module _ (t : Tracked) (from : ℕ) where
       (λ other. ap (λ (r : Replica). r.issued) (get_or_past new.replicas q (new_replica 0) (omega (arith, one_more, after, other)))
       ∙ sym (ap (λ (r : Replica). r.issued) (get_or_past t.replicas q (new_replica 0) after))))
 
-  had_there : (q of : ℕ) → q ≡ replicas_in t → had_count new q of ≡ had_count t from of
+  had_there : (q of : ℕ) → q ≡ replicas_in t → delivered_count new q of ≡ delivered_count t from of
   had_there q of same = ap (λ (r : Replica). get_or r.counts of 0) (joined_there q same)
 
-  had_else : (q of : ℕ) → q < replicas_in t → had_count new q of ≡ had_count t q of
+  had_else : (q of : ℕ) → q < replicas_in t → delivered_count new q of ≡ delivered_count t q of
   had_else q of before = ap (λ (r : Replica). get_or r.counts of 0) (joined_else q before)
 
   update_same : (q p n : ℕ) → IsUpdateOf t q p n → IsUpdateOf new q p n
   update_same q p n is = record { there = is.there; replica = is.replica; update = is.update; place = is.place }
 
-  -- by cases on whether it is the new one or one before it
+  -- by cases: the new replica, or an earlier one
   new_or_before : {A : Type 0} (q : ℕ) → q < replicas_in new → (q ≡ replicas_in t → A) → (q < replicas_in t → A) → A
   new_or_before q known this before = below_or_not q (replicas_in t) before (λ after. this (omega (arith, one_more, known, after)))
 
   module _ (kept : TrackedKept t) (there : from < replicas_in t) where
-    -- a label sees nothing of one that is not there
+    -- a label sees nothing of a replica that does not exist
     sees_none_beyond : (n of : ℕ) → n < labels_in t → replicas_in t ≤ of → seen_count t n of ≡ 0
     sees_none_beyond n of known past =
         let row = row_at t n in
@@ -73,13 +73,13 @@ module _ (t : Tracked) (from : ℕ) where
     none_stored q s same e = cc (e, ap (λ (r : Replica). r.stored) (joined_there q same))
 
     closed_joined : (q n of : ℕ) → q < replicas_in new → n < labels_in t → of < replicas_in new
-        → (row_at t n).is_update ≡ true → (row_at t n).place < had_count new q (row_at t n).replica
-        → seen_count t n of ≤ had_count new q of
-    closed_joined q n of lq ln lof update had = new_or_before of lof
+        → (row_at t n).is_update ≡ true → (row_at t n).place < delivered_count new q (row_at t n).replica
+        → seen_count t n of ≤ delivered_count new q of
+    closed_joined q n of lq ln lof update has_delivered = new_or_before of lof
         (λ this. omega (arith, sees_none_beyond n of ln (omega (arith, this))))
         (λ before. new_or_before q lq
-        (λ same. omega (arith, had_there q of same, kept.closed from n of there ln before update (omega (arith, had, had_there q (row_at t n).replica same))))
-        (λ older. omega (arith, had_else q of older, kept.closed q n of older ln before update (omega (arith, had, had_else q (row_at t n).replica older)))))
+        (λ same. omega (arith, had_there q of same, kept.closed from n of there ln before update (omega (arith, has_delivered, had_there q (row_at t n).replica same))))
+        (λ older. omega (arith, had_else q of older, kept.closed q n of older ln before update (omega (arith, has_delivered, had_else q (row_at t n).replica older)))))
 
     pub kept_joined : replicas_in t < MOST_REPLICAS → TrackedKept new
     kept_joined room = record {
@@ -154,8 +154,8 @@ module _ (t : Tracked) (from : ℕ) where
           (λ older. kept.stored_same q s of before was older differs ∙ sym (had_else q of before)));
     }
 
-    pub stands_joined : (past : Past) → IsVisibilityOf t past → IsVisibilityOf new (past_with past (Join (replicas_in t) from))
-    stands_joined past stands = subst (λ r. IsVisibilityOf new (past_with past (Join r from))) (sym stands.replicas) (record {
+    pub stands_joined : (past : History) → IsVisibilityOf t past → IsVisibilityOf new (history_with past (Join (replicas_in t) from))
+    stands_joined past stands = subst (λ r. IsVisibilityOf new (history_with past (Join r from))) (sym stands.replicas) (record {
       replicas = one_more ∙ ap (λ k. k + 1) stands.replicas;
       labels = stands.labels;
       updates = stands.updates;
@@ -163,12 +163,12 @@ module _ (t : Tracked) (from : ℕ) where
           (λ this.
           ap (λ (r : Replica). is_in (record { rows = t.rows; counts = r.counts }) n) (joined_there q this)
           ∙ stands.had from n there
-          ∙ sym (a_new_replica_had_what_the_other_had-labels past.founders past.records from n stands.beyond)
-          ∙ ap (λ k. had (Join (replicas_of past) from ∷ past.records) k n) (sym (this ∙ stands.replicas)))
+          ∙ sym (join_copies_delivered-labels past.initial_replicas past.records from n stands.beyond)
+          ∙ ap (λ k. has_delivered (Join (replicas_of past) from ∷ past.records) k n) (sym (this ∙ stands.replicas)))
           (λ before.
           ap (λ (r : Replica). is_in (record { rows = t.rows; counts = r.counts }) n) (joined_else q before)
           ∙ stands.had q n before
-          ∙ sym (ap (λ b. (b && had past.records from n) || had past.records q n)
+          ∙ sym (ap (λ b. (b && has_delivered past.records from n) || has_delivered past.records q n)
           (ne_eqb (replicas_of past) q (λ e. absurd (omega (arith, e, stands.replicas, before))))));
       sees = stands.sees;
       issuer = stands.issuer;
@@ -176,7 +176,7 @@ module _ (t : Tracked) (from : ℕ) where
       issued = λ q lq. new_or_before q lq
           (λ this. ap (λ (r : Replica). length r.issued) (joined_there q this)
           ∙ sym (ap (updates_issued past.records) (this ∙ stands.replicas)
-          ∙ a_new_replica_had_what_the_other_had-issued past.founders past.records stands.beyond))
+          ∙ join_copies_delivered-issued past.initial_replicas past.records stands.beyond))
           (λ before. ap length (issued_same q) ∙ stands.issued q before);
-      beyond = none_had_before_it_joined-join past.founders past.records from stands.beyond;
+      beyond = nothing_delivered_before_join-join past.initial_replicas past.records from stands.beyond;
     })

@@ -13,4 +13,4 @@ pub mod Insertions
 pub mod Extensions
 pub mod Precedences
 pub mod NewLabels
-pub mod TheLaws
+pub mod TheoremIndex

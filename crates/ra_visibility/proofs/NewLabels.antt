@@ -1,4 +1,4 @@
--- The named sequence with a new label, and whether it still extends visibility.
+-- Lemmas on the named sequence with a new label, and on whether it still extends visibility.
 use Rattle.std.proofs.Common.{◌≡◌, ℕ, ◌<◌, Bool, true, false, List, [], ◌∷◌, ◌++◌, refl, sym, ap, ◌∙◌, subst, inl, inr, arith}
 use Rattle.std.specs.Prelude.{◌&&◌, not, take, drop, flat_map, Contains}
 use Rattle.std.proofs.lemmas.Bool.{true≢false, and_parts, and_from, not-true, not_from_false, false_from_ne_true}
@@ -16,15 +16,15 @@ use Rattle.ra_labels.specs.NamedOrder.{named_labels, named_sequence}
 use Rattle.ra_labels.proofs.InLists.{bool_same, list_all-contains, list_all-from_contains}
 use Rattle.ra_labels.proofs.Members.{behind_head, piece_of, in_piece}
 use Rattle.ra_labels.proofs.Parts.{part_is_of, some_part}
-use Rattle.ra_labels.specs.Situation.{Next, next_of, operate, label_of}
-use Rattle.ra_laws.proofs.TheLaws.{a_delivery_puts_its_update_in-order, named_labels_are_sorted-same, a_new_replica_had_what_the_other_had-order}
+use Rattle.ra_labels.specs.HistorySoFar.{NextOperation, next_operation, operate, label_of}
+use Rattle.ra_theorems.proofs.TheoremIndex.{delivery_extends_delivered-order, named_labels_sorted-same, join_copies_delivered-order}
 use Rattle.ra_visibility.specs.declared.order.Place.{Place}
 use Rattle.ra_visibility.specs.Order.{must_stand_before, IsPlaceOf, EachFitted}
 use Rattle.ra_visibility.proofs.Insertions.{named_below_count, order_after_verdict, at_its_place}
 use Rattle.ra_visibility.proofs.Extensions.{Apart, extends_pieces, extends_joined, extends_same}
 use Rattle.ra_visibility.proofs.Precedences.{parts_extend, precedes_later, not_backwards, labels_too, parts_too}
 
--- a label of the records, or one of its parts, is numbered below their count
+-- the labels belong to the records, so each label or part is numbered below their count
 abbrev AreOf : Records → List Label → Type 0
 AreOf records labels = (l : Label) → Contains labels l → Contains (labels_of records) l × (l.number < label_count records)
 
@@ -33,11 +33,11 @@ part_below records labels p are found =
     let from = piece_of parts_of labels p found in
     omega (arith, (are from.0 from.1).1, ap (λ (l : Label). l.number) (part_is_of from.0 p from.2))
 
--- no label must stand before the new one
+-- no label must precede the new one
 abbrev NoneMust : Records → List Label → Label → Type 0
 NoneMust records labels x = (m : Label) → Contains labels m → must_stand_before records m x ≡ false
 
-module _ (before : Records) (next : Next) where
+module _ (before : Records) (next : NextOperation) where
   abbrev now : Records
   now = operate next ∷ before
 
@@ -54,7 +54,7 @@ module _ (before : Records) (next : Next) where
       | inr then ↦ part_below before ys p of_ys then
     ]
 
-    -- of the labels before, the new record changes nothing
+    -- the new record changes nothing among the earlier labels
     same_before : extends (must_precede now) (flat_map parts_of xs ++ flat_map parts_of ys) ≡ extends (must_precede before) (flat_map parts_of xs ++ flat_map parts_of ys)
     same_before = extends_same (must_precede now) (must_precede before) (flat_map parts_of xs ++ flat_map parts_of ys) (λ p q found there. precedes_later before next q p (old_below p found))
 
@@ -93,16 +93,16 @@ module _ (before : Records) (next : Next) where
           ];
         })
 
--- the labels of a part of the named order are those of the records
+-- the labels of a piece of the named order belong to the records
 are_of : (kind : Kind) (records : Records) (labels : List Label) → ((l : Label) → Contains labels l → Contains (named_labels kind records) l) → AreOf records labels
 are_of kind records labels within l found =
     let named = within l found in (
-      Contains-permutation (named_labels kind records) (labels_of records) l (IsPermutation-sym (labels_of records) (named_labels kind records) (named_labels_are_sorted-same kind records)) named,
+      Contains-permutation (named_labels kind records) (labels_of records) l (IsPermutation-sym (labels_of records) (named_labels kind records) (named_labels_sorted-same kind records)) named,
       All-contains (λ label. label.number < label_count records) (named_labels kind records) l (named_below_count kind records) named,
     )
 
--- with a new label the named sequence extends visibility exactly where the one before did and the label fits
-pub extends_where_it_fits : (kind : Kind) (records : Records) (next : Next) (place : Place) → IsPlaceOf kind records next place
+-- with a new label, the named sequence extends visibility exactly if it did before and the label fits
+pub extends_where_it_fits : (kind : Kind) (records : Records) (next : NextOperation) (place : Place) → IsPlaceOf kind records next place
     → extends_visibility (operate next ∷ records) (named_sequence kind (operate next ∷ records))
     ≡ (extends_visibility records (named_sequence kind records) && place.fits)
 extends_where_it_fits kind records next place is =
@@ -129,23 +129,23 @@ extends_where_it_fits kind records next place is =
     ap (extends (must_precede now)) after
     ∙ extended_from records next xs ys of_xs of_ys (ap (extends (must_precede records)) (sym before) ∙ parts.0) (λ m found. not-true (must_stand_before now m label) (list_all-contains must ys m (sym is.fits ∙ parts.1) found)))
 
--- a delivery leaves it as it is
+-- a delivery does not change whether it does
 pub delivery_extends : (kind : Kind) (records : Records) (to label : ℕ)
     → extends_visibility (Deliver to label ∷ records) (named_sequence kind (Deliver to label ∷ records)) ≡ extends_visibility records (named_sequence kind records)
-delivery_extends kind records to label = ap (λ labels. extends (must_precede records) (flat_map parts_of labels)) (a_delivery_puts_its_update_in-order kind records to label)
+delivery_extends kind records to label = ap (λ labels. extends (must_precede records) (flat_map parts_of labels)) (delivery_extends_delivered-order kind records to label)
 
 -- nor does a join
 pub join_extends : (kind : Kind) (records : Records) (joined from : ℕ)
     → extends_visibility (Join joined from ∷ records) (named_sequence kind (Join joined from ∷ records)) ≡ extends_visibility records (named_sequence kind records)
 join_extends kind records joined from =
-    ap (λ labels. extends (must_precede records) (flat_map parts_of labels)) (a_new_replica_had_what_the_other_had-order kind records joined from)
+    ap (λ labels. extends (must_precede records) (flat_map parts_of labels)) (join_copies_delivered-order kind records joined from)
 
--- where each label fitted, the named sequence extends visibility
+-- if each label fitted, the named sequence extends visibility
 pub extends_where_each_fitted : (kind : Kind) (records : Records) → EachFitted kind records → extends_visibility records (named_sequence kind records) ≡ true
 extends_where_each_fitted kind [] each = refl
 extends_where_each_fitted kind (Operate by op clock ∷ before) each =
     let place = each.0 in
-    extends_where_it_fits kind before (next_of by op clock) place.0 place.1
+    extends_where_it_fits kind before (next_operation by op clock) place.0 place.1
     ∙ and_from (extends_visibility before (named_sequence kind before)) place.0.fits (extends_where_each_fitted kind before each.1) place.2
 extends_where_each_fitted kind (Deliver to label ∷ before) each =
     delivery_extends kind before to label ∙ extends_where_each_fitted kind before each

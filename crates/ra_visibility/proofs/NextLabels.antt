@@ -1,16 +1,16 @@
--- What holds after a replica's next label.
+-- Lemmas on the tracker after a replica's next label.
 use Rattle.std.proofs.Common.{◌≡◌, ◌≢◌, ℕ, ◌+◌, ◌<◌, ◌≤◌, Bool, true, false, length, get_or, Some, refl, sym, ap, ◌∙◌, subst, arith}
 use Rattle.ra_visibility.specs.declared.limits.TheConstants.{MOST_LABELS}
 use Rattle.ra_visibility.specs.declared.row.Row.{Row}
 use Rattle.ra_visibility.specs.declared.stored.Stored.{Stored}
 use Rattle.ra_visibility.specs.Replica.{Replica}
-use Rattle.ra_visibility.specs.Tracked.{Tracked, seen_count, replicas_in, labels_in, replica_at, row_at, had_count, counts_at}
+use Rattle.ra_visibility.specs.Tracked.{Tracked, seen_count, replicas_in, labels_in, replica_at, row_at, delivered_count, counts_at}
 use Rattle.ra_visibility.specs.Changes.{with_label}
 use Rattle.ra_visibility.specs.Kept.{TrackedKept, IsUpdateOf, issued_count, issued_at}
 use Rattle.ra_visibility.proofs.Tests.{at_or_else, below_or_not}
 use Rattle.ra_visibility.proofs.IssuedRows.{ones, counts_of_label, own_replica, own_counts, own_counts_length, width_there, own_length, labels_more, row_new, row_else, count_same, replica_there, replica_else, issued_there, issued_else, issued_more, issued_before, issued_last, had_there, had_own, had_else, counts_same, counts_new, counts_there, seen_before, seen_new, stored_longer}
 
--- an update where there was one, and the new one
+-- the earlier updates, and the new one
 update_before : (t : Tracked) (by q p n : ℕ) (update : Bool) → IsUpdateOf t q p n → IsUpdateOf (with_label t by update) q p n
 update_before t by q p n update is =
     let row = row_else t by n update (omega (arith, is.there)) in
@@ -31,7 +31,7 @@ update_new t by q p update is own last =
       place = ap (λ (r : Row). r.place) row ∙ sym last;
     }
 
--- an update is one where its replica has one more
+-- a label that adds an update is one
 is_one : (update : Bool) → 0 < ones update → update ≡ true
 is_one true more = refl
 is_one false more = absurd (omega arith)
@@ -40,9 +40,9 @@ no_more : (update : Bool) → ones update ≤ 1
 no_more true = omega arith
 no_more false = omega arith
 
--- how many updates of each replica another had, after the label
+-- the number of updates of each replica delivered to another one, after the label
 had_within : (t : Tracked) (by q of : ℕ) (update : Bool) → TrackedKept t → by < replicas_in t → q < replicas_in t → of < replicas_in t
-    → had_count (with_label t by update) q of ≤ issued_count (with_label t by update) of
+    → delivered_count (with_label t by update) q of ≤ issued_count (with_label t by update) of
 had_within t by q of update kept below known inside =
     let was = kept.had_issued q of known inside in
     at_or_else q by
@@ -51,26 +51,26 @@ had_within t by q of update kept below known inside =
     (λ foreign. omega (arith, was, issued_else t by of update foreign, had_there t by q of update below same foreign)))
     (λ other. omega (arith, was, issued_more t by of update below, had_else t by q of update other))
 
-had_no_less : (t : Tracked) (by q of : ℕ) (update : Bool) → TrackedKept t → by < replicas_in t → had_count t q of ≤ had_count (with_label t by update) q of
+had_no_less : (t : Tracked) (by q of : ℕ) (update : Bool) → TrackedKept t → by < replicas_in t → delivered_count t q of ≤ delivered_count (with_label t by update) q of
 had_no_less t by q of update kept below = at_or_else q by
     (λ same. at_or_else of by
     (λ own. omega (arith, had_own t by q of update below (omega (arith, kept.had_length by below)) same own))
     (λ foreign. omega (arith, had_there t by q of update below same foreign)))
     (λ other. omega (arith, had_else t by q of update other))
 
--- what replicas had stays closed: of the new label, which its replica has alone, and of those before
+-- the delivered updates stay causally closed: for the new label, delivered to its issuer alone, and for earlier ones
 closed_issued : (t : Tracked) (by q n of : ℕ) (update : Bool) → TrackedKept t → by < replicas_in t → q < replicas_in t → of < replicas_in t
     → n < labels_in (with_label t by update) → (row_at (with_label t by update) n).is_update ≡ true
-    → (row_at (with_label t by update) n).place < had_count (with_label t by update) q (row_at (with_label t by update) n).replica
-    → seen_count (with_label t by update) n of ≤ had_count (with_label t by update) q of
+    → (row_at (with_label t by update) n).place < delivered_count (with_label t by update) q (row_at (with_label t by update) n).replica
+    → seen_count (with_label t by update) n of ≤ delivered_count (with_label t by update) q of
 closed_issued t by q n of update kept below known inside there is had =
     let new = with_label t by update in
     let no_less = had_no_less t by q of update kept below in
     at_or_else n (labels_in t)
     (λ last.
-    let place : issued_count t by < had_count new q by = subst (λ (r : Row). r.place < had_count new q r.replica) (row_new t by n update last) had in
+    let place : issued_count t by < delivered_count new q by = subst (λ (r : Row). r.place < delivered_count new q r.replica) (row_new t by n update last) had in
     at_or_else q by
-    (λ same. omega (arith, seen_new t by n of update kept below inside last, no_less, ap (λ k. had_count t k of) same))
+    (λ same. omega (arith, seen_new t by n of update kept below inside last, no_less, ap (λ k. delivered_count t k of) same))
     (λ other. absurd (omega (arith, place, had_else t by q by update other, kept.had_issued q by known below))))
     (λ before.
     let row = row_else t by n update before in
@@ -78,22 +78,22 @@ closed_issued t by q n of update kept below known inside there is had =
     let p = (row_at t n).place in
     let early : n < labels_in t = omega (arith, there, labels_more t by update, before) in
     let was_update : (row_at t n).is_update ≡ true = sym (ap (λ (r : Row). r.is_update) row) ∙ is in
-    let place : p < had_count new q r = subst (λ (r : Row). r.place < had_count new q r.replica) row had in
-    let was : p < had_count t q r = at_or_else q by
+    let place : p < delivered_count new q r = subst (λ (r : Row). r.place < delivered_count new q r.replica) row had in
+    let was : p < delivered_count t q r = at_or_else q by
     (λ same. at_or_else r by
-    (λ own. omega (arith, (kept.row_issued n early was_update).0, kept.had_own q known, ap (had_count t q) (own ∙ sym same), ap (issued_count t) (own ∙ sym same)))
+    (λ own. omega (arith, (kept.row_issued n early was_update).0, kept.had_own q known, ap (delivered_count t q) (own ∙ sym same), ap (issued_count t) (own ∙ sym same)))
     (λ foreign. omega (arith, place, had_there t by q r update below same foreign)))
     (λ other. omega (arith, place, had_else t by q r update other)) in
     omega (arith, ap (λ xs. get_or xs of 0) (seen_before t by n update kept early), kept.closed q n of known early inside was_update was, no_less))
 
--- the counts of a replica that are stored, after the label
+-- the stored counts of a replica, after the label
 stored_after : (t : Tracked) (by q : ℕ) (at : Stored) (update : Bool) → by < replicas_in t → (replica_at (with_label t by update) q).stored ≡ Some at → q ≡ by → counts_of_label t by ≡ at
 stored_after t by q at update below e same = cc (e, ap (λ (r : Replica). r.stored) (replica_there t by q update below same))
 
 stored_else : (t : Tracked) (by q : ℕ) (at : Stored) (update : Bool) → (replica_at (with_label t by update) q).stored ≡ Some at → q ≢ by → (replica_at t q).stored ≡ Some at
 stored_else t by q at update e other = sym (ap (λ (r : Replica). r.stored) (replica_else t by q update other)) ∙ e
 
--- what is kept, with the label
+-- the invariant holds after the label
 pub kept_issued : (t : Tracked) (by : ℕ) (update : Bool) → TrackedKept t → by < replicas_in t → labels_in t < MOST_LABELS → TrackedKept (with_label t by update)
 kept_issued t by update kept below room =
     let new = with_label t by update in
@@ -206,7 +206,7 @@ kept_issued t by update kept below room =
           let foreign : of ≢ by = λ own. differs (own ∙ sym same) in
           ap (λ (s : Stored). get_or (counts_at new s.at s.width) of 0) (sym (stored_after t by q at update below e same))
           ∙ counts_new t by of update kept below inside_of foreign
-          ∙ ap (λ k. had_count t k of) (sym same)
+          ∙ ap (λ k. delivered_count t k of) (sym same)
           ∙ sym (had_there t by q of update below same foreign))
           (λ other.
           let was = stored_else t by q at update e other in

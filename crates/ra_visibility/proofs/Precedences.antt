@@ -1,4 +1,4 @@
--- A new label fits where the sequence goes on extending visibility.
+-- Lemmas on precedence: a new label fits exactly if the sequence still extends visibility.
 use Rattle.std.proofs.Common.{◌≡◌, ◌<◌, true, false, [], ◌∷◌, refl, sym, ap, ◌∙◌, inl, inr, arith}
 use Rattle.std.specs.Prelude.{◌==◌, ◌&&◌, ◌||◌, nat_lt, is_some, Contains}
 use Rattle.std.specs.Option.{option_map_or}
@@ -9,11 +9,11 @@ use Rattle.ra_labels.specs.declared.label.Label.{Label}
 use Rattle.ra_labels.specs.Records.{Records, label_count, labels_of}
 use Rattle.ra_labels.specs.Visibility.{sees, is_update, is_update_at}
 use Rattle.ra_labels.specs.Rewriting.{Part, Half, Act, acts_of, part_of, parts_of, update_of}
-use Rattle.ra_labels.specs.Linearization.{must_precede, is_visible_to, is_earlier_there, is_query_half_of, extends}
+use Rattle.ra_labels.specs.Linearization.{must_precede, is_visible_to, is_earlier_at_replica, is_query_half_of, extends}
 use Rattle.ra_labels.proofs.Members.{what_passes, reached}
 use Rattle.ra_labels.proofs.Parts.{part_is_of, some_part}
-use Rattle.ra_labels.specs.Situation.{Next, operate}
-use Rattle.ra_laws.proofs.TheLaws.{must_precede_in_three_cases-cases, sees_the_same_later, sees_earlier_updates-earlier, sees_earlier_updates-updates, sees_earlier_updates-itself, each_number_has_its_label-found, update_where_a_part_is_one}
+use Rattle.ra_labels.specs.HistorySoFar.{NextOperation, operate}
+use Rattle.ra_theorems.proofs.TheoremIndex.{must_precede_cases-cases, sees_persists, sees_earlier_updates-earlier, sees_earlier_updates-updates, sees_earlier_updates-itself, label_at_each_number-found, update_iff_part_is_update}
 use Rattle.ra_visibility.specs.Order.{must_stand_before}
 
 -- the parts of one label extend the order
@@ -26,37 +26,37 @@ parts_extend records label (op.OrRemove x ids) = rw (
 ) refl
 parts_extend records label _ = refl
 
--- a label that is there, and an update, has a part that is one
+-- an existing label that is an update has a part that is one
 update_part : (records : Records) (label : Label) → Contains (labels_of records) label → is_update_at records label.number ≡ true
     → (part : Part) × Contains (parts_of label) part × (is_some (update_of part.act) ≡ true)
 update_part records label there is =
-    let found = each_number_has_its_label-found records label there in
+    let found = label_at_each_number-found records label there in
     let update : is_update label.op ≡ true = sym (ap (λ l. option_map_or (λ (m : Label). is_update m.op) l false) found) ∙ is in
-    let act = what_passes (λ (a : Half × Act). is_some (update_of a.1)) (acts_of label.op) (sym (update_where_a_part_is_one label.op) ∙ update) in
+    let act = what_passes (λ (a : Half × Act). is_some (update_of a.1)) (acts_of label.op) (sym (update_iff_part_is_update label.op) ∙ update) in
     (part_of label act.0, reached (part_of label) (acts_of label.op) act.0 act.1, act.2)
 
--- between parts of labels before, a later operation changes nothing
-pub precedes_later : (records : Records) (next : Next) (p q : Part) → q.label.number < label_count records
+-- a later operation does not change the order of parts of earlier labels
+pub precedes_later : (records : Records) (next : NextOperation) (p q : Part) → q.label.number < label_count records
     → must_precede (operate next ∷ records) p q ≡ must_precede records p q
 precedes_later records next p q below =
-    ap (λ b. (is_some (update_of p.act) && b) || is_earlier_there p q || is_query_half_of p q)
-    (sees_the_same_later (operate next ∷ []) records q.label.number p.label.number below)
+    ap (λ b. (is_some (update_of p.act) && b) || is_earlier_at_replica p q || is_query_half_of p q)
+    (sees_persists (operate next ∷ []) records q.label.number p.label.number below)
 
--- a part of a label must not stand before one of an earlier label
+-- no part must precede a part of an earlier label
 pub not_backwards : (records : Records) (p q : Part) → q.label.number < p.label.number → must_precede records p q ≡ false
 not_backwards records p q later = false_from_ne_true (must_precede records p q) (λ must.
-    elim ((must_precede_in_three_cases-cases records p q).0 must) [
+    elim ((must_precede_cases-cases records p q).0 must) [
       | inl seen ↦ let earlier = sees_earlier_updates-earlier records q.label.number p.label.number seen.1 in omega arith
       | inr (inl earlier) ↦ omega (arith, earlier.1)
       | inr (inr halves) ↦ omega (arith, halves.0)
     ])
 
--- a part must stand before one of a later label only where its label must
+-- a part must precede a part of a later label only if its label must
 pub labels_too : (records : Records) (p q : Part) (l m : Label) → p.label ≡ l → q.label ≡ m → l.number < m.number → must_precede records p q ≡ true → must_stand_before records l m ≡ true
 labels_too records p q l m is_l is_m later must =
     let sees_it = sees records m.number l.number in
     let earlier_one = l.replica == m.replica && nat_lt l.number m.number in
-    elim ((must_precede_in_three_cases-cases records p q).0 must) [
+    elim ((must_precede_cases-cases records p q).0 must) [
       | inl seen ↦ or_left sees_it earlier_one (sym (λ i. sees records (is_m i).number (is_l i).number) ∙ seen.1)
       | inr (inl earlier) ↦
           let replica : l.replica ≡ m.replica = sym (ap (λ (k : Label). k.replica) is_l) ∙ earlier.0 ∙ ap (λ (k : Label). k.replica) is_m in
@@ -64,7 +64,7 @@ labels_too records p q l m is_l is_m later must =
       | inr (inr halves) ↦ absurd (omega (arith, halves.0, ap (λ (k : Label). k.number) is_l, ap (λ (k : Label). k.number) is_m))
     ]
 
--- and where its label must, one of its parts must
+-- and if its label must, so must one of its parts
 pub parts_too : (records : Records) (l m : Label) → Contains (labels_of records) l → must_stand_before records l m ≡ true
     → (q : Part) → q.label ≡ m → (p : Part) × Contains (parts_of l) p × (must_precede records p q ≡ true)
 parts_too records l m there must q is_m =
@@ -76,11 +76,11 @@ parts_too records l m there must q is_m =
           let p = part.0 in
           let is_l = part_is_of l p part.1 in
           let visible : is_visible_to records p q ≡ true = and_from (is_some (update_of p.act)) (sees records q.label.number p.label.number) part.2 ((λ i. sees records (is_m i).number (is_l i).number) ∙ seen) in
-          (p, part.1, or_left (is_visible_to records p q || is_earlier_there p q) (is_query_half_of p q) (or_left (is_visible_to records p q) (is_earlier_there p q) visible))
+          (p, part.1, or_left (is_visible_to records p q || is_earlier_at_replica p q) (is_query_half_of p q) (or_left (is_visible_to records p q) (is_earlier_at_replica p q) visible))
       | inr earlier ↦
           let part = some_part l in
           let p = part.0 in
           let is_l = part_is_of l p part.1 in
-          let there_too : is_earlier_there p q ≡ true = (λ i. (is_l i).replica == (is_m i).replica && nat_lt (is_l i).number (is_m i).number) ∙ earlier in
-          (p, part.1, or_left (is_visible_to records p q || is_earlier_there p q) (is_query_half_of p q) (or_right (is_visible_to records p q) (is_earlier_there p q) there_too))
+          let there_too : is_earlier_at_replica p q ≡ true = (λ i. (is_l i).replica == (is_m i).replica && nat_lt (is_l i).number (is_m i).number) ∙ earlier in
+          (p, part.1, or_left (is_visible_to records p q || is_earlier_at_replica p q) (is_query_half_of p q) (or_right (is_visible_to records p q) (is_earlier_at_replica p q) there_too))
     ]

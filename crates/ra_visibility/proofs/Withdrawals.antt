@@ -1,4 +1,4 @@
--- A change that is taken back leaves what there was before it.
+-- Lemmas on withdrawals: withdrawing a change restores the previous state.
 use Rattle.std.proofs.Common.{◌≡◌, ℕ, ◌+◌, ◌-◌, ◌<◌, Bool, true, false, List, [], ◌∷◌, ◌++◌, length, get_or, Option, Some, None, refl, ap, ◌∙◌, arith, length-append}
 use Rattle.std.specs.Prelude.{set, take, is_none, if◌then◌else◌}
 use Rattle.std.proofs.lemmas.List.{set-set, set-get_or, get_or-set_same}
@@ -11,19 +11,19 @@ use Rattle.ra_visibility.specs.Changes.{stored_for, stored_with, with_label, wit
 use Rattle.ra_visibility.specs.Kept.{TrackedKept}
 use Rattle.ra_visibility.proofs.IssuedRows.{counts_of_label, new_row, own_replica, own_counts, labels_more, row_new, replica_there}
 
--- a count raised and lowered
+-- a count that is raised and then lowered
 count_back : (xs : List ℕ) (i : ℕ) → i < length xs → set (set xs i (get_or xs i 0 + 1)) i (get_or (set xs i (get_or xs i 0 + 1)) i 0 - 1) ≡ xs
 count_back xs i inside =
     let was : get_or (set xs i (get_or xs i 0 + 1)) i 0 - 1 ≡ get_or xs i 0 = omega (arith, get_or-set_same xs i (get_or xs i 0 + 1) 0 inside) in
     set-set xs i (get_or xs i 0 + 1) (get_or (set xs i (get_or xs i 0 + 1)) i 0 - 1) ∙ ap (set xs i) was ∙ set-get_or xs i 0
 
--- an element put behind and taken off
+-- an element that is appended and then removed
 last_back : {A : Type 0} (xs : List A) (x : A) → take (length (xs ++ x ∷ []) - 1) (xs ++ x ∷ []) ≡ xs
 last_back xs x =
     let short : length (xs ++ x ∷ []) - 1 ≡ length xs = omega (arith, length-append xs (x ∷ [])) in
     ap (λ k. take k (xs ++ x ∷ [])) short ∙ take-append_seam xs (x ∷ [])
 
--- one of several is written twice, and is as before
+-- an element that is replaced and then written back
 written_back : (xs : List Replica) (i : ℕ) (x y d : Replica) → y ≡ get_or xs i d → set (set xs i x) i y ≡ xs
 written_back xs i x y d same = set-set xs i x y ∙ ap (set xs i) same ∙ set-get_or xs i d
 
@@ -46,7 +46,7 @@ table_back None stored counts width = take-append_seam stored counts
 abbrev tracked_of : List Replica → List Row → List ℕ → Tracked
 tracked_of replicas rows stored = record { replicas = replicas; rows = rows; stored = stored }
 
--- what is left of the tracked where this was its last row
+-- the tracker without this row, which was its last
 abbrev taken : Tracked → Bool → ℕ → Row → Tracked
 taken tracked was_stored end row =
     let replica = without_own (replica_at tracked row.replica) row.replica row.is_update in

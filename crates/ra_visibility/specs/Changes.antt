@@ -1,4 +1,4 @@
--- How a tracker changes, and how a change is taken back.
+-- The changes of a tracker, and how the last one is undone.
 use Rattle.std.specs.Prelude.{ℕ, ◌-◌, Bool, List, [], ◌∷◌, ◌++◌, length, Option, Some, None, if◌then◌else◌, take, set, replicate, max}
 use Rattle.ra_labels.specs.declared.limits.TheConstants.{MOST_REPLICAS}
 use Rattle.ra_visibility.specs.declared.row.Row.{Row}
@@ -8,26 +8,26 @@ use Rattle.ra_visibility.specs.declared.last_change.LastChange.TheVariants.{Noth
 use Rattle.ra_visibility.specs.Replica.{new_replica, joined_from, with_own, without_own, stored_at, with_next, without_last}
 use Rattle.ra_visibility.specs.Tracked.{Tracked, replicas_in, labels_in, replica_at, row_at}
 
--- so many places for counts are made, where so many replicas are there first
+-- the number of counts that each replica has room for, given the number of initial replicas
 abbrev pub places_for : ℕ → ℕ
 places_for replicas = max replicas MOST_REPLICAS
 
--- no label, at so many replicas
+-- the tracker without any label, of the given number of replicas
 abbrev pub nothing_in : ℕ → Tracked
 nothing_in replicas =
     record { replicas = replicate replicas (new_replica (places_for replicas)); rows = []; stored = [] }
 
--- where the counts of the replica are stored, or can be: so many
+-- where the replica's counts are stored; if nowhere, the position at the end with the given width
 abbrev pub stored_for : Option Stored → ℕ → ℕ → Stored
 stored_for (Some there) end width = there
 stored_for None end width = record { at = end; width = width }
 
--- the stored counts, with those of the replica
+-- the stored counts, with those of the replica appended unless they are stored already
 abbrev pub stored_with : Option Stored → List ℕ → List ℕ → List ℕ
 stored_with (Some there) stored counts = stored
 stored_with None stored counts = stored ++ counts
 
--- the next label of the replica, an update or not
+-- the tracker after the replica's next label, an update or not
 abbrev pub with_label : Tracked → ℕ → Bool → Tracked
 with_label tracked by update =
     let replica = replica_at tracked by in
@@ -42,7 +42,7 @@ with_label tracked by update =
       stored = stored_with replica.stored tracked.stored (take (replicas_in tracked) issued.counts);
     }
 
--- the label is delivered: it is its replica's next one there
+-- the tracker after the delivery of the label: the receiver's count for the label's replica increases by one
 abbrev pub with_delivery : Tracked → ℕ → ℕ → Tracked
 with_delivery tracked to label =
     let from = (row_at tracked label).replica in
@@ -52,7 +52,7 @@ with_delivery tracked to label =
       stored = tracked.stored;
     }
 
--- a replica joined, with all that the other had
+-- the tracker after a join: the new replica has the counts of the one that it joins from
 abbrev pub with_joined : Tracked → ℕ → Tracked
 with_joined tracked from = record {
   replicas = tracked.replicas ++ joined_from (replica_at tracked from) ∷ [];
@@ -60,7 +60,7 @@ with_joined tracked from = record {
   stored = tracked.stored;
 }
 
--- the last label taken back, with its replica's counts where they were stored for it
+-- the tracker without its last label, and without its replica's counts if they were stored for this label
 abbrev pub without_label : Tracked → Bool → Tracked
 without_label tracked was_stored =
     let row = row_at tracked (labels_in tracked - 1) in
@@ -72,7 +72,7 @@ without_label tracked was_stored =
       stored = if was_stored then take row.counts tracked.stored else tracked.stored;
     }
 
--- a delivery taken back
+-- the tracker with a delivery undone
 abbrev pub without_delivery : Tracked → ℕ → ℕ → Option Stored → Tracked
 without_delivery tracked to from at = record {
   replicas = set tracked.replicas to (without_last (replica_at tracked to) from at);
@@ -80,7 +80,7 @@ without_delivery tracked to from at = record {
   stored = tracked.stored;
 }
 
--- the last replica taken back
+-- the tracker without its last replica
 abbrev pub without_joined : Tracked → Tracked
 without_joined tracked = record {
   replicas = take (replicas_in tracked - 1) tracked.replicas;
@@ -88,7 +88,7 @@ without_joined tracked = record {
   stored = tracked.stored;
 }
 
--- the last change taken back, if there is one
+-- the tracker with the last change undone; none if there is no change to undo
 abbrev pub undone : Tracked → LastChange → Option Tracked
 undone tracked Nothing = None
 undone tracked (Issue was_stored) = Some (without_label tracked was_stored)

@@ -1,4 +1,4 @@
--- The lesser of two numbers, the first of which may be missing.
+-- The smaller of two numbers, the first of which may be missing.
 use Rattle.std.specs.Prelude.{ℕ, min, Option, Some, None}
 
 abbrev pub lesser_of : Option ℕ → ℕ → ℕ

@@ -1,24 +1,24 @@
--- What is kept of a replica.
+-- The data that a tracker keeps for one replica.
 use Rattle.std.specs.Prelude.{ℕ, ◌+◌, ◌-◌, Bool, List, [], ◌∷◌, ◌++◌, Option, None, length, get_or, set, take, replicate, if◌then◌else◌}
 use Rattle.ra_visibility.specs.declared.stored.Stored.{Stored}
 
 pub record Replica : Type 0 where
-  -- how many updates of each replica it had, its own among them, with places for those that join
+  -- the number of updates of each replica delivered to it, its own included, with room for replicas that join
   pub counts : List ℕ
   -- the labels of its own updates, in their order
   pub issued : List ℕ
   -- where its counts are stored, if nothing was delivered to it since
   pub stored : Option Stored
 
--- it had nothing, with places for so many replicas
+-- a replica to which nothing was delivered, with room for the given number of counts
 abbrev pub new_replica : ℕ → Replica
 new_replica places = record { counts = replicate places 0; issued = []; stored = None }
 
--- one that joins from it: it had the same, and issued nothing
+-- a replica that joins from this one: it has the same counts and has issued nothing
 abbrev pub joined_from : Replica → Replica
 joined_from replica = record { counts = replica.counts; issued = []; stored = None }
 
--- its next label, an update or not
+-- the replica after its next label, an update or not
 abbrev pub with_own : Replica → ℕ → Bool → ℕ → Replica
 with_own replica own update label = record {
   counts = if update then set replica.counts own (get_or replica.counts own 0 + 1) else replica.counts;
@@ -26,7 +26,7 @@ with_own replica own update label = record {
   stored = replica.stored;
 }
 
--- its last own label taken back
+-- the replica without its last own label
 abbrev pub without_own : Replica → ℕ → Bool → Replica
 without_own replica own update = record {
   counts = if update then set replica.counts own (get_or replica.counts own 0 - 1) else replica.counts;
@@ -34,11 +34,11 @@ without_own replica own update = record {
   stored = replica.stored;
 }
 
--- its counts are stored here, or nowhere
+-- the replica with its counts stored here, or nowhere
 abbrev pub stored_at : Replica → Option Stored → Replica
 stored_at replica at = record { counts = replica.counts; issued = replica.issued; stored = at }
 
--- it got the next update of another
+-- the replica after the delivery of the next update of another one
 abbrev pub with_next : Replica → ℕ → Replica
 with_next replica from = record {
   counts = set replica.counts from (get_or replica.counts from 0 + 1);
@@ -46,7 +46,7 @@ with_next replica from = record {
   stored = None;
 }
 
--- the last update that it got of another taken back
+-- the replica without the last update that was delivered to it from another one
 abbrev pub without_last : Replica → ℕ → Option Stored → Replica
 without_last replica from at = record {
   counts = set replica.counts from (get_or replica.counts from 0 - 1);

@@ -1,10 +1,10 @@
 use ra_labels::Refusal;
 
-/// Why a delivery was not taken. The tracker is as before.
+/// The reason why a delivery failed. The tracker is unchanged.
 #[derive(Clone, Copy, Debug, PartialEq, Eq)]
 pub enum DeliverFault {
-    /// It is refused: `UnknownLabel`, `NotAnUpdate`, `AlreadySeen` or `NotCausal`, the first that applies.
+    /// The delivery is rejected: `UnknownLabel`, `NotAnUpdate`, `AlreadySeen` or `NotCausal`, the first that applies.
     Refused(Refusal),
-    /// A growth was refused for want of memory. No delivery asks for one.
+    /// Allocation failed. A delivery does not allocate, so `deliver` never returns this.
     NoMemory,
 }

@@ -1,20 +1,20 @@
 use crate::stored::Stored;
 
-/// The last change of a tracker, as far as it can be taken back.
+/// The last change of a tracker, with what is needed to undo it.
 #[derive(Clone, Copy)]
 pub enum LastChange {
-    /// None, or it was taken back.
+    /// No change, or the last one was undone.
     Nothing,
     /// A label was issued.
     Issue {
-        /// Were the counts of its replica stored for it?
+        /// Whether the counts of its replica were stored for it.
         was_stored: bool,
     },
     /// A label was delivered.
     Delivery {
-        /// To this replica.
+        /// The receiving replica.
         to: u8,
-        /// From this one.
+        /// The replica that issued the label.
         from: u8,
         /// Where the receiver's counts were stored before.
         stored: Option<Stored>,

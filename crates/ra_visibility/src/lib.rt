@@ -1,27 +1,28 @@
-//! Who had which update, and who sees which: kept as counts.
+//! Visibility as counts: which updates were delivered to which replica, and which a label sees.
 //!
-//! What reaches a replica is causally closed, so of each replica's updates it had a first part. How many these are is
-//! all that is kept of it: a count for each replica. A label sees what its replica had, so it has a row of counts,
-//! which labels issued between two deliveries share.
+//! Accepted deliveries are causal, so the updates of one replica that were delivered to another are its first ones. A
+//! count for each pair of replicas represents them: a version vector. A label sees what was delivered to its replica,
+//! so it has a row of counts. Labels of a replica between two deliveries to it share one row.
 //!
-//! The one contract for the layers above: in the words of `specs/Tracked`, a `Tracker` stands for the visibility of
-//! records. `issue`, `deliver` and `join` add a record, `withdraw` takes the last one back, a delivery is refused
-//! exactly where the definitions refuse it (`ra_labels/specs/Answer`), so that records stay causal, and `sees` and
-//! `vis` answer as the definitions do (`ra_labels/specs/Visibility`). `laws` has what the words say of the records.
+//! Contract for the crates above: a `Tracker` represents the visibility of records, as defined in `specs/Tracked`.
+//! `issue`, `deliver` and `join` add a record, and `withdraw` undoes the last one. A delivery to a known replica is
+//! rejected exactly if the definitions reject it (`ra_labels/specs/Answer`), so records stay causal. `sees` and `vis`
+//! return what the definitions say (`ra_labels/specs/Visibility`). The module `theorems` relates the tracker's terms to
+//! the records.
 //!
-//! Where labels stand in the named order of their kind is a `NamedOrder`'s to say, in the words of `specs/Order`. The
-//! orders themselves are crates of their own.
+//! A `NamedOrder` finds the position of each label in the named order of its kind, as defined in `specs/Order`. Its
+//! implementations are crates of their own.
 #![tactic(auto)]
 
 mod fault;
 mod last_change;
-pub mod laws;
 mod limits;
 mod order;
 mod replica;
 mod row;
 mod seen;
 mod stored;
+pub mod theorems;
 mod tracked;
 mod tracker;
 

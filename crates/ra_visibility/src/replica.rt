@@ -1,4 +1,4 @@
-//! What is kept of one replica: its updates in turn, and how many of each other one it had.
+//! The data of one replica: its updates, and how many updates of each replica were delivered to it.
 ghost use Rattle.std.specs.Prelude.{◌≡◌, ◌<◌, IfOk, OnOk, OnErr, Option, None, true, length, get_or};
 ghost use Rattle.ra_visibility.specs.Replica.{new_replica, joined_from, with_own, without_own, stored_at, with_next, without_last};
 
@@ -7,14 +7,15 @@ use ra_labels::NoMemory;
 use std::alloc::Global;
 use std::marker::Model;
 
-/// What is kept of a replica.
+/// The data of one replica.
 #[derive(Drop)]
 pub struct Replica {
-    /// How many updates of each replica it had, its own among them; with places for those that join.
+    /// The number of updates of each replica that were delivered to it, its own included. It has entries for replicas
+    /// that may join later.
     counts: Vec<u32>,
     /// The labels of its own updates, in their order.
     issued: Vec<u32>,
-    /// Where its counts are stored, if they are: nothing was delivered to it since.
+    /// Where its counts are stored, if nothing was delivered to it since they were.
     stored: Option<Stored>,
 }
 
@@ -27,7 +28,11 @@ impl Model for Replica {
 }
 
 impl Replica {
-    /// It had nothing, with places for so many replicas.
+    /// Creates a replica without updates, with this number of counts.
+    ///
+    /// # Errors
+    ///
+    /// `NoMemory` if allocation fails.
     pub fn new(alloc: Global, places: u8) -> Result<Replica, NoMemory>
         ensures { IfOk result (λ replica. replica ≡ new_replica places) }
     {
@@ -38,11 +43,15 @@ impl Replica {
         })
     }
 
-    /// A replica that joins from this one: it had the same, and issued nothing.
+    /// Returns a replica that joins from this one: the same updates were delivered to it, and it issued none.
+    ///
+    /// # Errors
+    ///
+    /// `NoMemory` if allocation fails.
     pub fn joined(&self) -> Result<Replica, NoMemory>
         ensures { IfOk result (λ replica. replica ≡ joined_from self.now) }
     {
-        // The other's row lacks its own count, so it is not shared.
+        // The stored row lacks the source's own count, so the two cannot share it.
         let stored = None;
         Ok(Replica {
             counts: self.counts.clone()?,
@@ -51,35 +60,39 @@ impl Replica {
         })
     }
 
-    /// How many updates of each replica it had.
+    /// Returns the number of updates of each replica that were delivered to it.
     pub fn counts(&self) -> &[u32]
         ensures { result.now ≡ self.now.counts }
     {
         self.counts.as_slice()
     }
 
-    /// The labels of its own updates.
+    /// Returns the labels of its own updates.
     pub fn issued(&self) -> &[u32]
         ensures { result.now ≡ self.now.issued }
     {
         self.issued.as_slice()
     }
 
-    /// Where its counts are stored, if they are.
+    /// Returns where its counts are stored, if they are.
     pub fn stored(&self) -> Option<Stored>
         ensures { result ≡ self.now.stored }
     {
         self.stored
     }
 
-    /// Its counts are stored here, or nowhere.
+    /// Sets where its counts are stored.
     pub fn store_at(&mut self, at: Option<Stored>)
         ensures { self.new ≡ stored_at self.old at }
     {
         self.stored = at;
     }
 
-    /// It issues its next label, an update or not.
+    /// Adds its own next label, an update or not.
+    ///
+    /// # Errors
+    ///
+    /// `NoMemory` if allocation fails; the replica is unchanged.
     pub fn issue(&mut self, own: u8, update: bool, label: u32) -> Result<(), NoMemory>
         requires own { own < length self.old.counts }
         requires room { get_or self.old.counts own 0 < 4294967295 }
@@ -93,7 +106,7 @@ impl Replica {
         Ok(())
     }
 
-    /// Takes its last own label back.
+    /// Undoes its own last label.
     pub fn take_issue_back(&mut self, own: u8, update: bool)
         requires own { own < length self.old.counts }
         requires some { update ≡ true → 0 < get_or self.old.counts own 0 }
@@ -105,8 +118,8 @@ impl Replica {
         }
     }
 
-    /// It gets the next update of another.
-    pub fn get(&mut self, from: u8)
+    /// Adds the delivery of the next update of another replica.
+    pub fn record_delivery(&mut self, from: u8)
         requires from { from < length self.old.counts }
         requires room { get_or self.old.counts from 0 < 4294967295 }
         ensures { self.new ≡ with_next self.old from }
@@ -115,7 +128,7 @@ impl Replica {
         self.stored = None;
     }
 
-    /// Takes the last update that it got of another back.
+    /// Undoes the last delivery from another replica.
     pub fn take_delivery_back(&mut self, from: u8, stored: Option<Stored>)
         requires from { from < length self.old.counts }
         requires some { 0 < get_or self.old.counts from 0 }

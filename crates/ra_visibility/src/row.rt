@@ -1,15 +1,15 @@
-/// What is kept of a label: 12 bytes.
+/// The data of a label: 12 bytes.
 #[derive(Clone, Copy)]
 pub struct Row {
     /// The replica that issued it.
     pub replica: u8,
-    /// Does it change the state?
+    /// Whether it is an update.
     pub is_update: bool,
-    /// How many counts there are of what it sees: one for each replica that was there when they were stored. Of those
-    /// that joined since it sees nothing.
+    /// The number of its counts: one for each replica that existed when they were stored. It sees nothing of replicas
+    /// that joined later.
     pub width: u8,
-    /// How many updates its replica had issued before it.
+    /// The number of updates that its replica issued before it.
     pub place: u32,
-    /// Where the counts of what it sees begin in the table of stored counts, its own replica's apart.
+    /// The index of its first count in the table of stored counts. For its own replica, `place` is the count instead.
     pub counts: u32,
 }

@@ -1,18 +1,18 @@
-//! What a label sees, by counts.
+//! The set of updates that a label sees, represented by counts.
 ghost use Rattle.std.specs.Prelude.{◌≡◌, set};
 ghost use Rattle.ra_visibility.specs.Seen.{is_in, count_in};
 
 use crate::row::Row;
 use std::marker::Model;
 
-/// What a label sees: a set of updates, that borrows the tracker.
+/// The set of updates that a label sees. It borrows the tracker.
 #[derive(Drop)]
 pub struct Seen<'a> {
     rows: &'a [Row],
-    /// The label's replica, and how many of its own updates it sees.
+    /// The label's replica, and the number of this replica's updates that it sees.
     replica: u8,
     own: u32,
-    /// How many updates of each other replica it sees.
+    /// The number of updates of each other replica that it sees.
     counts: &'a [u32],
 }
 
@@ -37,7 +37,11 @@ impl<'a> Seen<'a> {
         }
     }
 
-    /// Is the label in it? It takes no memory, and costs a look-up.
+    /// Returns `true` if the label sees this one. Does not allocate.
+    ///
+    /// # Complexity
+    ///
+    /// O(1).
     pub fn has(&self, label: u32) -> bool
         ensures { result ≡ is_in self.now label }
     {
@@ -47,7 +51,11 @@ impl<'a> Seen<'a> {
         }
     }
 
-    /// How many updates of this replica are in it: its first ones. It takes no memory, and costs a look-up.
+    /// Returns how many updates of this replica the label sees: these are its first ones. Does not allocate.
+    ///
+    /// # Complexity
+    ///
+    /// O(1).
     pub fn count(&self, replica: u8) -> u32
         ensures { result ≡ count_in self.now replica }
     {

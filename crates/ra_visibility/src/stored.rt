@@ -1,8 +1,8 @@
-/// Where counts of a replica are stored: 8 bytes.
+/// The location of a replica's counts in the table of stored counts: 8 bytes.
 #[derive(Clone, Copy)]
 pub struct Stored {
-    /// Where they begin in the table of stored counts.
+    /// The index of the first count.
     pub at: u32,
-    /// How many they are: one for each replica that was there.
+    /// The number of counts: one for each replica that existed then.
     pub width: u8,
 }

@@ -1,7 +1,7 @@
-//! What replicas had and labels see, as counts.
+//! The counts that represent which updates were delivered to replicas and which labels see.
 ghost use Rattle.std.specs.Prelude.{◌≡◌, ◌<◌, IfOk, OnOk, OnErr, None, true, is_none, replicate};
 ghost use Rattle.ra_visibility.specs.Replica.{new_replica};
-ghost use Rattle.ra_visibility.specs.Tracked.{replicas_in, labels_in, replica_at, row_at, had_count, had_in, seen_in, first_missing_in, refusal_in};
+ghost use Rattle.ra_visibility.specs.Tracked.{replicas_in, labels_in, replica_at, row_at, delivered_count, has_delivered_in, seen_in, first_missing_in, refusal_in};
 ghost use Rattle.ra_visibility.specs.Least.{lesser_of};
 ghost use Rattle.ra_visibility.specs.Changes.{places_for, nothing_in, with_label, with_delivery, with_joined, without_label, without_delivery, without_joined};
 ghost use Rattle.ra_visibility.specs.Kept.{TrackedKept};
@@ -15,12 +15,12 @@ use ra_labels::{MOST_REPLICAS, NoMemory, Refusal};
 use std::alloc::Global;
 use std::marker::Model;
 
-/// What replicas had and labels see.
+/// The updates that were delivered to replicas and that labels see, as counts.
 #[derive(Drop)]
 pub struct Tracked {
     replicas: Vec<Replica>,
     rows: Vec<Row>,
-    /// Rows of counts, one for each replica that was there, one row behind the other.
+    /// The stored counts, row behind row. A row has one count for each replica that existed when it was stored.
     stored: Vec<u32>,
 }
 
@@ -33,7 +33,11 @@ impl Model for Tracked {
 }
 
 impl Tracked {
-    /// No label, at so many replicas.
+    /// Creates the counts of a history without labels, with the given number of replicas.
+    ///
+    /// # Errors
+    ///
+    /// `NoMemory` if allocation fails.
     pub fn new(alloc: Global, replicas: u8) -> Result<Tracked, NoMemory>
         ensures { IfOk result (λ tracked. tracked ≡ nothing_in replicas) }
     {
@@ -44,7 +48,7 @@ impl Tracked {
         })
     }
 
-    /// How many labels there are.
+    /// Returns the number of labels.
     pub fn labels(&self) -> u32
         requires { TrackedKept self.now }
         ensures { result ≡ labels_in self.now }
@@ -52,7 +56,7 @@ impl Tracked {
         self.rows.len() as u32
     }
 
-    /// How many replicas there are.
+    /// Returns the number of replicas.
     pub fn replicas(&self) -> u8
         requires { TrackedKept self.now }
         ensures { result ≡ replicas_in self.now }
@@ -60,7 +64,11 @@ impl Tracked {
         self.replicas.len() as u8
     }
 
-    /// The next label of the replica: answers whether its counts were stored for it.
+    /// Adds the next label of the replica, and returns whether its counts were stored for it.
+    ///
+    /// # Errors
+    ///
+    /// `NoMemory` if allocation fails; nothing changes.
     pub fn issue(&mut self, replica: u8, update: bool) -> Result<bool, NoMemory>
         requires kept { TrackedKept self.old }
         requires replica { replica < replicas_in self.old }
@@ -99,11 +107,11 @@ impl Tracked {
         Ok(was.is_none())
     }
 
-    /// Has the replica the label?
+    /// Returns `true` if the label was delivered to the replica.
     pub fn sees(&self, replica: u8, label: u32) -> bool
         requires kept { TrackedKept self.now }
         requires replica { replica < replicas_in self.now }
-        ensures { result ≡ had_in self.now replica label }
+        ensures { result ≡ has_delivered_in self.now replica label }
     {
         match self.rows.get(label as usize) {
             Some(row) => {
@@ -114,7 +122,7 @@ impl Tracked {
         }
     }
 
-    /// What the label sees.
+    /// Returns what the label sees.
     pub fn vis(&self, label: u32) -> Seen<'_>
         requires kept { TrackedKept self.now }
         requires label { label < labels_in self.now }
@@ -126,7 +134,7 @@ impl Tracked {
         Seen::new(self.rows.as_slice(), row.replica, row.place, counts)
     }
 
-    /// Why the label cannot be delivered to the replica, if so.
+    /// Returns the reason to reject the delivery of the label to the replica, if any.
     pub fn refusal(&self, replica: u8, label: u32) -> Option<Refusal>
         requires kept { TrackedKept self.now }
         requires replica { replica < replicas_in self.now }
@@ -150,8 +158,8 @@ impl Tracked {
         }
     }
 
-    // Is the label its replica's next there, and does it share its stored counts with the update before it? Then it is
-    // known, with no look at the counts, that nothing is missing.
+    // Returns `true` only if nothing that the label sees is missing at the replica. It holds of the issuer's next
+    // update there if this shares its stored counts with the update before it, and needs no comparison of counts.
     fn is_next_of_run(&self, replica: u8, label: u32) -> bool
         requires kept { TrackedKept self.now }
         requires replica { replica < replicas_in self.now }
@@ -168,7 +176,7 @@ impl Tracked {
         earlier.counts == row.counts && earlier.width == row.width
     }
 
-    // The least label that this one sees and the replica has not.
+    // Returns the smallest label that this one sees and that was not delivered to the replica.
     fn first_missing(&self, replica: u8, label: u32) -> Option<u32>
         requires kept { TrackedKept self.now }
         requires replica { replica < replicas_in self.now }
@@ -188,7 +196,7 @@ impl Tracked {
         least
     }
 
-    // What is kept of the label.
+    // Returns the data of the label.
     fn row(&self, label: u32) -> &Row
         requires { label < labels_in self.now }
         ensures { result.now ≡ row_at self.now label }
@@ -196,7 +204,7 @@ impl Tracked {
         &self.rows[label as usize]
     }
 
-    // What is kept of the replica.
+    // Returns the data of the replica.
     fn replica(&self, replica: u8) -> &Replica
         requires { replica < replicas_in self.now }
         ensures { result.now ≡ replica_at self.now replica }
@@ -204,7 +212,7 @@ impl Tracked {
         &self.replicas[replica as usize]
     }
 
-    /// The label is delivered to the replica: answers whose it is, and where the receiver's counts were stored.
+    /// Adds the delivery of the label to the replica. Returns the issuer, and where the receiver's counts were stored.
     pub fn deliver(&mut self, replica: u8, label: u32) -> (u8, Option<Stored>)
         requires kept { TrackedKept self.old }
         requires replica { replica < replicas_in self.old }
@@ -216,11 +224,11 @@ impl Tracked {
         let from = self.rows[label as usize].replica;
         let member = &mut self.replicas[replica as usize];
         let stored = member.stored();
-        member.get(from);
+        member.record_delivery(from);
         (from, stored)
     }
 
-    /// Takes the last label back.
+    /// Undoes the last label.
     pub fn take_label_back(&mut self, was_stored: bool)
         requires kept { TrackedKept self.old }
         requires some { 0 < labels_in self.old }
@@ -237,19 +245,23 @@ impl Tracked {
         }
     }
 
-    /// Takes a delivery back.
+    /// Undoes a delivery.
     pub fn take_delivery_back(&mut self, to: u8, from: u8, stored: Option<Stored>)
         requires kept { TrackedKept self.old }
         requires to { to < replicas_in self.old }
         requires from { from < replicas_in self.old }
-        requires some { 0 < had_count self.old to from }
+        requires some { 0 < delivered_count self.old to from }
         ensures { self.new ≡ without_delivery self.old to from stored }
     {
         let member = &mut self.replicas[to as usize];
         member.take_delivery_back(from, stored);
     }
 
-    /// A replica joins, with all that the other one had.
+    /// Adds a replica to which the same updates were delivered as to the other one.
+    ///
+    /// # Errors
+    ///
+    /// `NoMemory` if allocation fails; nothing changes.
     pub fn join(&mut self, from: u8) -> Result<(), NoMemory>
         requires { from < replicas_in self.old }
         ensures joined { OnOk result (self.new ≡ with_joined self.old from) }
@@ -261,7 +273,7 @@ impl Tracked {
         Ok(())
     }
 
-    /// Takes the last replica back.
+    /// Undoes the last join.
     pub fn take_join_back(&mut self)
         ensures { self.new ≡ without_joined self.old }
     {
@@ -269,7 +281,7 @@ impl Tracked {
     }
 }
 
-// So many replicas that had nothing, each with so many places for counts.
+// Returns the given number of replicas without updates, each with the given number of counts.
 fn new_replicas(alloc: Global, replicas: u8, places: u8) -> Result<Vec<Replica>, NoMemory>
     ensures { IfOk result (λ made. made.items ≡ replicate replicas (new_replica places)) }
 {
@@ -280,14 +292,14 @@ fn new_replicas(alloc: Global, replicas: u8, places: u8) -> Result<Vec<Replica>,
     Ok(members)
 }
 
-// So many places for counts are made at once, so that a join leaves those of the others.
+// Returns the number of counts that each replica has from the start, so that a join need not extend those of others.
 fn places_for(replicas: u8) -> u8
     ensures { result ≡ places_for replicas }
 {
     replicas.max(MOST_REPLICAS)
 }
 
-// The lesser of two labels, the first of which may be missing.
+// Returns the smaller of two labels, the first of which may be absent.
 fn lesser(least: Option<u32>, label: u32) -> u32
     ensures { result ≡ lesser_of least label }
 {

@@ -1,15 +1,15 @@
-//! The tracker: what replicas had and labels see, with the last change, so that it can be taken back.
+//! The tracker: which updates were delivered to replicas and which labels see, with an undo of the last change.
 ghost use Rattle.std.specs.Prelude.{◌≡◌, ℕ, ◌+◌, ◌<◌, ◌≤◌, ◌∷◌, IfOk, IfErr, OnErr, OnOk, IsSome, Option, Some, None};
 ghost use Rattle.ra_labels.specs.Visibility.{is_update, IsCausal};
 ghost use Rattle.ra_labels.specs.declared.kind.Kind.{Kind};
 ghost use Rattle.ra_labels.specs.declared.command.Command.TheVariants.{Deliver as Delivered, Join};
 ghost use Rattle.ra_labels.specs.declared.limits.TheConstants.{MOST_REPLICAS};
 ghost use Rattle.ra_labels.specs.declared.refusal.Refusal.{Refusal};
-ghost use Rattle.ra_labels.specs.Situation.{Past, nothing_yet, past_with, Next, operate};
+ghost use Rattle.ra_labels.specs.HistorySoFar.{History, empty_history, history_with, NextOperation, operate};
 ghost use Rattle.ra_visibility.specs.declared.fault.DeliverFault.TheVariants.{Refused};
 ghost use Rattle.ra_visibility.specs.Seen.{count_in};
 ghost use Rattle.ra_visibility.specs.Kept.{issued_count};
-ghost use Rattle.ra_visibility.specs.Tracked.{replicas_in, labels_in, had_in, seen_in, refusal_in, IsVisibilityOf};
+ghost use Rattle.ra_visibility.specs.Tracked.{replicas_in, labels_in, has_delivered_in, seen_in, refusal_in, IsVisibilityOf};
 
 use crate::fault::DeliverFault;
 use crate::last_change::LastChange;
@@ -20,7 +20,7 @@ use ra_labels::NoMemory;
 use std::alloc::Global;
 use std::marker::Model;
 
-/// What replicas had and labels see. A change can be taken back until the next one.
+/// Visibility represented by counts. The last change can be undone until the next one.
 #[derive(Drop)]
 pub struct Tracker {
     tracked: Tracked,
@@ -38,10 +38,18 @@ impl Model for Tracker {
 }
 
 impl Tracker {
-    /// A tracker of no records, at this many replicas. Costs 64 counts for each of them, or as many as there are more.
+    /// Creates the tracker of an empty history with the given number of replicas.
+    ///
+    /// # Errors
+    ///
+    /// `NoMemory` if allocation fails.
+    ///
+    /// # Complexity
+    ///
+    /// O(r · max(r, 64)), where `r` is the number of replicas.
     pub fn new(alloc: Global, replicas: u8) -> Result<Tracker, NoMemory>
         ensures stands { IfOk result (λ tracker.
-            (kind : Kind) → IsVisibilityOf tracker.now (nothing_yet kind replicas)) }
+            (kind : Kind) → IsVisibilityOf tracker.now (empty_history kind replicas)) }
         ensures before { IfOk result (λ tracker. tracker.before ≡ None) }
         ensures replicas { IfOk result (λ tracker. replicas_in tracker.now ≡ replicas) }
         ensures labels { IfOk result (λ tracker. labels_in tracker.now ≡ 0) }
@@ -53,16 +61,23 @@ impl Tracker {
         })
     }
 
-    /// A label of this replica, an update or not: its number. It is out of memory where a growth is refused, and then
-    /// as before. Costs a row of counts where something was delivered to the replica since its last label, and else a
-    /// constant.
+    /// Adds a label of this replica, an update or not, and returns its number.
+    ///
+    /// # Errors
+    ///
+    /// `NoMemory` if allocation fails; the tracker is unchanged.
+    ///
+    /// # Complexity
+    ///
+    /// Amortized O(1), or O(r) with `r` replicas if this is the replica's first label or something was delivered to it
+    /// since its last one.
     pub fn issue(&mut self, replica: u8, update: bool) -> Result<u32, NoMemory>
         requires replica { replica < replicas_in self.old.now }
         requires room { labels_in self.old.now < MOST_LABELS }
         ensures number { IfOk result (λ label. label ≡ labels_in self.old.now) }
-        ensures stands { OnOk result ((past : Past) (next : Next) → IsVisibilityOf self.old.now past
+        ensures stands { OnOk result ((past : History) (next : NextOperation) → IsVisibilityOf self.old.now past
             → next.by ≡ replica → is_update next.op ≡ update
-            → IsVisibilityOf self.new.now (past_with past (operate next))) }
+            → IsVisibilityOf self.new.now (history_with past (operate next))) }
         ensures before { OnOk result (self.new.before ≡ Some self.old.now) }
         ensures labels { OnOk result (labels_in self.new.now ≡ labels_in self.old.now + 1) }
         ensures replicas { replicas_in self.new.now ≡ replicas_in self.old.now }
@@ -74,15 +89,24 @@ impl Tracker {
         Ok(label)
     }
 
-    /// Has the replica the label: issued there, delivered, or joined with? It takes no memory, and costs a look-up.
+    /// Returns `true` if the label was delivered to the replica: it issued it, received it, or joined with it. Does not
+    /// allocate.
+    ///
+    /// # Complexity
+    ///
+    /// O(1).
     pub fn sees(&self, replica: u8, label: u32) -> bool
         requires { replica < replicas_in self.now.now }
-        ensures { result ≡ had_in self.now.now replica label }
+        ensures { result ≡ has_delivered_in self.now.now replica label }
     {
         self.tracked.sees(replica, label)
     }
 
-    /// What the label sees: of each replica no more updates than it issued. It takes no memory, and costs a look-up.
+    /// Returns what the label sees: of each replica at most as many updates as it issued. Does not allocate.
+    ///
+    /// # Complexity
+    ///
+    /// O(1).
     pub fn vis(&self, label: u32) -> Seen<'_>
         requires { label < labels_in self.now.now }
         ensures seen { result ≡ seen_in self.now.now label }
@@ -92,16 +116,23 @@ impl Tracker {
         self.tracked.vis(label)
     }
 
-    /// The label is delivered to the replica. It is refused where there is no such label, where it is not an update,
-    /// where the replica had it, and where the replica lacks a label that it sees, the least of which is named. It
-    /// takes no memory, and never answers `NoMemory`. Costs a row of counts, or a constant where the label is its
-    /// replica's next there, and its replica got nothing since the update before it.
+    /// Adds the delivery of the label to the replica. Does not allocate, and never returns `NoMemory`.
+    ///
+    /// # Errors
+    ///
+    /// `Refused` with the first reason that applies; the tracker is unchanged. The label does not exist; it is not an
+    /// update; it was delivered to the replica before; or it sees a label that was not, of which the smallest is named.
+    ///
+    /// # Complexity
+    ///
+    /// O(r) with `r` replicas. O(1) if the label is the issuer's next update at the receiver, and nothing was delivered
+    /// to the issuer between it and its update before.
     pub fn deliver(&mut self, replica: u8, label: u32) -> Result<(), DeliverFault>
         requires { replica < replicas_in self.old.now }
         ensures taken { OnOk result (refusal_in self.old.now replica label ≡ None) }
-        ensures stands { OnOk result ((past : Past) → IsVisibilityOf self.old.now past
-            → IsVisibilityOf self.new.now (past_with past (Delivered replica label))) }
-        ensures causal { OnOk result ((past : Past) → IsVisibilityOf self.old.now past → IsCausal past.records
+        ensures stands { OnOk result ((past : History) → IsVisibilityOf self.old.now past
+            → IsVisibilityOf self.new.now (history_with past (Delivered replica label))) }
+        ensures causal { OnOk result ((past : History) → IsVisibilityOf self.old.now past → IsCausal past.records
             → IsCausal (Delivered replica label ∷ past.records)) }
         ensures before { OnOk result (self.new.before ≡ Some self.old.now) }
         ensures refused { IfErr result (λ fault. (why : Refusal) × (fault ≡ Refused why)
@@ -122,14 +153,21 @@ impl Tracker {
         Ok(())
     }
 
-    /// A replica joins with all that the other one had: its number. It is out of memory where a growth is refused, and
-    /// then as before. Costs a copy of the other's counts.
+    /// Adds a replica to which the same updates were delivered as to the other one, and returns its number.
+    ///
+    /// # Errors
+    ///
+    /// `NoMemory` if allocation fails; the tracker is unchanged.
+    ///
+    /// # Complexity
+    ///
+    /// O(r), where `r` is the number of counts of a replica: 64, or the initial number of replicas if it is greater.
     pub fn join(&mut self, from: u8) -> Result<u8, NoMemory>
         requires from { from < replicas_in self.old.now }
         requires room { replicas_in self.old.now < MOST_REPLICAS }
         ensures number { IfOk result (λ joined. joined ≡ replicas_in self.old.now) }
-        ensures stands { OnOk result ((past : Past) → IsVisibilityOf self.old.now past
-            → IsVisibilityOf self.new.now (past_with past (Join (replicas_in self.old.now) from))) }
+        ensures stands { OnOk result ((past : History) → IsVisibilityOf self.old.now past
+            → IsVisibilityOf self.new.now (history_with past (Join (replicas_in self.old.now) from))) }
         ensures before { OnOk result (self.new.before ≡ Some self.old.now) }
         ensures labels { labels_in self.new.now ≡ labels_in self.old.now }
         ensures replicas { OnOk result (replicas_in self.new.now ≡ replicas_in self.old.now + 1) }
@@ -141,8 +179,11 @@ impl Tracker {
         Ok(joined)
     }
 
-    /// Takes the last issue, delivery or join back. It takes no memory and always succeeds. Costs at most a row of
-    /// counts.
+    /// Undoes the last issue, delivery or join. Does not allocate.
+    ///
+    /// # Complexity
+    ///
+    /// O(r), where `r` is the number of replicas.
     pub fn withdraw(&mut self)
         requires { IsSome self.old.before }
         ensures now { Some self.new.now ≡ self.old.before }

@@ -1,4 +1,4 @@
--- When the updates of all labels of an RGA are admitted with a new one, by the numbers of the elements.
+-- Lemmas on when the updates of all labels of an RGA, including a new one, are admitted, in terms of element numbers.
 use Rattle.std.proofs.Common.{◌≡◌, ℕ, ◌<◌, ◌≤◌, Bool, true, false, List, [], ◌∷◌, length, Option, Some, None, refl, sym, ap, ◌∙◌, subst, inl, inr, arith, Ordering}
 use Rattle.std.specs.Prelude.{◌⊎◌, ◌↔◌, Contains, not, is_some}
 use Rattle.std.specs.Ordering.{nat_cmp, is_lt, is_le, ordering_then}
@@ -17,16 +17,16 @@ use Rattle.ra_labels.specs.Rewriting.{Whole, Does, updates_of}
 use Rattle.ra_labels.specs.NamedOrder.{named_sequence, stamp_cmp, lowest_rank, label_cmp, timestamp_of}
 use Rattle.ra_labels.specs.Linearization.{updates_admitted}
 use Rattle.ra_labels.specs.Answer.{carries_stamp}
-use Rattle.ra_labels.specs.Insertion.{Makes}
-use Rattle.ra_labels.specs.Waiting.{is_there, WasPutInBelow}
+use Rattle.ra_labels.specs.Insertion.{HasUpdate}
+use Rattle.ra_labels.specs.Pending.{is_present_element, WasInsertedBelow}
 use Rattle.ra_labels.proofs.Members.{head_or_behind, at_head, behind_head}
 use Rattle.ra_labels.proofs.StampOrder.{not_below_itself, is_less}
 use Rattle.ra_labels.proofs.Comparisons.{less_cmp}
-use Rattle.ra_labels.specs.Situation.{past_of, Next, operate, label_of}
-use Rattle.ra_laws.proofs.TheLaws.{a_new_update_is_admitted_where_a_label_below_it_put_in_what_it_needs-insertion, a_new_update_is_admitted_where_a_label_below_it_put_in_what_it_needs-removal, labels_with_stamps_stand_in_their_order, stamps_by_clock_and_then_by_replica-less, a_timestamp_is_the_greatest_seen-own}
-use Rattle.ra_element_list.specs.ElementList.{Arrival, ElementList, arrival_at}
-use Rattle.ra_replica_list.specs.declared.edit.Edit.{Edit}
-use Rattle.ra_replica_list.specs.Edits.{element_at, AreElementsOf}
+use Rattle.ra_labels.specs.HistorySoFar.{history_of, NextOperation, operate, label_of}
+use Rattle.ra_theorems.proofs.TheoremIndex.{new_update_admitted_iff_dependency_below-insertion, new_update_admitted_iff_dependency_below-removal, stamped_labels_sorted, stamp_order_lexicographic-less, timestamp_is_greatest_seen-own}
+use Rattle.ra_rga_elements.specs.ElementList.{Arrival, ElementList, arrival_at}
+use Rattle.ra_rga_replica.specs.declared.edit.Edit.{Edit}
+use Rattle.ra_rga_replica.specs.Edits.{element_at, AreElementsOf}
 use Rattle.ra_witness.specs.Offered.{IsOffered}
 use Rattle.ra_witness.proofs.TakenLabels.{label_below}
 use Rattle.ra_witness.proofs.Forms.{has_stamp, its_clock}
@@ -45,7 +45,7 @@ not_below_own : (records : Records) (l : Label) → label_cmp variant.Rga record
 not_below_own records l is =
     let r = timestamp_of records l in
     elim (then_less (stamp_cmp r r) (nat_cmp l.number l.number) is) [
-      | inl less ↦ not_below_itself r r refl ((stamps_by_clock_and_then_by_replica-less r r).0 less)
+      | inl less ↦ not_below_itself r r refl ((stamp_order_lexicographic-less r r).0 less)
       | inr less ↦ let e : Equal ≡ Less = sym (tied_itself nat_cmp_total l.number) ∙ less in cc (e)
     ]
 
@@ -67,16 +67,16 @@ none_from None true is none = refl
 none_from None false is none = is
 none_from (Some n) b is none = absurd (none n refl)
 
-pub makes_after : (op : Op) (anchor x : ℕ) → op ≡ ops.After anchor x → Makes op (After anchor x)
-makes_after op anchor x is = subst (λ o. Makes o (After anchor x)) (sym is)
+pub makes_after : (op : Op) (anchor x : ℕ) → op ≡ ops.After anchor x → HasUpdate op (After anchor x)
+makes_after op anchor x is = subst (λ o. HasUpdate o (After anchor x)) (sym is)
     (Whole, at_head (Whole, Does (After anchor x)) [] (Whole, Does (After anchor x)) refl)
 
-pub makes_removal : (op : Op) (x : ℕ) → op ≡ ops.RgaRemove x → Makes op (RgaRemove x)
-makes_removal op x is = subst (λ o. Makes o (RgaRemove x)) (sym is)
+pub makes_removal : (op : Op) (x : ℕ) → op ≡ ops.RgaRemove x → HasUpdate op (RgaRemove x)
+makes_removal op x is = subst (λ o. HasUpdate o (RgaRemove x)) (sym is)
     (Whole, at_head (Whole, Does (RgaRemove x)) [] (Whole, Does (RgaRemove x)) refl)
 
 module _ (all : ElementList) (edits : List (Option Edit)) (records : Records) (are : AreElementsOf all edits records)
-    (founders : ℕ) (next : Next) (label : Label) (offered : IsOffered (past_of variant.Rga founders records) next label) where
+    (initial_replicas : ℕ) (next : NextOperation) (label : Label) (offered : IsOffered (history_of variant.Rga initial_replicas records) next label) where
   abbrev now : Records
   now = operate next ∷ records
 
@@ -86,15 +86,15 @@ module _ (all : ElementList) (edits : List (Option Edit)) (records : Records) (a
   abbrev AreAdmitted : Type 0
   AreAdmitted = updates_admitted variant.Rga (named_sequence variant.Rga now) ≡ true
 
-  -- it is not among the elements
+  -- the element is not in the list
   abbrev pub IsNew : ℕ → Type 0
   IsNew x = (n : ℕ) → n < length all.arrivals → ¬ (element_at all.arrivals n ≡ x)
 
-  new_there : (x : ℕ) → IsNew x → is_there x (updates_of (named_sequence variant.Rga records)) ≡ false
-  new_there x new = by_test (is_there x (updates_of (named_sequence variant.Rga records))) refl
+  new_there : (x : ℕ) → IsNew x → is_present_element x (updates_of (named_sequence variant.Rga records)) ≡ false
+  new_there x new = by_test (is_present_element x (updates_of (named_sequence variant.Rga records))) refl
     where
-      by_test : (b : Bool) → is_there x (updates_of (named_sequence variant.Rga records)) ≡ b
-          → is_there x (updates_of (named_sequence variant.Rga records)) ≡ false
+      by_test : (b : Bool) → is_present_element x (updates_of (named_sequence variant.Rga records)) ≡ b
+          → is_present_element x (updates_of (named_sequence variant.Rga records)) ≡ false
       by_test false is = is
       by_test true is = let (n, within, same) = there_numbered all edits records are x is in absurd (new n within same)
 
@@ -104,16 +104,16 @@ module _ (all : ElementList) (edits : List (Option Edit)) (records : Records) (a
 
     pub some_clock : 1 ≤ stamp.clock
     some_clock =
-        let (at, clock, least, known) = has_stamp (past_of variant.Rga founders records) next label offered (ap carries_stamp is) in
+        let (at, clock, least, known) = has_stamp (history_of variant.Rga initial_replicas records) next label offered (ap carries_stamp is) in
         let same : stamp ≡ stamp_at next.by at = same_Some stamp (stamp_at next.by at) (sym stamped ∙ known) in
         let clocks = ap (λ (s : Stamp). s.clock) same in
         omega (arith, least, clocks)
 
-    -- labels with stamps stand in their order
+    -- labels with stamps stand in the order of their stamps
     other_stands : (other : Label) (t : Stamp) → Contains (labels_of records) other → other.stamp ≡ Some t
         → label_cmp variant.Rga now other own ≡ stamp_cmp t stamp
     other_stands other t there at =
-        labels_with_stamps_stand_in_their_order variant.Rga now other own t stamp (λ e. cc (e)) (λ e. cc (e)) at own_stamp
+        stamped_labels_sorted variant.Rga now other own t stamp (λ e. cc (e)) (λ e. cc (e)) at own_stamp
         (λ same.
         let one = offered.stamps other own stamp (behind_head own (labels_of records) other there)
         (at_head own (labels_of records) own refl) (at ∙ ap Some same) own_stamp in
@@ -121,11 +121,11 @@ module _ (all : ElementList) (edits : List (Option Edit)) (records : Records) (a
         let within = label_below records other there in
         omega (arith, number, within))
 
-    -- the new element is not there, and its anchor is the root or was put in by a label below
-    decides : AreAdmitted ↔ ((is_there x (updates_of (named_sequence variant.Rga records)) ≡ false)
-        × ((anchor ≡ 0) ⊎ WasPutInBelow now own anchor))
+    -- admitted exactly if the new element is absent, and its anchor is the root or was inserted by a smaller label
+    decides : AreAdmitted ↔ ((is_present_element x (updates_of (named_sequence variant.Rga records)) ≡ false)
+        × ((anchor ≡ 0) ⊎ WasInsertedBelow now own anchor))
     decides =
-        a_new_update_is_admitted_where_a_label_below_it_put_in_what_it_needs-insertion records next
+        new_update_admitted_iff_dependency_below-insertion records next
         anchor x (makes_after next.op anchor x is) offered.holds.updates
 
     -- the anchor's number and stamp decide
@@ -144,7 +144,7 @@ module _ (all : ElementList) (edits : List (Option Edit)) (records : Records) (a
                   it,
                   from,
                   behind_head own (labels_of records) it there,
-                  subst (λ y. Makes it.op (After from y)) is_anchor makes,
+                  subst (λ y. HasUpdate it.op (After from y)) is_anchor makes,
                   other_stands it (arrival_at all.arrivals m).stamp there at
                       ∙ is_less (stamp_cmp (arrival_at all.arrivals m).stamp stamp) less,
                 )
@@ -155,14 +155,14 @@ module _ (all : ElementList) (edits : List (Option Edit)) (records : Records) (a
     NeedsOf = (m : ℕ) × (m < length all.arrivals) × (element_at all.arrivals m ≡ anchor)
         × (is_lt (stamp_cmp (arrival_at all.arrivals m).stamp stamp) ≡ true)
 
-    -- where they are admitted the element is new, and the anchor has a lower stamp
+    -- if the updates are admitted, the element is new and its anchor has a smaller stamp
     pub insertion_new : AreAdmitted → IsNew x
     insertion_new admitted n within same =
         true≢false (sym (numbered_there all edits records are x n within same) ∙ (decides.0 admitted).0)
 
     root_below : is_lt (stamp_cmp lowest_rank stamp) ≡ true
     root_below = less_to (stamp_cmp lowest_rank stamp)
-        ((stamps_by_clock_and_then_by_replica-less lowest_rank stamp).1 (inl (omega (arith, some_clock))))
+        ((stamp_order_lexicographic-less lowest_rank stamp).1 (inl (omega (arith, some_clock))))
 
     pub insertion_needs : AreAdmitted → NeedsOf
     insertion_needs admitted = elim ((decides.0 admitted).1) [
@@ -187,23 +187,23 @@ module _ (all : ElementList) (edits : List (Option Edit)) (records : Records) (a
 
   module _ (x : ℕ) (is : next.op ≡ ops.RgaRemove x) where
     pub unclocked : next.clock ≡ None
-    unclocked = (its_clock (past_of variant.Rga founders records) next label offered).1 (ap carries_stamp is)
+    unclocked = (its_clock (history_of variant.Rga initial_replicas records) next label offered).1 (ap carries_stamp is)
 
     module _ (greatest : Stamp) (ranks : timestamp_of now own ≡ greatest) where
-      -- a removal stands behind the labels that rank with it
+      -- a removal stands behind the labels of equal rank
       other_ranks : (other : Label) (t : Stamp) → Contains (labels_of records) other → other.stamp ≡ Some t
           → label_cmp variant.Rga now other own ≡ ordering_then (stamp_cmp t greatest) Less
       other_ranks other t there at =
           ap (λ s. ordering_then (stamp_cmp s (timestamp_of now own)) (nat_cmp other.number (label_count records)))
-          (a_timestamp_is_the_greatest_seen-own now other t at)
+          (timestamp_is_greatest_seen-own now other t at)
           ∙ ap (λ s. ordering_then (stamp_cmp t s) (nat_cmp other.number (label_count records))) ranks
           ∙ ap (λ o. ordering_then (stamp_cmp t greatest) o)
           (less_cmp other.number (label_count records) (label_below records other there))
 
-      -- the removed element is not the root, and was put in by a label below
-      decided : AreAdmitted ↔ ((¬ (x ≡ 0)) × WasPutInBelow now own x)
+      -- admitted exactly if the removed element is not the root and was inserted by a smaller label
+      decided : AreAdmitted ↔ ((¬ (x ≡ 0)) × WasInsertedBelow now own x)
       decided =
-          a_new_update_is_admitted_where_a_label_below_it_put_in_what_it_needs-removal records next
+          new_update_admitted_iff_dependency_below-removal records next
           x (makes_removal next.op x is) offered.holds.updates
 
       pub removal_admitted : (n : ℕ) → 0 < n → n < length all.arrivals → element_at all.arrivals n ≡ x
@@ -220,7 +220,7 @@ module _ (all : ElementList) (edits : List (Option Edit)) (records : Records) (a
               it,
               from,
               behind_head own (labels_of records) it there,
-              subst (λ y. Makes it.op (After from y)) is_it makes,
+              subst (λ y. HasUpdate it.op (After from y)) is_it makes,
               other_ranks it (arrival_at all.arrivals n).stamp there at
                   ∙ le_then (stamp_cmp (arrival_at all.arrivals n).stamp greatest) ranked_below,
             ),

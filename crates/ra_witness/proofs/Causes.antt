@@ -1,4 +1,4 @@
--- A new label alone decides: what it asks is held against the state of its replica.
+-- Lemmas on the cause at a new label: it depends only on the label's queries and the state of its replica.
 use Rattle.std.proofs.Common.{◌≡◌, Bool, true, false, cond, List, [], ◌∷◌, ◌++◌, Option, Some, None, refl, sym, ap, ◌∙◌, subst, inl, inr, arith}
 use Rattle.std.specs.Prelude.{◌&&◌, not, Contains, map, flat_map}
 use Rattle.std.specs.List.{list_all}
@@ -21,16 +21,16 @@ use Rattle.ra_labels.specs.Linearization.{visible_updates, extends_visibility, u
 use Rattle.ra_labels.specs.NamedOrder.{named_labels, named_sequence}
 use Rattle.ra_labels.specs.Fault.{Holds, cause_of}
 use Rattle.ra_labels.specs.Answer.{kind_of, is_kind}
-use Rattle.ra_labels.specs.Laws.{IsAnsweredAfter, kind_of_update, kind_of_act}
-use Rattle.ra_labels.specs.Insertion.{updates_had, IsAnsweredItself}
+use Rattle.ra_labels.specs.TheoremTerms.{IsAnsweredAfter, kind_of_update, kind_of_act}
+use Rattle.ra_labels.specs.Insertion.{delivered_updates, OwnQueriesAnswered}
 use Rattle.ra_labels.proofs.Members.{head_or_behind, at_head, behind_head, reached, from_where}
 use Rattle.ra_labels.proofs.InLists.{bool_same}
 use Rattle.ra_labels.proofs.SameKind.{one_kind}
-use Rattle.ra_labels.specs.Situation.{Next, operate, label_of}
-use Rattle.ra_laws.proofs.TheLaws.{a_new_label_alone_decides-query, a_new_label_leaves_what_the_others_see-own, a_new_label_leaves_the_order_of_the_others, updates_of_the_kind_are_admitted-only, updates_of_the_kind_are_admitted-exactly, parts_are_of_their_kind}
+use Rattle.ra_labels.specs.HistorySoFar.{NextOperation, operate, label_of}
+use Rattle.ra_theorems.proofs.TheoremIndex.{new_label_decides-query, new_label_preserves_visibility-own, new_label_preserves_order, kind_updates_admitted-only, kind_updates_admitted-exactly, part_kind}
 use Rattle.ra_witness.specs.Labels.{queries_in, answers_in, cause_in}
 
--- each query that is asked is answered
+-- all queries are admitted if each one is
 all_answered : (o : Option State) (acts : List (Half × Act)) → ((half : Half) (query : Query) → Contains acts (half, Asks query) → answers_in o query ≡ true)
     → list_all (answers_in o) (queries_in acts) ≡ true
 all_answered o [] each = refl
@@ -63,7 +63,7 @@ yes_in : (o : Option State) (query : Query) → answers_in o query ≡ true → 
 yes_in None query passes = absurd (false≢true passes)
 yes_in (Some state) query passes = (state, refl, passes)
 
-module _ (kind : Kind) (records : Records) (next : Next) where
+module _ (kind : Kind) (records : Records) (next : NextOperation) where
   abbrev now : Records
   now = operate next ∷ records
 
@@ -71,10 +71,10 @@ module _ (kind : Kind) (records : Records) (next : Next) where
   label = label_of records next
 
   abbrev before : Option State
-  before = state_after kind (updates_had kind records next.by)
+  before = state_after kind (delivered_updates kind records next.by)
 
-  sees_had : visible_updates now (named_sequence kind now) (label_count records) ≡ updates_had kind records next.by
-  sees_had = a_new_label_leaves_what_the_others_see-own kind records next
+  sees_had : visible_updates now (named_sequence kind now) (label_count records) ≡ delivered_updates kind records next.by
+  sees_had = new_label_preserves_visibility-own kind records next
 
   answered_before : (query : Query) → IsAnsweredAfter kind (visible_updates now (named_sequence kind now) (label_count records)) query → answers_in before query ≡ true
   answered_before query (state, led, passes) =
@@ -85,11 +85,11 @@ module _ (kind : Kind) (records : Records) (next : Next) where
       let (state, led, is) = yes_in before query passes in
       (state, ap (state_after kind) sees_had ∙ led, is)
 
-  from_itself : IsAnsweredItself kind now label (named_sequence kind now) → list_all (answers_in before) (queries_in (acts_of next.op)) ≡ true
+  from_itself : OwnQueriesAnswered kind now label (named_sequence kind now) → list_all (answers_in before) (queries_in (acts_of next.op)) ≡ true
   from_itself itself = all_answered before (acts_of next.op) (λ half query there.
       answered_before query (itself (part_of label (half, Asks query)) query (reached (part_of label) (acts_of next.op) (half, Asks query) there) refl))
 
-  to_itself : list_all (answers_in before) (queries_in (acts_of next.op)) ≡ true → IsAnsweredItself kind now label (named_sequence kind now)
+  to_itself : list_all (answers_in before) (queries_in (acts_of next.op)) ≡ true → OwnQueriesAnswered kind now label (named_sequence kind now)
   to_itself pass = λ part query there is.
       let (act, found, same) = from_where (part_of label) (acts_of next.op) part there in
       answered_itself query (each_answered before (acts_of next.op) pass act query found (ap (λ (p : Part). p.act) same ∙ is))
@@ -97,7 +97,7 @@ module _ (kind : Kind) (records : Records) (next : Next) where
   queries_agree : queries_admitted kind records (named_sequence kind records) ≡ true
       → queries_admitted kind now (named_sequence kind now) ≡ list_all (answers_in before) (queries_in (acts_of next.op))
   queries_agree held =
-      let decides = a_new_label_alone_decides-query kind records next held in
+      let decides = new_label_decides-query kind records next held in
       bool_same (queries_admitted kind now (named_sequence kind now)) (list_all (answers_in before) (queries_in (acts_of next.op)))
       (λ admitted. from_itself (decides.0 admitted)) (λ pass. decides.1 (to_itself pass))
 
@@ -112,18 +112,19 @@ swapped : (b : Bool) → cond (not b) (Some cause.Query) None ≡ cond b None (S
 swapped true = refl
 swapped false = refl
 
--- where a new label fits, the cause at it is that of the updates of all labels, or else that of what it asks
-pub cause_where_it_fits : (kind : Kind) (records : Records) (next : Next) (admitted : Bool) → Holds kind records
+-- if a new label fits, its cause is `Update` if the updates of all labels are not admitted, and else that of its
+-- queries
+pub cause_where_it_fits : (kind : Kind) (records : Records) (next : NextOperation) (admitted : Bool) → Holds kind records
     → let now = operate next ∷ records in extends_visibility now (named_sequence kind now) ≡ true
     → updates_admitted kind (named_sequence kind now) ≡ admitted
-    → cause_of kind now ≡ cond (not admitted) (Some cause.Update) (cause_in (state_after kind (updates_had kind records next.by)) (acts_of next.op))
+    → cause_of kind now ≡ cond (not admitted) (Some cause.Update) (cause_in (state_after kind (delivered_updates kind records next.by)) (acts_of next.op))
 cause_where_it_fits kind records next admitted holds extended is =
     let now = operate next ∷ records in
-    let asked = list_all (answers_in (state_after kind (updates_had kind records next.by))) (queries_in (acts_of next.op)) in
+    let asked = list_all (answers_in (state_after kind (delivered_updates kind records next.by))) (queries_in (acts_of next.op)) in
     cause_by_tests kind now admitted asked extended is (queries_agree kind records next holds.queries)
     ∙ ap (λ c. cond (not admitted) (Some cause.Update) c) (swapped asked)
 
--- updates of a kind whose updates are all admitted
+-- whether all updates are of the kind
 abbrev pub are_of : Kind → List Update → Bool
 are_of kind updates = list_all (λ update. is_kind kind (kind_of_update update)) updates
 
@@ -149,21 +150,21 @@ pub are_of-both : (kind : Kind) (xs ys : List Label) → are_of kind (updates_by
 are_of-both kind xs ys =
     ap (are_of kind) (updates_by-both xs ys) ∙ list_all-append (λ update. is_kind kind (kind_of_update update)) (updates_by xs) (updates_by ys)
 
--- with a new label that is of it, the updates of all labels are admitted, but for an RGA
-pub still_admitted : (kind : Kind) (records : Records) (next : Next) → ¬ (kind ≡ Rga) → Holds kind records
+-- for a kind other than RGA, the updates of all labels stay admitted with a new label of the kind
+pub still_admitted : (kind : Kind) (records : Records) (next : NextOperation) → ¬ (kind ≡ Rga) → Holds kind records
     → is_kind kind (kind_of next.op) ≡ true → updates_admitted kind (named_sequence kind (operate next ∷ records)) ≡ true
 still_admitted kind records next not_rga holds of_kind =
     let label = label_of records next in
-    let (before, behind, was, is) = a_new_label_leaves_the_order_of_the_others kind records next in
-    let all = updates_of_the_kind_are_admitted-only kind (updates_by (named_labels kind records)) holds.updates in
+    let (before, behind, was, is) = new_label_preserves_order kind records next in
+    let all = kind_updates_admitted-only kind (updates_by (named_labels kind records)) holds.updates in
     let two = and_parts (are_of kind (updates_by before)) (are_of kind (updates_by behind)) (sym (ap (λ ls. are_of kind (updates_by ls)) was ∙ are_of-both kind before behind) ∙ all) in
     let own : are_of kind (updates_by (label ∷ [])) ≡ true =
     ap (λ ps. are_of kind (updates_of ps)) (append-nil (parts_of label))
-    ∙ of_kind-acts kind (kind_of next.op) label (acts_of next.op) of_kind (parts_are_of_their_kind next.op) in
+    ∙ of_kind-acts kind (kind_of next.op) label (acts_of next.op) of_kind (part_kind next.op) in
     let later : are_of kind (updates_by (label ∷ behind)) ≡ true =
     are_of-both kind (label ∷ []) behind ∙ and_from (are_of kind (updates_by (label ∷ []))) (are_of kind (updates_by behind)) own two.1 in
     let every : are_of kind (updates_by (named_labels kind (operate next ∷ records))) ≡ true =
     ap (λ ls. are_of kind (updates_by ls)) is
     ∙ are_of-both kind before (label ∷ behind)
     ∙ and_from (are_of kind (updates_by before)) (are_of kind (updates_by (label ∷ behind))) two.0 later in
-    updates_of_the_kind_are_admitted-exactly kind (updates_by (named_labels kind (operate next ∷ records))) not_rga ∙ every
+    kind_updates_admitted-exactly kind (updates_by (named_labels kind (operate next ∷ records))) not_rga ∙ every

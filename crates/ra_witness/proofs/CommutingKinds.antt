@@ -1,4 +1,5 @@
--- What is kept, kind by kind, with one label or delivery more: of a counter and an OR-Set, and what all kinds share.
+-- Lemmas on the maintained state after one more label or delivery: for a counter and an OR-Set, and those for all
+-- kinds.
 use Rattle.std.proofs.Common.{◌≡◌, ℕ, ◌<◌, ◌≤◌, true, List, [], ◌∷◌, ◌++◌, length, Option, Some, None, sym, ap, ◌∙◌, subst, inl, inr, arith}
 use Rattle.std.specs.Prelude.{◌⊎◌, Result, OnOk, Ok, Err, IfSome}
 use Rattle.std.proofs.lemmas.Option.{none-some}
@@ -11,8 +12,8 @@ use Rattle.ra_labels.specs.Records.{label_count, stamp_at}
 use Rattle.ra_labels.specs.Rewriting.{Half, Act, acts_of}
 use Rattle.ra_labels.specs.Specification.{State}
 use Rattle.ra_labels.specs.Fault.{Holds, cause_of}
-use Rattle.ra_labels.specs.Situation.{Past, past_of, past_with, Next, operate}
-use Rattle.ra_laws.proofs.TheLaws.{had_updates-there}
+use Rattle.ra_labels.specs.HistorySoFar.{History, history_of, history_with, NextOperation, operate}
+use Rattle.ra_theorems.proofs.TheoremIndex.{delivered_are_updates-there}
 use Rattle.ra_witness.specs.declared.commuting.Commuting as commuting
 use Rattle.ra_witness.specs.declared.overriding.Overriding as overriding
 use Rattle.ra_witness.specs.declared.rga.Rga as rga
@@ -22,7 +23,7 @@ use Rattle.ra_witness.specs.Labels.{update_in, cause_in}
 use Rattle.ra_witness.specs.States.{state_at, update_at, states_after, CanStep}
 use Rattle.ra_witness.specs.Standing.{AreStatesOf}
 use Rattle.ra_witness.specs.Rga.{IsRgaOf}
-use Rattle.ra_witness.specs.Offered.{IsOffered, IsTold}
+use Rattle.ra_witness.specs.Offered.{IsOffered, IsDelivered}
 use Rattle.ra_witness.specs.Effects.{IsCommutingOf, IsOverridingOf, AreEffectsOfForm, AreEffectsOf}
 use Rattle.ra_witness.proofs.NumberedLabels.{updates_counted}
 use Rattle.ra_witness.proofs.Causes.{cause_where_it_fits, still_admitted}
@@ -37,14 +38,14 @@ on_ok_two (Err e) p q f = tt
 pub if_some_use : {A : Type 0} (o : Option A) (x : A) (P : A → Type 0) → o ≡ Some x → IfSome o P → P x
 if_some_use o x P is p = subst (λ a. IfSome a P) is p
 
-module _ (k : Effects) (past : Past) (stands : AreEffectsOf k past) where
+module _ (k : Effects) (past : History) (stands : AreEffectsOf k past) where
   pub is_commuting : (kept : commuting.Commuting) → k ≡ Commuting kept → IsCommutingOf kept past
   is_commuting kept is = subst (λ x. AreEffectsOfForm x past) is stands.form
 
   pub is_overriding : (kept : overriding.Overriding) → k ≡ Overriding kept → IsOverridingOf kept past
   is_overriding kept is = subst (λ x. AreEffectsOfForm x past) is stands.form
 
-  pub is_rga : (kept : rga.Rga) → k ≡ Rga kept → (past.kind ≡ variant.Rga) × IsRgaOf kept past.founders past.records
+  pub is_rga : (kept : rga.Rga) → k ≡ Rga kept → (past.kind ≡ variant.Rga) × IsRgaOf kept past.initial_replicas past.records
   is_rga kept is = subst (λ x. AreEffectsOfForm x past) is stands.form
 
 pub not_rga-commuting : (kind : Kind) → (kind ≡ variant.Counter) ⊎ (kind ≡ variant.OrSet) → ¬ (kind ≡ variant.Rga)
@@ -63,9 +64,9 @@ pub not_counter-overriding : (kind : Kind) → (kind ≡ variant.Register) ⊎ (
 not_counter-overriding kind (inl is) other = let e : variant.Register ≡ variant.Counter = sym is ∙ other in cc (e)
 not_counter-overriding kind (inr is) other = let e : variant.LwwSet ≡ variant.Counter = sym is ∙ other in cc (e)
 
-module _ (updates : List (Option Update)) (states : List State) (past : Past) (kept : AreStatesOf updates states past) where
-  -- what fails with the label is what it asks of the state of its replica
-  pub cause_known : (next : Next) (label : Label) (acts : List (Half × Act)) → ¬ (past.kind ≡ variant.Rga) → IsOffered past next label
+module _ (updates : List (Option Update)) (states : List State) (past : History) (kept : AreStatesOf updates states past) where
+  -- the cause at the label is that of its queries on the state of its replica
+  pub cause_known : (next : NextOperation) (label : Label) (acts : List (Half × Act)) → ¬ (past.kind ≡ variant.Rga) → IsOffered past next label
       → acts ≡ acts_of next.op → cause_in (Some (state_at states label.replica)) acts ≡ cause_of past.kind (operate next ∷ past.records)
   cause_known next label acts not_rga offered same =
       let there : next.by < length states = omega (arith, kept.replicas, offered.replica) in
@@ -76,42 +77,42 @@ module _ (updates : List (Option Update)) (states : List State) (past : Past) (k
       ∙ ap (λ o. cause_in o (acts_of next.op)) (sym (kept.folded next.by there))
       ∙ sym (cause_where_it_fits past.kind past.records next true offered.holds offered.fits admitted)
 
-  -- the states with the label
-  pub states_taken : (next : Next) (label : Label) → ¬ (past.kind ≡ variant.Rga) → IsOffered past next label
-      → AreStatesOf (updates ++ update_in next.op ∷ []) (states_after states next.by (update_in next.op)) (past_with past (operate next))
+  -- the states after the label
+  pub states_taken : (next : NextOperation) (label : Label) → ¬ (past.kind ≡ variant.Rga) → IsOffered past next label
+      → AreStatesOf (updates ++ update_in next.op ∷ []) (states_after states next.by (update_in next.op)) (history_with past (operate next))
   states_taken next label not_rga offered =
       kept-label updates states past kept next not_rga (omega (arith, kept.replicas, offered.replica))
       (is_of_kind past next label offered) offered.fits
 
-  pub can_take : (next : Next) (label : Label) (update : Option Update) → ¬ (past.kind ≡ variant.Rga) → IsOffered past next label
+  pub can_take : (next : NextOperation) (label : Label) (update : Option Update) → ¬ (past.kind ≡ variant.Rga) → IsOffered past next label
       → update ≡ update_in next.op → CanStep (state_at states label.replica) update
   can_take next label update not_rga offered same =
-      let can = can_step (updates ++ update_in next.op ∷ []) states (past_with past (operate next)) next.by (update_in next.op)
+      let can = can_step (updates ++ update_in next.op ∷ []) states (history_with past (operate next)) next.by (update_in next.op)
       (states_taken next label not_rga offered) (omega (arith, kept.replicas, offered.replica)) (omega (arith, offered.few)) in
       subst (λ r. CanStep (state_at states r) update) (sym (its_replica past next label offered))
       (subst (λ o. CanStep (state_at states next.by) o) (sym same) can)
 
-  -- a label that is told is there
-  pub told_there : (to n : ℕ) → IsTold past to n → n < length updates
-  told_there to n told = omega (arith, had_updates-there past.records n told.update, ap length kept.labels, updates_counted past.records)
+  -- a delivered label exists
+  pub told_there : (to n : ℕ) → IsDelivered past to n → n < length updates
+  told_there to n told = omega (arith, delivered_are_updates-there past.records n told.update, ap length kept.labels, updates_counted past.records)
 
-  -- the states of a counter or an OR-Set with the delivery
-  pub states_told : (to n : ℕ) → (past.kind ≡ variant.Counter) ⊎ (past.kind ≡ variant.OrSet) → IsTold past to n
-      → AreStatesOf updates (states_after states to (update_at updates n)) (past_with past (Deliver to n))
+  -- the states of a counter or an OR-Set after the delivery
+  pub states_told : (to n : ℕ) → (past.kind ≡ variant.Counter) ⊎ (past.kind ≡ variant.OrSet) → IsDelivered past to n
+      → AreStatesOf updates (states_after states to (update_at updates n)) (history_with past (Deliver to n))
   states_told to n (inl is) told =
-      subst (λ k. AreStatesOf updates (states_after states to (update_at updates n)) (past_of k past.founders (Deliver to n ∷ past.records))) (sym is)
-      (kept-counter updates states past.founders past.records to n (subst (λ k. AreStatesOf updates states (past_of k past.founders past.records)) is kept) (omega (arith, kept.replicas, told.replica))
+      subst (λ k. AreStatesOf updates (states_after states to (update_at updates n)) (history_of k past.initial_replicas (Deliver to n ∷ past.records))) (sym is)
+      (kept-counter updates states past.initial_replicas past.records to n (subst (λ k. AreStatesOf updates states (history_of k past.initial_replicas past.records)) is kept) (omega (arith, kept.replicas, told.replica))
       told.update told.causal.0 (subst (λ k. Holds k past.records) is told.holds))
   states_told to n (inr is) told =
-      subst (λ k. AreStatesOf updates (states_after states to (update_at updates n)) (past_of k past.founders (Deliver to n ∷ past.records))) (sym is)
-      (kept-or_set updates states past.founders past.records to n (subst (λ k. AreStatesOf updates states (past_of k past.founders past.records)) is kept) (omega (arith, kept.replicas, told.replica))
+      subst (λ k. AreStatesOf updates (states_after states to (update_at updates n)) (history_of k past.initial_replicas (Deliver to n ∷ past.records))) (sym is)
+      (kept-or_set updates states past.initial_replicas past.records to n (subst (λ k. AreStatesOf updates states (history_of k past.initial_replicas past.records)) is kept) (omega (arith, kept.replicas, told.replica))
       told.update (subst (λ k. Holds k past.records) is told.holds) told.identifiers told.causal)
 
--- a counter or an OR-Set with the label
-pub commuting_taken : (old new : commuting.Commuting) (past : Past) (next : Next) (label : Label) (update : Option Update)
+-- a counter or an OR-Set after the label
+pub commuting_taken : (old new : commuting.Commuting) (past : History) (next : NextOperation) (label : Label) (update : Option Update)
     → IsCommutingOf old past → IsOffered past next label → update ≡ update_in next.op
     → new.updates.items ≡ old.updates.items ++ update ∷ [] → new.states.items ≡ states_after old.states.items label.replica update
-    → AreEffectsOf (Commuting new) (past_with past (operate next))
+    → AreEffectsOf (Commuting new) (history_with past (operate next))
 commuting_taken old new past next label update kept offered same updates states =
     let now = operate next ∷ past.records in
     let later = states_taken old.updates.items old.states.items past kept.states next label (not_rga-commuting past.kind kept.one) offered in
@@ -125,15 +126,15 @@ commuting_taken old new past next label update kept offered same updates states 
       form = record {
         one = kept.one;
         states =
-            subst (λ us. AreStatesOf us new.states.items (past_of past.kind past.founders now)) (sym its_updates)
-            (subst (λ ss. AreStatesOf (old.updates.items ++ update_in next.op ∷ []) ss (past_of past.kind past.founders now)) (sym its_states) later);
+            subst (λ us. AreStatesOf us new.states.items (history_of past.kind past.initial_replicas now)) (sym its_updates)
+            (subst (λ ss. AreStatesOf (old.updates.items ++ update_in next.op ∷ []) ss (history_of past.kind past.initial_replicas now)) (sym its_states) later);
       };
     }
 
--- with the delivery
-pub commuting_told : (old new : commuting.Commuting) (past : Past) (to n : ℕ) → label_count past.records ≤ 1048576
-    → IsCommutingOf old past → IsTold past to n → new.updates ≡ old.updates
-    → new.states.items ≡ states_after old.states.items to (update_at old.updates.items n) → AreEffectsOf (Commuting new) (past_with past (Deliver to n))
+-- and after the delivery
+pub commuting_told : (old new : commuting.Commuting) (past : History) (to n : ℕ) → label_count past.records ≤ 1048576
+    → IsCommutingOf old past → IsDelivered past to n → new.updates ≡ old.updates
+    → new.states.items ≡ states_after old.states.items to (update_at old.updates.items n) → AreEffectsOf (Commuting new) (history_with past (Deliver to n))
 commuting_told old new past to n few kept told updates states =
     let now = Deliver to n ∷ past.records in
     let later = states_told old.updates.items old.states.items past kept.states to n kept.one told in
@@ -142,19 +143,19 @@ commuting_told old new past to n few kept told updates states =
       form = record {
         one = kept.one;
         states =
-            subst (λ us. AreStatesOf us new.states.items (past_of past.kind past.founders now)) (sym (ap (λ us. us.items) updates))
-            (subst (λ ss. AreStatesOf old.updates.items ss (past_of past.kind past.founders now)) (sym states) later);
+            subst (λ us. AreStatesOf us new.states.items (history_of past.kind past.initial_replicas now)) (sym (ap (λ us. us.items) updates))
+            (subst (λ ss. AreStatesOf old.updates.items ss (history_of past.kind past.initial_replicas now)) (sym states) later);
       };
     }
 
-pub can_tell : (kept : commuting.Commuting) (past : Past) (to n : ℕ) → label_count past.records ≤ 1048576
-    → IsCommutingOf kept past → IsTold past to n → CanStep (state_at kept.states.items to) (update_at kept.updates.items n)
+pub can_tell : (kept : commuting.Commuting) (past : History) (to n : ℕ) → label_count past.records ≤ 1048576
+    → IsCommutingOf kept past → IsDelivered past to n → CanStep (state_at kept.states.items to) (update_at kept.updates.items n)
 can_tell kept past to n few stands told =
-    can_step kept.updates.items kept.states.items (past_with past (Deliver to n)) to (update_at kept.updates.items n)
+    can_step kept.updates.items kept.states.items (history_with past (Deliver to n)) to (update_at kept.updates.items n)
     (states_told kept.updates.items kept.states.items past stands.states to n stands.one told) (omega (arith, stands.states.replicas, told.replica)) few
 
--- of a register or an LWW set, a label that does something has a stamp
-pub stamp_missing : (past : Past) (next : Next) (label : Label) (u : Update)
+-- a label of a register or an LWW set that is an update has a stamp
+pub stamp_missing : (past : History) (next : NextOperation) (label : Label) (u : Update)
     → (past.kind ≡ variant.Register) ⊎ (past.kind ≡ variant.LwwSet) → IsOffered past next label → update_in next.op ≡ Some u → label.stamp ≡ None → ⊥
 stamp_missing past next label u one offered does none =
     let of = of_its_kind past next label offered in

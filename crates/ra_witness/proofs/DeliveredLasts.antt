@@ -1,4 +1,4 @@
--- The last labels, with one more delivery.
+-- Lemmas on the last labels of a replica after one more delivery.
 use Rattle.std.proofs.Common.{◌≡◌, ℕ, ◌<◌, Bool, true, false, cond, List, ◌∷◌, length, Option, Some, None, refl, sym, ap, ◌∙◌, subst, inl, inr, arith}
 use Rattle.std.specs.Prelude.{◌⊎◌, ◌==◌, ◌&&◌, ◌||◌, Contains}
 use Rattle.std.specs.Option.{option_map_or}
@@ -8,9 +8,9 @@ use Rattle.std.proofs.lemmas.Option.{none-some, same_Some}
 use Rattle.ra_labels.specs.declared.label.Label.{Label}
 use Rattle.ra_labels.specs.declared.command.Command.TheVariants.{Deliver}
 use Rattle.ra_labels.specs.Records.{Records, labels_of}
-use Rattle.ra_labels.specs.Visibility.{had, is_update_at}
+use Rattle.ra_labels.specs.Visibility.{has_delivered, is_update_at}
 use Rattle.ra_labels.specs.NamedOrder.{stamp_cmp}
-use Rattle.ra_labels.specs.Laws.{IsStampBelow, StampsAreOneLabels}
+use Rattle.ra_labels.specs.TheoremTerms.{IsStampBelow, StampsAreUnique}
 use Rattle.ra_labels.proofs.StampOrder.{below_tested, not_below_tested, below_below, below_else}
 use Rattle.ra_witness.specs.declared.overriding.written.Written.{Written}
 use Rattle.ra_witness.specs.Overriding.{write_at, is_above, later_of, last_label, counting, last_with}
@@ -27,42 +27,42 @@ pub record IsNewWrite (writes : List (Option Written)) (records : Records) (to n
   pub there : Contains (labels_of records) label
   pub number : label.number ≡ n
   pub is_update : is_update_at records n ≡ true
-  pub new : had records to n ≡ false
+  pub new : has_delivered records to n ≡ false
   pub found : write_at writes n ≡ Some write
 
-abbrev pub is_new_write : (writes : List (Option Written)) (records : Records) (to n : ℕ) (write : Written) → is_update_at records n ≡ true → had records to n ≡ false → write_at writes n ≡ Some write
+abbrev pub is_new_write : (writes : List (Option Written)) (records : Records) (to n : ℕ) (write : Written) → is_update_at records n ≡ true → has_delivered records to n ≡ false → write_at writes n ≡ Some write
     → IsNewWrite writes records to n
 is_new_write writes records to n write is new found =
     let (label, at) = update_found records n is in
     record { label = label; write = write; there = at.there; number = at.number; is_update = is; new = new; found = found }
 
 module _ (writes : List (Option Written)) (lasts : List (List (Option ℕ))) (number_of : ℕ → Option ℕ) (records : Records) (to n : ℕ)
-    (are : AreWritesOf writes number_of records) (last : AreLastOf writes lasts records) (once : StampsAreOneLabels records)
+    (are : AreWritesOf writes number_of records) (last : AreLastOf writes lasts records) (once : StampsAreUnique records)
     (within : to < length lasts) (it : IsNewWrite writes records to n) where
   abbrev now : Records
   now = Deliver to n ∷ records
 
-  had_still : (q m : ℕ) → had records q m ≡ true → had now q m ≡ true
-  had_still q m h = or_right (to == q && m == n && is_update_at records m) (had records q m) h
+  had_still : (q m : ℕ) → has_delivered records q m ≡ true → has_delivered now q m ≡ true
+  had_still q m h = or_right (to == q && m == n && is_update_at records m) (has_delivered records q m) h
 
-  had_it_now : had now to n ≡ true
-  had_it_now = or_left (to == to && n == n && is_update_at records n) (had records to n)
+  had_it_now : has_delivered now to n ≡ true
+  had_it_now = or_left (to == to && n == n && is_update_at records n) (has_delivered records to n)
       (and_from (to == to && n == n) (is_update_at records n) (and_from (to == to) (n == n) (eq-eqb to to refl) (eq-eqb n n refl)) it.is_update)
 
-  had_other_replica : (q m : ℕ) → ¬ (q ≡ to) → had now q m ≡ true → had records q m ≡ true
-  had_other_replica q m other h = sym (ap (λ b. (b && m == n && is_update_at records m) || had records q m) (ne_eqb to q (λ e. other (sym e)))) ∙ h
+  had_other_replica : (q m : ℕ) → ¬ (q ≡ to) → has_delivered now q m ≡ true → has_delivered records q m ≡ true
+  had_other_replica q m other h = sym (ap (λ b. (b && m == n && is_update_at records m) || has_delivered records q m) (ne_eqb to q (λ e. other (sym e)))) ∙ h
 
-  had_other_label : (q m : ℕ) → ¬ (m ≡ n) → had now q m ≡ true → had records q m ≡ true
+  had_other_label : (q m : ℕ) → ¬ (m ≡ n) → has_delivered now q m ≡ true → has_delivered records q m ≡ true
   had_other_label q m other h = elim (cases_Bool (to == q)) [
-    | inl same ↦ sym (ap (λ b. (b && is_update_at records m) || had records q m) (ap (λ b. b && m == n) same ∙ ne_eqb m n other)) ∙ h
-    | inr differ ↦ sym (ap (λ b. (b && m == n && is_update_at records m) || had records q m) differ) ∙ h
+    | inl same ↦ sym (ap (λ b. (b && is_update_at records m) || has_delivered records q m) (ap (λ b. b && m == n) same ∙ ne_eqb m n other)) ∙ h
+    | inr differ ↦ sym (ap (λ b. (b && m == n && is_update_at records m) || has_delivered records q m) differ) ∙ h
   ]
 
   abbrev later : ℕ
   later = counting writes lasts to n it.write
 
-  -- the label itself, where it is above all others
-  itself : ((other : Label) (lesser : Written) → Contains (labels_of records) other → had records to other.number ≡ true → write_at writes other.number ≡ Some lesser
+  -- the delivered label is the last one if its stamp is above all others
+  itself : ((other : Label) (lesser : Written) → Contains (labels_of records) other → has_delivered records to other.number ≡ true → write_at writes other.number ≡ Some lesser
       → lesser.on ≡ it.write.on → IsStampBelow lesser.stamp it.write.stamp) → IsLastOn writes now to it.write.on n
   itself above = record {
     label = it.label;
@@ -78,7 +78,7 @@ module _ (writes : List (Option Written)) (lasts : List (List (Option ℕ))) (nu
     ];
   }
 
-  -- the last one, where it is below that
+  -- the previous last label stays the last one if its stamp is above that of the delivered one
   overridden : (k : ℕ) (on_it : IsLastOn writes records to it.write.on k) → IsStampBelow it.write.stamp on_it.write.stamp → IsLastOn writes now to it.write.on k
   overridden k on_it below = record {
     label = on_it.label;
@@ -94,14 +94,14 @@ module _ (writes : List (Option Written)) (lasts : List (List (Option ℕ))) (nu
     ];
   }
 
-  -- two labels with one stamp are one
+  -- the two labels have different stamps
   differ_from : (k : ℕ) (on_it : IsLastOn writes records to it.write.on k) → ¬ (it.write.stamp ≡ on_it.write.stamp)
   differ_from k on_it same =
       let own = are.stamps it.label it.write it.there (ap (write_at writes) it.number ∙ it.found) in
       let its = are.stamps on_it.label on_it.write on_it.there (ap (write_at writes) on_it.number ∙ on_it.found) in
       let one = once it.label on_it.label it.write.stamp it.there on_it.there own (its ∙ ap Some (sym same)) in
       let number : k ≡ n = sym on_it.number ∙ ap (λ (l : Label). l.number) (sym one) ∙ it.number in
-      true≢false (sym on_it.had_it ∙ ap (had records to) number ∙ it.new)
+      true≢false (sym on_it.had_it ∙ ap (has_delivered records to) number ∙ it.new)
 
   above_others : (k : ℕ) (on_it : IsLastOn writes records to it.write.on k) → ¬ IsStampBelow it.write.stamp on_it.write.stamp → IsLastOn writes now to it.write.on n
   above_others k on_it not_below = itself (λ other lesser there h at on.
@@ -114,7 +114,7 @@ module _ (writes : List (Option Written)) (lasts : List (List (Option ℕ))) (nu
   above_is : (k : ℕ) (v : Written) → write_at writes k ≡ Some v → is_above writes it.write.stamp k ≡ is_lt (stamp_cmp it.write.stamp v.stamp)
   above_is k v at = ap (λ o. option_map_or (λ (other : Written). is_lt (stamp_cmp it.write.stamp other.stamp)) o false) at
 
-  -- the label that counts is the last one
+  -- the label that takes effect is the last one
   pub counting-last : IsLastOn writes now to it.write.on later
   counting-last = by (last_label lasts to it.write.on) refl
     where
@@ -138,8 +138,8 @@ module _ (writes : List (Option Written)) (lasts : List (List (Option ℕ))) (nu
           (itself (λ other lesser there h at on. absurd (last.none to it.write.on within e other lesser there h at on)))
       by (Some k) e = by_test k e (is_above writes it.write.stamp k) refl
 
-  -- what the delivery leaves as it was
-  untouched : (q m : ℕ) (v : Written) (c : ℕ) → ((q ≡ to) → ¬ (c ≡ it.write.on)) → write_at writes m ≡ Some v → v.on ≡ c → had now q m ≡ true → had records q m ≡ true
+  -- what the delivery leaves unchanged
+  untouched : (q m : ℕ) (v : Written) (c : ℕ) → ((q ≡ to) → ¬ (c ≡ it.write.on)) → write_at writes m ≡ Some v → v.on ≡ c → has_delivered now q m ≡ true → has_delivered records q m ≡ true
   untouched q m v c elsewhere at on h = elim (cases_eq q to) [
     | inl here ↦ elim (cases_eq m n) [
       | inl same ↦ absurd (elsewhere here (sym on ∙ ap (λ (x : Written). x.on) (one_write writes m n v it.write same at it.found)))

@@ -1,4 +1,4 @@
--- What is known of an operation that is offered, by its form.
+-- Lemmas on what the form of an accepted operation implies.
 use Rattle.std.proofs.Common.{◌≡◌, ℕ, ◌≤◌, true, Some, refl, ap, ◌∙◌}
 use Rattle.std.specs.Prelude.{option_map}
 use Rattle.std.specs.List.{list_all}
@@ -13,10 +13,10 @@ use Rattle.ra_labels.specs.Records.{stamp_at}
 use Rattle.ra_labels.specs.Rewriting.{acts_of}
 use Rattle.ra_labels.specs.Lists.{rises}
 use Rattle.ra_labels.specs.Answer.{kind_of, is_kind, has_rising_list, carries_stamp}
-use Rattle.ra_labels.specs.Laws.{HasItsClock}
+use Rattle.ra_labels.specs.TheoremTerms.{HasClockIffStamped}
 use Rattle.ra_labels.proofs.SameKind.{kind_itself}
-use Rattle.ra_labels.specs.Situation.{Past, Next}
-use Rattle.ra_laws.proofs.TheLaws.{forms_that_deserve_no_refusal}
+use Rattle.ra_labels.specs.HistorySoFar.{History, NextOperation}
+use Rattle.ra_theorems.proofs.TheoremIndex.{well_formed_iff}
 use Rattle.ra_seqspec.specs.Asked.{asks_rising}
 use Rattle.ra_witness.specs.Labels.{queries_in, update_in}
 use Rattle.ra_witness.specs.Offered.{IsOffered}
@@ -37,18 +37,18 @@ asks_only_rising (op.After anchor x) rising = refl
 asks_only_rising (op.RgaRemove x) rising = refl
 asks_only_rising (op.RgaRead list) rising = refl
 
-module _ (past : Past) (next : Next) (label : Label) (offered : IsOffered past next label) where
+module _ (past : History) (next : NextOperation) (label : Label) (offered : IsOffered past next label) where
   pub of_its_kind : kind_of next.op ≡ past.kind
-  of_its_kind = ((forms_that_deserve_no_refusal past.kind next).0 offered.form).0
+  of_its_kind = ((well_formed_iff past.kind next).0 offered.form).0
 
   pub is_of_kind : is_kind past.kind (kind_of next.op) ≡ true
   is_of_kind = ap (is_kind past.kind) of_its_kind ∙ kind_itself past.kind
 
   pub rising : list_all asks_rising (queries_in (acts_of next.op)) ≡ true
-  rising = asks_only_rising next.op ((forms_that_deserve_no_refusal past.kind next).0 offered.form).1
+  rising = asks_only_rising next.op ((well_formed_iff past.kind next).0 offered.form).1
 
-  pub its_clock : HasItsClock next.op next.clock
-  its_clock = ((forms_that_deserve_no_refusal past.kind next).0 offered.form).2
+  pub its_clock : HasClockIffStamped next.op next.clock
+  its_clock = ((well_formed_iff past.kind next).0 offered.form).2
 
   pub its_replica : label.replica ≡ next.by
   its_replica = ap (λ (l : Label). l.replica) offered.becomes
@@ -56,13 +56,13 @@ module _ (past : Past) (next : Next) (label : Label) (offered : IsOffered past n
   pub its_op : label.op ≡ next.op
   its_op = ap (λ (l : Label). l.op) offered.becomes
 
-  -- of a register and an LWW set, and of an RGA, an operation that puts something in has a stamp
+  -- an operation that carries a stamp has a clock of at least 1, and its label has that stamp
   pub has_stamp : carries_stamp next.op ≡ true → (at : ℕ) × (next.clock ≡ Some at) × (1 ≤ at) × (label.stamp ≡ Some (stamp_at next.by at))
   has_stamp carries =
       let (at, least, is) = its_clock.0 carries in
       (at, is, least, ap (λ (l : Label). l.stamp) offered.becomes ∙ ap (option_map (stamp_at next.by)) is)
 
--- what a register or an LWW set does has a stamp
+-- the update of a register or an LWW set carries a stamp
 pub writes_are_stamped : (operation : Op) (u : Update) → ¬ (kind_of operation ≡ Counter) → ¬ (kind_of operation ≡ OrSet) → ¬ (kind_of operation ≡ Rga)
     → update_in operation ≡ Some u → carries_stamp operation ≡ true
 writes_are_stamped op.Inc u counter or_set rga is = absurd (counter refl)

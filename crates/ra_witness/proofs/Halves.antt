@@ -1,4 +1,4 @@
--- Which labels are rewritten into halves: none but those of an OR-Set.
+-- Lemmas on which labels are rewritten into halves: only those of an OR-Set.
 use Rattle.std.proofs.Common.{◌≡◌, ℕ, zero, suc, false, cond, List, [], ◌∷◌, ◌++◌, map, reverse, Option, Some, refl, sym, ap, ◌∙◌}
 use Rattle.std.specs.Prelude.{flat_map, Contains}
 use Rattle.std.specs.List.{slice_get}
@@ -11,13 +11,13 @@ use Rattle.ra_labels.specs.declared.operation.Update.{Update}
 use Rattle.ra_labels.specs.declared.label.Label.{Label}
 use Rattle.ra_labels.specs.Records.{Records, labels_of}
 use Rattle.ra_labels.specs.Answer.{kind_of}
-use Rattle.ra_labels.specs.Laws.{EachLabelFits}
+use Rattle.ra_labels.specs.TheoremTerms.{EachLabelIsWellFormed}
 use Rattle.ra_labels.proofs.Members.{at_head, behind_head}
 use Rattle.ra_witness.specs.declared.part_ref.Half.TheVariants.{Whole, QueryHalf, UpdateHalf}
 use Rattle.ra_witness.specs.Sequence.{ref_to, has_query_half, refs_at}
 use Rattle.ra_witness.specs.Labels.{update_in, updates_by_number}
 
--- updates that make the same labels halves lead to the same parts
+-- updates that agree on which labels have a query half have the same parts
 pub refs_alike : (us vs : List (Option Update)) (ns : List ℕ) → ((n : ℕ) → has_query_half (slice_get us n) ≡ has_query_half (slice_get vs n))
     → flat_map (refs_at us) ns ≡ flat_map (refs_at vs) ns
 refs_alike us vs [] same = refl
@@ -34,10 +34,10 @@ none_half [] n other = refl
 none_half (l ∷ ls) zero other = no_half l.op (other l (at_head l ls l refl))
 none_half (l ∷ ls) (suc n) other = none_half ls n (λ m there. other m (behind_head l ls m there))
 
--- labels of another kind have none
-pub none_has_halves : (kind : Kind) (founders : ℕ) (records : Records) (n : ℕ) → ¬ (kind ≡ OrSet) → EachLabelFits kind founders records
+-- labels of another kind have no halves
+pub none_has_halves : (kind : Kind) (initial_replicas : ℕ) (records : Records) (n : ℕ) → ¬ (kind ≡ OrSet) → EachLabelIsWellFormed kind initial_replicas records
     → has_query_half (slice_get (updates_by_number records) n) ≡ false
-none_has_halves kind founders records n other fits =
+none_has_halves kind initial_replicas records n other fits =
     let labels = labels_of records in
     none_half (reverse labels) n (λ l there is.
     other (sym (fits l (Contains-permutation (reverse labels) labels l (IsPermutation-sym labels (reverse labels) (IsPermutation-reverse labels)) there)).of_kind ∙ is))

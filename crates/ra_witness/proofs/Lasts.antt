@@ -1,4 +1,4 @@
--- The last labels of replicas, where those of one of them change.
+-- Lemmas on the last labels of the replicas, if those of one replica change.
 use Rattle.std.proofs.Common.{◌≡◌, ◌≢◌, ℕ, ◌<◌, ◌+◌, cond, List, [], ◌∷◌, ◌++◌, length, replicate, get_or, set, Option, Some, None, refl, sym, ap, ◌∙◌, subst, inl, inr, arith}
 use Rattle.std.specs.Prelude.{◌==◌, ◌&&◌, IfSome, option_map}
 use Rattle.std.proofs.lemmas.Bool.{cases_eq, eq-eqb, ne_eqb}
@@ -14,7 +14,7 @@ if_some_at o x P is p = subst (λ a. IfSome a P) (sym is) p
 abbrev labels_of : LastUpdates → List (Option ℕ)
 labels_of last = last.labels.items
 
--- of the replica
+-- the last labels of this replica
 read_at : (lasts : List LastUpdates) (r : ℕ) (old : LastUpdates) → r < length lasts → old ≡ get_or lasts r old → get_or (labels_in lasts) r [] ≡ labels_of old
 read_at lasts r old there is =
     get_or_from_slice_get (labels_in lasts) r (labels_of old) [] (slice_get-map labels_of lasts r ∙ ap (λ o. option_map labels_of o) (slice_get_read lasts (length lasts) r old refl there is))
@@ -28,7 +28,7 @@ other_at : (lasts : List LastUpdates) (r q : ℕ) (new : LastUpdates) → q ≢ 
 other_at lasts r q new other =
     ap (λ ls. get_or ls q []) (map-set labels_of lasts r new) ∙ get_or-set_other (labels_in lasts) r q (labels_of new) [] other
 
--- one more replica, which had nothing
+-- one more replica, to which nothing was delivered
 pub lasts-more : (lasts : List LastUpdates) (new : LastUpdates) (n : ℕ) → labels_in lasts ≡ replicate n [] → new.labels.items ≡ []
     → labels_in (lasts ++ new ∷ []) ≡ replicate (n + 1) []
 lasts-more lasts new n said none =
@@ -37,7 +37,7 @@ lasts-more lasts new n said none =
     ∙ ap (λ (l : List (Option ℕ)). replicate n [] ++ l ∷ []) none
     ∙ replicate_more n []
 
--- one more replica, which has what this one has
+-- one more replica, with the same last labels as this one
 pub lasts-joined : (lasts : List LastUpdates) (r : ℕ) (old new : LastUpdates) → r < length lasts → old ≡ get_or lasts r old
     → new.labels.items ≡ old.labels.items
     → labels_in (lasts ++ new ∷ []) ≡ labels_in lasts ++ get_or (labels_in lasts) r [] ∷ []
@@ -58,7 +58,7 @@ lasts-same lasts r old new there is same q c = elim (cases_eq q r) [
   | inr other ↦ ap (λ ls. label_on ls c) (other_at lasts r q new other)
 ]
 
--- with one last label more
+-- with one more last label
 with_here : (lasts : List (List (Option ℕ))) (r e label c : ℕ) → last_with lasts r e label r c ≡ cond (c == e) (Some label) (last_label lasts r c)
 with_here lasts r e label c = ap (λ b. cond (b && c == e) (Some label) (last_label lasts r c)) (eq-eqb r r refl)
 

@@ -25,4 +25,4 @@ pub mod NewLabel
 pub mod NewElement
 pub mod TakenElements
 pub mod Joins
-pub mod TheLaws
+pub mod TheoremIndex

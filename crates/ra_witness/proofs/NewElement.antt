@@ -1,4 +1,4 @@
--- The elements of all labels with a label more that puts one in.
+-- Lemmas on the elements of all labels after one more label that inserts an element.
 use Rattle.std.proofs.Common.{◌≡◌, ℕ, zero, suc, ◌<◌, ◌≤◌, ◌+◌, Bool, true, false, cond, List, [], ◌∷◌, ◌++◌, length, Option, Some, refl, sym, ap, ◌∙◌, subst, inl, inr, arith, length-append}
 use Rattle.std.specs.Prelude.{◌==◌, Contains}
 use Rattle.std.specs.Ordering.{is_lt}
@@ -12,22 +12,22 @@ use Rattle.ra_labels.specs.declared.label.Stamp.{Stamp}
 use Rattle.ra_labels.specs.Records.{Records, label_count, labels_of}
 use Rattle.ra_labels.specs.NamedOrder.{named_sequence, stamp_cmp, lowest_rank, label_cmp}
 use Rattle.ra_labels.specs.Linearization.{updates_admitted}
-use Rattle.ra_labels.specs.Laws.{elements_in, StampsAreOneLabels}
-use Rattle.ra_labels.specs.Late.{put_after}
-use Rattle.ra_labels.specs.Insertion.{Makes}
-use Rattle.ra_labels.specs.Situation.{Next, operate, label_of}
+use Rattle.ra_labels.specs.TheoremTerms.{elements_in, StampsAreUnique}
+use Rattle.ra_labels.specs.Late.{insert_late_after}
+use Rattle.ra_labels.specs.Insertion.{HasUpdate}
+use Rattle.ra_labels.specs.HistorySoFar.{NextOperation, operate, label_of}
 use Rattle.ra_labels.proofs.Members.{at_head, behind_head}
 use Rattle.ra_labels.proofs.StampOrder.{below_tested}
-use Rattle.ra_laws.proofs.TheLaws.{an_operation_makes_one_update-one, a_new_label_in_the_list_of_all-insertion, labels_with_stamps_stand_in_their_order}
-use Rattle.ra_element_list.specs.ElementList.{Arrival, ElementList, root, arrival_at, IsBelowByStamp}
-use Rattle.ra_replica_list.specs.declared.edit.Edit.{Edit}
-use Rattle.ra_replica_list.specs.declared.edit.Edit.TheVariants.{PutsIn}
-use Rattle.ra_replica_list.specs.Edits.{element_at, number_of, update_of, AreElementsOf}
+use Rattle.ra_theorems.proofs.TheoremIndex.{operation_update_unique-one, new_label_in_full_list-insertion, stamped_labels_sorted}
+use Rattle.ra_rga_elements.specs.ElementList.{Arrival, ElementList, root, arrival_at, IsBelowByStamp}
+use Rattle.ra_rga_replica.specs.declared.edit.Edit.{Edit}
+use Rattle.ra_rga_replica.specs.declared.edit.Edit.TheVariants.{PutsIn}
+use Rattle.ra_rga_replica.specs.Edits.{element_at, number_of, update_of, AreElementsOf}
 use Rattle.ra_witness.proofs.TakenLabels.{label_below}
 use Rattle.ra_witness.proofs.AllElements.{its_number}
 use Rattle.ra_witness.proofs.NewLabel.{Adds, list_after}
 
--- the stamp that the element came with
+-- the stamp of the label that inserted the element
 stamp_of : List Arrival → ℕ → Stamp
 stamp_of [] y = lowest_rank
 stamp_of (a ∷ as') y = cond (a.element == y) a.stamp (stamp_of as' y)
@@ -48,14 +48,14 @@ not_less : (b : Bool) → ¬ (b ≡ true) → b ≡ false
 not_less true other = absurd (other refl)
 not_less false other = refl
 
-module _ (all grown : ElementList) (edits : List (Option Edit)) (records : Records) (next : Next) (m x : ℕ) (stamp : Stamp)
-    (are : AreElementsOf all edits records) (makes : Makes next.op (After (element_at all.arrivals m) x)) (within : m < length all.arrivals)
+module _ (all grown : ElementList) (edits : List (Option Edit)) (records : Records) (next : NextOperation) (m x : ℕ) (stamp : Stamp)
+    (are : AreElementsOf all edits records) (makes : HasUpdate next.op (After (element_at all.arrivals m) x)) (within : m < length all.arrivals)
     (new : (n : ℕ) → n < length all.arrivals → ¬ (element_at all.arrivals n ≡ x)) (stamped : (label_of records next).stamp ≡ Some stamp)
-    (clocked : 1 ≤ stamp.clock) (stamps : StampsAreOneLabels (operate next ∷ records))
+    (clocked : 1 ≤ stamp.clock) (stamps : StampsAreUnique (operate next ∷ records))
     (admitted : updates_admitted variant.Rga (named_sequence variant.Rga (operate next ∷ records)) ≡ true)
     (arrivals : grown.arrivals ≡ all.arrivals ++ record { element = x; stamp = stamp; anchor = m } ∷ [])
     (elements : (below : ℕ → ℕ → Bool) (list : List (ℕ × Bool)) → IsBelowByStamp below x stamp all.arrivals → elements_in list ≡ all.elements
-    → grown.elements ≡ elements_in (put_after below (arrival_at all.arrivals m).element x list)) where
+    → grown.elements ≡ elements_in (insert_late_after below (arrival_at all.arrivals m).element x list)) where
   abbrev now : Records
   now = operate next ∷ records
 
@@ -104,7 +104,7 @@ module _ (all grown : ElementList) (edits : List (Option Edit)) (records : Recor
     ]
   ]
 
-  -- of the elements that came, those with a greater stamp
+  -- element y has a greater stamp than the new label
   abbrev below : ℕ → ℕ → Bool
   below a y = is_lt (stamp_cmp stamp (stamp_of all.arrivals y))
 
@@ -126,13 +126,13 @@ module _ (all grown : ElementList) (edits : List (Option Edit)) (records : Recor
   not_below_root : below x 0 ≡ false
   not_below_root = not_less (below x 0) (λ is. not_below_lowest (ap (λ s. is_lt (stamp_cmp stamp s)) (sym root_stamp) ∙ is))
 
-  others_stand : (other : Label) (behind y : ℕ) → Contains (labels_of records) other → Makes other.op (After behind y)
+  others_stand : (other : Label) (behind y : ℕ) → Contains (labels_of records) other → HasUpdate other.op (After behind y)
       → below x y ≡ is_lt (label_cmp variant.Rga now own other)
   others_stand other behind y there does =
       let (n, as_number) = its_number all edits records are other behind y there does in
       let t = (arrival_at all.arrivals n).stamp in
       let stands : label_cmp variant.Rga now own other ≡ stamp_cmp stamp t =
-      labels_with_stamps_stand_in_their_order variant.Rga now own other stamp t (λ e. cc (e)) (λ e. cc (e)) stamped as_number.stamp (λ same.
+      stamped_labels_sorted variant.Rga now own other stamp t (λ e. cc (e)) (λ e. cc (e)) stamped as_number.stamp (λ same.
       let one = stamps own other stamp (at_head own (labels_of records) own refl) (behind_head own (labels_of records) other there) stamped (as_number.stamp ∙ ap Some (sym same)) in
       let its : label_count records ≡ other.number = ap (λ (l : Label). l.number) one in
       let lower = label_below records other there in
@@ -143,8 +143,8 @@ module _ (all grown : ElementList) (edits : List (Option Edit)) (records : Recor
   adds_insertion = record {
     kept = kept;
     longer = omega (arith, count);
-    made = λ update does. (PutsIn number, refl, its_update ∙ an_operation_makes_one_update-one next.op (After (element_at all.arrivals m) x) update makes does);
-    makes = λ edit is. subst (λ d. Makes next.op (update_of grown.arrivals d)) (its_edit edit is) (subst (λ u. Makes next.op u) (sym its_update) makes);
+    made = λ update does. (PutsIn number, refl, its_update ∙ operation_update_unique-one next.op (After (element_at all.arrivals m) x) update makes does);
+    makes = λ edit is. subst (λ d. HasUpdate next.op (update_of grown.arrivals d)) (its_edit edit is) (subst (λ u. HasUpdate next.op u) (sym its_update) makes);
     known = λ edit is. subst (λ d. number_of d < length grown.arrivals) (its_edit edit is) (omega (arith, count));
     stamp = λ n is. stamped ∙ ap (λ (a : Arrival). Some a.stamp) (sym is_newest) ∙ ap (λ k. Some (arrival_at grown.arrivals k).stamp) (its_own_number n is);
     unstamped = λ n is. absurd (cc (is));
@@ -156,6 +156,6 @@ module _ (all grown : ElementList) (edits : List (Option Edit)) (records : Recor
     once = once_more;
     listed =
         let (list, led) = list_after now admitted in
-        let put = a_new_label_in_the_list_of_all-insertion records next (element_at all.arrivals m) x are.listed.0 list below makes are.listed.1 led not_below_root others_stand in
+        let put = new_label_in_full_list-insertion records next (element_at all.arrivals m) x are.listed.0 list below makes are.listed.1 led not_below_root others_stand in
         (list, led, ap elements_in put ∙ sym (elements below are.listed.0 below_by_stamp are.listed.2));
   }

@@ -1,4 +1,4 @@
--- The elements of all labels with one label more, whatever it does.
+-- Lemmas on the elements of all labels after one more label of any operation.
 use Rattle.std.proofs.Common.{◌≡◌, ℕ, zero, suc, ◌<◌, ◌≤◌, Bool, true, false, List, [], ◌∷◌, ◌++◌, length, Option, Some, None, refl, sym, ap, ◌∙◌, subst, inl, inr, arith, length-append}
 use Rattle.std.specs.Prelude.{◌⊎◌, option_map}
 use Rattle.std.proofs.lemmas.Bool.{cases_lt, true≢false}
@@ -15,15 +15,15 @@ use Rattle.ra_labels.specs.Specification.{State, Number, Written, Members, Pairs
 use Rattle.ra_labels.specs.Lists.{hide}
 use Rattle.ra_labels.specs.NamedOrder.{named_sequence}
 use Rattle.ra_labels.specs.Linearization.{updates_admitted}
-use Rattle.ra_labels.specs.Laws.{elements_in}
-use Rattle.ra_labels.specs.Insertion.{Makes}
-use Rattle.ra_labels.specs.Situation.{Next, operate, label_of}
+use Rattle.ra_labels.specs.TheoremTerms.{elements_in}
+use Rattle.ra_labels.specs.Insertion.{HasUpdate}
+use Rattle.ra_labels.specs.HistorySoFar.{NextOperation, operate, label_of}
 use Rattle.ra_labels.proofs.Members.{head_or_behind, at_head, behind_head}
-use Rattle.ra_laws.proofs.TheLaws.{an_operation_makes_one_update-exactly, an_operation_makes_one_update-one, an_operation_puts_its_update_among_all-query, updates_admitted_where_they_lead_to_a_state, states_are_of_their_kind, a_new_label_in_the_list_of_all-removal}
-use Rattle.ra_element_list.specs.ElementList.{Arrival, ElementList, arrival_at}
-use Rattle.ra_replica_list.specs.declared.edit.Edit.{Edit}
-use Rattle.ra_replica_list.specs.declared.edit.Edit.TheVariants.{PutsIn, Removes}
-use Rattle.ra_replica_list.specs.Edits.{edit_at, element_at, number_of, update_of, AreElementsOf}
+use Rattle.ra_theorems.proofs.TheoremIndex.{operation_update_unique-exactly, operation_update_unique-one, operation_inserts_among_all-query, updates_admitted_iff_state, state_kind, new_label_in_full_list-removal}
+use Rattle.ra_rga_elements.specs.ElementList.{Arrival, ElementList, arrival_at}
+use Rattle.ra_rga_replica.specs.declared.edit.Edit.{Edit}
+use Rattle.ra_rga_replica.specs.declared.edit.Edit.TheVariants.{PutsIn, Removes}
+use Rattle.ra_rga_replica.specs.Edits.{edit_at, element_at, number_of, update_of, AreElementsOf}
 use Rattle.ra_witness.proofs.TakenLabels.{label_below}
 
 -- the edits with one more
@@ -42,12 +42,12 @@ edit_more (d ∷ ds) o (suc n) edit is = elim (edit_more ds o n edit is) [
   | inr (at, new) ↦ inr (omega (arith, at), new)
 ]
 
--- what one label more adds: its edit, and the element that it puts in, if any
-pub record Adds (all grown : ElementList) (edits : List (Option Edit)) (records : Records) (next : Next) (o : Option Edit) : Type 0 where
+-- what one more label adds: its edit, and the element that it inserts, if any
+pub record Adds (all grown : ElementList) (edits : List (Option Edit)) (records : Records) (next : NextOperation) (o : Option Edit) : Type 0 where
   pub kept : (n : ℕ) → n < length all.arrivals → arrival_at grown.arrivals n ≡ arrival_at all.arrivals n
   pub longer : length all.arrivals ≤ length grown.arrivals
-  pub made : (update : Update) → Makes next.op update → (edit : Edit) × (o ≡ Some edit) × (update_of grown.arrivals edit ≡ update)
-  pub makes : (edit : Edit) → o ≡ Some edit → Makes next.op (update_of grown.arrivals edit)
+  pub made : (update : Update) → HasUpdate next.op update → (edit : Edit) × (o ≡ Some edit) × (update_of grown.arrivals edit ≡ update)
+  pub makes : (edit : Edit) → o ≡ Some edit → HasUpdate next.op (update_of grown.arrivals edit)
   pub known : (edit : Edit) → o ≡ Some edit → number_of edit < length grown.arrivals
   pub stamp : (number : ℕ) → o ≡ Some (PutsIn number) → (label_of records next).stamp ≡ Some (arrival_at grown.arrivals number).stamp
   pub unstamped : (number : ℕ) → o ≡ Some (Removes number) → (label_of records next).stamp ≡ None
@@ -57,7 +57,7 @@ pub record Adds (all grown : ElementList) (edits : List (Option Edit)) (records 
   pub listed : (list : List (ℕ × Bool)) × (state_after variant.Rga (updates_of (named_sequence variant.Rga (operate next ∷ records))) ≡ Some (Listed list))
       × (elements_in list ≡ grown.elements)
 
-module _ (all grown : ElementList) (edits : List (Option Edit)) (records : Records) (next : Next) (o : Option Edit)
+module _ (all grown : ElementList) (edits : List (Option Edit)) (records : Records) (next : NextOperation) (o : Option Edit)
     (are : AreElementsOf all edits records) (adds : Adds all grown edits records next o) where
   abbrev now : Records
   now = operate next ∷ records
@@ -91,7 +91,7 @@ module _ (all grown : ElementList) (edits : List (Option Edit)) (records : Recor
     count = omega (arith, length-append edits (o ∷ []), are.count);
     made = λ label update there makes. elim (head_or_behind own (labels_of records) label there) [
       | inl newest ↦
-          let (edit, is, same) = adds.made update (subst (λ (l : Label). Makes l.op update) (sym newest) makes) in
+          let (edit, is, same) = adds.made update (subst (λ (l : Label). HasUpdate l.op update) (sym newest) makes) in
           (edit, ap (λ (l : Label). edit_at with_it l.number) (sym newest) ∙ edit_own ∙ is, same)
       | inr old ↦
           let (edit, at, same) = are.made label update old makes in
@@ -100,7 +100,7 @@ module _ (all grown : ElementList) (edits : List (Option Edit)) (records : Recor
     makes = λ n edit at. elim (edit_more edits o n edit at) [
       | inl was ↦
           let (label, there, number, makes) = are.makes n edit was in
-          (label, behind_head own (labels_of records) label there, number, subst (λ u. Makes label.op u) (sym (same_update edit (are.known n edit was))) makes)
+          (label, behind_head own (labels_of records) label there, number, subst (λ u. HasUpdate label.op u) (sym (same_update edit (are.known n edit was))) makes)
       | inr (here, is) ↦ (own, at_head own (labels_of records) own refl, omega (arith, here, are.count), adds.makes edit is)
     ];
     known = λ n edit at. elim (edit_more edits o n edit at) [
@@ -131,13 +131,13 @@ module _ (all grown : ElementList) (edits : List (Option Edit)) (records : Recor
     listed = adds.listed;
   }
 
--- a label that does nothing
-pub adds_nothing : (all : ElementList) (edits : List (Option Edit)) (records : Records) (next : Next) → AreElementsOf all edits records → is_update next.op ≡ false
+-- a label that is not an update
+pub adds_nothing : (all : ElementList) (edits : List (Option Edit)) (records : Records) (next : NextOperation) → AreElementsOf all edits records → is_update next.op ≡ false
     → Adds all all edits records next None
 adds_nothing all edits records next are asks = record {
   kept = λ n within. refl;
   longer = omega arith;
-  made = λ update makes. absurd (true≢false (sym ((an_operation_makes_one_update-exactly next.op).1 (update, makes)) ∙ asks));
+  made = λ update makes. absurd (true≢false (sym ((operation_update_unique-exactly next.op).1 (update, makes)) ∙ asks));
   makes = λ edit is. absurd (none-some edit is);
   known = λ edit is. absurd (none-some edit is);
   stamp = λ number is. absurd (none-some (PutsIn number) is);
@@ -147,23 +147,23 @@ adds_nothing all edits records next are asks = record {
   once = are.once;
   listed = (
     are.listed.0,
-    ap (state_after variant.Rga) (an_operation_puts_its_update_among_all-query variant.Rga records next asks) ∙ are.listed.1,
+    ap (state_after variant.Rga) (operation_inserts_among_all-query variant.Rga records next asks) ∙ are.listed.1,
     are.listed.2,
   );
 }
 
--- where the updates are admitted they lead to a list
+-- admitted updates lead to a list
 pub leads_to_list : (us : List Update) (s : State) → state_after variant.Rga us ≡ Some s → (list : List (ℕ × Bool)) × (state_after variant.Rga us ≡ Some (Listed list))
 leads_to_list us (Listed list) led = (list, led)
-leads_to_list us (Number n) led = absurd (let e = states_are_of_their_kind variant.Rga us (Number n) led in cc (e))
-leads_to_list us (Written last) led = absurd (let e = states_are_of_their_kind variant.Rga us (Written last) led in cc (e))
-leads_to_list us (Members xs) led = absurd (let e = states_are_of_their_kind variant.Rga us (Members xs) led in cc (e))
-leads_to_list us (Pairs pairs) led = absurd (let e = states_are_of_their_kind variant.Rga us (Pairs pairs) led in cc (e))
+leads_to_list us (Number n) led = absurd (let e = state_kind variant.Rga us (Number n) led in cc (e))
+leads_to_list us (Written last) led = absurd (let e = state_kind variant.Rga us (Written last) led in cc (e))
+leads_to_list us (Members xs) led = absurd (let e = state_kind variant.Rga us (Members xs) led in cc (e))
+leads_to_list us (Pairs pairs) led = absurd (let e = state_kind variant.Rga us (Pairs pairs) led in cc (e))
 
 pub list_after : (records : Records) → updates_admitted variant.Rga (named_sequence variant.Rga records) ≡ true
     → (list : List (ℕ × Bool)) × (state_after variant.Rga (updates_of (named_sequence variant.Rga records)) ≡ Some (Listed list))
 list_after records admitted =
-    let (s, led) = (updates_admitted_where_they_lead_to_a_state variant.Rga (named_sequence variant.Rga records)).0 admitted in
+    let (s, led) = (updates_admitted_iff_state variant.Rga (named_sequence variant.Rga records)).0 admitted in
     leads_to_list (updates_of (named_sequence variant.Rga records)) s led
 
 elements_stay : (x : ℕ) (list : List (ℕ × Bool)) → elements_in (hide x list) ≡ elements_in list
@@ -171,14 +171,14 @@ elements_stay x [] = refl
 elements_stay x (entry ∷ list) = ap (λ xs. entry.0 ∷ xs) (elements_stay x list)
 
 -- a label that removes an element
-pub adds_removal : (all : ElementList) (edits : List (Option Edit)) (records : Records) (next : Next) (number : ℕ) → AreElementsOf all edits records
-    → Makes next.op (RgaRemove (element_at all.arrivals number)) → number < length all.arrivals → next.clock ≡ None
+pub adds_removal : (all : ElementList) (edits : List (Option Edit)) (records : Records) (next : NextOperation) (number : ℕ) → AreElementsOf all edits records
+    → HasUpdate next.op (RgaRemove (element_at all.arrivals number)) → number < length all.arrivals → next.clock ≡ None
     → updates_admitted variant.Rga (named_sequence variant.Rga (operate next ∷ records)) ≡ true → Adds all all edits records next (Some (Removes number))
 adds_removal all edits records next number are removes within unclocked admitted = record {
   kept = λ n within. refl;
   longer = omega arith;
-  made = λ update makes. (Removes number, refl, an_operation_makes_one_update-one next.op (RgaRemove (element_at all.arrivals number)) update removes makes);
-  makes = λ edit is. subst (λ d. Makes next.op (update_of all.arrivals d)) (same_Some (Removes number) edit is) removes;
+  made = λ update makes. (Removes number, refl, operation_update_unique-one next.op (RgaRemove (element_at all.arrivals number)) update removes makes);
+  makes = λ edit is. subst (λ d. HasUpdate next.op (update_of all.arrivals d)) (same_Some (Removes number) edit is) removes;
   known = λ edit is. subst (λ d. number_of d < length all.arrivals) (same_Some (Removes number) edit is) within;
   stamp = λ other is. absurd (cc (is));
   unstamped = λ other is. ap (option_map (stamp_at next.by)) unclocked;
@@ -187,6 +187,6 @@ adds_removal all edits records next number are removes within unclocked admitted
   once = are.once;
   listed =
       let (list, led) = list_after (operate next ∷ records) admitted in
-      let hidden = a_new_label_in_the_list_of_all-removal records next (element_at all.arrivals number) are.listed.0 list removes are.listed.1 led in
+      let hidden = new_label_in_full_list-removal records next (element_at all.arrivals number) are.listed.0 list removes are.listed.1 led in
       (list, led, ap elements_in hidden ∙ elements_stay (element_at all.arrivals number) are.listed.0 ∙ are.listed.2);
 }

@@ -1,4 +1,4 @@
--- Labels at their numbers, and what they do.
+-- Lemmas on labels at their numbers, and on their updates.
 use Rattle.std.proofs.Common.{◌≡◌, ℕ, ◌<◌, Bool, true, false, cond, List, [], ◌∷◌, ◌++◌, map, length, reverse, get_or, Option, Some, None, refl, sym, ap, ◌∙◌, subst, inl, inr, append_assoc, arith}
 use Rattle.std.specs.Prelude.{◌==◌, Contains, is_some}
 use Rattle.std.specs.Option.{option_map_or}
@@ -18,15 +18,15 @@ use Rattle.ra_labels.specs.Records.{Records, label_count, label_at, labels_of, n
 use Rattle.ra_labels.specs.Visibility.{is_update, is_update_at}
 use Rattle.ra_labels.specs.Rewriting.{Half, Act, Does, Asks, acts_of, update_of}
 use Rattle.ra_labels.specs.NamedOrder.{named_labels}
-use Rattle.ra_labels.specs.Insertion.{Makes}
+use Rattle.ra_labels.specs.Insertion.{HasUpdate}
 use Rattle.ra_labels.proofs.Members.{at_head, behind_head}
 use Rattle.ra_labels.proofs.Counted.{labels_counted}
-use Rattle.ra_labels.specs.Situation.{Next, next_of, operate, label_of}
-use Rattle.ra_laws.proofs.TheLaws.{had_updates-there, update_where_a_part_is_one, named_labels_are_sorted-same}
+use Rattle.ra_labels.specs.HistorySoFar.{NextOperation, next_operation, operate, label_of}
+use Rattle.ra_theorems.proofs.TheoremIndex.{delivered_are_updates-there, update_iff_part_is_update, named_labels_sorted-same}
 use Rattle.ra_witness.specs.Labels.{updates_in, head_of, update_in, updates_by_number}
 use Rattle.ra_witness.specs.States.{update_at}
 
--- the first update of acts is made
+-- one of the acts does the update
 abbrev IsMade : List (Half × Act) → Update → Type 0
 IsMade acts u = (half : Half) × Contains acts (half, Does u)
 
@@ -37,7 +37,7 @@ first_made ((half, Does v) ∷ acts) u is =
 first_made ((half, Asks query) ∷ acts) u is =
     let rest = first_made acts u is in (rest.0, behind_head (half, Asks query) acts (rest.0, Does u) rest.1)
 
-pub makes_it : (op : Op) (u : Update) → update_in op ≡ Some u → Makes op u
+pub makes_it : (op : Op) (u : Update) → update_in op ≡ Some u → HasUpdate op u
 makes_it op u is = first_made (acts_of op) u is
 
 none_made : (acts : List (Half × Act)) → head_of (updates_in acts) ≡ None → list_any (λ (act : Half × Act). is_some (update_of act.1)) acts ≡ false
@@ -46,7 +46,7 @@ none_made ((half, Does v) ∷ acts) is = absurd (none-some v (sym is))
 none_made ((half, Asks query) ∷ acts) is = none_made acts is
 
 pub makes_none : (op : Op) → update_in op ≡ None → is_update op ≡ false
-makes_none op is = update_where_a_part_is_one op ∙ none_made (acts_of op) is
+makes_none op is = update_iff_part_is_update op ∙ none_made (acts_of op) is
 
 any_made : (acts : List (Half × Act)) (u : Update) → head_of (updates_in acts) ≡ Some u → list_any (λ (act : Half × Act). is_some (update_of act.1)) acts ≡ true
 any_made [] u is = absurd (none-some u is)
@@ -54,7 +54,7 @@ any_made ((half, Does v) ∷ acts) u is = refl
 any_made ((half, Asks query) ∷ acts) u is = any_made acts u is
 
 pub makes_some : (op : Op) (u : Update) → update_in op ≡ Some u → is_update op ≡ true
-makes_some op u is = update_where_a_part_is_one op ∙ any_made (acts_of op) u is
+makes_some op u is = update_iff_part_is_update op ∙ any_made (acts_of op) u is
 
 counted_in_turn : (records : Records) → length (reverse (labels_of records)) ≡ label_count records
 counted_in_turn records = length-reverse (labels_of records) ∙ labels_counted records
@@ -65,14 +65,14 @@ done_by label = update_in label.op
 pub updates_counted : (records : Records) → length (updates_by_number records) ≡ label_count records
 updates_counted records = length-map (reverse (labels_of records)) done_by ∙ counted_in_turn records
 
--- what the newest label does stands behind
-pub updates_more : (records : Records) (next : Next)
+-- the update of the newest label is appended
+pub updates_more : (records : Records) (next : NextOperation)
     → updates_by_number (operate next ∷ records) ≡ updates_by_number records ++ update_in next.op ∷ []
 updates_more records next =
     let label = label_of records next in
     ap (map done_by) (reverse-cons label (labels_of records)) ∙ map-append done_by (reverse (labels_of records)) (label ∷ [])
 
--- label n is there, an update, and what it does is found at its number
+-- label n exists and is an update, which is found at its number
 pub record IsUpdateAt (records : Records) (n : ℕ) (label : Label) : Type 0 where
   pub there : Contains (labels_of records) label
   pub number : label.number ≡ n
@@ -96,7 +96,7 @@ update_found (Operate by op clock ∷ before) n is =
           number = same;
           update = its_update before n label (sym same) true (eq-eqb (label_count before) n same) refl is;
           found =
-              ap (λ us. get_or us n None) (updates_more before (next_of by op clock))
+              ap (λ us. get_or us n None) (updates_more before (next_operation by op clock))
               ∙ get_or_at (updates_by_number before) (update_in op) [] None n (updates_counted before ∙ same);
         },
       )
@@ -104,14 +104,14 @@ update_found (Operate by op clock ∷ before) n is =
           let older : is_update_at before n ≡ true =
           sym (ap (λ c. option_map_or (λ (l : Label). is_update l.op) (cond c (Some label) (label_at before n)) false) (ne_eqb (label_count before) n other)) ∙ is in
           let (l, at) = update_found before n older in
-          let below : n < length (updates_by_number before) = omega (arith, updates_counted before, had_updates-there before n older) in (
+          let below : n < length (updates_by_number before) = omega (arith, updates_counted before, delivered_are_updates-there before n older) in (
             l,
             record {
               there = behind_head label (labels_of before) l at.there;
               number = at.number;
               update = at.update;
               found =
-                  ap (λ us. get_or us n None) (updates_more before (next_of by op clock))
+                  ap (λ us. get_or us n None) (updates_more before (next_operation by op clock))
                   ∙ get_or_append_left (updates_by_number before) (update_in op ∷ []) None n below
                   ∙ at.found;
             },
@@ -152,4 +152,4 @@ named_found kind records =
     let P = IsFoundIn (reverse (labels_of records)) in
     let in_turn = subst (λ (ls : List Label). AllByRecursion (IsFoundIn ls) (labels_of records)) (append-nil (reverse (labels_of records))) (found_in_turn records []) in
     recursion_from_All P (named_labels kind records)
-    (All-permutation P (labels_of records) (named_labels kind records) (named_labels_are_sorted-same kind records) (All-from_recursion P (labels_of records) in_turn))
+    (All-permutation P (labels_of records) (named_labels kind records) (named_labels_sorted-same kind records) (All-from_recursion P (labels_of records) in_turn))

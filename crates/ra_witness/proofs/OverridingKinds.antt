@@ -1,4 +1,4 @@
--- What is kept of a register and an LWW set with one label or delivery more.
+-- Lemmas on the maintained state of a register and an LWW set after one more label or delivery.
 use Rattle.std.proofs.Common.{◌≡◌, ℕ, ◌<◌, ◌≤◌, ◌+◌, Bool, true, false, cond, List, ◌∷◌, length, Option, Some, None, refl, sym, ap, ◌∙◌, subst, inl, inr, arith}
 use Rattle.std.specs.Prelude.{nat_eq, vec_len, is_some, unwrap_or, option_map}
 use Rattle.std.specs.HashMap.{get, hash_map_len}
@@ -10,7 +10,7 @@ use Rattle.ra_labels.specs.declared.command.Command.TheVariants.{Deliver}
 use Rattle.ra_labels.specs.Records.{label_count, replica_count}
 use Rattle.ra_labels.specs.Visibility.{is_update_at}
 use Rattle.ra_labels.specs.Specification.{State}
-use Rattle.ra_labels.specs.Situation.{Past, past_of, past_with}
+use Rattle.ra_labels.specs.HistorySoFar.{History, history_of, history_with}
 use Rattle.ra_witness.specs.declared.overriding.written.Written.{Written}
 use Rattle.ra_witness.specs.declared.overriding.Overriding.{Overriding}
 use Rattle.ra_witness.specs.Labels.{update_in}
@@ -19,7 +19,7 @@ use Rattle.ra_witness.specs.Standing.{AreStatesOf}
 use Rattle.ra_witness.specs.ElementNumbers.{number_in, number_with, count_with}
 use Rattle.ra_witness.specs.Overriding.{updates_written, write_at, labels_in, last_label, counting, last_with}
 use Rattle.ra_witness.specs.Overridden.{AreWritesOf, AreLastOf, AreBelow}
-use Rattle.ra_witness.specs.Offered.{IsTold}
+use Rattle.ra_witness.specs.Offered.{IsDelivered}
 use Rattle.ra_witness.specs.Effects.{IsOverridingOf}
 use Rattle.ra_witness.proofs.NumberedLabels.{updates_counted, update_found, makes_it, makes_none}
 use Rattle.ra_witness.proofs.DoneUpdates.{its_write}
@@ -31,16 +31,16 @@ use Rattle.ra_witness.proofs.Range.{can_step}
 abbrev pub numbers_of : Overriding → ℕ → Option ℕ
 numbers_of kept = get nat_eq kept.numbers.numbers
 
--- there is a write for each label
-pub writes_counted : (kept : Overriding) (past : Past) → IsOverridingOf kept past → length kept.writes.items ≡ label_count past.records
+-- there is one entry of the writes for each label
+pub writes_counted : (kept : Overriding) (past : History) → IsOverridingOf kept past → length kept.writes.items ≡ label_count past.records
 writes_counted kept past stands =
     omega (arith, length-map kept.writes.items (option_map (λ (w : Written). w.update)), ap length stands.states.labels, updates_counted past.records)
 
-pub lasts_counted : (kept : Overriding) (past : Past) → IsOverridingOf kept past → length (labels_in kept.lasts.items) ≡ replica_count past.founders past.records
+pub lasts_counted : (kept : Overriding) (past : History) → IsOverridingOf kept past → length (labels_in kept.lasts.items) ≡ replica_count past.initial_replicas past.records
 lasts_counted kept past stands = length-map kept.lasts.items (λ last. last.labels.items) ∙ stands.replicas
 
--- a label that is told did something
-pub told_write : (kept : Overriding) (past : Past) (n : ℕ) → IsOverridingOf kept past → is_update_at past.records n ≡ true
+-- a delivered label has a write
+pub told_write : (kept : Overriding) (past : History) (n : ℕ) → IsOverridingOf kept past → is_update_at past.records n ≡ true
     → (write : Written) × (write_at kept.writes.items n ≡ Some write)
 told_write kept past n stands is =
     let (label, at) = update_found past.records n is in
@@ -52,7 +52,7 @@ told_write kept past n stands is =
     ] in
     made (update_in label.op) refl
 
-module _ (kept : Overriding) (past : Past) (stands : IsOverridingOf kept past) (to n : ℕ) (told : IsTold past to n)
+module _ (kept : Overriding) (past : History) (stands : IsOverridingOf kept past) (to n : ℕ) (told : IsDelivered past to n)
     (write : Written) (found : write_at kept.writes.items n ≡ Some write) where
   abbrev writes : List (Option Written)
   writes = kept.writes.items
@@ -66,8 +66,8 @@ module _ (kept : Overriding) (past : Past) (stands : IsOverridingOf kept past) (
   within : to < length lasts
   within = omega (arith, lasts_counted kept past stands, told.replica)
 
-  -- the states with the delivery
-  pub states_brought : AreStatesOf (updates_written writes) next_states (past_with past (Deliver to n))
+  -- the states after the delivery
+  pub states_brought : AreStatesOf (updates_written writes) next_states (history_with past (Deliver to n))
   states_brought = kept-overriding
       (record {
         of_two = stands.one;
@@ -83,12 +83,12 @@ module _ (kept : Overriding) (past : Past) (stands : IsOverridingOf kept past) (
 
   pub can_bring : label_count past.records ≤ 1048576 → CanStep (state_at kept.states.items to) (update_at (updates_written writes) (counting writes lasts to n write))
   can_bring few =
-      can_step (updates_written writes) kept.states.items (past_with past (Deliver to n)) to (update_at (updates_written writes) (counting writes lasts to n write)) states_brought
+      can_step (updates_written writes) kept.states.items (history_with past (Deliver to n)) to (update_at (updates_written writes) (counting writes lasts to n write)) states_brought
       (omega (arith, stands.states.replicas, told.replica)) few
 
   pub overriding_told : (new : Overriding) → new.writes ≡ kept.writes → new.numbers ≡ kept.numbers → vec_len new.lasts ≡ vec_len kept.lasts → new.states.items ≡ next_states
       → ((q c : ℕ) → last_label (labels_in new.lasts.items) q c ≡ last_with lasts to write.on (counting writes lasts to n write) q c)
-      → IsOverridingOf new (past_with past (Deliver to n))
+      → IsOverridingOf new (history_with past (Deliver to n))
   overriding_told new same_writes same_numbers same_count states says =
       let now = Deliver to n ∷ past.records in
       let its_writes : new.writes.items ≡ writes = ap (λ ws. ws.items) same_writes in
@@ -99,8 +99,8 @@ module _ (kept : Overriding) (past : Past) (stands : IsOverridingOf kept past) (
       record {
         one = stands.one;
         states =
-            subst (λ ws. AreStatesOf (updates_written ws) new.states.items (past_of past.kind past.founders now)) (sym its_writes)
-            (subst (λ ss. AreStatesOf (updates_written writes) ss (past_of past.kind past.founders now)) (sym states) states_brought);
+            subst (λ ws. AreStatesOf (updates_written ws) new.states.items (history_of past.kind past.initial_replicas now)) (sym its_writes)
+            (subst (λ ss. AreStatesOf (updates_written writes) ss (history_of past.kind past.initial_replicas now)) (sym states) states_brought);
         writes =
             subst (λ ws. AreWritesOf ws (numbers_of new) now) (sym its_writes)
             (subst (λ ns. AreWritesOf writes ns now) (sym its_numbers)
@@ -114,8 +114,8 @@ module _ (kept : Overriding) (past : Past) (stands : IsOverridingOf kept past) (
         few = subst (λ ns. hash_map_len ns.numbers ≤ label_count past.records) (sym same_numbers) stands.few;
       }
 
--- what is kept as it was
-pub overriding_same : (old new : Overriding) (past : Past) → IsOverridingOf old past
+-- the unchanged maintained state
+pub overriding_same : (old new : Overriding) (past : History) → IsOverridingOf old past
     → new.writes.items ≡ old.writes.items → new.states.items ≡ old.states.items → vec_len new.lasts ≡ vec_len old.lasts
     → ((q c : ℕ) → last_label (labels_in new.lasts.items) q c ≡ last_label (labels_in old.lasts.items) q c)
     → ((x : ℕ) → get nat_eq new.numbers.numbers x ≡ get nat_eq old.numbers.numbers x) → hash_map_len new.numbers.numbers ≡ hash_map_len old.numbers.numbers

@@ -1,4 +1,4 @@
--- The lists of replicas of an RGA, where one of them changes.
+-- Lemmas on the lists of an RGA's replicas, if one of them changes.
 use Rattle.std.proofs.Common.{◌≡◌, ℕ, zero, suc, ◌<◌, ◌≤◌, ◌+◌, true, List, [], ◌∷◌, ◌++◌, length, set, get_or, Option, Some, None, refl, sym, ap, ◌∙◌, subst, inl, inr, arith}
 use Rattle.std.specs.Prelude.{◌⊎◌, flat_map, Contains}
 use Rattle.std.specs.List.{slice_get}
@@ -16,14 +16,14 @@ use Rattle.ra_labels.specs.Visibility.{is_update_at}
 use Rattle.ra_labels.specs.Rewriting.{parts_of, updates_of}
 use Rattle.ra_labels.specs.Specification.{state_after}
 use Rattle.ra_labels.specs.NamedOrder.{named_labels}
-use Rattle.ra_labels.specs.Laws.{NoneHadBeyond}
-use Rattle.ra_labels.specs.Situation.{past_of, Next}
-use Rattle.ra_laws.proofs.TheLaws.{a_delivery_puts_its_update_in-order, a_new_replica_had_what_the_other_had-order}
-use Rattle.ra_element_list.specs.ElementList.{Arrival, ElementList}
-use Rattle.ra_replica_list.specs.declared.edit.Edit.{Edit}
-use Rattle.ra_replica_list.specs.Edits.{edit_at, AreElementsOf}
-use Rattle.ra_replica_list.specs.ReplicaList.{ReplicaList, IsListOf, settled_count}
-use Rattle.ra_replica_list.proofs.TheLaws.{a_list_stays_with_what_others_do-delivery, a_list_stays_with_what_others_do-join, a_new_replica_has_the_list_of_the_other}
+use Rattle.ra_labels.specs.TheoremTerms.{NoneDeliveredBeyond}
+use Rattle.ra_labels.specs.HistorySoFar.{history_of, NextOperation}
+use Rattle.ra_theorems.proofs.TheoremIndex.{delivery_extends_delivered-order, join_copies_delivered-order}
+use Rattle.ra_rga_elements.specs.ElementList.{Arrival, ElementList}
+use Rattle.ra_rga_replica.specs.declared.edit.Edit.{Edit}
+use Rattle.ra_rga_replica.specs.Edits.{edit_at, AreElementsOf}
+use Rattle.ra_rga_replica.specs.ReplicaList.{ReplicaList, IsListOf, settled_count}
+use Rattle.ra_rga_replica.proofs.TheoremIndex.{list_unchanged_by_others-delivery, list_unchanged_by_others-join, join_copies_list}
 use Rattle.ra_witness.specs.declared.rga.Rga.{Rga}
 use Rattle.ra_witness.specs.Labels.{update_in}
 use Rattle.ra_witness.specs.Rga.{IsRgaOf}
@@ -32,17 +32,17 @@ use Rattle.ra_witness.specs.Offered.{IsOffered, IsJoinedFrom}
 use Rattle.ra_witness.proofs.Forms.{its_replica}
 use Rattle.ra_witness.proofs.NumberedLabels.{update_found, makes_it, makes_none}
 
--- the list that is read at the next label's replica is that of the replica it comes at
-pub list_read : (rga : Rga) (founders : ℕ) (records : Records) (next : Next) (label : Label) (list : ReplicaList)
-    → IsRgaOf rga founders records → IsOffered (past_of variant.Rga founders records) next label
+-- the list that is read at the next label's replica is that of the issuing replica
+pub list_read : (rga : Rga) (initial_replicas : ℕ) (records : Records) (next : NextOperation) (label : Label) (list : ReplicaList)
+    → IsRgaOf rga initial_replicas records → IsOffered (history_of variant.Rga initial_replicas records) next label
     → list ≡ get_or rga.lists.items label.replica list → slice_get rga.lists.items next.by ≡ Some list
-list_read rga founders records next label list stands offered read =
-    let by = its_replica (past_of variant.Rga founders records) next label offered in
+list_read rga initial_replicas records next label list stands offered read =
+    let by = its_replica (history_of variant.Rga initial_replicas records) next label offered in
     sym (ap (slice_get rga.lists.items) by)
     ∙ slice_get_read rga.lists.items (length rga.lists.items) label.replica list refl
     (omega (arith, by, stands.replicas, offered.replica)) read
 
--- where one changed, each is that one or was there before
+-- after one element changed, each element is the new one or was there before
 one_changed : {A : Type 0} (xs : List A) (r q : ℕ) (new x : A) → r < length xs → slice_get (set xs r new) q ≡ Some x
     → ((q ≡ r) × (new ≡ x)) ⊎ ((¬ (q ≡ r)) × (slice_get xs q ≡ Some x))
 one_changed [] r q new x there is = absurd (omega (arith, there))
@@ -66,7 +66,7 @@ lists_with lists r new arrivals edits records there own others q list at = elim 
   | inr (other, was) ↦ others q list (λ e. other (sym e)) was
 ]
 
--- what the command settles, by the lists of its replica before and with it
+-- the number of updates that the command settles, from the lists of its replica before and after it
 pub settles_more : {before after : ReplicaList} {arrivals arrived : List Arrival} {edits edited : List (Option Edit)}
     {records : Records} {command : Command} {replica more : ℕ} → (was : IsListOf before arrivals edits records replica)
     → (is : IsListOf after arrived edited (command ∷ records) replica) → settled_count is ≡ settled_count was + more
@@ -79,7 +79,7 @@ settles_more was is count = record {
   count = count;
 }
 
--- at one more, each is that one or was there before
+-- after one element was appended, each element is the new one or was there before
 pushed_at : {A : Type 0} (xs : List A) (q : ℕ) (y x : A) → slice_get (xs ++ y ∷ []) q ≡ Some x
     → ((q < length xs) × (slice_get xs q ≡ Some x)) ⊎ ((q ≡ length xs) × (y ≡ x))
 pushed_at [] zero y x is = inr (refl, same_Some y x is)
@@ -97,21 +97,21 @@ lists_pushed lists new arrivals edits records each own q list at = elim (pushed_
   | inr (last, same) ↦ subst (λ x. IsListOf x arrivals edits records q) same (own q)
 ]
 
--- with the list of a replica that joins, a copy of that from which it joins
-lists_joined : (lists : List ReplicaList) (list : ReplicaList) (arrivals : List Arrival) (edits : List (Option Edit)) (founders : ℕ) (records : Records) (from : ℕ) → AreListsOf lists arrivals edits records
-    → length lists ≡ replica_count founders records → IsListOf list arrivals edits records from → NoneHadBeyond founders records
-    → AreListsOf (lists ++ list ∷ []) arrivals edits (Join (replica_count founders records) from ∷ records)
-lists_joined lists list arrivals edits founders records from each counted own beyond q other at =
-    let joined = replica_count founders records in
+-- the lists with that of a joining replica, a copy of its source's list
+lists_joined : (lists : List ReplicaList) (list : ReplicaList) (arrivals : List Arrival) (edits : List (Option Edit)) (initial_replicas : ℕ) (records : Records) (from : ℕ) → AreListsOf lists arrivals edits records
+    → length lists ≡ replica_count initial_replicas records → IsListOf list arrivals edits records from → NoneDeliveredBeyond initial_replicas records
+    → AreListsOf (lists ++ list ∷ []) arrivals edits (Join (replica_count initial_replicas records) from ∷ records)
+lists_joined lists list arrivals edits initial_replicas records from each counted own beyond q other at =
+    let joined = replica_count initial_replicas records in
     let now = Join joined from ∷ records in
     elim (pushed_at lists q list other at) [
-      | inl (there, was) ↦ a_list_stays_with_what_others_do-join other arrivals edits records q joined from (each q other was) (λ is. omega (arith, there, counted, is))
+      | inl (there, was) ↦ list_unchanged_by_others-join other arrivals edits records q joined from (each q other was) (λ is. omega (arith, there, counted, is))
       | inr (last, same) ↦
           subst (λ x. IsListOf x arrivals edits now q) same
-          (subst (λ (r : ℕ). IsListOf list arrivals edits now r) (sym (last ∙ counted)) (a_new_replica_has_the_list_of_the_other list arrivals edits founders records from beyond own))
+          (subst (λ (r : ℕ). IsListOf list arrivals edits now r) (sym (last ∙ counted)) (join_copies_list list arrivals edits initial_replicas records from beyond own))
     ]
 
--- the elements stay with later records of the same labels in the same order
+-- later records with the same labels in the same order leave the elements unchanged
 elements_left : (all : ElementList) (edits : List (Option Edit)) (records now : Records) → label_count now ≡ label_count records → labels_of now ≡ labels_of records → named_labels variant.Rga now ≡ named_labels variant.Rga records
     → AreElementsOf all edits records → AreElementsOf all edits now
 elements_left all edits records now count labels order elements =
@@ -135,16 +135,16 @@ elements_left all edits records now count labels order elements =
       );
     }
 
--- so do they with a delivery, and with a replica that joins
+-- so does a delivery, and so does a join
 pub elements_told : (all : ElementList) (edits : List (Option Edit)) (records : Records) (to n : ℕ) → AreElementsOf all edits records → AreElementsOf all edits (Deliver to n ∷ records)
 elements_told all edits records to n elements =
-    elements_left all edits records (Deliver to n ∷ records) refl refl (a_delivery_puts_its_update_in-order variant.Rga records to n) elements
+    elements_left all edits records (Deliver to n ∷ records) refl refl (delivery_extends_delivered-order variant.Rga records to n) elements
 
 elements_joined : (all : ElementList) (edits : List (Option Edit)) (records : Records) (joined from : ℕ) → AreElementsOf all edits records → AreElementsOf all edits (Join joined from ∷ records)
 elements_joined all edits records joined from elements =
-    elements_left all edits records (Join joined from ∷ records) refl refl (a_new_replica_had_what_the_other_had-order variant.Rga records joined from) elements
+    elements_left all edits records (Join joined from ∷ records) refl refl (join_copies_delivered-order variant.Rga records joined from) elements
 
--- a label that is told did something
+-- a delivered label has an edit
 pub told_edit : (all : ElementList) (edits : List (Option Edit)) (records : Records) (n : ℕ) → AreElementsOf all edits records → is_update_at records n ≡ true
     → (edit : Edit) × (edit_at edits n ≡ Some edit)
 told_edit all edits records n elements is =
@@ -157,22 +157,22 @@ told_edit all edits records n elements is =
     ] in
     made (update_in label.op) refl
 
-module _ (rga : Rga) (founders : ℕ) (records : Records) (stands : IsRgaOf rga founders records) (r : ℕ) (new : ReplicaList) (there : r < length rga.lists.items) where
+module _ (rga : Rga) (initial_replicas : ℕ) (records : Records) (stands : IsRgaOf rga initial_replicas records) (r : ℕ) (new : ReplicaList) (there : r < length rga.lists.items) where
   abbrev changed : Rga
   changed = record { edits = rga.edits; all = rga.all; lists = with_item rga.lists r new }
 
-  -- with the delivery
-  pub rga_told : (n : ℕ) → IsListOf new rga.all.arrivals rga.edits.items (Deliver r n ∷ records) r → IsRgaOf changed founders (Deliver r n ∷ records)
+  -- the state after the delivery
+  pub rga_told : (n : ℕ) → IsListOf new rga.all.arrivals rga.edits.items (Deliver r n ∷ records) r → IsRgaOf changed initial_replicas (Deliver r n ∷ records)
   rga_told n own = record {
     elements = elements_told rga.all rga.edits.items records r n stands.elements;
     replicas = length-set rga.lists.items r new ∙ stands.replicas;
     lists = lists_with rga.lists.items r new rga.all.arrivals rga.edits.items (Deliver r n ∷ records) there own
-        (λ q list other at. a_list_stays_with_what_others_do-delivery list rga.all rga.edits.items records q r n stands.elements (stands.lists q list at) other);
+        (λ q list other at. list_unchanged_by_others-delivery list rga.all rga.edits.items records q r n stands.elements (stands.lists q list at) other);
     few = stands.few;
   }
 
-  -- as it was
-  pub rga_same : IsListOf new rga.all.arrivals rga.edits.items records r → IsRgaOf changed founders records
+  -- the unchanged state
+  pub rga_same : IsListOf new rga.all.arrivals rga.edits.items records r → IsRgaOf changed initial_replicas records
   rga_same own = record {
     elements = stands.elements;
     replicas = length-set rga.lists.items r new ∙ stands.replicas;
@@ -180,22 +180,22 @@ module _ (rga : Rga) (founders : ℕ) (records : Records) (stands : IsRgaOf rga 
     few = stands.few;
   }
 
--- with a replica that joins
-pub rga_joined : (old new : Rga) (founders : ℕ) (records : Records) (from : ℕ) (list : ReplicaList) → IsRgaOf old founders records → IsJoinedFrom (past_of variant.Rga founders records) from → slice_get old.lists.items from ≡ Some list
-    → new.edits ≡ old.edits → new.all ≡ old.all → new.lists.items ≡ old.lists.items ++ list ∷ [] → IsRgaOf new founders (Join (replica_count founders records) from ∷ records)
-rga_joined old new founders records from list stands joins at edits all lists =
-    let now = Join (replica_count founders records) from ∷ records in
+-- the state after a replica joins
+pub rga_joined : (old new : Rga) (initial_replicas : ℕ) (records : Records) (from : ℕ) (list : ReplicaList) → IsRgaOf old initial_replicas records → IsJoinedFrom (history_of variant.Rga initial_replicas records) from → slice_get old.lists.items from ≡ Some list
+    → new.edits ≡ old.edits → new.all ≡ old.all → new.lists.items ≡ old.lists.items ++ list ∷ [] → IsRgaOf new initial_replicas (Join (replica_count initial_replicas records) from ∷ records)
+rga_joined old new initial_replicas records from list stands joins at edits all lists =
+    let now = Join (replica_count initial_replicas records) from ∷ records in
     let same_edits : old.edits.items ≡ new.edits.items = sym (ap (λ ds. ds.items) edits) in
     let same_arrivals : old.all.arrivals ≡ new.all.arrivals = sym (ap (λ (es : ElementList). es.arrivals) all) in
     record {
       elements =
           subst (λ ds. AreElementsOf new.all ds now) same_edits
-          (subst (λ es. AreElementsOf es old.edits.items now) (sym all) (elements_joined old.all old.edits.items records (replica_count founders records) from stands.elements));
+          (subst (λ es. AreElementsOf es old.edits.items now) (sym all) (elements_joined old.all old.edits.items records (replica_count initial_replicas records) from stands.elements));
       replicas = omega (arith, ap length lists, length-append old.lists.items (list ∷ []), stands.replicas);
       lists =
           subst (λ ls. AreListsOf ls new.all.arrivals new.edits.items now) (sym lists)
           (subst (λ ds. AreListsOf (old.lists.items ++ list ∷ []) new.all.arrivals ds now) same_edits
           (subst (λ rs. AreListsOf (old.lists.items ++ list ∷ []) rs old.edits.items now) same_arrivals
-          (lists_joined old.lists.items list old.all.arrivals old.edits.items founders records from stands.lists stands.replicas (stands.lists from list at) joins.beyond)));
+          (lists_joined old.lists.items list old.all.arrivals old.edits.items initial_replicas records from stands.lists stands.replicas (stands.lists from list at) joins.beyond)));
       few = subst (λ rs. length rs ≤ label_count records + 1) same_arrivals stands.few;
     }

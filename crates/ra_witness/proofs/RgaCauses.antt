@@ -1,4 +1,4 @@
--- Why a label of an RGA fails that fits.
+-- Lemmas on the cause at a label of an RGA that fits.
 use Rattle.std.proofs.Common.{◌≡◌, ℕ, Bool, true, false, cond, ◌∷◌, Option, Some, None, refl, sym, ap, ◌∙◌}
 use Rattle.std.specs.Prelude.{◌↔◌, not}
 use Rattle.ra_labels.specs.declared.kind.Kind.TheVariants as variant
@@ -14,15 +14,15 @@ use Rattle.ra_labels.specs.NamedOrder.{named_sequence}
 use Rattle.ra_labels.specs.Linearization.{updates_admitted}
 use Rattle.ra_labels.specs.Fault.{cause_of}
 use Rattle.ra_labels.specs.Answer.{kind_of}
-use Rattle.ra_labels.specs.Insertion.{updates_had}
+use Rattle.ra_labels.specs.Insertion.{delivered_updates}
 use Rattle.ra_labels.proofs.InLists.{bool_same}
-use Rattle.ra_labels.specs.Situation.{past_of, Next, operate}
-use Rattle.ra_laws.proofs.TheLaws.{an_operation_puts_its_update_among_all-query}
+use Rattle.ra_labels.specs.HistorySoFar.{history_of, NextOperation, operate}
+use Rattle.ra_theorems.proofs.TheoremIndex.{operation_inserts_among_all-query}
 use Rattle.ra_witness.specs.Labels.{cause_in}
 use Rattle.ra_witness.specs.Offered.{IsOffered}
 use Rattle.ra_witness.proofs.Causes.{cause_where_it_fits}
 
--- what neither puts in nor removes asks
+-- an operation that neither inserts nor removes is not an update
 pub asks_only : (operation : Op) → ((a x : ℕ) → ¬ (operation ≡ ops.After a x)) → ((x : ℕ) → ¬ (operation ≡ ops.RgaRemove x)) → kind_of operation ≡ variant.Rga
     → is_update operation ≡ false
 asks_only ops.Inc after removes of = absurd (cc (of))
@@ -44,21 +44,21 @@ either_cause : (a b : Bool) → b ≡ a → cond b None (Some cause.Update) ≡ 
 either_cause true b same = ap (λ c. cond c None (Some cause.Update)) same
 either_cause false b same = ap (λ c. cond c None (Some cause.Update)) same
 
-module _ (founders : ℕ) (records : Records) (next : Next) (label : Label) (offered : IsOffered (past_of variant.Rga founders records) next label) where
+module _ (initial_replicas : ℕ) (records : Records) (next : NextOperation) (label : Label) (offered : IsOffered (history_of variant.Rga initial_replicas records) next label) where
   abbrev now : Records
   now = operate next ∷ records
 
   pub query_admitted : is_update next.op ≡ false → updates_admitted variant.Rga (named_sequence variant.Rga now) ≡ true
-  query_admitted asks = ap (is_admitted variant.Rga) (an_operation_puts_its_update_among_all-query variant.Rga records next asks) ∙ offered.holds.updates
+  query_admitted asks = ap (is_admitted variant.Rga) (operation_inserts_among_all-query variant.Rga records next asks) ∙ offered.holds.updates
 
-  pub query_cause : is_update next.op ≡ false → cause_in (state_after variant.Rga (updates_had variant.Rga records next.by)) (acts_of next.op) ≡ cause_of variant.Rga now
+  pub query_cause : is_update next.op ≡ false → cause_in (state_after variant.Rga (delivered_updates variant.Rga records next.by)) (acts_of next.op) ≡ cause_of variant.Rga now
   query_cause asks = sym (cause_where_it_fits variant.Rga records next true offered.holds offered.fits (query_admitted asks))
 
   pub update_cause : (b : Bool) → ((o : Option State) → cause_in o (acts_of next.op) ≡ None)
       → (b ≡ true) ↔ (updates_admitted variant.Rga (named_sequence variant.Rga now) ≡ true) → cond b None (Some cause.Update) ≡ cause_of variant.Rga now
   update_cause b none exactly =
       let a = updates_admitted variant.Rga (named_sequence variant.Rga now) in
-      let o = state_after variant.Rga (updates_had variant.Rga records next.by) in
+      let o = state_after variant.Rga (delivered_updates variant.Rga records next.by) in
       either_cause a b (bool_same b a exactly.0 exactly.1)
       ∙ ap (λ c. cond (not a) (Some cause.Update) c) (sym (none o))
       ∙ sym (cause_where_it_fits variant.Rga records next a offered.holds offered.fits refl)

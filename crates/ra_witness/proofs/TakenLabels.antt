@@ -1,4 +1,4 @@
--- The writes and the last labels, with one more label.
+-- Lemmas on the writes and the last labels after one more label.
 use Rattle.std.proofs.Common.{◌≡◌, ℕ, zero, suc, ◌+◌, ◌<◌, Bool, true, false, cond, List, [], ◌∷◌, ◌++◌, length, Option, Some, None, refl, sym, ap, ◌∙◌, subst, inl, inr, arith}
 use Rattle.std.specs.Prelude.{◌⊎◌, ◌==◌, ◌&&◌, ◌||◌, Contains, option_map, unwrap_or}
 use Rattle.std.proofs.lemmas.Bool.{cases_lt, cases_eq, cases_Bool, eq-eqb, ne_eqb, and_from, or_left, or_right}
@@ -8,14 +8,14 @@ use Rattle.ra_labels.specs.declared.kind.Kind.{Kind}
 use Rattle.ra_labels.specs.declared.label.Stamp.{Stamp}
 use Rattle.ra_labels.specs.declared.label.Label.{Label}
 use Rattle.ra_labels.specs.Records.{Records, label_count, labels_of}
-use Rattle.ra_labels.specs.Visibility.{is_update, had, sees}
+use Rattle.ra_labels.specs.Visibility.{is_update, has_delivered, sees}
 use Rattle.ra_labels.specs.Linearization.{extends_visibility}
 use Rattle.ra_labels.specs.NamedOrder.{rank_of, named_sequence}
-use Rattle.ra_labels.specs.Laws.{IsStampBelow, StampsAreOneLabels}
-use Rattle.ra_labels.specs.Situation.{Next, operate, label_of}
+use Rattle.ra_labels.specs.TheoremTerms.{IsStampBelow, StampsAreUnique}
+use Rattle.ra_labels.specs.HistorySoFar.{NextOperation, operate, label_of}
 use Rattle.ra_labels.proofs.Members.{head_or_behind, at_head, behind_head}
 use Rattle.ra_labels.proofs.StampOrder.{below_else}
-use Rattle.ra_laws.proofs.TheLaws.{each_number_has_its_label-found, each_number_has_its_label-none, visibility_is_extended_where_ranks_say_so, a_timestamp_is_the_greatest_seen-own, had_updates-updates, had_updates-there}
+use Rattle.ra_theorems.proofs.TheoremIndex.{label_at_each_number-found, label_at_each_number-none, extends_visibility_iff_ranks, timestamp_is_greatest_seen-own, delivered_are_updates-updates, delivered_are_updates-there}
 use Rattle.ra_visibility.specs.Order.{IsByTimestamp}
 use Rattle.ra_witness.specs.declared.overriding.written.Written.{Written}
 use Rattle.ra_witness.specs.Labels.{updates_by_number}
@@ -28,15 +28,15 @@ use Rattle.ra_witness.proofs.NumberedLabels.{updates_counted, makes_some}
 pub label_below : (records : Records) (label : Label) → Contains (labels_of records) label → label.number < label_count records
 label_below records label there = elim (cases_lt label.number (label_count records)) [
   | inl below ↦ below
-  | inr past ↦ absurd (none-some label (sym (each_number_has_its_label-none records label.number past) ∙ each_number_has_its_label-found records label there))
+  | inr past ↦ absurd (none-some label (sym (label_at_each_number-none records label.number past) ∙ label_at_each_number-found records label there))
 ]
 
--- as many writes as labels
+-- the number of writes is the number of labels
 writes_counted : (writes : List (Option Written)) (records : Records) → updates_written writes ≡ updates_by_number records → length writes ≡ label_count records
 writes_counted writes records kept =
     sym (length-map writes (option_map (λ (w : Written). w.update))) ∙ ap length kept ∙ updates_counted records
 
-module _ (writes : List (Option Written)) (records : Records) (next : Next) (o : Option Written) (kept : updates_written writes ≡ updates_by_number records) where
+module _ (writes : List (Option Written)) (records : Records) (next : NextOperation) (o : Option Written) (kept : updates_written writes ≡ updates_by_number records) where
   abbrev now : Records
   now = operate next ∷ records
 
@@ -52,36 +52,36 @@ module _ (writes : List (Option Written)) (records : Records) (next : Next) (o :
   at_new : write_at longer (label_count records) ≡ o
   at_new = get_or_at writes o [] None (label_count records) (writes_counted writes records kept)
 
-  had_still : (q m : ℕ) → had records q m ≡ true → had now q m ≡ true
-  had_still q m h = or_right (next.by == q && m == label_count records && is_update next.op) (had records q m) h
+  had_still : (q m : ℕ) → has_delivered records q m ≡ true → has_delivered now q m ≡ true
+  had_still q m h = or_right (next.by == q && m == label_count records && is_update next.op) (has_delivered records q m) h
 
-  -- of the older labels replicas had the same
-  had_was : (q m : ℕ) → m < label_count records → had now q m ≡ true → had records q m ≡ true
+  -- the same earlier labels were delivered to the replicas as before
+  had_was : (q m : ℕ) → m < label_count records → has_delivered now q m ≡ true → has_delivered records q m ≡ true
   had_was q m below h = elim (cases_Bool (next.by == q)) [
-    | inl same ↦ sym (ap (λ b. (b && is_update next.op) || had records q m) (ap (λ b. b && m == label_count records) same ∙ ne_eqb m (label_count records) (λ e. absurd (omega (arith, e, below))))) ∙ h
-    | inr differ ↦ sym (ap (λ b. (b && m == label_count records && is_update next.op) || had records q m) differ) ∙ h
+    | inl same ↦ sym (ap (λ b. (b && is_update next.op) || has_delivered records q m) (ap (λ b. b && m == label_count records) same ∙ ne_eqb m (label_count records) (λ e. absurd (omega (arith, e, below))))) ∙ h
+    | inr differ ↦ sym (ap (λ b. (b && m == label_count records && is_update next.op) || has_delivered records q m) differ) ∙ h
   ]
 
-  had_new_only : (q : ℕ) → had now q (label_count records) ≡ true → (q ≡ next.by) × (is_update next.op ≡ true)
+  had_new_only : (q : ℕ) → has_delivered now q (label_count records) ≡ true → (q ≡ next.by) × (is_update next.op ≡ true)
   had_new_only q h = elim (cases_eq next.by q) [
     | inl same ↦ (
       sym same,
       elim (cases_Bool (is_update next.op)) [
         | inl is ↦ is
-        | inr none ↦ absurd (not_old q (sym (ap (λ b. (next.by == q && label_count records == label_count records && b) || had records q (label_count records)) none ∙ ap (λ b. b || had records q (label_count records)) (and_false (next.by == q && label_count records == label_count records))) ∙ h))
+        | inr none ↦ absurd (not_old q (sym (ap (λ b. (next.by == q && label_count records == label_count records && b) || has_delivered records q (label_count records)) none ∙ ap (λ b. b || has_delivered records q (label_count records)) (and_false (next.by == q && label_count records == label_count records))) ∙ h))
       ],
     )
-    | inr differ ↦ absurd (not_old q (sym (ap (λ b. (b && label_count records == label_count records && is_update next.op) || had records q (label_count records)) (ne_eqb next.by q differ)) ∙ h))
+    | inr differ ↦ absurd (not_old q (sym (ap (λ b. (b && label_count records == label_count records && is_update next.op) || has_delivered records q (label_count records)) (ne_eqb next.by q differ)) ∙ h))
   ]
     where
       and_false : (b : Bool) → b && false ≡ false
       and_false true = refl
       and_false false = refl
 
-      not_old : (r : ℕ) → ¬ (had records r (label_count records) ≡ true)
-      not_old r old = let there = had_updates-there records (label_count records) (had_updates-updates records r (label_count records) old) in omega (arith, there)
+      not_old : (r : ℕ) → ¬ (has_delivered records r (label_count records) ≡ true)
+      not_old r old = let there = delivered_are_updates-there records (label_count records) (delivered_are_updates-updates records r (label_count records) old) in omega (arith, there)
 
-  -- an older label on an element is as before
+  -- an earlier last label on an element stays the last one
   last_still : (q c k : ℕ) → ((w : Written) → o ≡ Some w → q ≡ next.by → ¬ (w.on ≡ c)) → IsLastOn writes records q c k → IsLastOn longer now q c k
   last_still q c k elsewhere on_it =
       let below = label_below records on_it.label on_it.there in
@@ -98,7 +98,7 @@ module _ (writes : List (Option Written)) (records : Records) (next : Next) (o :
           | inl newest ↦
               let is_new : other.number ≡ label_count records = ap (λ (l : Label). l.number) (sym newest) in
               let its : o ≡ Some lesser = sym at_new ∙ ap (write_at longer) (sym is_new) ∙ at in
-              absurd (elsewhere lesser its (had_new_only q (ap (had now q) (sym is_new) ∙ h)).0 on)
+              absurd (elsewhere lesser its (had_new_only q (ap (has_delivered now q) (sym is_new) ∙ h)).0 on)
           | inr old ↦
               let within = label_below records other old in
               on_it.above other lesser old (had_was q other.number within h) (sym (at_old other.number within) ∙ at) on
@@ -110,14 +110,14 @@ module _ (writes : List (Option Written)) (records : Records) (next : Next) (o :
     | inl newest ↦
         let is_new : l.number ≡ label_count records = ap (λ (m : Label). m.number) (sym newest) in
         let its : o ≡ Some w = sym at_new ∙ ap (write_at longer) (sym is_new) ∙ at in
-        elsewhere w its (had_new_only q (ap (had now q) (sym is_new) ∙ h)).0 on
+        elsewhere w its (had_new_only q (ap (has_delivered now q) (sym is_new) ∙ h)).0 on
     | inr old ↦
         let within = label_below records l old in
         none l w old (had_was q l.number within h) (sym (at_old l.number within) ∙ at) on
   ]
 
--- a query leaves what is kept
-pub writes-query : (writes : List (Option Written)) (number_of : ℕ → Option ℕ) (records : Records) (next : Next)
+-- a query leaves the writes unchanged
+pub writes-query : (writes : List (Option Written)) (number_of : ℕ → Option ℕ) (records : Records) (next : NextOperation)
     → updates_written writes ≡ updates_by_number records → AreWritesOf writes number_of records → AreWritesOf (writes ++ None ∷ []) number_of (operate next ∷ records)
 writes-query writes number_of records next kept are = record {
   stamps = λ l w there at. elim (head_or_behind (label_of records next) (labels_of records) l there) [
@@ -134,7 +134,7 @@ writes-query writes number_of records next kept are = record {
     pushed_none (x ∷ ws) zero w at = at
     pushed_none (x ∷ ws) (suc n) w at = pushed_none ws n w at
 
-pub lasts-query : (writes : List (Option Written)) (lasts : List (List (Option ℕ))) (records : Records) (next : Next)
+pub lasts-query : (writes : List (Option Written)) (lasts : List (List (Option ℕ))) (records : Records) (next : NextOperation)
     → updates_written writes ≡ updates_by_number records → AreLastOf writes lasts records → AreLastOf (writes ++ None ∷ []) lasts (operate next ∷ records)
 lasts-query writes lasts records next kept last = record {
   some = λ q c k below is. last_still writes records next None kept q c k (λ w none. absurd (none-some w none)) (last.some q c k below is);
@@ -153,7 +153,7 @@ module _ (number_of : ℕ → Option ℕ) (count : ℕ) (e : Option ℕ) (one : 
   known_in : (x : ℕ) → e ≡ Some x → with_it x ≡ Some number
   known_in x is = ap (λ p. number_with number_of p number x) is ∙ ap (λ b. cond b (Some number) (number_of x)) (eq-eqb x x refl)
 
-  -- what was numbered keeps its number
+  -- a numbered element keeps its number
   number_kept : (y k : ℕ) → number_of y ≡ Some k → with_it y ≡ Some k
   number_kept y k is = by e refl
     where
@@ -177,7 +177,7 @@ module _ (number_of : ℕ → Option ℕ) (count : ℕ) (e : Option ℕ) (one : 
       by None none = subst (λ p. IsNumberOf with_it p number) (sym none) (ap (number_in number_of count) none)
       by (Some x) some = subst (λ p. IsNumberOf with_it p number) (sym some) (known_in x some)
 
-  -- where a number comes from
+  -- the origin of a number
   abbrev ComesFrom : ℕ → ℕ → Type 0
   ComesFrom y k = (number_of y ≡ Some k) ⊎ ((e ≡ Some y) × (number ≡ k) × (number_of y ≡ None) × (k ≡ count))
 
@@ -218,11 +218,11 @@ module _ (number_of : ℕ → Option ℕ) (count : ℕ) (e : Option ℕ) (one : 
     | inr new ↦ let at = new.3 in omega (arith, at)
   ]
 
--- an update that fits is above all that its replica had
-module _ (kind : Kind) (writes : List (Option Written)) (lasts : List (List (Option ℕ))) (number_of : ℕ → Option ℕ) (count : ℕ) (next : Next) (records : Records) (w : Written)
+-- the update of a label that fits has a greater stamp than all updates delivered to its replica
+module _ (kind : Kind) (writes : List (Option Written)) (lasts : List (List (Option ℕ))) (number_of : ℕ → Option ℕ) (count : ℕ) (next : NextOperation) (records : Records) (w : Written)
     (sorts : IsByTimestamp kind) (kept : updates_written writes ≡ updates_by_number records) (are : AreWritesOf writes number_of records) (below : AreBelow number_of count)
     (it : IsNextWrite w number_of count next) (extended : extends_visibility (operate next ∷ records) (named_sequence kind (operate next ∷ records)) ≡ true)
-    (once : StampsAreOneLabels (operate next ∷ records)) where
+    (once : StampsAreUnique (operate next ∷ records)) where
   abbrev now_t : Records
   now_t = operate next ∷ records
 
@@ -233,16 +233,16 @@ module _ (kind : Kind) (writes : List (Option Written)) (lasts : List (List (Opt
   writes_t = writes ++ Some w ∷ []
 
   its_rank : (l : Label) (s : Stamp) → l.stamp ≡ Some s → rank_of kind now_t l ≡ s
-  its_rank l s is = sorts now_t l ∙ a_timestamp_is_the_greatest_seen-own now_t l s is
+  its_rank l s is = sorts now_t l ∙ timestamp_is_greatest_seen-own now_t l s is
 
-  sees_it : (m : ℕ) → had records next.by m ≡ true → sees now_t (label_count records) m ≡ true
-  sees_it m h = ap (λ b. cond b (had records next.by m) (sees records (label_count records) m)) (eq-eqb (label_count records) (label_count records) refl) ∙ h
+  sees_it : (m : ℕ) → has_delivered records next.by m ≡ true → sees now_t (label_count records) m ≡ true
+  sees_it m h = ap (λ b. cond b (has_delivered records next.by m) (sees records (label_count records) m)) (eq-eqb (label_count records) (label_count records) refl) ∙ h
 
-  above_old : (other : Label) (v : Written) → Contains (labels_of records) other → had records next.by other.number ≡ true → write_at writes other.number ≡ Some v → IsStampBelow v.stamp w.stamp
+  above_old : (other : Label) (v : Written) → Contains (labels_of records) other → has_delivered records next.by other.number ≡ true → write_at writes other.number ≡ Some v → IsStampBelow v.stamp w.stamp
   above_old other v old h at =
       let its = are.stamps other v old at in
       let there = behind_head own (labels_of records) other old in
-      let not_above = (visibility_is_extended_where_ranks_say_so kind now_t).0 extended other own there (at_head own (labels_of records) own refl) (inl (sees_it other.number h)) in
+      let not_above = (extends_visibility_iff_ranks kind now_t).0 extended other own there (at_head own (labels_of records) own refl) (inl (sees_it other.number h)) in
       let not_below : ¬ IsStampBelow w.stamp v.stamp = λ h. not_above (subst (λ s. IsStampBelow s (rank_of kind now_t other)) (sym (its_rank own w.stamp it.stamp)) (subst (λ s. IsStampBelow w.stamp s) (sym (its_rank other v.stamp its)) h)) in
       below_else w.stamp v.stamp not_below (λ same.
       let one = once own other w.stamp (at_head own (labels_of records) own refl) there it.stamp (its ∙ ap Some (sym same)) in
@@ -253,8 +253,8 @@ module _ (kind : Kind) (writes : List (Option Written)) (lasts : List (List (Opt
   updates : is_update next.op ≡ true
   updates = makes_some next.op w.update it.update
 
-  had_own : had now_t next.by (label_count records) ≡ true
-  had_own = or_left (next.by == next.by && label_count records == label_count records && is_update next.op) (had records next.by (label_count records))
+  had_own : has_delivered now_t next.by (label_count records) ≡ true
+  had_own = or_left (next.by == next.by && label_count records == label_count records && is_update next.op) (has_delivered records next.by (label_count records))
       (and_from (next.by == next.by && label_count records == label_count records) (is_update next.op) (and_from (next.by == next.by) (label_count records == label_count records) (eq-eqb next.by next.by refl) (eq-eqb (label_count records) (label_count records) refl)) updates)
 
   own_last : IsLastOn writes_t now_t next.by w.on (label_count records)

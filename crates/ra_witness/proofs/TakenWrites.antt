@@ -1,4 +1,4 @@
--- What is kept of a register and an LWW set with one more label.
+-- Lemmas on the maintained state of a register and an LWW set after one more label.
 use Rattle.std.proofs.Common.{◌≡◌, ℕ, zero, suc, get_or, ◌≤◌, ◌+◌, List, [], ◌∷◌, ◌++◌, length, Option, Some, None, refl, sym, ap, ◌∙◌, subst, arith}
 use Rattle.std.specs.Prelude.{◌⊎◌, nat_eq, vec_len, option_map, pos, replicate}
 use Rattle.std.specs.HashMap.{get, hash_map_len}
@@ -10,8 +10,8 @@ use Rattle.ra_labels.specs.declared.operation.Update.{Update}
 use Rattle.ra_labels.specs.declared.label.Stamp.{Stamp}
 use Rattle.ra_labels.specs.declared.label.Label.{Label}
 use Rattle.ra_labels.specs.Records.{Records, label_count}
-use Rattle.ra_labels.specs.Specification.{Number, start_of}
-use Rattle.ra_labels.specs.Situation.{Past, past_of, Next, operate}
+use Rattle.ra_labels.specs.Specification.{Number, initial_state}
+use Rattle.ra_labels.specs.HistorySoFar.{History, history_of, NextOperation, operate}
 use Rattle.ra_witness.specs.declared.overriding.written.Written.{Written}
 use Rattle.ra_witness.specs.declared.overriding.Overriding.{Overriding}
 use Rattle.ra_witness.specs.Labels.{update_in}
@@ -34,12 +34,12 @@ done_by = option_map (λ written. written.update)
 more_updates : (writes : List (Option Written)) (o : Option Written) → updates_written (writes ++ o ∷ []) ≡ updates_written writes ++ done_by o ∷ []
 more_updates writes o = map-append done_by writes (o ∷ [])
 
-module _ (old new : Overriding) (past : Past) (next : Next) (label : Label)
+module _ (old new : Overriding) (past : History) (next : NextOperation) (label : Label)
     (stands : IsOverridingOf old past) (offered : IsOffered past next label) where
   abbrev now : Records
   now = operate next ∷ past.records
 
-  -- with a label that does something
+  -- after a label that is an update
   pub overriding_taken : (update : Update) (stamp : Stamp) → Some update ≡ update_in next.op → label.stamp ≡ Some stamp
       → new.writes.items ≡ old.writes.items ++ Some (write_of old.numbers update stamp) ∷ []
       → new.states.items ≡ states_after old.states.items label.replica (Some update)
@@ -47,7 +47,7 @@ module _ (old new : Overriding) (past : Past) (next : Next) (label : Label)
       ≡ last_with (labels_in old.lasts.items) label.replica (write_of old.numbers update stamp).on (vec_len old.writes) q c)
       → ((x : ℕ) → get nat_eq new.numbers.numbers x ≡ number_with (get nat_eq old.numbers.numbers) (element_of update) (write_of old.numbers update stamp).on x)
       → hash_map_len new.numbers.numbers ≡ count_with (get nat_eq old.numbers.numbers) (hash_map_len old.numbers.numbers) (element_of update)
-      → vec_len new.lasts ≡ vec_len old.lasts → IsOverridingOf new (past_of past.kind past.founders now)
+      → vec_len new.lasts ≡ vec_len old.lasts → IsOverridingOf new (history_of past.kind past.initial_replicas now)
   overriding_taken update stamp does stamped its_writes states says pointwise size same_count =
       let write = write_of old.numbers update stamp in
       let number_of = numbers_of old in
@@ -75,8 +75,8 @@ module _ (old new : Overriding) (past : Past) (next : Next) (label : Label)
       λ q c. says q c ∙ ap (λ r. last_with lasts r write.on (vec_len old.writes) q c) replica ∙ ap (λ k. last_with lasts next.by write.on k q c) counted in
       record {
         one = stands.one;
-        states = subst (λ us. AreStatesOf us new.states.items (past_of past.kind past.founders now)) (sym its_updates)
-            (subst (λ ss. AreStatesOf (updates_written old.writes.items ++ update_in next.op ∷ []) ss (past_of past.kind past.founders now)) (sym its_states) later);
+        states = subst (λ us. AreStatesOf us new.states.items (history_of past.kind past.initial_replicas now)) (sym its_updates)
+            (subst (λ ss. AreStatesOf (updates_written old.writes.items ++ update_in next.op ∷ []) ss (history_of past.kind past.initial_replicas now)) (sym its_states) later);
         writes = subst (λ ws. AreWritesOf ws (numbers_of new) now) (sym its_writes)
             (subst (λ ns. AreWritesOf (old.writes.items ++ Some write ∷ []) ns now) (sym its_numbers)
             (writes-update past.kind old.writes.items [] number_of count next past.records write sorts kept stands.writes stands.numbers it offered.fits offered.stamps));
@@ -89,8 +89,8 @@ module _ (old new : Overriding) (past : Past) (next : Next) (label : Label)
         few = omega (arith, size, count_grows number_of count (element_of update), stands.few);
       }
 
-  -- with a label that does nothing
-  pub overriding_asked : None ≡ update_in next.op → new.writes.items ≡ old.writes.items ++ None ∷ [] → new ≡ record old { writes = new.writes } → IsOverridingOf new (past_of past.kind past.founders now)
+  -- after a label that is not an update
+  pub overriding_asked : None ≡ update_in next.op → new.writes.items ≡ old.writes.items ++ None ∷ [] → new ≡ record old { writes = new.writes } → IsOverridingOf new (history_of past.kind past.initial_replicas now)
   overriding_asked does its_writes same =
       let later = states_taken (updates_written old.writes.items) old.states.items past stands.states next label (not_rga-overriding past.kind stands.one) offered in
       let kept = stands.states.labels in
@@ -103,8 +103,8 @@ module _ (old new : Overriding) (past : Past) (next : Next) (label : Label)
       let its_lasts = ap (λ (o : Overriding). o.lasts.items) same in
       record {
         one = stands.one;
-        states = subst (λ us. AreStatesOf us new.states.items (past_of past.kind past.founders now)) (sym its_updates)
-            (subst (λ ss. AreStatesOf (updates_written old.writes.items ++ update_in next.op ∷ []) ss (past_of past.kind past.founders now)) (sym its_states) later);
+        states = subst (λ us. AreStatesOf us new.states.items (history_of past.kind past.initial_replicas now)) (sym its_updates)
+            (subst (λ ss. AreStatesOf (updates_written old.writes.items ++ update_in next.op ∷ []) ss (history_of past.kind past.initial_replicas now)) (sym its_states) later);
         writes = subst (λ ws. AreWritesOf ws (numbers_of new) now) (sym its_writes)
             (subst (λ ns. AreWritesOf (old.writes.items ++ None ∷ []) (get nat_eq ns.numbers) now) (sym its_numbers)
             (writes-query old.writes.items (numbers_of old) past.records next kept stands.writes));
@@ -116,12 +116,12 @@ module _ (old new : Overriding) (past : Past) (next : Next) (label : Label)
         few = subst (λ ns. hash_map_len ns.numbers ≤ label_count past.records + 1) (sym its_numbers) (omega (arith, stands.few));
       }
 
--- of no records nothing is kept
-none_kept : (kind : Kind) (replicas : ℕ) → AreStatesOf [] (replicate replicas (start_of kind)) (past_of kind replicas [])
+-- the initial state represents the empty records
+none_kept : (kind : Kind) (replicas : ℕ) → AreStatesOf [] (replicate replicas (initial_state kind)) (history_of kind replicas [])
 none_kept kind replicas = record {
   labels = refl;
-  replicas = length-replicate replicas (start_of kind);
-  folded = λ q within. ap Some (sym (get_or-replicate replicas q (start_of kind) (Number (pos 0)) (omega (arith, within, length-replicate replicas (start_of kind)))));
+  replicas = length-replicate replicas (initial_state kind);
+  folded = λ q within. ap Some (sym (get_or-replicate replicas q (initial_state kind) (Number (pos 0)) (omega (arith, within, length-replicate replicas (initial_state kind)))));
 }
 
 empty_in : (replicas q : ℕ) → get_or (replicate {A = List (Option ℕ)} replicas []) q [] ≡ []
@@ -136,12 +136,12 @@ none_last replicas = record {
 }
 
 pub overriding_none : (kept : Overriding) (kind : Kind) (replicas : ℕ) → (kind ≡ variant.Register) ⊎ (kind ≡ variant.LwwSet) → kept.writes.items ≡ []
-    → kept.states.items ≡ replicate replicas (start_of kind) → labels_in kept.lasts.items ≡ replicate replicas [] → ((x : ℕ) → get nat_eq kept.numbers.numbers x ≡ None)
-    → hash_map_len kept.numbers.numbers ≡ 0 → IsOverridingOf kept (past_of kind replicas [])
+    → kept.states.items ≡ replicate replicas (initial_state kind) → labels_in kept.lasts.items ≡ replicate replicas [] → ((x : ℕ) → get nat_eq kept.numbers.numbers x ≡ None)
+    → hash_map_len kept.numbers.numbers ≡ 0 → IsOverridingOf kept (history_of kind replicas [])
 overriding_none kept kind replicas one writes states lasts none size = record {
   one = one;
-  states = subst (λ ws. AreStatesOf (updates_written ws) kept.states.items (past_of kind replicas [])) (sym writes)
-      (subst (λ ss. AreStatesOf [] ss (past_of kind replicas [])) (sym states) (none_kept kind replicas));
+  states = subst (λ ws. AreStatesOf (updates_written ws) kept.states.items (history_of kind replicas [])) (sym writes)
+      (subst (λ ss. AreStatesOf [] ss (history_of kind replicas [])) (sym states) (none_kept kind replicas));
   writes = subst (λ ws. AreWritesOf ws (numbers_of kept) []) (sym writes) (record {
     stamps = λ label write there at. absurd (omega (arith, there.1));
     numbers = λ n write at. absurd (none-some write at);

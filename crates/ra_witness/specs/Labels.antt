@@ -1,4 +1,4 @@
--- What labels do and ask.
+-- The updates and the queries of labels.
 use Rattle.std.specs.Prelude.{Bool, false, List, [], ◌∷◌, Option, Some, None, map, reverse, filter_map, if◌then◌else◌}
 use Rattle.std.specs.List.{list_all}
 use Rattle.std.specs.Option.{option_map_or}
@@ -21,18 +21,18 @@ abbrev pub head_of : {A : Type 0} → List A → Option A
 head_of [] = None
 head_of (x ∷ xs) = Some x
 
--- what the operation does, if anything
+-- the update of the operation, if it has one
 abbrev pub update_in : Op → Option Update
 update_in op = head_of (updates_in (acts_of op))
 
--- what each label does, the oldest first
+-- the update of each label, if it has one; oldest label first
 abbrev pub updates_by_number : Records → List (Option Update)
 updates_by_number records = map (λ label. update_in label.op) (reverse (labels_of records))
 
--- is the query's answer that of the state, if there is one?
+-- `true` if there is a state and the query's answer is right in it
 abbrev pub answers_in : Option State → Query → Bool
 answers_in state query = option_map_or (λ s. answers s query) state false
 
--- why a label with these parts fails at a replica in this state, as far as it asks
+-- the cause of a violation by a query of these parts at a replica in this state; none if all answers are right
 abbrev pub cause_in : Option State → List (Half × Act) → Option Cause
 cause_in state acts = if list_all (answers_in state) (queries_in acts) then None else Some cause.Query

@@ -1,18 +1,18 @@
--- How many updates of an RGA do not wait any more once a command has come.
+-- The number of updates of an RGA that a command settles.
 use Rattle.std.specs.Prelude.{◌≡◌, ℕ, ◌+◌, ◌∷◌, Bool, length}
 use Rattle.ra_labels.specs.declared.kind.Kind.TheVariants.{Rga}
 use Rattle.ra_labels.specs.declared.command.Command.{Command}
 use Rattle.ra_labels.specs.Records.{Records}
-use Rattle.ra_labels.specs.Visibility.{had}
+use Rattle.ra_labels.specs.Visibility.{has_delivered}
 use Rattle.ra_labels.specs.Insertion.{updates_passing}
-use Rattle.ra_labels.specs.Waiting.{IsSettled}
+use Rattle.ra_labels.specs.Pending.{IsSettled}
 
--- of the updates that the replica had, so many more are settled with the command than were before it (which ones are
--- settled follows from what was had, a law)
+-- Holds if the command increases the number of settled updates of the replica by `more`. By a theorem, the delivered
+-- updates determine which ones are settled.
 pub record SettlesMore (records : Records) (command : Command) (replica more : ℕ) : Type 0 where
   pub settled : ℕ → Bool
   pub now : ℕ → Bool
-  pub before : IsSettled records (had records replica) settled
-  pub after : IsSettled (command ∷ records) (had (command ∷ records) replica) now
+  pub before : IsSettled records (has_delivered records replica) settled
+  pub after : IsSettled (command ∷ records) (has_delivered (command ∷ records) replica) now
   pub count : length (updates_passing Rga (command ∷ records) now)
       ≡ length (updates_passing Rga records settled) + more

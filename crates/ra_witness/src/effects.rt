@@ -1,4 +1,4 @@
-//! What labels do and where replicas are by it, kept by what becomes of an update that comes late.
+//! The effects of labels and the states of replicas, represented by how a kind treats late updates.
 ghost use Rattle.std.specs.Prelude.{◌≡◌, ℕ, ◌+◌, ◌≤◌, ◌++◌, ◌∷◌, [], true, List, length, Option, Some, None, IfOk, IfErr, OnOk, OnErr};
 ghost use Rattle.std.specs.List.{slice_get};
 ghost use Rattle.std.specs.Option.{option_to_list};
@@ -6,22 +6,22 @@ ghost use Rattle.ra_labels.specs.declared.kind.Kind.{Kind};
 ghost use Rattle.ra_labels.specs.declared.kind.Kind.TheVariants as kinds;
 ghost use Rattle.ra_labels.specs.declared.label.Label.{Label};
 ghost use Rattle.ra_labels.specs.declared.command.Command.TheVariants.{Deliver, Join};
-ghost use Rattle.ra_labels.specs.Visibility.{had};
+ghost use Rattle.ra_labels.specs.Visibility.{has_delivered};
 ghost use Rattle.ra_labels.specs.Rewriting.{acts_of};
 ghost use Rattle.ra_labels.specs.NamedOrder.{named_labels, named_sequence};
 ghost use Rattle.ra_labels.specs.Linearization.{updates_admitted};
 ghost use Rattle.ra_labels.specs.Fault.{cause_of};
-ghost use Rattle.ra_labels.specs.Laws.{EachLabelFits};
+ghost use Rattle.ra_labels.specs.TheoremTerms.{EachLabelIsWellFormed};
 ghost use Rattle.ra_labels.specs.Specification.{is_admitted};
-ghost use Rattle.ra_labels.specs.Insertion.{updates_among, updates_had};
-ghost use Rattle.ra_labels.specs.Situation.{Past, replicas_of, nothing_yet, past_with, Next, operate};
+ghost use Rattle.ra_labels.specs.Insertion.{updates_among, delivered_updates};
+ghost use Rattle.ra_labels.specs.HistorySoFar.{History, replicas_of, empty_history, history_with, NextOperation, operate};
 ghost use Rattle.ra_rewrite.specs.Parts.{acts_in};
 ghost use Rattle.ra_witness.specs.Labels.{update_in, updates_in, updates_by_number};
 ghost use Rattle.ra_witness.specs.States.{steps_of};
 ghost use Rattle.ra_witness.specs.Settled.{SettlesMore};
 ghost use Rattle.ra_witness.specs.Sequence.{has_query_half};
-ghost use Rattle.ra_witness.specs.Offered.{IsOffered, IsTold, IsJoinedFrom};
-ghost use Rattle.ra_witness.specs.Effects.{AreEffectsOf, IsOverridingOf, MayMeet, MayAdd, MayWrite, MayTell, MayShare};
+ghost use Rattle.ra_witness.specs.Offered.{IsOffered, IsDelivered, IsJoinedFrom};
+ghost use Rattle.ra_witness.specs.Effects.{AreEffectsOf, IsOverridingOf, MayMeet, MayAdd, MayWrite, MayDeliver, MayJoinFrom};
 
 use crate::commuting::Commuting;
 use crate::overriding::Overriding;
@@ -30,21 +30,25 @@ use ra_labels::{Cause, Kind, Label, NoMemory, Update};
 use ra_rewrite::Parts;
 use std::alloc::Global;
 
-/// What labels do and the states of replicas, by what becomes of an update that comes late.
+/// The effects of labels and the states of replicas, by how the kind treats late updates.
 #[derive(Drop)]
 pub enum Effects {
-    /// Of a counter and of an OR-Set: it counts as the last one.
+    /// Counter and OR-Set: a late update has the effect of the last one.
     Commuting(Commuting),
-    /// Of a register and of an LWW set: a later one on the same element overrides it.
+    /// Register and LWW set: a later update of the same element overrides a late one.
     Overriding(Overriding),
-    /// Of an RGA: its element comes in behind the nearest one before it that is there.
+    /// RGA: a late element goes behind the nearest present element before it.
     Rga(Rga),
 }
 
 impl Effects {
-    /// No labels, of so many replicas.
+    /// Creates the effects of no labels, with the given number of replicas.
+    ///
+    /// # Errors
+    ///
+    /// `NoMemory` if allocation fails.
     pub fn new(alloc: Global, kind: Kind, replicas: u8) -> Result<Effects, NoMemory>
-        ensures { IfOk result (λ kept. AreEffectsOf kept (nothing_yet kind replicas)) }
+        ensures { IfOk result (λ kept. AreEffectsOf kept (empty_history kind replicas)) }
     {
         match kind {
             Kind::Counter | Kind::OrSet => Ok(Effects::Commuting(Commuting::new(
@@ -57,14 +61,18 @@ impl Effects {
         }
     }
 
-    /// What the next label does, if anything, which has these parts; or the first condition but the order's that fails
-    /// with it. The parts are let go here, and not at each way out of what asks.
-    pub fn judge(&self, label: &Label, parts: Parts) -> Result<Option<Update>, Cause>
+    /// Returns the update of the next label, if it has one, which has these parts. Consumes the parts, so that they are
+    /// dropped in one place.
+    ///
+    /// # Errors
+    ///
+    /// The first condition that fails with the label, apart from the order.
+    pub fn check(&self, label: &Label, parts: Parts) -> Result<Option<Update>, Cause>
         requires { MayMeet self.now label.now (acts_in parts) }
-        ensures cause { (past : Past) (next : Next) → AreEffectsOf self.now past → IsOffered past next label.now
+        ensures cause { (past : History) (next : NextOperation) → AreEffectsOf self.now past → IsOffered past next label.now
             → acts_in parts ≡ acts_of next.op
             → IfErr result (λ cause. Some cause ≡ cause_of past.kind (operate next ∷ past.records)) }
-        ensures none { (past : Past) (next : Next) → AreEffectsOf self.now past → IsOffered past next label.now
+        ensures none { (past : History) (next : NextOperation) → AreEffectsOf self.now past → IsOffered past next label.now
             → acts_in parts ≡ acts_of next.op
             → OnOk result (None ≡ cause_of past.kind (operate next ∷ past.records)) }
         ensures update { IfOk result (λ update. option_to_list update ≡ updates_in (acts_in parts)) }
@@ -75,10 +83,10 @@ impl Effects {
         }
     }
 
-    /// The first condition but the order's that fails with the next label, which has these parts.
+    /// Returns the first condition, apart from the order, that fails with the next label, which has these parts.
     fn cause(&self, label: &Label, parts: &Parts) -> Option<Cause>
         requires { MayMeet self.now label.now (acts_in parts.now) }
-        ensures { (past : Past) (next : Next) → AreEffectsOf self.now past → IsOffered past next label.now
+        ensures { (past : History) (next : NextOperation) → AreEffectsOf self.now past → IsOffered past next label.now
             → acts_in parts.now ≡ acts_of next.op → result ≡ cause_of past.kind (operate next ∷ past.records) }
     {
         match self {
@@ -88,19 +96,23 @@ impl Effects {
         }
     }
 
-    /// Takes the next label in, which does this, if anything: answers how many steps that took, one at most.
+    /// Adds the next label, with its update if it has one, and returns the number of steps, at most 1.
+    ///
+    /// # Errors
+    ///
+    /// `NoMemory` if allocation fails; the same history is represented.
     pub fn add(&mut self, label: &Label, update: Option<Update>) -> Result<u64, NoMemory>
         requires { MayAdd self.old label.now update }
-        ensures taken { (past : Past) (next : Next) → AreEffectsOf self.old past → IsOffered past next label.now
+        ensures taken { (past : History) (next : NextOperation) → AreEffectsOf self.old past → IsOffered past next label.now
             → updates_admitted past.kind (named_sequence past.kind (operate next ∷ past.records)) ≡ true
-            → update ≡ update_in next.op → OnOk result (AreEffectsOf self.new (past_with past (operate next))) }
+            → update ≡ update_in next.op → OnOk result (AreEffectsOf self.new (history_with past (operate next))) }
         ensures step { IfOk result (λ steps. steps ≤ 1) }
-        ensures counted { (past : Past) → AreEffectsOf self.old past → ¬ (past.kind ≡ kinds.Rga)
+        ensures counted { (past : History) → AreEffectsOf self.old past → ¬ (past.kind ≡ kinds.Rga)
             → IfOk result (λ steps. steps ≡ steps_of update) }
-        ensures settled { (past : Past) (next : Next) → AreEffectsOf self.old past → IsOffered past next label.now
+        ensures settled { (past : History) (next : NextOperation) → AreEffectsOf self.old past → IsOffered past next label.now
             → updates_admitted past.kind (named_sequence past.kind (operate next ∷ past.records)) ≡ true
             → past.kind ≡ kinds.Rga → IfOk result (SettlesMore past.records (operate next) next.by) }
-        ensures same { (past : Past) → AreEffectsOf self.old past → OnErr result (AreEffectsOf self.new past) }
+        ensures same { (past : History) → AreEffectsOf self.old past → OnErr result (AreEffectsOf self.new past) }
     {
         match self {
             Effects::Commuting(kept) => kept.add(label.replica, update),
@@ -109,27 +121,32 @@ impl Effects {
         }
     }
 
-    /// The label is delivered to the replica: answers how many steps that took.
+    /// Adds the delivery of the label to the replica, and returns the number of steps: 1, or for an RGA the number of
+    /// updates that it settles.
+    ///
+    /// # Errors
+    ///
+    /// `NoMemory` if allocation fails; the same history is represented.
     pub fn deliver(&mut self, replica: u8, label: u32) -> Result<u64, NoMemory>
-        requires { MayTell self.old replica label }
-        ensures delivered { (past : Past) → AreEffectsOf self.old past → IsTold past replica label
-            → OnOk result (AreEffectsOf self.new (past_with past (Deliver replica label))) }
-        ensures few_steps { (past : Past) (before behind : List Label) (it : Label) → AreEffectsOf self.old past
-            → IsTold past replica label → named_labels past.kind past.records ≡ before ++ it ∷ behind
+        requires { MayDeliver self.old replica label }
+        ensures delivered { (past : History) → AreEffectsOf self.old past → IsDelivered past replica label
+            → OnOk result (AreEffectsOf self.new (history_with past (Deliver replica label))) }
+        ensures few_steps { (past : History) (before behind : List Label) (it : Label) → AreEffectsOf self.old past
+            → IsDelivered past replica label → named_labels past.kind past.records ≡ before ++ it ∷ behind
             → it.number ≡ label
-            → IfOk result (λ steps. steps ≤ 1 + length (updates_among (had past.records replica) behind)) }
-        ensures some_step { (past : Past) → AreEffectsOf self.old past → IsTold past replica label
-            → is_admitted past.kind (updates_had past.kind (Deliver replica label ∷ past.records) replica) ≡ true
+            → IfOk result (λ steps. steps ≤ 1 + length (updates_among (has_delivered past.records replica) behind)) }
+        ensures some_step { (past : History) → AreEffectsOf self.old past → IsDelivered past replica label
+            → is_admitted past.kind (delivered_updates past.kind (Deliver replica label ∷ past.records) replica) ≡ true
             → IfOk result (λ steps. 1 ≤ steps) }
-        ensures one_step { (past : Past) → AreEffectsOf self.old past → IsTold past replica label
-            → is_admitted past.kind (updates_had past.kind past.records replica) ≡ true
-            → is_admitted past.kind (updates_had past.kind (Deliver replica label ∷ past.records) replica) ≡ true
+        ensures one_step { (past : History) → AreEffectsOf self.old past → IsDelivered past replica label
+            → is_admitted past.kind (delivered_updates past.kind past.records replica) ≡ true
+            → is_admitted past.kind (delivered_updates past.kind (Deliver replica label ∷ past.records) replica) ≡ true
             → IfOk result (λ steps. steps ≡ 1) }
-        ensures counted { (past : Past) → AreEffectsOf self.old past → IsTold past replica label
+        ensures counted { (past : History) → AreEffectsOf self.old past → IsDelivered past replica label
             → ¬ (past.kind ≡ kinds.Rga) → IfOk result (λ steps. steps ≡ 1) }
-        ensures settled { (past : Past) → AreEffectsOf self.old past → IsTold past replica label
+        ensures settled { (past : History) → AreEffectsOf self.old past → IsDelivered past replica label
             → past.kind ≡ kinds.Rga → IfOk result (SettlesMore past.records (Deliver replica label) replica) }
-        ensures same { (past : Past) → AreEffectsOf self.old past → OnErr result (AreEffectsOf self.new past) }
+        ensures same { (past : History) → AreEffectsOf self.old past → OnErr result (AreEffectsOf self.new past) }
     {
         match self {
             Effects::Commuting(kept) => kept.deliver(replica, label),
@@ -141,12 +158,16 @@ impl Effects {
         }
     }
 
-    /// The next replica joins from this one.
+    /// Adds the next replica, which joins from this one.
+    ///
+    /// # Errors
+    ///
+    /// `NoMemory` if allocation fails; the same history is represented.
     pub fn join(&mut self, from: u8) -> Result<(), NoMemory>
-        requires { MayShare self.old from }
-        ensures joined { (past : Past) → AreEffectsOf self.old past → IsJoinedFrom past from
-            → OnOk result (AreEffectsOf self.new (past_with past (Join (replicas_of past) from))) }
-        ensures same { (past : Past) → AreEffectsOf self.old past → OnErr result (AreEffectsOf self.new past) }
+        requires { MayJoinFrom self.old from }
+        ensures joined { (past : History) → AreEffectsOf self.old past → IsJoinedFrom past from
+            → OnOk result (AreEffectsOf self.new (history_with past (Join (replicas_of past) from))) }
+        ensures same { (past : History) → AreEffectsOf self.old past → OnErr result (AreEffectsOf self.new past) }
     {
         match self {
             Effects::Commuting(kept) => kept.join(from),
@@ -155,11 +176,11 @@ impl Effects {
         }
     }
 
-    /// Enough of what labels do to tell which of them are rewritten into two halves: of each label what it does, if
-    /// anything, or nothing of any where the kind rewrites none.
+    /// Returns a list that shows which labels have two halves. It has the update of each label, if any, or is empty for
+    /// a kind without such labels.
     pub fn updates(&self) -> &[Option<Update>]
-        ensures { (past : Past) (n : ℕ) → AreEffectsOf self.now past
-            → EachLabelFits past.kind past.founders past.records
+        ensures { (past : History) (n : ℕ) → AreEffectsOf self.now past
+            → EachLabelIsWellFormed past.kind past.initial_replicas past.records
             → has_query_half (slice_get result.now n) ≡ has_query_half (slice_get (updates_by_number past.records) n) }
     {
         match self {
@@ -168,7 +189,7 @@ impl Effects {
         }
     }
 
-    /// Where the collections live.
+    /// Returns the allocator of the collections.
     pub fn allocator(&self) -> Global {
         match self {
             Effects::Commuting(kept) => *kept.updates.allocator(),
@@ -178,13 +199,13 @@ impl Effects {
     }
 }
 
-// Takes the next label of a register or an LWW set in.
+// Adds the next label of a register or an LWW set.
 fn add_write(kept: &mut Overriding, label: &Label, update: Option<Update>) -> Result<u64, NoMemory>
     requires { MayWrite kept.old label.now update }
-    ensures taken { (past : Past) (next : Next) → IsOverridingOf kept.old past → IsOffered past next label.now
-        → update ≡ update_in next.op → OnOk result (IsOverridingOf kept.new (past_with past (operate next))) }
+    ensures taken { (past : History) (next : NextOperation) → IsOverridingOf kept.old past → IsOffered past next label.now
+        → update ≡ update_in next.op → OnOk result (IsOverridingOf kept.new (history_with past (operate next))) }
     ensures counted { IfOk result (λ steps. steps ≡ steps_of update) }
-    ensures same { (past : Past) → IsOverridingOf kept.old past → OnErr result (IsOverridingOf kept.new past) }
+    ensures same { (past : History) → IsOverridingOf kept.old past → OnErr result (IsOverridingOf kept.new past) }
 {
     let Some(update) = update else {
         kept.add_query()?;

@@ -1,26 +1,31 @@
-//! The one kept witness: the labels in their named order, and of each replica the state after the updates that it had.
+//! The witness: the labels in their named order, and the state of each replica, both maintained incrementally.
 //!
-//! Nothing is sorted or folded again. A delivery makes one call of `State::apply`, wherever its update belongs in the
-//! named order: of a counter or an OR-Set the update itself, since late updates count as the last ones (`commuting`);
-//! of a register or an LWW set that one of the delivered update and the last one on the same element which stands later
-//! (`overriding`); of an RGA the insertion directly behind the nearest element before it, in the list of all elements,
-//! that is there (`rga`). An RGA's update whose anchor or element is not there waits for it, and follows when it comes.
-//! A replica that joins begins with a copy of what is kept of the other one.
+//! The labels are never sorted again, and the history is never replayed. A delivery is one step of the receiver's
+//! state, however late its update is in the named order; an RGA's may be none or several:
 //!
-//! The one contract for the layers above: `Witness::offer` answers the cause of the fault of the records with the new
-//! label, or none exactly where there is none. `laws` says what one more label or delivery changes in what is kept, and
-//! that a new label alone decides whether the records still hold.
+//! - For a counter or an OR-Set it is the update's own step, since a late update has the effect of the last one
+//!   (`commuting`).
+//! - For a register or an LWW set it is the step of the delivered update or of the last one on the same element,
+//!   whichever stands later (`overriding`).
+//! - For an RGA an insertion goes directly behind the nearest present element before it, in the list of all elements
+//!   (`rga`). An update whose anchor or element is missing is pending and takes no step. A delivered insertion may
+//!   settle pending updates: those that wait for its element, then those that wait for theirs, each by one more step.
+//!
+//! A replica that joins starts with a copy of the other one's state.
+//!
+//! Contract for the crates above: `Witness::offer` returns the cause of the violation at the new label, and `None`
+//! exactly if there is none. The module `theorems` states what one more label or delivery changes in the witness.
 #![tactic(auto)]
 
-mod asked;
 mod commuting;
 mod effects;
-pub mod laws;
 mod overriding;
 mod part_ref;
+mod queries;
 mod rga;
 mod sequence;
 mod states;
+pub mod theorems;
 mod witness;
 
 pub use part_ref::{Half, PartRef};

@@ -1,9 +1,9 @@
-//! Of a register and of an LWW set: of the updates on one element the last one counts.
+//! The effects of a register's or an LWW set's labels: the last update of each element determines the state.
 ghost use Rattle.std.specs.Prelude.{◌≡◌, ◌==◌, ◌+◌, ◌<◌, ◌^◌, ◌++◌, ◌∷◌, [], ℕ, true, nat_eq, replicate, get_or, set, vec_len, Option, Some, None, IfOk, IfSome, OnOk, OnErr, if◌then◌else◌};
 ghost use Rattle.std.specs.List.{list_all};
 ghost use Rattle.std.specs.HashMap.{get, hash_map_len};
 ghost use Rattle.ra_labels.specs.declared.label.Stamp.{Stamp};
-ghost use Rattle.ra_labels.specs.Specification.{start_of};
+ghost use Rattle.ra_labels.specs.Specification.{initial_state};
 ghost use Rattle.ra_seqspec.specs.Asked.{asks_rising};
 ghost use Rattle.ra_rewrite.specs.Parts.{acts_in};
 ghost use Rattle.ra_witness.specs.Labels.{queries_in, cause_in};
@@ -16,33 +16,41 @@ mod element_numbers;
 mod last_updates;
 mod written;
 
-use crate::asked;
 use crate::overriding::element_numbers::ElementNumbers;
 use crate::overriding::last_updates::{LastUpdates, no_lasts};
 use crate::overriding::written::Written;
+use crate::queries;
 use crate::states::{copy_state, first_states};
 use ra_labels::{Cause, Kind, NoMemory, Stamp, Update};
 use ra_rewrite::Parts;
 use ra_seqspec::State;
 use std::alloc::Global;
 
-/// What the labels do, and of each replica the state after the updates that it had.
+/// The updates of the labels, and the state of each replica after those that were delivered to it.
 #[derive(Drop)]
 pub struct Overriding {
-    /// Of each label what it does, if anything, the oldest first.
+    /// The update of each label, if it has one, the oldest label first.
     pub writes: Vec<Option<Written>>,
     pub numbers: ElementNumbers,
-    /// Of each replica.
+    /// The state of each replica.
     pub states: Vec<State>,
-    /// Of each replica, for each element the label of the last update on it that the replica had.
+    /// For each replica and element, the label of the last update of the element that was delivered to the replica.
     pub lasts: Vec<LastUpdates>,
 }
 
 impl Overriding {
-    /// No labels, of so many replicas. Costs a state for each.
+    /// Creates the effects of no labels, with the given number of replicas.
+    ///
+    /// # Errors
+    ///
+    /// `NoMemory` if allocation fails.
+    ///
+    /// # Complexity
+    ///
+    /// O(r), where `r` is the number of replicas.
     pub fn new(alloc: Global, kind: Kind, replicas: u8) -> Result<Overriding, NoMemory>
         ensures writes { IfOk result (λ kept. kept.writes.items ≡ []) }
-        ensures states { IfOk result (λ kept. kept.states.items ≡ replicate replicas (start_of kind)) }
+        ensures states { IfOk result (λ kept. kept.states.items ≡ replicate replicas (initial_state kind)) }
         ensures lasts { IfOk result (λ kept. labels_in kept.lasts.items ≡ replicate replicas []) }
         ensures numbers { IfOk result (λ kept. (x : ℕ) → get nat_eq kept.numbers.numbers x ≡ None) }
         ensures none { IfOk result (λ kept. hash_map_len kept.numbers.numbers ≡ 0) }
@@ -62,16 +70,20 @@ impl Overriding {
         }
     }
 
-    /// Why a label of the replica fails that has these parts, if so: its query is not answered yes.
+    /// Returns the cause if a label of the replica with these parts fails because of its query, or `None`.
     pub fn cause(&self, replica: u8, parts: &Parts) -> Option<Cause>
         requires replica { replica < vec_len self.now.states }
         requires rising { list_all asks_rising (queries_in (acts_in parts.now)) ≡ true }
         ensures { result ≡ cause_in (Some (state_at self.now.states.items replica)) (acts_in parts.now) }
     {
-        asked::cause(&self.states[replica as usize], parts)
+        queries::cause(&self.states[replica as usize], parts)
     }
 
-    /// Takes the next label in, which does nothing.
+    /// Adds the next label, which has no update.
+    ///
+    /// # Errors
+    ///
+    /// `NoMemory` if allocation fails; nothing changes.
     pub fn add_query(&mut self) -> Result<(), NoMemory>
         ensures writes { OnOk result (self.new.writes.items ≡ self.old.writes.items ++ None ∷ []) }
         ensures err { OnErr result (self.new.writes.items ≡ self.old.writes.items) }
@@ -81,7 +93,12 @@ impl Overriding {
         Ok(())
     }
 
-    /// Takes the next label in, of this replica, which does this with this stamp, above all that the replica had.
+    /// Adds the next label of this replica, with this update and stamp. The update becomes the last one of its element
+    /// at the replica.
+    ///
+    /// # Errors
+    ///
+    /// `NoMemory` if allocation fails; the same effects are represented.
     pub fn add(&mut self, replica: u8, update: Update, stamp: Stamp) -> Result<(), NoMemory>
         requires state { replica < vec_len self.old.states }
         requires last { replica < vec_len self.old.lasts }
@@ -117,14 +134,18 @@ impl Overriding {
         self.numbers.reserve()?;
         let state = &mut self.states[replica as usize];
         let last = &mut self.lasts[replica as usize];
-        make_own(state, last, &update, on, label)?;
+        apply_own(state, last, &update, on, label)?;
         self.numbers.keep(&update, on);
         self.writes
             .push_reserved(Some(Written { update, stamp, on }));
         Ok(())
     }
 
-    /// The label is delivered to the replica, which does something.
+    /// Adds the delivery of the label to the replica. A label without an update changes nothing.
+    ///
+    /// # Errors
+    ///
+    /// `NoMemory` if allocation fails; the same effects are represented.
     pub fn deliver(&mut self, replica: u8, label: u32) -> Result<(), NoMemory>
         requires state { replica < vec_len self.old.states }
         requires last { replica < vec_len self.old.lasts }
@@ -152,10 +173,18 @@ impl Overriding {
         };
         let state = &mut self.states[replica as usize];
         let last = &mut self.lasts[replica as usize];
-        bring(state, last, writes, label, written)
+        apply_delivered(state, last, writes, label, written)
     }
 
-    /// The next replica has what this one has. Costs a copy of its state and of its last labels.
+    /// Adds the next replica, with a copy of this one's state and last labels.
+    ///
+    /// # Errors
+    ///
+    /// `NoMemory` if allocation fails; the same effects are represented.
+    ///
+    /// # Complexity
+    ///
+    /// O(n + e), where `n` is the size of the state and `e` the number of elements for which the last labels have room.
     pub fn join(&mut self, from: u8) -> Result<(), NoMemory>
         requires state { from < vec_len self.old.states }
         requires last { from < vec_len self.old.lasts }
@@ -183,8 +212,8 @@ impl Overriding {
     }
 }
 
-// The replica gets the label: its update, or that of the last label on its element, is made, whichever stands later.
-fn bring(
+// Applies the update of the delivered label or of the last label of its element, whichever stands later.
+fn apply_delivered(
     state: &mut State,
     last: &mut LastUpdates,
     writes: &[Option<Written>],
@@ -204,13 +233,13 @@ fn bring(
 {
     last.reserve(written.on)?;
     let later = later_of(writes, last.on(written.on), label, written.stamp);
-    make(state, writes, later)?;
+    apply_label(state, writes, later)?;
     last.put(written.on, later);
     Ok(())
 }
 
-// The replica makes this update of its own label on the element, as the last one.
-fn make_own(
+// Applies the update of the replica's own label, as the last one of the element.
+fn apply_own(
     state: &mut State,
     last: &mut LastUpdates,
     update: &Update,
@@ -230,7 +259,7 @@ fn make_own(
     Ok(())
 }
 
-// Of a label with this stamp and of the last one on its element, the one that stands later.
+// Returns the later one of a label with this stamp and the last label of its element.
 fn later_of(writes: &[Option<Written>], last: Option<u32>, label: u32, stamp: Stamp) -> u32
     ensures { result ≡ later_of writes.now last label stamp }
 {
@@ -240,7 +269,7 @@ fn later_of(writes: &[Option<Written>], last: Option<u32>, label: u32, stamp: St
     }
 }
 
-// Is the label's stamp above this one?
+// Returns `true` if the label's stamp is greater than this one.
 fn is_above(writes: &[Option<Written>], stamp: Stamp, label: u32) -> bool
     ensures { result ≡ is_above writes.now stamp label }
 {
@@ -250,8 +279,8 @@ fn is_above(writes: &[Option<Written>], stamp: Stamp, label: u32) -> bool
     }
 }
 
-// Makes what the label does, if anything.
-fn make(state: &mut State, writes: &[Option<Written>], label: u32) -> Result<(), NoMemory>
+// Applies the label's update, if it has one.
+fn apply_label(state: &mut State, writes: &[Option<Written>], label: u32) -> Result<(), NoMemory>
     requires { CanStep state.old (update_at (updates_written writes.now) label) }
     ensures made { OnOk result (state.new ≡ after_step state.old (update_at (updates_written writes.now) label)) }
     ensures same { OnErr result (state.new ≡ state.old) }

@@ -1,7 +1,7 @@
-/// Which part of a label: all of it, or one of the two halves that a query-update is rewritten into.
+/// Which part of a label: the whole label, or one of the halves into which the rewriting splits it.
 #[derive(Clone, Copy, Debug, PartialEq, Eq)]
 pub enum Half {
-    /// The label is an update or a query, and its own one part.
+    /// The whole label, which is an update or a query.
     Whole,
     /// The query half, which stands before the update half.
     QueryHalf,
@@ -9,11 +9,11 @@ pub enum Half {
     UpdateHalf,
 }
 
-/// A part of a rewritten history, by its label's number.
+/// A reference to a part of a rewritten history, by label number.
 #[derive(Clone, Copy, Debug, PartialEq, Eq)]
 pub struct PartRef {
     /// The label's number.
     pub label: u32,
-    /// Which part of it.
+    /// Which part of the label.
     pub half: Half,
 }

@@ -1,48 +1,52 @@
-//! Of an RGA: an element that comes late comes in behind the nearest one before it that is there.
+//! The effects of an RGA's labels: a late element goes behind the nearest present element before it.
 ghost use Rattle.std.specs.Prelude.{◌≡◌, ◌↔◌, ℕ, ◌<◌, ◌≤◌, ◌^◌, ◌∷◌, [], true, length, Option, Some, None, vec_len, vec_capacity, IsTrue, IsSome, IfOk, OnOk, OnErr, if◌then◌else◌};
 ghost use Rattle.ra_labels.specs.declared.kind.Kind.TheVariants as kinds;
 ghost use Rattle.ra_labels.specs.declared.operation.Op.TheVariants as ops;
 ghost use Rattle.ra_labels.specs.declared.label.Label.{Label};
 ghost use Rattle.ra_labels.specs.declared.command.Command.TheVariants.{Deliver, Join};
 ghost use Rattle.ra_labels.specs.Records.{Records, replica_count};
-ghost use Rattle.ra_labels.specs.Visibility.{had};
+ghost use Rattle.ra_labels.specs.Visibility.{has_delivered};
 ghost use Rattle.ra_labels.specs.Rewriting.{acts_of};
 ghost use Rattle.std.specs.Ordering.{is_lt, is_le};
 ghost use Rattle.ra_labels.specs.NamedOrder.{stamp_cmp, named_sequence};
 ghost use Rattle.ra_labels.specs.Linearization.{updates_admitted};
 ghost use Rattle.ra_labels.specs.Fault.{cause_of};
 ghost use Rattle.ra_labels.specs.Specification.{state_after, is_admitted};
-ghost use Rattle.ra_labels.specs.Insertion.{updates_had};
-ghost use Rattle.ra_labels.specs.Situation.{past_of, Next, operate};
+ghost use Rattle.ra_labels.specs.Insertion.{delivered_updates};
+ghost use Rattle.ra_labels.specs.HistorySoFar.{history_of, NextOperation, operate};
 ghost use Rattle.ra_rewrite.specs.Parts.{acts_in};
 ghost use Rattle.ra_seqspec.specs.Asked.{asks_rising};
 ghost use Rattle.std.specs.List.{list_all};
-ghost use Rattle.ra_replica_list.specs.Edits.{element_at};
+ghost use Rattle.ra_rga_replica.specs.Edits.{element_at};
 ghost use Rattle.ra_witness.specs.Labels.{queries_in, cause_in};
 ghost use Rattle.ra_witness.specs.Settled.{SettlesMore};
-ghost use Rattle.ra_witness.specs.Rga.{IsRgaOf, MayGrow, MayHear};
-ghost use Rattle.ra_witness.specs.Offered.{IsOffered, IsTold, IsJoinedFrom};
+ghost use Rattle.ra_witness.specs.Rga.{IsRgaOf, MayGrow, MayReceive};
+ghost use Rattle.ra_witness.specs.Offered.{IsOffered, IsDelivered, IsJoinedFrom};
 
-use crate::asked;
-use ra_element_list::{ElementList, ROOT};
+use crate::queries;
 use ra_labels::{Cause, Label, NoMemory, Op, Stamp};
-use ra_replica_list::{Edit, ReplicaList};
 use ra_rewrite::Parts;
+use ra_rga_elements::{ElementList, ROOT};
+use ra_rga_replica::{Edit, ReplicaList};
 use std::alloc::Global;
 
-/// What the labels do, the list of all elements, and of each replica the list after the updates that it had.
+/// The effects of the labels, the list of all elements, and each replica's list.
 #[derive(Drop)]
 pub struct Rga {
-    /// Of each label what it does, if anything.
+    /// The effect of each label, if it has one.
     pub edits: Vec<Option<Edit>>,
     /// The elements of all labels.
     pub all: ElementList,
-    /// Of each replica.
+    /// The list of each replica.
     pub lists: Vec<ReplicaList>,
 }
 
 impl Rga {
-    /// No labels, of so many replicas.
+    /// Creates the effects of no labels, with the given number of replicas.
+    ///
+    /// # Errors
+    ///
+    /// `NoMemory` if allocation fails.
     pub fn new(alloc: Global, replicas: u8) -> Result<Rga, NoMemory>
         ensures { IfOk result (λ kept. IsRgaOf kept replicas []) }
     {
@@ -57,12 +61,12 @@ impl Rga {
         })
     }
 
-    /// The first condition but the order's that fails with the next label, which has these parts.
+    /// Returns the first condition, apart from the order, that fails with the next label, which has these parts.
     pub fn cause(&self, label: &Label, parts: &Parts) -> Option<Cause>
         requires replica { label.now.replica < vec_len self.now.lists }
         requires rising { list_all asks_rising (queries_in (acts_in parts.now)) ≡ true }
-        ensures { (founders : ℕ) (records : Records) (next : Next) → IsRgaOf self.now founders records
-            → IsOffered (past_of kinds.Rga founders records) next label.now → acts_in parts.now ≡ acts_of next.op
+        ensures { (initial_replicas : ℕ) (records : Records) (next : NextOperation) → IsRgaOf self.now initial_replicas records
+            → IsOffered (history_of kinds.Rga initial_replicas records) next label.now → acts_in parts.now ≡ acts_of next.op
             → result ≡ cause_of kinds.Rga (operate next ∷ records) }
     {
         match &label.op {
@@ -74,10 +78,10 @@ impl Rga {
         }
     }
 
-    // Is it known, of all labels, that the anchor comes before the new element, and the element not?
+    // Returns `true` exactly if the insertion is admitted: its anchor has a smaller stamp, and its element is new.
     fn admits_insertion(&self, anchor: u32, element: u32, stamp: Option<Stamp>) -> bool
-        ensures { (founders : ℕ) (records : Records) (next : Next) (label : Label) → IsRgaOf self.now founders records
-            → IsOffered (past_of kinds.Rga founders records) next label → next.op ≡ ops.After anchor element
+        ensures { (initial_replicas : ℕ) (records : Records) (next : NextOperation) (label : Label) → IsRgaOf self.now initial_replicas records
+            → IsOffered (history_of kinds.Rga initial_replicas records) next label → next.op ≡ ops.After anchor element
             → label.stamp ≡ stamp → IsTrue result
             ↔ (updates_admitted kinds.Rga (named_sequence kinds.Rga (operate next ∷ records)) ≡ true) }
     {
@@ -90,11 +94,12 @@ impl Rga {
         is_below(self.all.stamp(number), stamp) && self.all.number_of(element).is_none()
     }
 
-    // Is it known, of all labels, that the element comes before its removal by this replica?
+    // Returns `true` exactly if the removal is admitted: its element has no greater stamp than the replica's greatest
+    // one, and is not the root.
     fn admits_removal(&self, replica: u8, element: u32) -> bool
         requires { replica < vec_len self.now.lists }
-        ensures { (founders : ℕ) (records : Records) (next : Next) (label : Label) → IsRgaOf self.now founders records
-            → IsOffered (past_of kinds.Rga founders records) next label → next.by ≡ replica
+        ensures { (initial_replicas : ℕ) (records : Records) (next : NextOperation) (label : Label) → IsRgaOf self.now initial_replicas records
+            → IsOffered (history_of kinds.Rga initial_replicas records) next label → next.by ≡ replica
             → next.op ≡ ops.RgaRemove element → IsTrue result
             ↔ (updates_admitted kinds.Rga (named_sequence kinds.Rga (operate next ∷ records)) ≡ true) }
     {
@@ -105,27 +110,31 @@ impl Rga {
         number != ROOT && is_up_to(self.all.stamp(number), greatest)
     }
 
-    // Why a query of the replica fails, if so: its list does not answer it yes, or one of its updates waits.
+    // Returns the cause if a query of the replica fails: its list does not answer it, or one of its updates is pending.
     fn cause_of_query(&self, replica: u8, parts: &Parts) -> Option<Cause>
         requires replica { replica < vec_len self.now.lists }
         requires rising { list_all asks_rising (queries_in (acts_in parts.now)) ≡ true }
-        ensures { (founders : ℕ) (records : Records) → IsRgaOf self.now founders records
-            → result ≡ cause_in (state_after kinds.Rga (updates_had kinds.Rga records replica)) (acts_in parts.now) }
+        ensures { (initial_replicas : ℕ) (records : Records) → IsRgaOf self.now initial_replicas records
+            → result ≡ cause_in (state_after kinds.Rga (delivered_updates kinds.Rga records replica)) (acts_in parts.now) }
     {
-        asked::cause_if_any(self.lists[replica as usize].state(), parts)
+        queries::cause_if_any(self.lists[replica as usize].state(), parts)
     }
 
-    /// Takes the next label in: answers how many steps that took, one at most.
+    /// Adds the next label, and returns the number of steps, at most 1.
+    ///
+    /// # Errors
+    ///
+    /// `NoMemory` if allocation fails; the same history is represented.
     pub fn add(&mut self, label: &Label) -> Result<u64, NoMemory>
         requires { MayGrow self.old label.now }
-        ensures taken { (founders : ℕ) (records : Records) (next : Next) → IsRgaOf self.old founders records
-            → IsOffered (past_of kinds.Rga founders records) next label.now
+        ensures taken { (initial_replicas : ℕ) (records : Records) (next : NextOperation) → IsRgaOf self.old initial_replicas records
+            → IsOffered (history_of kinds.Rga initial_replicas records) next label.now
             → updates_admitted kinds.Rga (named_sequence kinds.Rga (operate next ∷ records)) ≡ true
-            → IfOk result (λ steps. IsRgaOf self.new founders (operate next ∷ records)
+            → IfOk result (λ steps. IsRgaOf self.new initial_replicas (operate next ∷ records)
             × SettlesMore records (operate next) next.by steps) }
         ensures step { IfOk result (λ steps. steps ≤ 1) }
-        ensures same { (founders : ℕ) (records : Records) → IsRgaOf self.old founders records
-            → OnErr result (IsRgaOf self.new founders records) }
+        ensures same { (initial_replicas : ℕ) (records : Records) → IsRgaOf self.old initial_replicas records
+            → OnErr result (IsRgaOf self.new initial_replicas records) }
     {
         self.edits.reserve(1)?;
         match &label.op {
@@ -138,7 +147,7 @@ impl Rga {
         }
     }
 
-    // The next label puts the element in behind the anchor.
+    // Adds the next label, which inserts the element behind the anchor.
     fn put_in(&mut self, label: &Label, anchor: u32, element: u32) -> Result<u64, NoMemory>
         requires room { vec_len self.old.edits < vec_capacity self.old.edits }
         requires replica { label.now.replica < vec_len self.old.lists }
@@ -146,15 +155,15 @@ impl Rga {
         requires stamp { IsSome label.now.stamp }
         requires known { (n : ℕ) × (n < length self.old.all.arrivals) × (element_at self.old.all.arrivals n ≡ anchor) }
         requires new { (n : ℕ) → n < length self.old.all.arrivals → ¬ (element_at self.old.all.arrivals n ≡ element) }
-        ensures taken { (founders : ℕ) (records : Records) (next : Next) → IsRgaOf self.old founders records
-            → IsOffered (past_of kinds.Rga founders records) next label.now
+        ensures taken { (initial_replicas : ℕ) (records : Records) (next : NextOperation) → IsRgaOf self.old initial_replicas records
+            → IsOffered (history_of kinds.Rga initial_replicas records) next label.now
             → updates_admitted kinds.Rga (named_sequence kinds.Rga (operate next ∷ records)) ≡ true
             → next.op ≡ ops.After anchor element
-            → IfOk result (λ steps. IsRgaOf self.new founders (operate next ∷ records)
+            → IfOk result (λ steps. IsRgaOf self.new initial_replicas (operate next ∷ records)
             × SettlesMore records (operate next) next.by steps) }
         ensures step { IfOk result (λ steps. steps ≤ 1) }
-        ensures same { (founders : ℕ) (records : Records) → IsRgaOf self.old founders records
-            → OnErr result (IsRgaOf self.new founders records) }
+        ensures same { (initial_replicas : ℕ) (records : Records) → IsRgaOf self.old initial_replicas records
+            → OnErr result (IsRgaOf self.new initial_replicas records) }
     {
         let Some(behind) = self.all.number_of(anchor) else {
             unreachable!()
@@ -171,19 +180,19 @@ impl Rga {
         Ok(steps)
     }
 
-    // The next label removes the element.
+    // Adds the next label, which removes the element.
     fn remove(&mut self, label: &Label, element: u32) -> Result<u64, NoMemory>
         requires room { vec_len self.old.edits < vec_capacity self.old.edits }
         requires replica { label.now.replica < vec_len self.old.lists }
         requires known { (n : ℕ) × (n < length self.old.all.arrivals) × (element_at self.old.all.arrivals n ≡ element) }
-        ensures taken { (founders : ℕ) (records : Records) (next : Next) → IsRgaOf self.old founders records
-            → IsOffered (past_of kinds.Rga founders records) next label.now
+        ensures taken { (initial_replicas : ℕ) (records : Records) (next : NextOperation) → IsRgaOf self.old initial_replicas records
+            → IsOffered (history_of kinds.Rga initial_replicas records) next label.now
             → updates_admitted kinds.Rga (named_sequence kinds.Rga (operate next ∷ records)) ≡ true
-            → next.op ≡ ops.RgaRemove element → IfOk result (λ steps. IsRgaOf self.new founders (operate next ∷ records)
+            → next.op ≡ ops.RgaRemove element → IfOk result (λ steps. IsRgaOf self.new initial_replicas (operate next ∷ records)
             × SettlesMore records (operate next) next.by steps) }
         ensures step { IfOk result (λ steps. steps ≤ 1) }
-        ensures same { (founders : ℕ) (records : Records) → IsRgaOf self.old founders records
-            → OnErr result (IsRgaOf self.new founders records) }
+        ensures same { (initial_replicas : ℕ) (records : Records) → IsRgaOf self.old initial_replicas records
+            → OnErr result (IsRgaOf self.new initial_replicas records) }
     {
         let Some(number) = self.all.number_of(element) else {
             unreachable!()
@@ -194,15 +203,20 @@ impl Rga {
         Ok(steps)
     }
 
-    /// The label is delivered to the replica: answers how many steps that took.
+    /// Adds the delivery of the label to the replica, and returns the number of steps: the number of updates that it
+    /// settles.
+    ///
+    /// # Errors
+    ///
+    /// `NoMemory` if allocation fails; the same history is represented.
     pub fn deliver(&mut self, replica: u8, label: u32) -> Result<u64, NoMemory>
-        requires { MayHear self.old replica label }
-        ensures delivered { (founders : ℕ) (records : Records) → IsRgaOf self.old founders records
-            → IsTold (past_of kinds.Rga founders records) replica label
-            → IfOk result (λ steps. IsRgaOf self.new founders (Deliver replica label ∷ records)
+        requires { MayReceive self.old replica label }
+        ensures delivered { (initial_replicas : ℕ) (records : Records) → IsRgaOf self.old initial_replicas records
+            → IsDelivered (history_of kinds.Rga initial_replicas records) replica label
+            → IfOk result (λ steps. IsRgaOf self.new initial_replicas (Deliver replica label ∷ records)
             × SettlesMore records (Deliver replica label) replica steps) }
-        ensures same { (founders : ℕ) (records : Records) → IsRgaOf self.old founders records
-            → OnErr result (IsRgaOf self.new founders records) }
+        ensures same { (initial_replicas : ℕ) (records : Records) → IsRgaOf self.old initial_replicas records
+            → OnErr result (IsRgaOf self.new initial_replicas records) }
     {
         let edits = self.edits.as_slice();
         let Some(edit) = edits[label as usize] else {
@@ -211,27 +225,35 @@ impl Rga {
         self.lists[replica as usize].deliver(&self.all, edits, label, edit)
     }
 
-    /// The next replica joins from this one: it has an equal list. Costs a copy of the list.
+    /// Adds the next replica, with a copy of this one's list.
+    ///
+    /// # Errors
+    ///
+    /// `NoMemory` if allocation fails; the same history is represented.
+    ///
+    /// # Complexity
+    ///
+    /// O(n), where `n` is the size of the list, with its marks and pending updates.
     pub fn join(&mut self, from: u8) -> Result<(), NoMemory>
         requires { from < vec_len self.old.lists }
-        ensures joined { (founders : ℕ) (records : Records) → IsRgaOf self.old founders records
-            → IsJoinedFrom (past_of kinds.Rga founders records) from
-            → OnOk result (IsRgaOf self.new founders (Join (replica_count founders records) from ∷ records)) }
-        ensures same { (founders : ℕ) (records : Records) → IsRgaOf self.old founders records
-            → OnErr result (IsRgaOf self.new founders records) }
+        ensures joined { (initial_replicas : ℕ) (records : Records) → IsRgaOf self.old initial_replicas records
+            → IsJoinedFrom (history_of kinds.Rga initial_replicas records) from
+            → OnOk result (IsRgaOf self.new initial_replicas (Join (replica_count initial_replicas records) from ∷ records)) }
+        ensures same { (initial_replicas : ℕ) (records : Records) → IsRgaOf self.old initial_replicas records
+            → OnErr result (IsRgaOf self.new initial_replicas records) }
     {
         let list = self.lists[from as usize].copy()?;
         self.lists.push(list)?;
         Ok(())
     }
 
-    /// Where the collections live.
+    /// Returns the allocator of the collections.
     pub fn allocator(&self) -> Global {
         *self.edits.allocator()
     }
 }
 
-// Why an update fails, unless it is admitted.
+// Returns the cause of an update that is not admitted.
 fn update_unless(is_admitted: bool) -> Option<Cause>
     ensures { result ≡ (if is_admitted then None else Some Cause.Update) }
 {

@@ -1,4 +1,4 @@
-//! The named sequence, put together from the order and the halves of its labels.
+//! The named sequence, built from the order of the labels and their halves.
 ghost use Rattle.std.specs.Prelude.{◌≡◌, ◌<◌, ◌++◌, flat_map, vec_len, Some, IfOk, OnOk};
 ghost use Rattle.std.specs.List.{slice_get};
 ghost use Rattle.ra_witness.specs.Sequence.{has_query_half, refs_at};
@@ -8,8 +8,16 @@ use ra_labels::{NoMemory, Update};
 use ra_visibility::NamedOrder;
 use std::alloc::Global;
 
-/// The parts of the labels of an order, in that order, where these are the labels' updates, by their numbers. A label
-/// that none is known of is its own one part. Costs what the order asks for the label at each position.
+/// Returns the parts of the labels of an order, in this order. The list has the labels' updates by number; a label
+/// without an entry in it is one part.
+///
+/// # Errors
+///
+/// `NoMemory` if allocation fails.
+///
+/// # Complexity
+///
+/// O(n) calls of `NamedOrder::at`, where `n` is the number of labels.
 pub fn part_refs<O: NamedOrder>(
     alloc: Global,
     order: &O,
@@ -29,7 +37,7 @@ pub fn part_refs<O: NamedOrder>(
     Ok(refs)
 }
 
-// Puts the label's parts at the end.
+// Appends the label's parts.
 fn push_parts(
     refs: &mut Vec<PartRef>,
     updates: &[Option<Update>],
@@ -56,7 +64,7 @@ fn push_parts(
     Ok(())
 }
 
-// Is the label rewritten into two halves?
+// Returns `true` if the rewriting splits the label into two halves.
 fn has_halves(updates: &[Option<Update>], label: u32) -> bool
     ensures { result ≡ has_query_half (slice_get updates.now label) }
 {
@@ -66,7 +74,7 @@ fn has_halves(updates: &[Option<Update>], label: u32) -> bool
     }
 }
 
-// Does a label that does this ask before?
+// Returns `true` if a label with this update has a query half.
 fn asks_first(update: &Option<Update>) -> bool
     ensures { result ≡ has_query_half (Some update.now) }
 {

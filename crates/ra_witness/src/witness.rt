@@ -1,15 +1,15 @@
-//! The one kept witness: an order of labels, and the state of each replica.
+//! The witness: an order of labels, and the state of each replica.
 ghost use Rattle.std.specs.Prelude.{◌≡◌, ℕ, ◌+◌, ◌<◌, ◌≤◌, ◌++◌, ◌∷◌, true, List, length, map, min, Option, None, Ok, IfOk, OnOk, OnErr};
 ghost use Rattle.ra_labels.specs.declared.kind.Kind.{Kind};
 ghost use Rattle.ra_labels.specs.declared.kind.Kind.TheVariants as kinds;
 ghost use Rattle.ra_labels.specs.declared.label.Label.{Label};
 ghost use Rattle.ra_labels.specs.declared.command.Command.TheVariants.{Deliver, Join};
-ghost use Rattle.ra_labels.specs.Visibility.{had};
+ghost use Rattle.ra_labels.specs.Visibility.{has_delivered};
 ghost use Rattle.ra_labels.specs.NamedOrder.{named_labels, named_sequence};
 ghost use Rattle.ra_labels.specs.Fault.{cause_of};
 ghost use Rattle.ra_labels.specs.Specification.{is_admitted};
-ghost use Rattle.ra_labels.specs.Insertion.{updates_among, updates_had};
-ghost use Rattle.ra_labels.specs.Situation.{Past, replicas_of, nothing_yet, past_with, IsAccepted, Next, operate};
+ghost use Rattle.ra_labels.specs.Insertion.{updates_among, delivered_updates};
+ghost use Rattle.ra_labels.specs.HistorySoFar.{History, replicas_of, empty_history, history_with, IsAccepted, NextOperation, operate};
 ghost use Rattle.ra_witness.specs.Labels.{update_in};
 ghost use Rattle.ra_witness.specs.States.{steps_of};
 ghost use Rattle.ra_witness.specs.Settled.{SettlesMore};
@@ -25,7 +25,7 @@ use ra_rewrite::parts;
 use ra_visibility::{NamedOrder, Seen};
 use std::alloc::Global;
 
-/// Labels in the named order of their kind, and of each replica the state after the updates that it had.
+/// The labels in the named order of their kind, and the state of each replica after the updates delivered to it.
 #[derive(Drop)]
 pub struct Witness<O: NamedOrder> {
     order: O,
@@ -34,11 +34,19 @@ pub struct Witness<O: NamedOrder> {
 }
 
 impl<O: NamedOrder> Witness<O> {
-    /// The witness of no labels, of so many replicas. The order is empty, and that of the kind. Costs a state for each
-    /// replica.
+    /// Creates the witness of no labels, with the given number of replicas. The order has to be that of the empty
+    /// history.
+    ///
+    /// # Errors
+    ///
+    /// `NoMemory` if allocation fails.
+    ///
+    /// # Complexity
+    ///
+    /// O(r), where `r` is the number of replicas.
     pub fn new(alloc: Global, kind: Kind, replicas: u8, order: O) -> Result<Witness<O>, NoMemory>
-        ensures stands { O.stands_for order (nothing_yet kind replicas) → IfOk result (λ witness.
-            IsWitnessOf O.stands_for witness (nothing_yet kind replicas)) }
+        ensures stands { O.stands_for order (empty_history kind replicas) → IfOk result (λ witness.
+            IsWitnessOf O.stands_for witness (empty_history kind replicas)) }
         ensures steps { IfOk result (λ witness. witness.steps ≡ 0) }
     {
         let kept = Effects::new(alloc, kind, replicas)?;
@@ -49,27 +57,35 @@ impl<O: NamedOrder> Witness<O> {
         })
     }
 
-    /// Takes the next label in, with what it sees, by one step at most, and answers none; or answers the first
-    /// condition that fails with it, and is as before. So it is where a growth is refused. Costs a place in the order,
-    /// and of a query what `State::admits` does, of an update one `State::apply`, and of a new element of an RGA its
-    /// place among the elements of all labels.
+    /// Adds the next label, with what it sees, by at most one step, and returns `None`. If a condition fails with the
+    /// label, returns the first such condition, and the witness represents the same history as before.
+    ///
+    /// # Errors
+    ///
+    /// `NoMemory` if allocation fails; the same history is represented.
+    ///
+    /// # Complexity
+    ///
+    /// One `place` and one `put` of the order; for a query one `State::admits`, for an update one `State::apply`. An
+    /// RGA's insertion is inserted into the list of all elements besides. A replica's array by element number
+    /// (`LastUpdates`, or the marks of an RGA) is extended if necessary.
     pub fn offer(&mut self, label: &Label, seen: &Seen<'_>) -> Result<Option<Cause>, NoMemory>
         requires { MayOffer O.stands_for self.old label.now seen.now }
-        ensures cause { (past : Past) (next : Next) → IsWitnessOf O.stands_for self.old past
+        ensures cause { (past : History) (next : NextOperation) → IsWitnessOf O.stands_for self.old past
             → ComesNext past next label.now seen.now → IfOk result (λ cause. cause
             ≡ cause_of past.kind (operate next ∷ past.records)) }
-        ensures taken { (past : Past) (next : Next) → IsWitnessOf O.stands_for self.old past
+        ensures taken { (past : History) (next : NextOperation) → IsWitnessOf O.stands_for self.old past
             → ComesNext past next label.now seen.now → result ≡ Ok None
-            → IsWitnessOf O.stands_for self.new (past_with past (operate next)) }
-        ensures same { (past : Past) → IsWitnessOf O.stands_for self.old past → ¬ (result ≡ Ok None)
+            → IsWitnessOf O.stands_for self.new (history_with past (operate next)) }
+        ensures same { (past : History) → IsWitnessOf O.stands_for self.old past → ¬ (result ≡ Ok None)
             → IsWitnessOf O.stands_for self.new past }
         ensures steps { ¬ (result ≡ Ok None) → self.new.steps ≡ self.old.steps }
         ensures grows { self.old.steps ≤ self.new.steps }
         ensures one_step { self.new.steps ≤ self.old.steps + 1 }
-        ensures counted { (past : Past) (next : Next) → IsWitnessOf O.stands_for self.old past
+        ensures counted { (past : History) (next : NextOperation) → IsWitnessOf O.stands_for self.old past
             → ComesNext past next label.now seen.now → ¬ (past.kind ≡ kinds.Rga) → result ≡ Ok None
             → self.old.steps < 18446744073709551615 → self.new.steps ≡ self.old.steps + steps_of (update_in next.op) }
-        ensures settled { (past : Past) (next : Next) → IsWitnessOf O.stands_for self.old past
+        ensures settled { (past : History) (next : NextOperation) → IsWitnessOf O.stands_for self.old past
             → ComesNext past next label.now seen.now → past.kind ≡ kinds.Rga → result ≡ Ok None
             → (more : ℕ) × SettlesMore past.records (operate next) next.by more
             × (self.new.steps ≡ min (self.old.steps + more) 18446744073709551615) }
@@ -79,7 +95,7 @@ impl<O: NamedOrder> Witness<O> {
             return Ok(Some(Cause::Order));
         }
         let parts = parts(label)?;
-        let update = match self.kept.judge(label, parts) {
+        let update = match self.kept.check(label, parts) {
             Ok(update) => update,
             Err(cause) => return Ok(Some(cause)),
         };
@@ -90,44 +106,52 @@ impl<O: NamedOrder> Witness<O> {
         Ok(None)
     }
 
-    /// The label is delivered to the replica. It is out of memory where a growth is refused, and then as before. Where
-    /// none of the replica's updates waits then, it takes a step at least. Costs one `State::apply`, however late the
-    /// label is. Of an RGA it costs beside that a walk back to the nearest element that is there, mostly of no step at
-    /// all, and as much for each label that had waited for its element, and so on.
+    /// Adds the delivery of the label to the replica. If afterwards none of the replica's updates is pending, it takes
+    /// at least one step.
+    ///
+    /// # Errors
+    ///
+    /// `NoMemory` if allocation fails; the same history is represented.
+    ///
+    /// # Complexity
+    ///
+    /// One `State::apply` for all kinds except RGA, however late the label is. For an RGA one step of the state, and a
+    /// walk back to the nearest present element, for each update that the delivery settles. A replica's array by
+    /// element number (`LastUpdates`, or the marks of an RGA) is extended if necessary.
     pub fn deliver(&mut self, replica: u8, label: u32) -> Result<(), NoMemory>
         requires { MayDeliver O.stands_for self.old replica label }
-        ensures delivered { (past : Past) → IsWitnessOf O.stands_for self.old past
+        ensures delivered { (past : History) → IsWitnessOf O.stands_for self.old past
             → IsAccepted past (Deliver replica label)
-            → OnOk result (IsWitnessOf O.stands_for self.new (past_with past (Deliver replica label))) }
-        ensures same { (past : Past) → IsWitnessOf O.stands_for self.old past
+            → OnOk result (IsWitnessOf O.stands_for self.new (history_with past (Deliver replica label))) }
+        ensures same { (past : History) → IsWitnessOf O.stands_for self.old past
             → OnErr result (IsWitnessOf O.stands_for self.new past) }
         ensures steps { OnErr result (self.new.steps ≡ self.old.steps) }
-        ensures few_steps { (past : Past) (before behind : List Label) (it : Label)
+        ensures few_steps { (past : History) (before behind : List Label) (it : Label)
             → IsWitnessOf O.stands_for self.old past → IsAccepted past (Deliver replica label)
             → named_labels past.kind past.records ≡ before ++ it ∷ behind → it.number ≡ label
             → OnOk result (self.new.steps ≤ self.old.steps + 64 + length (updates_among
-            (had past.records replica) behind)) }
-        ensures one_each { (past : Past) (before behind : List Label) (it : Label)
+            (has_delivered past.records replica) behind)) }
+        ensures one_each { (past : History) (before behind : List Label) (it : Label)
             → IsWitnessOf O.stands_for self.old past → IsAccepted past (Deliver replica label)
             → named_labels past.kind past.records ≡ before ++ it ∷ behind → it.number ≡ label
             → OnOk result (self.new.steps ≤ self.old.steps + 1 + length (updates_among
-            (had past.records replica) behind)) }
+            (has_delivered past.records replica) behind)) }
         ensures grows { self.old.steps ≤ self.new.steps }
-        ensures one_step { (past : Past) → IsWitnessOf O.stands_for self.old past
+        ensures one_step { (past : History) → IsWitnessOf O.stands_for self.old past
             → IsAccepted past (Deliver replica label)
-            → is_admitted past.kind (updates_had past.kind past.records replica) ≡ true
-            → is_admitted past.kind (updates_had past.kind (Deliver replica label ∷ past.records) replica) ≡ true
+            → is_admitted past.kind (delivered_updates past.kind past.records replica) ≡ true
+            → is_admitted past.kind (delivered_updates past.kind (Deliver replica label ∷ past.records) replica) ≡ true
             → self.old.steps < 18446744073709551615 → OnOk result (self.new.steps ≡ self.old.steps + 1) }
-        ensures counted { (past : Past) → IsWitnessOf O.stands_for self.old past
+        ensures counted { (past : History) → IsWitnessOf O.stands_for self.old past
             → IsAccepted past (Deliver replica label) → ¬ (past.kind ≡ kinds.Rga)
             → self.old.steps < 18446744073709551615 → OnOk result (self.new.steps ≡ self.old.steps + 1) }
-        ensures settled { (past : Past) → IsWitnessOf O.stands_for self.old past
+        ensures settled { (past : History) → IsWitnessOf O.stands_for self.old past
             → IsAccepted past (Deliver replica label) → past.kind ≡ kinds.Rga
             → OnOk result ((more : ℕ) × SettlesMore past.records (Deliver replica label) replica more
             × (self.new.steps ≡ min (self.old.steps + more) 18446744073709551615)) }
-        ensures some_step { (past : Past) → IsWitnessOf O.stands_for self.old past
+        ensures some_step { (past : History) → IsWitnessOf O.stands_for self.old past
             → IsAccepted past (Deliver replica label)
-            → is_admitted past.kind (updates_had past.kind (Deliver replica label ∷ past.records) replica) ≡ true
+            → is_admitted past.kind (delivered_updates past.kind (Deliver replica label ∷ past.records) replica) ≡ true
             → self.old.steps < 18446744073709551615 → OnOk result (self.old.steps < self.new.steps) }
     {
         let steps = self.kept.deliver(replica, label)?;
@@ -135,34 +159,48 @@ impl<O: NamedOrder> Witness<O> {
         Ok(())
     }
 
-    /// The next replica joins from this one, and has all that this one had. It is out of memory where a growth is
-    /// refused, and then as before. It takes no step. Costs a copy of what is kept of the one replica, and nothing of
-    /// the others: of its state, of a register or an LWW set also a number for each element, and of an RGA a mark for
-    /// each element of all labels and those of its updates that wait.
+    /// Adds the next replica, to which the same updates were delivered as to this one. It takes no step.
+    ///
+    /// # Errors
+    ///
+    /// `NoMemory` if allocation fails; the same history is represented.
+    ///
+    /// # Complexity
+    ///
+    /// O(n), where `n` is the size of this replica's data. It consists of its state; for a register or an LWW set, the
+    /// last label of each element; for an RGA, a mark for each element, and the pending updates.
     pub fn join(&mut self, from: u8) -> Result<(), NoMemory>
         requires { MayJoin O.stands_for self.old from }
-        ensures joined { (past : Past) → IsWitnessOf O.stands_for self.old past
+        ensures joined { (past : History) → IsWitnessOf O.stands_for self.old past
             → let join = Join (replicas_of past) from in IsAccepted past join
-            → OnOk result (IsWitnessOf O.stands_for self.new (past_with past join)) }
-        ensures same { (past : Past) → IsWitnessOf O.stands_for self.old past
+            → OnOk result (IsWitnessOf O.stands_for self.new (history_with past join)) }
+        ensures same { (past : History) → IsWitnessOf O.stands_for self.old past
             → OnErr result (IsWitnessOf O.stands_for self.new past) }
         ensures steps { self.new.steps ≡ self.old.steps }
     {
         self.kept.join(from)
     }
 
-    /// How many updates were made on a replica's state, by calls that changed the witness: the clauses tell this number
-    /// (`counted`; of an RGA `settled`), and that it counts those updates is seen by reading. It takes no memory, and
-    /// stays at the greatest number once there.
+    /// Returns the number of steps so far: the updates that calls which changed the witness applied to a replica's
+    /// state. The clauses state this number (`counted`, and `settled` for an RGA), but not that it counts applied
+    /// updates. It stops growing at 2^64 - 1. Does not allocate.
     pub fn steps(&self) -> u64
         ensures { result ≡ self.now.steps }
     {
         self.steps
     }
 
-    /// All parts in the named order. Costs what the order asks for the label at each position.
+    /// Returns all parts in the named order.
+    ///
+    /// # Errors
+    ///
+    /// `NoMemory` if allocation fails.
+    ///
+    /// # Complexity
+    ///
+    /// O(n) calls of `NamedOrder::at`, where `n` is the number of labels.
     pub fn sequence(&self) -> Result<Vec<PartRef>, NoMemory>
-        ensures { (past : Past) → IsWitnessOf O.stands_for self.now past
+        ensures { (past : History) → IsWitnessOf O.stands_for self.now past
             → IfOk result (λ parts. parts.items ≡ map ref_of (named_sequence past.kind past.records)) }
     {
         part_refs(self.kept.allocator(), &self.order, self.kept.updates())

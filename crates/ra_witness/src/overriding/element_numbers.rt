@@ -1,4 +1,4 @@
-//! The elements of an LWW set, numbered in the order in which labels first name them.
+//! The numbers of an LWW set's elements.
 ghost use Rattle.std.specs.Prelude.{◌≡◌, ◌<◌, ◌^◌, ℕ, None, nat_eq, OnOk};
 ghost use Rattle.std.specs.HashMap.{get, hash_map_len, spare};
 ghost use Rattle.ra_witness.specs.ElementNumbers.{element_of, number_in, number_with, count_with};
@@ -7,18 +7,18 @@ use ra_labels::{NoMemory, Update};
 use std::alloc::Global;
 use std::collections::HashMap;
 
-/// The elements of an LWW set, numbered in the order in which updates named them first. A register's one value has the
+/// The elements of an LWW set, numbered in the order in which updates first named them. A register's value has the
 /// number 0.
 #[derive(Drop)]
 pub struct ElementNumbers {
     pub numbers: HashMap<u32, u32>,
 }
 
-// The number of a register's one value.
+// The number of a register's value.
 const REGISTER: u32 = 0;
 
 impl ElementNumbers {
-    /// No element. It takes no memory.
+    /// Creates the empty numbering. Does not allocate.
     pub fn new(alloc: Global) -> ElementNumbers
         ensures none { (x : ℕ) → get nat_eq result.numbers x ≡ None }
         ensures len { hash_map_len result.numbers ≡ 0 }
@@ -28,7 +28,7 @@ impl ElementNumbers {
         }
     }
 
-    /// The number of the element that the update is on: the next one where none is known.
+    /// Returns the number of the update's element, which is the next free one if the element has none.
     pub fn of(&self, update: &Update) -> u32
         requires { hash_map_len self.now.numbers < 2 ^ 32 }
         ensures { result
@@ -43,7 +43,11 @@ impl ElementNumbers {
         }
     }
 
-    /// Makes room for one more element, and changes nothing else.
+    /// Reserves room for one more element. The numbers do not change.
+    ///
+    /// # Errors
+    ///
+    /// `NoMemory` if allocation fails.
     pub fn reserve(&mut self) -> Result<(), NoMemory>
         ensures room { OnOk result (0 < spare self.new.numbers) }
         ensures same { (x : ℕ) → get nat_eq self.new.numbers x ≡ get nat_eq self.old.numbers x }
@@ -53,7 +57,7 @@ impl ElementNumbers {
         Ok(())
     }
 
-    /// The element that the update is on has this number from now on. There is room for it.
+    /// Sets the number of the update's element, within the reserved room.
     pub fn keep(&mut self, update: &Update, number: u32)
         requires { 0 < spare self.old.numbers }
         ensures kept { (x : ℕ) → get nat_eq self.new.numbers x
@@ -67,7 +71,7 @@ impl ElementNumbers {
     }
 }
 
-// The element of an LWW set that the update is on.
+// Returns the element that an update of an LWW set concerns.
 fn element_of(update: &Update) -> Option<u32>
     ensures { result ≡ element_of update.now }
 {

@@ -1,19 +1,19 @@
-//! Of one replica, the last label on each element.
+//! The last label of each element at one replica.
 ghost use Rattle.std.specs.Prelude.{◌≡◌, ◌<◌, ℕ, [], Some, replicate, vec_len, slice_set, IfOk, OnOk};
 ghost use Rattle.ra_witness.specs.Overriding.{label_on, labels_in};
 
 use ra_labels::NoMemory;
 use std::alloc::Global;
 
-/// Of each element, by its number, the label of the last update on it that a replica had.
+/// For each element, by its number, the label of the last update of the element that was delivered to the replica.
 #[derive(Drop)]
 pub struct LastUpdates {
-    /// There is none beyond the end.
+    /// The labels by element. Elements behind the end have none.
     pub labels: Vec<Option<u32>>,
 }
 
 impl LastUpdates {
-    /// The replica had nothing. It takes no memory.
+    /// Creates the labels of a replica without updates. Does not allocate.
     pub fn new(alloc: Global) -> LastUpdates
         ensures { result.labels.items ≡ [] }
     {
@@ -22,7 +22,15 @@ impl LastUpdates {
         }
     }
 
-    /// The same labels. Costs a step for each element up to the last one that there is room for.
+    /// Returns equal labels that own their memory.
+    ///
+    /// # Errors
+    ///
+    /// `NoMemory` if allocation fails.
+    ///
+    /// # Complexity
+    ///
+    /// O(n), where `n` is the number of elements for which there is room.
     pub fn copy(&self) -> Result<LastUpdates, NoMemory>
         ensures { IfOk result (λ copy. copy.labels.items ≡ self.now.labels.items) }
     {
@@ -31,7 +39,7 @@ impl LastUpdates {
         })
     }
 
-    /// The label of the last update on the element.
+    /// Returns the label of the last update of the element, if there is one.
     pub fn on(&self, element: u32) -> Option<u32>
         ensures { result ≡ label_on self.now.labels.items element }
     {
@@ -41,7 +49,11 @@ impl LastUpdates {
         }
     }
 
-    /// Makes room for the element, and changes nothing else.
+    /// Reserves room for the element. The labels do not change.
+    ///
+    /// # Errors
+    ///
+    /// `NoMemory` if allocation fails.
     pub fn reserve(&mut self, element: u32) -> Result<(), NoMemory>
         ensures room { OnOk result (element < vec_len self.new.labels) }
         ensures same { (k : ℕ) → label_on self.new.labels.items k ≡ label_on self.old.labels.items k }
@@ -53,7 +65,7 @@ impl LastUpdates {
         Ok(())
     }
 
-    /// The label's update is the last on the element from now on, for which there is room.
+    /// Sets the label of the last update of the element, within the reserved room.
     pub fn put(&mut self, element: u32, label: u32)
         requires { element < vec_len self.old.labels }
         ensures { self.new.labels.items ≡ slice_set self.old.labels.items element (Some label) }
@@ -62,7 +74,11 @@ impl LastUpdates {
     }
 }
 
-/// Of so many replicas, none of which had anything.
+/// Creates the labels of the given number of replicas without updates.
+///
+/// # Errors
+///
+/// `NoMemory` if allocation fails.
 pub fn no_lasts(alloc: Global, replicas: u8) -> Result<Vec<LastUpdates>, NoMemory>
     ensures { IfOk result (λ lasts. labels_in lasts.items ≡ replicate replicas []) }
 {

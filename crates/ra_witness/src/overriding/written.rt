@@ -1,12 +1,12 @@
 use ra_labels::{Stamp, Update};
 
-/// What is kept of a label that does something.
+/// The data of a label that has an update.
 #[derive(Drop)]
 pub struct Written {
-    /// What it does.
+    /// The update.
     pub update: Update,
-    /// Its own stamp.
+    /// The label's own stamp.
     pub stamp: Stamp,
-    /// The number of the element that it is on.
+    /// The number of the update's element.
     pub on: u32,
 }

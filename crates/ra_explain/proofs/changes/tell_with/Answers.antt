@@ -3,7 +3,7 @@ use Rattle.ra_explain.specs.Changes.{kept_from, commands_with}
 use Rattle.ra_explain.proofs.Retold.{told_last}
 use Rattle.ra_explain.proofs.changes.tell_with.Goals as goal
 
--- the trial was told of what is kept and of what is added
+-- the trial received the kept and the added commands
 pub returns : goal.returns
 returns c =
     let kept = kept_from c.args.change c.args.replica 0 c.args.before.now in

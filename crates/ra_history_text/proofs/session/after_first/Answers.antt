@@ -1,5 +1,5 @@
 use Rattle.std.proofs.Common.{◌≡◌, Some, None, rules}
-use Rattle.ra_lines.specs.Reading.{head_read}
+use Rattle.ra_history_lines.specs.Reading.{head_read}
 use Rattle.ra_history_text.proofs.Lines.{first_taken, first_stops}
 use Rattle.ra_history_text.proofs.session.after_first.Goals as goal
 

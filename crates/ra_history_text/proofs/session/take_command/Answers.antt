@@ -1,6 +1,6 @@
 use Rattle.std.proofs.Common.{◌≡◌, ◌++◌, Some, rules}
-use Rattle.ra_lines.specs.Grammar.{fields_of}
-use Rattle.ra_lines.specs.Reading.{command_read}
+use Rattle.ra_history_lines.specs.Grammar.{fields_of}
+use Rattle.ra_history_lines.specs.Reading.{command_read}
 use Rattle.ra_history_text.proofs.Lines.{command_replied, command_taken}
 use Rattle.ra_history_text.proofs.session.take_command.Goals as goal
 

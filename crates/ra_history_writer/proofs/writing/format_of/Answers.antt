@@ -1,6 +1,6 @@
 use Rattle.std.proofs.Common.{◌<◌, ◌≤◌, rules, arith}
 use Rattle.std.specs.List.{list_any}
-use Rattle.ra_labels.specs.Laws.{is_join}
+use Rattle.ra_labels.specs.TheoremTerms.{is_join}
 use Rattle.ra_labels.specs.Records.{replica_count}
 use Rattle.ra_monitor.specs.Monitor.{records_of}
 use Rattle.ra_history_writer.proofs.GivenAgain.{joined_newer, many_newer, few_older}

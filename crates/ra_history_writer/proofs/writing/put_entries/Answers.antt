@@ -1,6 +1,6 @@
 use Rattle.std.proofs.Common.{◌≡◌, ◌∙◌}
 use Rattle.std.specs.Prelude.{◌||◌}
-use Rattle.ra_accepted.specs.Accepted.{is_no}
+use Rattle.ra_accepted_commands.specs.Accepted.{is_no}
 use Rattle.ra_history_writer.proofs.Entries.{put_next, cut_entry}
 use Rattle.ra_history_writer.proofs.writing.put_entries.Goals as goal
 use Rattle.ra_history_writer.proofs.writing.put_entries.Goals.{then-failed, else-failed}

@@ -5,7 +5,7 @@ use Rattle.std.specs.HashMap.{get, spare}
 use Rattle.ra_seqspec.specs.Rga.{entries_of, list_after, RgaListKept}
 use Rattle.ra_seqspec.proofs.rga.make_all.Given as goal
 
--- the updates so far are made, and there is room for the others
+-- the updates so far are applied, and there is room for the others
 abbrev pub invariant-loop-update : goal.invariant-loop-update
 invariant-loop-update l = record {
   list : entries_of l.first l.nodes.items

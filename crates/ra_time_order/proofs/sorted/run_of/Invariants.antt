@@ -4,7 +4,7 @@ use Rattle.ra_labels.specs.NamedOrder.{stamp_cmp}
 use Rattle.ra_time_order.specs.declared.run.Run.{Run}
 use Rattle.ra_time_order.proofs.sorted.run_of.Given as goal
 
--- each run behind begins above the rank
+-- each later run starts above the rank
 abbrev pub invariant-loop-rank : goal.invariant-loop-rank
 invariant-loop-rank l = record {
   there : l.at < length l.runs;

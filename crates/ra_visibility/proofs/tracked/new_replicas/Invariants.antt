@@ -3,6 +3,6 @@ use Rattle.std.specs.Prelude.{replicate}
 use Rattle.ra_visibility.specs.Replica.{new_replica}
 use Rattle.ra_visibility.proofs.tracked.new_replicas.Given as goal
 
--- a new replica a turn
+-- all members so far are new replicas
 abbrev pub invariant-loop : goal.invariant-loop
 invariant-loop l = l.members.items ≡ replicate l.counter (new_replica l.places)

@@ -3,7 +3,7 @@ use Rattle.std.specs.Prelude.{flat_map}
 use Rattle.ra_witness.specs.Sequence.{refs_at}
 use Rattle.ra_witness.proofs.sequence.part_refs.Given as goal
 
--- the parts of the labels so far, one at least of each
+-- the parts of the labels so far, at least one for each
 abbrev pub invariant-loop-number : goal.invariant-loop-number
 invariant-loop-number g l = record {
   parts : l.refs.items ≡ flat_map (refs_at l.updates) (take l.position (g.O.NamedOrder.listed l.order));

@@ -14,13 +14,13 @@ use Rattle.ra_ticket.specs.Passes.{next_reached, serving_reached, pass_setup, se
 use Rattle.ra_desk.proofs.Told.{All-of_map}
 use Rattle.ra_desk.proofs.reporter.DeskReporter.open.Goals as goal
 
--- no replica joined yet
+-- no replica has joined yet
 first_ones : (c : goal.In_ok-callers) → c.replicas.result ≡ c.args.monitor.setup.replicas
 first_ones c =
     let setup = c.args.monitor.setup in
     c.replicas.ensures.replicas ∙ ap (λ log. replica_count setup.replicas (records_of setup log)) c.requires
 
--- the setup that is read off the monitor is the monitor's
+-- the setup that is read from the monitor is the monitor's setup
 read_off : (c : goal.In_ok-callers)
     → record { kind = c.report.result.kind; replicas = c.replicas.result; limit = c.limit.result } ≡ c.args.monitor.setup
 read_off c = λ i. record {
@@ -62,7 +62,7 @@ returns-clause-one_desk c =
           (sym (sym (map-map pass_of (λ r. r.caller) all) ∙ ap (map pass_of) c.in_ok-set_up.ensures.callers)) own,
     )
 
--- what holds of each caller's pass holds of each reporter's
+-- a property of each caller's pass holds of each reporter's pass
 each_pass : (c : goal.In_ok-set_up) (P : Pass Monitor Command Reply Setup ghosts → Type 0)
     → All P (passes_of c.in_ok-callers.callers.items) → All (λ r. P (pass_of r.caller)) c.in_ok-set_up.field-0.items
 each_pass c P each =

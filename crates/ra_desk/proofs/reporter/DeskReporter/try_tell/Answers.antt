@@ -1,6 +1,6 @@
 use Rattle.std.proofs.Common.{◌≡◌, true, ◌∙◌}
 use Rattle.std.proofs.lemmas.Result.{IfOk-weaker}
-use Rattle.ra_laws.specs.AnyOrder.{is_of_any_order}
+use Rattle.ra_theorems.specs.AnyOrder.{is_of_any_order}
 use Rattle.ra_monitor.specs.Monitor.{IsNoAtFault, IsFinalNo}
 use Rattle.ra_ticket.specs.Callers.{pass_of}
 use Rattle.ra_ticket.specs.Passes.{pass_setup, seen}
@@ -21,7 +21,7 @@ returns-clause-no c =
     let setup = c.args.self.now.setup in
     let after = pass_of c.try_submit.new.self in
     said c.try_submit.result (pass_setup after) setup (seen after) (number_of c.args.self.now) c.args.command
-    (IsNoAtFault setup) (c.each_reply_under_the_lock.ensures.no setup)
+    (IsNoAtFault setup) (c.replies_under_lock.ensures.no setup)
     (c.try_submit.ensures.pass.setup ∙ c.args.self.now.same) (returns-clause-logged c) c.try_submit.ensures.legal
 
 pub returns-clause-final_no : goal.returns-clause-final_no
@@ -30,5 +30,5 @@ returns-clause-final_no c =
     let after = pass_of c.try_submit.new.self in
     said c.try_submit.result (pass_setup after) setup (seen after) (number_of c.args.self.now) c.args.command
     (λ log reply. is_of_any_order setup.kind ≡ true → IsFinalNo setup log reply)
-    (λ before later e legal any. c.each_reply_under_the_lock.ensures.final_no setup before later e any legal)
+    (λ before later e legal any. c.replies_under_lock.ensures.final_no setup before later e any legal)
     (c.try_submit.ensures.pass.setup ∙ c.args.self.now.same) (returns-clause-logged c) c.try_submit.ensures.legal

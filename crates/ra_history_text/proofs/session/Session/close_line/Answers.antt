@@ -22,7 +22,7 @@ returns-then-last-le-LONGEST_LINE-clause-fault c =
     close_whole_stops c.take_or_keep.result _ c.args.self.now c.args.last.now c.self.view_is nothing c.requires
     c.if-last-le-LONGEST_LINE.true c.take_or_keep.ensures.fault
 
--- a line that came in parts is not whole with the last alone
+-- if the line arrived in parts, the last part is not the whole line
 pub returns-in_err-extend-clause-fault : goal.returns-in_err-extend-clause-fault
 returns-in_err-extend-clause-fault c =
     let in_parts : c.args.self.now.partial ≡ [] → length c.args.last.now ≤ 1048576 → ⊥ =

@@ -2,7 +2,7 @@ use Rattle.std.proofs.Common.{length}
 use Rattle.ra_history_text.specs.Sessions.{IsFedUpTo}
 use Rattle.ra_history_text.proofs.session.Session.feed.Given as goal
 
--- the lines that were whole are taken, and the rest is left
+-- the complete lines are consumed, and the rest remains
 abbrev pub invariant-loop-front : goal.invariant-loop-front
 invariant-loop-front l = IsFedUpTo l.initial.self l.self l.piece l.rest l.initial.out.items l.out.items
 

@@ -1,6 +1,6 @@
 use Rattle.std.proofs.Common.{◌∙◌, ap, subst}
 use Rattle.ra_labels.specs.Records.{label_count}
-use Rattle.ra_laws.specs.AnyOrder.{is_of_any_order}
+use Rattle.ra_theorems.specs.AnyOrder.{is_of_any_order}
 use Rattle.ra_monitor.specs.Monitor.{Monitor, records_of, IsFinalFault}
 use Rattle.ra_monitor.proofs.Legal.{final_kept}
 use Rattle.ra_monitor.proofs.monitor.Monitor.report.Goals as goal

@@ -8,11 +8,11 @@ use Rattle.ra_monitor.proofs.Legal.{linearizable_after, no_after, final_no}
 use Rattle.ra_monitor.proofs.NewEntries.{legal_after, kept_after}
 use Rattle.ra_monitor.proofs.monitor.MonitorJournal.step.Goals as goal
 
--- the entry that joins the log, with this command
+-- the entry that is appended to the log for this command
 abbrev entry_with : goal.After-append → Command → MonitorEntry
 entry_with c command = record { pass = c.args.pass; ticket = c.args.ticket; command = command; reply = c.in-Ok.reply }
 
--- it has the command that came, which was given back
+-- its command is the one that was given, since the callee returns it
 abbrev entry_of : goal.After-append → MonitorEntry
 entry_of c = entry_with c c.args.command
 
@@ -54,7 +54,7 @@ returns-in-Ok-clause-final_no c = λ any.
     subst (λ (l : List MonitorEntry). IsFinalNo setup l c.in-Ok.reply) (sym (log_is c))
     (final_no setup (log ++ entry_of c ∷ []) c.in-Ok.reply (no_after setup log (entry_of c) (answered c)) any)
 
--- It gave up, so the command would have joined the records.
+-- the call failed, so the command would have been added to the records
 pub returns-in-Err-clause-settled : goal.returns-in-Err-clause-settled
 returns-in-Err-clause-settled c = λ room stays.
     let m = c.self.inside in
@@ -66,7 +66,7 @@ returns-in-Err-clause-settled c = λ room stays.
     let longer : suc (length records) ≡ length records = ap (λ (r : Records). length r) (sym joins ∙ stays_there) in
     absurd (omega (arith, longer))
 
--- it gave up, and what is kept is as before
+-- the call failed, and the monitor is unchanged
 pub invariant_of-self-in-Err : goal.invariant_of-self-in-Err
 invariant_of-self-in-Err c =
     let m = c.self.inside in

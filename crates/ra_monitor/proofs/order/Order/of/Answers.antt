@@ -1,24 +1,24 @@
 use Rattle.std.proofs.Common.{sym, subst, inl, inr}
 use Rattle.ra_visibility.specs.Order.{IsByExecution, IsByTimestamp}
-use Rattle.ra_exec_order.proofs.TheLaws.{kinds_by_execution-counter, kinds_by_execution-or_set}
-use Rattle.ra_time_order.proofs.TheLaws.{kinds_by_timestamp-register, kinds_by_timestamp-lww_set, kinds_by_timestamp-rga}
+use Rattle.ra_exec_order.proofs.TheoremIndex.{execution_order_kinds-counter, execution_order_kinds-or_set}
+use Rattle.ra_time_order.proofs.TheoremIndex.{timestamp_order_kinds-register, timestamp_order_kinds-lww_set, timestamp_order_kinds-rga}
 use Rattle.ra_monitor.proofs.order.Order.of.Goals as goal
 
 pub returns-in-Counter : goal.returns-in-Counter
 returns-in-Counter c =
     let by_execution : IsByExecution c.args.kind = elim c.in-Counter.is [
-      | inl counter ↦ subst IsByExecution (sym counter) kinds_by_execution-counter
-      | inr or_set ↦ subst IsByExecution (sym or_set) kinds_by_execution-or_set
+      | inl counter ↦ subst IsByExecution (sym counter) execution_order_kinds-counter
+      | inr or_set ↦ subst IsByExecution (sym or_set) execution_order_kinds-or_set
     ] in
     c.new.ensures.stands c.args.kind c.args.replicas by_execution
 
 pub returns-in_ok-new-in-Register : goal.returns-in_ok-new-in-Register
 returns-in_ok-new-in-Register c =
     let by_timestamp : IsByTimestamp c.args.kind = elim c.in-Register.is [
-      | inl register ↦ subst IsByTimestamp (sym register) kinds_by_timestamp-register
+      | inl register ↦ subst IsByTimestamp (sym register) timestamp_order_kinds-register
       | inr other ↦ elim other [
-        | inl lww_set ↦ subst IsByTimestamp (sym lww_set) kinds_by_timestamp-lww_set
-        | inr rga ↦ subst IsByTimestamp (sym rga) kinds_by_timestamp-rga
+        | inl lww_set ↦ subst IsByTimestamp (sym lww_set) timestamp_order_kinds-lww_set
+        | inr rga ↦ subst IsByTimestamp (sym rga) timestamp_order_kinds-rga
       ]
     ] in
     c.in_ok-new-in-Register.ensures.stands c.args.kind by_timestamp

@@ -4,7 +4,7 @@ use Rattle.ra_time_order.specs.RunningMaximum.{RunningMaximum}
 use Rattle.ra_time_order.specs.RunningMaxima.{stamps_of}
 use Rattle.ra_time_order.proofs.running_maxima.RunningMaxima.new.Given as goal
 
--- a replica without updates a turn, which has room for one
+-- the members so far have no stamps, and each has room for one
 abbrev pub invariant-loop : goal.invariant-loop
 invariant-loop l = record {
   stamps : stamps_of l.members.items ≡ replicate l.counter [];

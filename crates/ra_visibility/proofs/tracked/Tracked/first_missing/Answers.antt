@@ -1,7 +1,7 @@
 use Rattle.std.proofs.Common.{◌≡◌, ℕ, ◌+◌, ◌<◌, List, get_or, Some, sym, ap, ◌∙◌, subst, arith}
 use Rattle.ra_visibility.specs.Replica.{Replica}
 use Rattle.ra_visibility.specs.Seen.{Seen, count_in}
-use Rattle.ra_visibility.specs.Tracked.{replicas_in, replica_at, had_count, seen_count}
+use Rattle.ra_visibility.specs.Tracked.{replicas_in, replica_at, delivered_count, seen_count}
 use Rattle.ra_visibility.specs.Least.{lesser_of}
 use Rattle.ra_visibility.specs.Kept.{issued_at}
 use Rattle.ra_visibility.proofs.MissingLabels.{IsLeastOf, lacked_at, least_skips, least_takes, least_found}
@@ -15,7 +15,7 @@ loop-from-preserved c =
     let label = c.args.label in
     let end = c.loop-from.from in
     let had : c.counts-had.result.now ≡ (replica_at t to).counts = c.counts-had.ensures ∙ ap (λ (r : Replica). r.counts) c.replica.ensures in
-    let count : get_or c.counts-had.result.now end 0 ≡ had_count t to end = ap (λ (xs : List ℕ). get_or xs end 0) had in
+    let count : get_or c.counts-had.result.now end 0 ≡ delivered_count t to end = ap (λ (xs : List ℕ). get_or xs end 0) had in
     let sees : c.count.result ≡ seen_count t label end = c.count.ensures ∙ ap (λ (s : Seen). count_in s end) c.vis-seen.ensures in
     let known : end < replicas_in t = omega (arith, c.len-from-end.ensures, ap replicas_in c.self.view_is, c.loop-from-test.true) in
     elim c.if-count.branch [

@@ -1,6 +1,6 @@
 use Rattle.std.proofs.Common.{Some, ap, sym, ◌∙◌}
 use Rattle.ra_visibility.specs.Tracked.{refusal_in}
-use Rattle.ra_visibility.proofs.TheLaws.{records_stay_causal}
+use Rattle.ra_visibility.proofs.TheoremIndex.{delivery_preserves_causality}
 use Rattle.ra_visibility.proofs.TrackerChanges.{delivers, delivery_keeps, delivery_taken_back, delivery_stands}
 use Rattle.ra_visibility.proofs.tracker.Tracker.deliver.Goals as goal
 
@@ -29,4 +29,4 @@ pub returns-clause-causal : goal.returns-clause-causal
 returns-clause-causal c = λ past stands causal.
     let t = c.args.self.now.now in
     let none = sym (ap (λ t. refusal_in t.now c.args.replica c.args.label) c.self.view_is) ∙ sym c.in_default.ensures in
-    records_stay_causal t past c.args.replica c.args.label stands c.requires none causal
+    delivery_preserves_causality t past c.args.replica c.args.label stands c.requires none causal

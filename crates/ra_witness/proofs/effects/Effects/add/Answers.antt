@@ -3,7 +3,7 @@ use Rattle.std.proofs.lemmas.Result.{IfOk-weaker}
 use Rattle.ra_labels.specs.NamedOrder.{named_sequence}
 use Rattle.ra_labels.specs.Linearization.{updates_admitted}
 use Rattle.ra_labels.proofs.Results.{on_ok, if_ok_on, on_err}
-use Rattle.ra_labels.specs.Situation.{past_of, operate}
+use Rattle.ra_labels.specs.HistorySoFar.{history_of, operate}
 use Rattle.ra_witness.specs.Offered.{IsOffered}
 use Rattle.ra_witness.proofs.CommutingKinds.{on_ok_two, is_commuting, is_overriding, is_rga, not_rga-commuting, not_rga-overriding, can_take, commuting_taken}
 use Rattle.ra_witness.proofs.effects.Effects.add.Goals as goal
@@ -39,8 +39,8 @@ pub returns-in-Rga-clause-taken : goal.returns-in-Rga-clause-taken
 returns-in-Rga-clause-taken c = λ past next stands offered admitted same.
     let known = is_rga c.args.self.now past stands c.in-Rga.kept c.in-Rga.is in
     if_ok_on c.add-in-Rga.result
-    (c.add-in-Rga.ensures.taken past.founders past.records next known.1
-    (subst (λ k. IsOffered (past_of k past.founders past.records) next c.args.label.now) known.0 offered)
+    (c.add-in-Rga.ensures.taken past.initial_replicas past.records next known.1
+    (subst (λ k. IsOffered (history_of k past.initial_replicas past.records) next c.args.label.now) known.0 offered)
     (subst (λ k. updates_admitted k (named_sequence k (operate next ∷ past.records)) ≡ true) known.0 admitted))
     (λ steps after. record { few = omega (arith, offered.few); form = (known.0, after.0) })
 
@@ -58,14 +58,14 @@ pub returns-in-Rga-clause-settled : goal.returns-in-Rga-clause-settled
 returns-in-Rga-clause-settled c = λ past next stands offered admitted rga.
     let known = is_rga c.args.self.now past stands c.in-Rga.kept c.in-Rga.is in
     IfOk-weaker c.add-in-Rga.result _ _ (λ steps after. after.1)
-    (c.add-in-Rga.ensures.taken past.founders past.records next known.1
-    (subst (λ k. IsOffered (past_of k past.founders past.records) next c.args.label.now) known.0 offered)
+    (c.add-in-Rga.ensures.taken past.initial_replicas past.records next known.1
+    (subst (λ k. IsOffered (history_of k past.initial_replicas past.records) next c.args.label.now) known.0 offered)
     (subst (λ k. updates_admitted k (named_sequence k (operate next ∷ past.records)) ≡ true) known.0 admitted))
 
 pub returns-in-Rga-clause-same : goal.returns-in-Rga-clause-same
 returns-in-Rga-clause-same c = λ past stands.
     let known = is_rga c.args.self.now past stands c.in-Rga.kept c.in-Rga.is in
-    on_err c.add-in-Rga.result (c.add-in-Rga.ensures.same past.founders past.records known.1)
+    on_err c.add-in-Rga.result (c.add-in-Rga.ensures.same past.initial_replicas past.records known.1)
     (λ form. record { few = stands.few; form = (known.0, form) })
 
 pub returns-in-Rga-clause-counted : goal.returns-in-Rga-clause-counted

@@ -9,7 +9,7 @@ use Rattle.ra_witness.proofs.CommutingKinds.{is_commuting, is_overriding, is_rga
 use Rattle.ra_witness.proofs.DoneUpdates.{told_step}
 use Rattle.ra_witness.proofs.SettledUpdates.{of_rga, settled_in, few_more, some_more, one_settled}
 use Rattle.ra_witness.proofs.OverridingKinds.{writes_counted, told_write, can_bring, overriding_told, overriding_same}
-use Rattle.ra_laws.proofs.TheLaws.{had_updates-there}
+use Rattle.ra_theorems.proofs.TheoremIndex.{delivered_are_updates-there}
 use Rattle.ra_witness.proofs.effects.Effects.deliver.Goals as goal
 
 pub deliver-requires-clause-label : goal.deliver-requires-clause-label
@@ -38,7 +38,7 @@ deliver-requires-in-Overriding-clause-label c =
     let may = c.requires in
     let kept = c.in-Overriding.kept in
     let known = is_overriding c.args.self.now may.past may.stands kept c.in-Overriding.is in
-    omega (arith, kept.writes.ok.0, writes_counted kept may.past known, had_updates-there may.past.records c.args.label may.told.update)
+    omega (arith, kept.writes.ok.0, writes_counted kept may.past known, delivered_are_updates-there may.past.records c.args.label may.told.update)
 
 pub deliver-requires-in-Overriding-clause-can : goal.deliver-requires-in-Overriding-clause-can
 deliver-requires-in-Overriding-clause-can c =
@@ -76,7 +76,7 @@ returns-in_err-deliver-in-Overriding-clause-same c = λ past stands.
 pub returns-in-Rga-clause-delivered : goal.returns-in-Rga-clause-delivered
 returns-in-Rga-clause-delivered c = λ past stands told.
     let known = is_rga c.args.self.now past stands c.in-Rga.kept c.in-Rga.is in
-    if_ok_on c.deliver-in-Rga.result (c.deliver-in-Rga.ensures.delivered past.founders past.records known.1
+    if_ok_on c.deliver-in-Rga.result (c.deliver-in-Rga.ensures.delivered past.initial_replicas past.records known.1
     (of_rga past known.0 c.args.replica c.args.label told))
     (λ steps after. record { few = stands.few; form = (known.0, after.0) })
 
@@ -105,7 +105,7 @@ returns-in-Rga-clause-few_steps c = λ past before behind it stands told is numb
 pub returns-in-Rga-clause-same : goal.returns-in-Rga-clause-same
 returns-in-Rga-clause-same c = λ past stands.
     let known = is_rga c.args.self.now past stands c.in-Rga.kept c.in-Rga.is in
-    on_err c.deliver-in-Rga.result (c.deliver-in-Rga.ensures.same past.founders past.records known.1)
+    on_err c.deliver-in-Rga.result (c.deliver-in-Rga.ensures.same past.initial_replicas past.records known.1)
     (λ form. record { few = stands.few; form = (known.0, form) })
 
 pub returns-in-Commuting-clause-some_step : goal.returns-in-Commuting-clause-some_step

@@ -2,6 +2,6 @@ use Rattle.std.proofs.Common.{◌≡◌, [], replicate}
 use Rattle.ra_witness.specs.Overriding.{labels_in}
 use Rattle.ra_witness.proofs.overriding.last_updates.no_lasts.Given as goal
 
--- what there is of the replicas so far
+-- each replica so far has no last labels
 abbrev pub invariant-loop : goal.invariant-loop
 invariant-loop l = labels_in l.lasts.items ≡ replicate l.counter []

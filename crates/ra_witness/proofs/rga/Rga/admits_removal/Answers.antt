@@ -5,18 +5,18 @@ use Rattle.std.specs.Ordering.{is_le}
 use Rattle.std.proofs.lemmas.Bool.{true≢false, false≢true, eq-eqb}
 use Rattle.std.proofs.lemmas.Option.{slice_get_read}
 use Rattle.ra_labels.specs.NamedOrder.{stamp_cmp}
-use Rattle.ra_element_list.specs.ElementList.{Arrival, arrival_at}
-use Rattle.ra_replica_list.specs.Edits.{element_at}
-use Rattle.ra_replica_list.proofs.TheLaws.{the_greatest_stamp_ranks_the_next_label}
+use Rattle.ra_rga_elements.specs.ElementList.{Arrival, arrival_at}
+use Rattle.ra_rga_replica.specs.Edits.{element_at}
+use Rattle.ra_rga_replica.proofs.TheoremIndex.{next_label_rank}
 use Rattle.ra_witness.proofs.AdmittedElements.{removal_admitted, removal_needs, unclocked}
 use Rattle.ra_witness.proofs.rga.Rga.admits_removal.Goals as goal
 
 pub returns-in_default : goal.returns-in_default
-returns-in_default c = λ founders records next label stands offered by is.
+returns-in_default c = λ initial_replicas records next label stands offered by is.
     let self = c.args.self.now in (
       (λ passes. absurd (false≢true passes)),
       λ admitted.
-          let needs = removal_needs self.all self.edits.items records stands.elements founders next label offered c.args.element
+          let needs = removal_needs self.all self.edits.items records stands.elements initial_replicas next label offered c.args.element
           is _ refl admitted in
           absurd (c.in_default.not-Some needs.number ((c.number_of.ensures needs.number).1 (needs.within, needs.is_it))),
     )
@@ -25,7 +25,7 @@ pub stamp-requires : goal.stamp-requires
 stamp-requires c = ((c.in-Some.ensures c.in-Some.number).0 refl).0
 
 pub returns-then-number-ne-ROOT : goal.returns-then-number-ne-ROOT
-returns-then-number-ne-ROOT c = λ founders records next label stands offered by is.
+returns-then-number-ne-ROOT c = λ initial_replicas records next label stands offered by is.
     let self = c.args.self.now in
     let edits = self.edits.items in
     let lists = self.lists.items in
@@ -33,18 +33,18 @@ returns-then-number-ne-ROOT c = λ founders records next label stands offered by
     let n = c.in-Some.number in
     let there = ap (slice_get lists) by
     ∙ slice_get_read lists (length lists) c.args.replica list refl (omega (arith, c.requires, self.lists.ok.0)) c.index.ensures in
-    let no_clock = unclocked self.all edits records stands.elements founders next label offered c.args.element is in
-    let ranks = the_greatest_stamp_ranks_the_next_label list self.all.arrivals edits records next (stands.lists next.by list there)
+    let no_clock = unclocked self.all edits records stands.elements initial_replicas next label offered c.args.element is in
+    let ranks = next_label_rank list self.all.arrivals edits records next (stands.lists next.by list there)
     no_clock in
     let known = (c.in-Some.ensures n).0 refl in
     let said : c.is_up_to.result ≡ is_le (stamp_cmp (arrival_at self.all.arrivals n).stamp list.greatest) =
     c.is_up_to.ensures ∙ ap (λ s. is_le (stamp_cmp s c.greatest-greatest.result)) c.stamp.ensures
     ∙ ap (λ s. is_le (stamp_cmp (arrival_at self.all.arrivals n).stamp s)) c.greatest-greatest.ensures in (
       (λ passes.
-          removal_admitted self.all edits records stands.elements founders next label offered c.args.element is list.greatest
+          removal_admitted self.all edits records stands.elements initial_replicas next label offered c.args.element is list.greatest
           ranks n (omega (arith, c.if-number-ne-ROOT.true)) known.0 known.1 (sym said ∙ passes)),
       λ admitted.
-          let needs = removal_needs self.all edits records stands.elements founders next label offered c.args.element is
+          let needs = removal_needs self.all edits records stands.elements initial_replicas next label offered c.args.element is
           list.greatest ranks admitted in
           let same = stands.elements.once needs.number n needs.within known.0 (needs.is_it ∙ sym known.1) in
           said ∙ ap (λ j. is_le (stamp_cmp (arrival_at self.all.arrivals j).stamp list.greatest)) (sym same)
@@ -52,14 +52,14 @@ returns-then-number-ne-ROOT c = λ founders records next label stands offered by
     )
 
 pub returns-else-number-ne-ROOT : goal.returns-else-number-ne-ROOT
-returns-else-number-ne-ROOT c = λ founders records next label stands offered by is.
+returns-else-number-ne-ROOT c = λ initial_replicas records next label stands offered by is.
     let self = c.args.self.now in
     let n = c.in-Some.number in
     let known = (c.in-Some.ensures n).0 refl in
     let zero_is : n ≡ 0 = c.if-number-ne-ROOT.false in (
       (λ passes. absurd (true≢false (sym passes ∙ ap not (eq-eqb n 0 zero_is)))),
       λ admitted.
-          let needs = removal_needs self.all self.edits.items records stands.elements founders next label offered c.args.element
+          let needs = removal_needs self.all self.edits.items records stands.elements initial_replicas next label offered c.args.element
           is _ refl admitted in
           absurd (needs.some (sym known.1 ∙ ap (element_at self.all.arrivals) zero_is
           ∙ ap (λ (a : Arrival). a.element) stands.elements.first)),

@@ -5,7 +5,7 @@ use Rattle.ra_witness.specs.Labels.{cause_in}
 use Rattle.ra_witness.proofs.rga.Rga.cause_of_query.Goals as goal
 
 pub returns : goal.returns
-returns c = λ founders records stands.
+returns c = λ initial_replicas records stands.
     let self = c.args.self.now in
     let lists = self.lists.items in
     let list = c.index.result.now in

@@ -1,6 +1,6 @@
 use Rattle.std.proofs.Common.{◌≡◌, [], ◌∷◌, length, length-append, sym, ap, subst, arith}
-use Rattle.ra_element_list.specs.ElementList.{root}
-use Rattle.ra_replica_list.specs.Edits.{AreElementsOf}
+use Rattle.ra_rga_elements.specs.ElementList.{root}
+use Rattle.ra_rga_replica.specs.Edits.{AreElementsOf}
 use Rattle.ra_witness.proofs.ReplicaLists.{AreListsOf, lists_pushed}
 use Rattle.ra_witness.proofs.AllElements.{no_elements}
 use Rattle.ra_witness.proofs.rga.Rga.new.Goals as goal

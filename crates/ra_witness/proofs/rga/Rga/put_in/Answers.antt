@@ -5,11 +5,11 @@ use Rattle.std.proofs.lemmas.Bool.{false≢true}
 use Rattle.std.proofs.lemmas.Option.{slice_get_read}
 use Rattle.ra_labels.specs.declared.kind.Kind.TheVariants as variant
 use Rattle.ra_labels.specs.declared.operation.Update.TheVariants.{After}
-use Rattle.ra_labels.specs.Insertion.{Makes}
+use Rattle.ra_labels.specs.Insertion.{HasUpdate}
 use Rattle.ra_labels.proofs.Results.{on_err_any}
-use Rattle.ra_labels.specs.Situation.{past_of}
-use Rattle.ra_replica_list.specs.declared.edit.Edit.TheVariants.{PutsIn}
-use Rattle.ra_replica_list.specs.Edits.{element_at}
+use Rattle.ra_labels.specs.HistorySoFar.{history_of}
+use Rattle.ra_rga_replica.specs.declared.edit.Edit.TheVariants.{PutsIn}
+use Rattle.ra_rga_replica.specs.Edits.{element_at}
 use Rattle.ra_witness.specs.declared.rga.Rga.{Rga}
 use Rattle.ra_witness.proofs.Forms.{its_replica}
 use Rattle.ra_witness.proofs.AdmittedElements.{makes_after}
@@ -27,11 +27,11 @@ pub unreachable-requires-in_default-stamp : goal.unreachable-requires-in_default
 unreachable-requires-in_default-stamp c = false≢true (subst (λ o. IsSome o) c.in_default-stamp.is c.requires.stamp)
 
 pub returns-in_err-reserve-clause-same : goal.returns-in_err-reserve-clause-same
-returns-in_err-reserve-clause-same c = λ founders records stands.
+returns-in_err-reserve-clause-same c = λ initial_replicas records stands.
     let self = c.args.self.now in
     let spared : Rga = record { edits = self.edits; all = c.reserve.new.self; lists = self.lists } in
     let left = c.in_err-reserve.ensures in
-    on_err_any c.from_residual.result (rga_like self spared founders records (sym left.elements) (sym left.arrivals) refl refl stands)
+    on_err_any c.from_residual.result (rga_like self spared initial_replicas records (sym left.elements) (sym left.arrivals) refl refl stands)
 
 pub put_own-requires-clause-anchor : goal.put_own-requires-clause-anchor
 put_own-requires-clause-anchor c =
@@ -46,21 +46,21 @@ insert-requires-clause-anchor c =
     omega (arith, known.0, count)
 
 pub returns-in_err-steps-clause-same : goal.returns-in_err-steps-clause-same
-returns-in_err-steps-clause-same c = λ founders records stands.
+returns-in_err-steps-clause-same c = λ initial_replicas records stands.
     let self = c.args.self.now in
     let spared : Rga = record { edits = self.edits; all = c.reserve.new.self; lists = self.lists } in
     let room = c.in_ok-reserve.ensures in
-    let there_still = rga_like self spared founders records (sym room.elements) (sym room.arrivals) refl refl stands in
+    let there_still = rga_like self spared initial_replicas records (sym room.elements) (sym room.arrivals) refl refl stands in
     let lists = self.lists.items in
     let r = c.args.label.now.replica in
     let list = c.index_mut-list.result.now in
     let within : r < length lists = omega (arith, c.requires.replica, self.lists.ok.0) in
     let there = slice_get_read lists (length lists) r list refl within c.index_mut-list.ensures.value in
     on_err_any c.from_residual-in_err-steps.result
-    (rga_same spared founders records there_still r c.put_own.new.self within (c.in_err-steps.ensures.err spared.all.arrivals self.edits.items records r (there_still.lists r list there)))
+    (rga_same spared initial_replicas records there_still r c.put_own.new.self within (c.in_err-steps.ensures.err spared.all.arrivals self.edits.items records r (there_still.lists r list there)))
 
 pub returns-clause-taken : goal.returns-clause-taken
-returns-clause-taken c = λ founders records next stands offered admitted is.
+returns-clause-taken c = λ initial_replicas records next stands offered admitted is.
     let self = c.args.self.now in
     let label = c.args.label.now in
     let lists = self.lists.items in
@@ -69,16 +69,16 @@ returns-clause-taken c = λ founders records next stands offered admitted is.
     let all = c.reserve.new.self in
     let spared : Rga = record { edits = self.edits; all = all; lists = self.lists } in
     let room = c.in_ok-reserve.ensures in
-    let there_still = rga_like self spared founders records (sym room.elements) (sym room.arrivals) refl refl stands in
+    let there_still = rga_like self spared initial_replicas records (sym room.elements) (sym room.arrivals) refl refl stands in
     let list = c.index_mut-list.result.now in
-    let by = its_replica (past_of variant.Rga founders records) next label offered in
+    let by = its_replica (history_of variant.Rga initial_replicas records) next label offered in
     let was = there_still.lists next.by list
-    (list_read self founders records next label list stands offered c.index_mut-list.ensures.value) in
+    (list_read self initial_replicas records next label list stands offered c.index_mut-list.ensures.value) in
     let known = (c.in-Some.ensures m).0 refl in
     let count = ap length room.arrivals in
     let m_within : m < length all.arrivals = omega (arith, known.0, count) in
     let m_is : element_at all.arrivals m ≡ c.args.anchor = ap (λ rs. element_at rs m) room.arrivals ∙ known.1 in
-    let makes = subst (λ y. Makes next.op (After y x)) (sym m_is) (makes_after next.op c.args.anchor x is) in
+    let makes = subst (λ y. HasUpdate next.op (After y x)) (sym m_is) (makes_after next.op c.args.anchor x is) in
     let stamped = c.in-Some-stamp.is in
     let own = c.in_ok-steps.ensures.put self.edits.items records next there_still.elements was
     (ap (λ l. l.number) offered.becomes) makes (sym (ap (λ l. l.stamp) offered.becomes) ∙ stamped) offered.fits admitted in
@@ -90,7 +90,7 @@ returns-clause-taken c = λ founders records next stands offered admitted is.
     } in
     let pushed : c.push_reserved.new.self.items ≡ self.edits.items ++ Some (PutsIn (length all.arrivals)) ∷ [] =
     c.push_reserved.ensures.items ∙ ap (λ n. self.edits.items ++ Some (PutsIn n) ∷ []) c.len-number.ensures in (
-      rga_put spared grown founders records next label there_still offered c.args.anchor x m c.in-Some-stamp.stamp new_list is
+      rga_put spared grown initial_replicas records next label there_still offered c.args.anchor x m c.in-Some-stamp.stamp new_list is
           stamped m_within makes
           (λ n there same.
           c.requires.new n (omega (arith, there, count)) (ap (λ rs. element_at rs n) (sym room.arrivals) ∙ same))

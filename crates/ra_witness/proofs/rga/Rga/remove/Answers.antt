@@ -3,9 +3,9 @@ use Rattle.std.specs.Vec.{with_item}
 use Rattle.std.proofs.lemmas.Option.{slice_get_read}
 use Rattle.ra_labels.specs.declared.kind.Kind.TheVariants as variant
 use Rattle.ra_labels.specs.declared.operation.Update.TheVariants.{RgaRemove}
-use Rattle.ra_labels.specs.Insertion.{Makes}
+use Rattle.ra_labels.specs.Insertion.{HasUpdate}
 use Rattle.ra_labels.proofs.Results.{on_err_any}
-use Rattle.ra_labels.specs.Situation.{past_of}
+use Rattle.ra_labels.specs.HistorySoFar.{history_of}
 use Rattle.ra_witness.specs.declared.rga.Rga.{Rga}
 use Rattle.ra_witness.proofs.Forms.{its_replica}
 use Rattle.ra_witness.proofs.AdmittedElements.{makes_removal, unclocked}
@@ -22,7 +22,7 @@ pub remove_own-requires : goal.remove_own-requires
 remove_own-requires c = record { number = ((c.in-Some.ensures c.in-Some.number).0 refl).0 }
 
 pub returns-in_err-steps-clause-same : goal.returns-in_err-steps-clause-same
-returns-in_err-steps-clause-same c = λ founders records stands.
+returns-in_err-steps-clause-same c = λ initial_replicas records stands.
     let self = c.args.self.now in
     let lists = self.lists.items in
     let r = c.args.label.now.replica in
@@ -30,22 +30,22 @@ returns-in_err-steps-clause-same c = λ founders records stands.
     let within : r < length lists = omega (arith, c.requires.replica, self.lists.ok.0) in
     let there = slice_get_read lists (length lists) r list refl within c.index_mut-list.ensures.value in
     on_err_any c.from_residual.result
-    (rga_same self founders records stands r c.remove_own.new.self within (c.in_err-steps.ensures.err self.all.arrivals self.edits.items records r (stands.lists r list there)))
+    (rga_same self initial_replicas records stands r c.remove_own.new.self within (c.in_err-steps.ensures.err self.all.arrivals self.edits.items records r (stands.lists r list there)))
 
 pub returns-clause-taken : goal.returns-clause-taken
-returns-clause-taken c = λ founders records next stands offered admitted is.
+returns-clause-taken c = λ initial_replicas records next stands offered admitted is.
     let self = c.args.self.now in
     let label = c.args.label.now in
     let lists = self.lists.items in
     let x = c.args.element in
     let number = c.in-Some.number in
     let list = c.index_mut-list.result.now in
-    let by = its_replica (past_of variant.Rga founders records) next label offered in
+    let by = its_replica (history_of variant.Rga initial_replicas records) next label offered in
     let was = stands.lists next.by list
-    (list_read self founders records next label list stands offered c.index_mut-list.ensures.value) in
+    (list_read self initial_replicas records next label list stands offered c.index_mut-list.ensures.value) in
     let known = (c.in-Some.ensures number).0 refl in
-    let removes = subst (λ y. Makes next.op (RgaRemove y)) (sym known.1) (makes_removal next.op x is) in
-    let no_clock = unclocked self.all self.edits.items records stands.elements founders next label offered x is in
+    let removes = subst (λ y. HasUpdate next.op (RgaRemove y)) (sym known.1) (makes_removal next.op x is) in
+    let no_clock = unclocked self.all self.edits.items records stands.elements initial_replicas next label offered x is in
     let own = c.in_ok-steps.ensures.removed self.edits.items records next stands.elements was
     (ap (λ l. l.number) offered.becomes) removes no_clock offered.fits admitted in
     let new_list = c.remove_own.new.self in
@@ -54,7 +54,7 @@ returns-clause-taken c = λ founders records next stands offered admitted is.
       all = self.all;
       lists = with_item self.lists label.replica new_list;
     } in (
-      rga_removed self grown founders records next label stands offered number new_list removes no_clock known.0 admitted
+      rga_removed self grown initial_replicas records next label stands offered number new_list removes no_clock known.0 admitted
           c.push_reserved.ensures.items refl (ap (λ r. set lists r new_list) by) own.0,
       settles_more was own.0 own.1,
     )

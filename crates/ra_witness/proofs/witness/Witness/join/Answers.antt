@@ -1,4 +1,4 @@
-use Rattle.ra_labels.specs.Situation.{replicas_of}
+use Rattle.ra_labels.specs.HistorySoFar.{replicas_of}
 use Rattle.ra_labels.proofs.Results.{on_ok}
 use Rattle.ra_witness.proofs.OfferedLabels.{may_join, is_joined, joined}
 use Rattle.ra_witness.proofs.witness.Witness.join.Goals as goal

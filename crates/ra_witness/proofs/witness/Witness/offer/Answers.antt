@@ -2,15 +2,15 @@ use Rattle.std.proofs.Common.{◌∷◌, true, false, refl, ap, ◌∙◌, arith
 use Rattle.ra_witness.specs.States.{steps_of}
 use Rattle.ra_witness.proofs.OfferedLabels.{from_not, is_offered, comes_offered, order_fails, listed_count, update_known, all_admitted, same_op, taken}
 use Rattle.ra_witness.proofs.witness.Witness.offer.Goals as goal
-use Rattle.ra_labels.specs.Situation.{operate}
+use Rattle.ra_labels.specs.HistorySoFar.{operate}
 
 pub returns-then-not-place-clause-cause : goal.returns-then-not-place-clause-cause
 returns-then-not-place-clause-cause g c = λ past next stands comes.
     order_fails past.kind past.records next c.place-place.result stands.none (c.place-place.ensures past next stands.order comes)
     (from_not c.place-place.result.fits false c.if-not-place.true)
 
-pub judge-requires : goal.judge-requires
-judge-requires g c =
+pub check-requires : goal.check-requires
+check-requires g c =
     let may = c.requires in
     let is = c.place-place.ensures may.past may.next may.stands.order may.comes in
     record {

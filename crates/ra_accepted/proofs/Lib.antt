@@ -1,2 +1,0 @@
-pub mod AcceptedCommands
-pub mod TheLaws

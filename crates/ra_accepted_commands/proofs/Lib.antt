@@ -1,0 +1,2 @@
+pub mod AcceptedCommands
+pub mod TheoremIndex

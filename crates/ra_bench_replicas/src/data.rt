@@ -1,0 +1,93 @@
+//! The data type of a replica: one of five.
+ghost use Rattle.std.specs.Prelude.{◌≡◌, true, false, IfOk};
+ghost use Rattle.ra_labels.specs.Answer.{kind_of, has_rising_list};
+ghost use Rattle.ra_labels.specs.Visibility.{is_update};
+ghost use Rattle.ra_bench_replicas.specs.Turn.{is_of_turn};
+ghost use Rattle.ra_bench_replicas.specs.Data.{kind_in};
+
+use crate::counter::Counter;
+use crate::lww_set::LwwSet;
+use crate::or_set::OrSet;
+use crate::register::Register;
+use crate::rga::Rga;
+use crate::turn::Turn;
+use ra_labels::{Kind, NoMemory, Op, Stamp};
+use std::alloc::Global;
+
+/// The data of a replica, by kind.
+#[derive(Drop)]
+pub enum Data {
+    Counter(Counter),
+    Register(Register),
+    LwwSet(LwwSet),
+    OrSet(OrSet),
+    Rga(Rga),
+}
+
+impl Data {
+    /// Creates the data of a replica of this kind before any update.
+    pub fn new(alloc: Global, kind: Kind) -> Result<Data, NoMemory>
+        ensures { IfOk result (λ made. kind_in made ≡ kind) }
+    {
+        Ok(match kind {
+            Kind::Counter => Data::Counter(Counter::new()),
+            Kind::Register => Data::Register(Register::new()),
+            Kind::LwwSet => Data::LwwSet(LwwSet::new(alloc)),
+            Kind::OrSet => Data::OrSet(OrSet::new(alloc)),
+            Kind::Rga => Data::Rga(Rga::new(alloc)?),
+        })
+    }
+
+    /// Returns the replica's update of this round.
+    pub fn update(&self, turn: Turn) -> Result<Op, NoMemory>
+        ensures kind { IfOk result (λ op. kind_of op ≡ kind_in self.now) }
+        ensures rising { IfOk result (λ op. has_rising_list op ≡ true) }
+        ensures turn { IfOk result (λ op. is_of_turn turn op ≡ true) }
+    {
+        match self {
+            Data::Counter(counter) => Ok(counter.update(turn)),
+            Data::Register(register) => Ok(register.update(turn)),
+            Data::LwwSet(set) => Ok(set.update(turn)),
+            Data::OrSet(set) => set.update(turn),
+            Data::Rga(list) => list.update(turn),
+        }
+    }
+
+    /// Returns the query with its current answer.
+    pub fn read(&self) -> Result<Op, NoMemory>
+        ensures kind { IfOk result (λ op. kind_of op ≡ kind_in self.now) }
+        ensures rising { IfOk result (λ op. has_rising_list op ≡ true) }
+        ensures query { IfOk result (λ op. is_update op ≡ false) }
+    {
+        match self {
+            Data::Counter(counter) => Ok(counter.read()),
+            Data::Register(register) => Ok(register.read()),
+            Data::LwwSet(set) => set.read(),
+            Data::OrSet(set) => set.read(),
+            Data::Rga(list) => list.read(),
+        }
+    }
+
+    /// Applies an update that was made with this stamp, if it has one. An update of another kind changes nothing.
+    pub fn apply(&mut self, op: &Op, stamp: Stamp) -> Result<(), NoMemory>
+        ensures { kind_in self.new ≡ kind_in self.old }
+    {
+        match (op, self) {
+            (Op::Inc, Data::Counter(counter)) => counter.increase(),
+            (Op::Dec, Data::Counter(counter)) => counter.decrease(),
+            (Op::Write(value), Data::Register(register)) => register.write(*value, stamp),
+            (Op::LwwAdd(element), Data::LwwSet(set)) => set.put(*element, stamp, true)?,
+            (Op::LwwRemove(element), Data::LwwSet(set)) => set.put(*element, stamp, false)?,
+            (Op::OrAdd { element, id }, Data::OrSet(set)) => set.put(*element, *id)?,
+            (Op::OrRemove { element, ids }, Data::OrSet(set)) => {
+                set.take_out(*element, ids.as_slice());
+            }
+            (Op::After { anchor, element }, Data::Rga(list)) => {
+                list.insert(*anchor, *element, stamp)?;
+            }
+            (Op::RgaRemove(element), Data::Rga(list)) => list.hide(*element),
+            _ => {}
+        }
+        Ok(())
+    }
+}

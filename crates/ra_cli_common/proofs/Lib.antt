@@ -1,0 +1,2 @@
+mod AskedRuns
+pub mod Reports

@@ -1,0 +1,4 @@
+pub mod Arguments
+pub mod Report
+pub mod Endings
+pub mod Check

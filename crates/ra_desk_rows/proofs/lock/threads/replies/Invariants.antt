@@ -1,5 +1,0 @@
-use Rattle.ra_ticket.specs.Passes.{IsPassOf}
-use Rattle.ra_desk_rows.proofs.lock.threads.replies.Given as goal
-
-abbrev pub invariant-loop : goal.invariant-loop
-invariant-loop g l = IsPassOf l.lock l.pass

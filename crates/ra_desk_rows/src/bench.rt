@@ -1,5 +1,0 @@
-//! The bench, its replicas, and reads that are reported falsely.
-
-mod gates;
-mod lies;
-mod replicas;

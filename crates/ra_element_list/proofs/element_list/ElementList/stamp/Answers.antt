@@ -1,8 +1,0 @@
-use Rattle.std.proofs.Common.{ap}
-use Rattle.ra_element_list.specs.ElementList.{Arrival, ElementList}
-use Rattle.ra_element_list.proofs.ElementNumbers.{read_as}
-use Rattle.ra_element_list.proofs.element_list.ElementList.stamp.Goals as goal
-
-pub returns : goal.returns
-returns c = ap (λ (a : Arrival). a.stamp) (read_as c.self.inside.elements.items _ _ _
-    (ap (λ (l : ElementList). l.arrivals) c.self.view_is) c.requires c.index.ensures)

@@ -1,7 +1,0 @@
-use Rattle.std.proofs.Common.{take}
-use Rattle.ra_element_list.specs.Groups.{IsRegrouped}
-use Rattle.ra_element_list.proofs.split.regroup.Given as goal
-
--- those so far are in the group
-abbrev pub invariant-loop-entry : goal.invariant-loop-entry
-invariant-loop-entry l = IsRegrouped l.fn.elements (take l.entry-index l.entries) l.group l.elements

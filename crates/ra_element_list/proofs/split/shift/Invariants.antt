@@ -1,7 +1,0 @@
-use Rattle.std.proofs.Common.{◌≡◌, ◌++◌, take, drop, map}
-use Rattle.ra_element_list.specs.Groups.{shifted}
-use Rattle.ra_element_list.proofs.split.shift.Given as goal
-
--- those so far are shifted
-abbrev pub invariant-loop-group : goal.invariant-loop-group
-invariant-loop-group l = l.places ≡ map (shifted l.at) (take l.group l.fn.places) ++ drop l.group l.fn.places

@@ -1,9 +1,0 @@
-use Rattle.std.proofs.Common.{◌≡◌}
-use Rattle.std.specs.Prelude.{filter}
-use Rattle.std.specs.List.{range_with_len}
-use Rattle.ra_explain.specs.Sorts.{is_with_at}
-use Rattle.ra_explain.proofs.sorts.labels_with.Given as goal
-
--- those so far are found
-abbrev pub invariant-loop-label : goal.invariant-loop-label
-invariant-loop-label l = l.found.items ≡ filter (is_with_at l.log l.places l.sort) (range_with_len 0 l.label)

@@ -1,0 +1,179 @@
+//! The content of a picture: rows from top to bottom, and a column for each replica that takes part, up to eight.
+ghost use Rattle.std.specs.Prelude.{◌≡◌};
+ghost use Rattle.ra_explain_diagram.specs.Drawn.{replica_of};
+
+use crate::chosen::places_of;
+use ra_explain::Change;
+use ra_explain_text::{Case, No};
+use ra_labels::{Command, NoMemory, Reply};
+use std::alloc::Global;
+
+/// The largest number of columns.
+const MOST_COLUMNS: usize = 8;
+
+/// A row of a picture.
+#[derive(Clone, Copy)]
+pub enum Row {
+    /// The given number of entries, which are not drawn.
+    Fold(u32),
+    /// The entry at this index.
+    Entry(u32),
+    /// The entry at this index, without which the violating label would hold.
+    Without(u32),
+    /// A delivery of this label, with which the violating label would hold.
+    With(u32),
+    /// The violating label, which would hold before the entry at this index.
+    Before(u32),
+    /// The violating label.
+    Asked,
+}
+
+/// A column: a replica, and the index of its join.
+#[derive(Clone, Copy)]
+pub struct Column {
+    /// The replica.
+    pub replica: u8,
+    /// The index of its join; `None` for an initial replica.
+    pub begins: Option<u32>,
+}
+
+/// A picture of what led to a violating label.
+#[derive(Drop)]
+pub struct Picture {
+    /// Its columns, in the order of the replicas' numbers.
+    pub columns: Vec<Column>,
+    /// Its rows, from the first entry on.
+    pub rows: Vec<Row>,
+}
+
+impl Picture {
+    /// Returns the picture of this label.
+    pub fn of(alloc: Global, case: &Case<'_>, no: &No<'_>) -> Result<Picture, NoMemory> {
+        let places = places_of(alloc, case, no)?;
+        let columns = columns_of(alloc, case, no, &places)?;
+        let mut rows = Vec::new(alloc);
+        let mut next = 0;
+        for at in &places {
+            if is_at_one(case, &columns, *at) {
+                let folded = at.saturating_sub(next);
+                if folded > 0 {
+                    rows.push(Row::Fold(folded))?;
+                }
+                add_rows(&mut rows, no, *at)?;
+                next = at.saturating_add(1);
+            }
+        }
+        Ok(Picture { columns, rows })
+    }
+
+    /// Returns the number of replicas without a column.
+    pub fn left_out(&self, case: &Case<'_>) -> u32 {
+        let all = case.told.replicas as usize;
+        all.saturating_sub(self.columns.len()) as u32
+    }
+
+    /// Returns the index of the replica's column, from 0, if it has one.
+    pub fn column_of(&self, replica: Option<u8>) -> Option<usize> {
+        let wanted = replica?;
+        let mut number: usize = 0;
+        for column in &self.columns {
+            if column.replica == wanted {
+                return Some(number);
+            }
+            number = number.saturating_add(1);
+        }
+        None
+    }
+}
+
+// Appends the row of the entry at this index, with those of helpful changes before it.
+fn add_rows(rows: &mut Vec<Row>, no: &No<'_>, at: u32) -> Result<(), NoMemory> {
+    let mut row = if at == no.place {
+        Row::Asked
+    } else {
+        Row::Entry(at)
+    };
+    for change in no.help.told() {
+        match change {
+            Change::Gets(label) if at == no.place => rows.push(Row::With(*label))?,
+            Change::Misses(missed) if *missed == at => row = Row::Without(at),
+            Change::ComesBefore(next) if *next == at => rows.push(Row::Before(at))?,
+            _ => {}
+        }
+    }
+    Ok(rows.push(row)?)
+}
+
+// Returns `true` if the entry at this index happened at a replica with a column.
+fn is_at_one(case: &Case<'_>, columns: &[Column], place: u32) -> bool {
+    match case.entry(place) {
+        Some(entry) => {
+            let (_, at) = ends_of(case, &entry.command);
+            columns.iter().any(|column| Some(column.replica) == at)
+        }
+        None => false,
+    }
+}
+
+// Returns the columns of the replicas that take part in the entries at these indices: the label's replica, and at most
+// seven others.
+fn columns_of(
+    alloc: Global,
+    case: &Case<'_>,
+    no: &No<'_>,
+    places: &[u32],
+) -> Result<Vec<Column>, NoMemory> {
+    let mut replicas = Vec::new(alloc);
+    replicas.push(no.replica)?;
+    for at in places {
+        if let Some(entry) = case.entry(*at) {
+            let (one, other) = ends_of(case, &entry.command);
+            add_replica(&mut replicas, one)?;
+            add_replica(&mut replicas, other)?;
+        }
+    }
+    replicas.sort_unstable();
+    let mut columns = Vec::new(alloc);
+    for replica in &replicas {
+        columns.push(Column {
+            replica: *replica,
+            begins: join_of(case, *replica),
+        })?;
+    }
+    Ok(columns)
+}
+
+fn add_replica(replicas: &mut Vec<u8>, replica: Option<u8>) -> Result<(), NoMemory> {
+    if let Some(replica) = replica {
+        if replicas.len() < MOST_COLUMNS && !replicas.contains(&replica) {
+            replicas.push(replica)?;
+        }
+    }
+    Ok(())
+}
+
+// Returns the index of the replica's join; `None` for an initial replica.
+fn join_of(case: &Case<'_>, replica: u8) -> Option<u32> {
+    let mut place: u32 = 0;
+    for entry in case.log {
+        match entry.reply {
+            Reply::Joined(joined) if joined == replica => return Some(place),
+            _ => {}
+        }
+        place = place.saturating_add(1);
+    }
+    None
+}
+
+/// Returns the ends of an entry's arrow: the replica that a label or a state comes from, if any, and the one that has
+/// it then.
+pub fn ends_of(case: &Case<'_>, command: &Command) -> (Option<u8>, Option<u8>)
+    ensures { result.1 ≡ replica_of command.now }
+{
+    match command {
+        Command::Operate { replica, .. } => (None, Some(*replica)),
+        Command::Deliver { replica, label } => (case.maker(*label), Some(*replica)),
+        Command::Join { replica, from } => (Some(*from), Some(*replica)),
+        Command::Verdict => (None, None),
+    }
+}

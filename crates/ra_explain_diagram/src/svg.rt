@@ -1,0 +1,228 @@
+//! The picture as a drawing in SVG.
+use crate::drawing::{Column, Picture, Row};
+use crate::event::Event;
+use ra_explain_common::{put, small};
+use ra_explain_text::{Case, No, put_name};
+use ra_history_lines::number::put_numbered;
+use ra_history_lines::reply::put_end;
+use ra_labels::NoMemory;
+use ra_monitor::Report;
+
+/// Dimensions in points: the position of the first column and of the first row, the distance of columns and of rows,
+/// and the distance of words from their column and from their row.
+const LEFT: u32 = 170;
+
+const TOP: u32 = 90;
+
+const WIDTH: u32 = 210;
+
+const HEIGHT: u32 = 30;
+
+const ASIDE: u32 = 9;
+
+const ABOVE: u32 = 6;
+
+/// The number of characters that fit beside a column.
+const LETTERS: usize = 24;
+
+/// The colours on a light and on a dark screen, and the head of an arrow. Helpful changes are dashed.
+const STYLE: &str = "<style>\
+svg{background:#fff;color:#1a1a1a}\
+text{font:13px monospace;fill:currentColor}\
+line{stroke:currentColor}\
+circle{fill:currentColor}\
+.replica line{stroke-opacity:.3}\
+.dashed line{stroke-dasharray:5 4}\
+.dashed text,.fold{fill-opacity:.75}\
+.asked text,.asked circle{fill:#b71c1c}\
+@media(prefers-color-scheme:dark){svg{background:#161616;color:#e6e6e6}.asked text,.asked circle{fill:#ff8a80}}\
+</style>\
+<defs><marker id=\"tip\" viewBox=\"0 0 8 8\" refX=\"8\" refY=\"4\" markerWidth=\"9\" markerHeight=\"9\" \
+orient=\"auto\">\
+<path d=\"M0 0 8 4 0 8z\" fill=\"currentColor\"/></marker></defs>\n";
+
+/// Appends the check's end line, and the picture of a violation.
+pub fn put_svg(
+    out: &mut Vec<u8>,
+    case: &Case<'_>,
+    report: &Report,
+    no: Option<&No<'_>>,
+) -> Result<(), NoMemory> {
+    let Some(no) = no else {
+        put_start(out, report, WIDTH, TOP)?;
+        return put(out, "</svg>\n");
+    };
+    let picture = Picture::of(*out.allocator(), case, no)?;
+    put_drawing(out, case, report, no, &picture)
+}
+
+/// Appends the drawing of this picture.
+pub fn put_drawing(
+    out: &mut Vec<u8>,
+    case: &Case<'_>,
+    report: &Report,
+    no: &No<'_>,
+    picture: &Picture,
+) -> Result<(), NoMemory> {
+    let columns = small(picture.columns.len());
+    let bottom = height_of(small(picture.rows.len()));
+    put_start(out, report, left_of(columns), bottom)?;
+    put_columns(out, case, picture, bottom)?;
+    put_rows(out, case, no, picture)?;
+    put(out, "</svg>\n")
+}
+
+fn left_of(column: u32) -> u32 {
+    column.saturating_mul(WIDTH).saturating_add(LEFT)
+}
+
+fn height_of(row: u32) -> u32 {
+    row.saturating_mul(HEIGHT).saturating_add(TOP)
+}
+
+fn put_start(out: &mut Vec<u8>, report: &Report, width: u32, height: u32) -> Result<(), NoMemory> {
+    put_numbered(
+        out,
+        b"<svg xmlns=\"http://www.w3.org/2000/svg\" width=\"",
+        width,
+    )?;
+    put_numbered(out, b"\" height=\"", height)?;
+    put_numbered(out, b"\" viewBox=\"0 0 ", width)?;
+    put_numbered(out, b" ", height)?;
+    put(
+        out,
+        "\" role=\"img\" aria-labelledby=\"answer\"><title id=\"answer\">",
+    )?;
+    put_answer(out, report)?;
+    put(out, "</title>\n")?;
+    put(out, STYLE)?;
+    put_text(out, ASIDE, ABOVE + HEIGHT)?;
+    put_answer(out, report)?;
+    put(out, "</text>\n")
+}
+
+/// Appends the check's end line, without its line feed.
+pub fn put_answer(out: &mut Vec<u8>, report: &Report) -> Result<(), NoMemory> {
+    let mut line = Vec::new(*out.allocator());
+    put_end(&mut line, report.labels, report.fault)?;
+    Ok(out.extend_from_slice(line.trim_ascii_end())?)
+}
+
+// Appends the start of a text at this position.
+fn put_text(out: &mut Vec<u8>, x: u32, y: u32) -> Result<(), NoMemory> {
+    put_numbered(out, b"<text x=\"", x)?;
+    put_numbered(out, b"\" y=\"", y)?;
+    put(out, "\">")
+}
+
+fn put_line(out: &mut Vec<u8>, from: (u32, u32), to: (u32, u32)) -> Result<(), NoMemory> {
+    put_numbered(out, b"<line x1=\"", from.0)?;
+    put_numbered(out, b"\" y1=\"", from.1)?;
+    put_numbered(out, b"\" x2=\"", to.0)?;
+    put_numbered(out, b"\" y2=\"", to.1)?;
+    put(out, "\"")
+}
+
+fn put_columns(
+    out: &mut Vec<u8>,
+    case: &Case<'_>,
+    picture: &Picture,
+    bottom: u32,
+) -> Result<(), NoMemory> {
+    let mut x = LEFT;
+    for column in &picture.columns {
+        let start = start_of(picture, *column);
+        put(out, "<g class=\"replica\">")?;
+        put_text(out, x, TOP - HEIGHT)?;
+        put_name(out, case, column.replica)?;
+        put(out, "</text>")?;
+        put_line(out, (x, start), (x, bottom.saturating_sub(ABOVE)))?;
+        put(out, "/></g>\n")?;
+        x = x.saturating_add(WIDTH);
+    }
+    Ok(())
+}
+
+// Returns the position at which the column begins: the row of the replica's join, or the top.
+fn start_of(picture: &Picture, column: Column) -> u32 {
+    let mut y = TOP;
+    for row in &picture.rows {
+        match row {
+            Row::Entry(place) if Some(*place) == column.begins => return y,
+            _ => {}
+        }
+        y = y.saturating_add(HEIGHT);
+    }
+    TOP - HEIGHT + ABOVE
+}
+
+fn put_rows(
+    out: &mut Vec<u8>,
+    case: &Case<'_>,
+    no: &No<'_>,
+    picture: &Picture,
+) -> Result<(), NoMemory> {
+    let mut y = TOP;
+    for row in &picture.rows {
+        match row {
+            Row::Fold(count) => put_fold(out, *count, y)?,
+            other => {
+                if let Some(event) = Event::of(*out.allocator(), case, no, *other)? {
+                    put_event(out, picture, &event, y)?;
+                }
+            }
+        }
+        y = y.saturating_add(HEIGHT);
+    }
+    Ok(())
+}
+
+fn put_fold(out: &mut Vec<u8>, count: u32, y: u32) -> Result<(), NoMemory> {
+    put(out, "<g class=\"fold\">")?;
+    put_text(out, ASIDE, y)?;
+    put_numbered(out, b".. (", count)?;
+    put(out, " more)</text></g>\n")
+}
+
+fn put_event(out: &mut Vec<u8>, picture: &Picture, event: &Event, y: u32) -> Result<(), NoMemory> {
+    put(out, "<g class=\"event")?;
+    put(out, if event.is_dashed { " dashed" } else { "" })?;
+    put(out, if event.is_asked { " asked\">" } else { "\">" })?;
+    put_text(out, ASIDE, y)?;
+    out.extend_from_slice(&event.head)?;
+    put(out, "</text>")?;
+    if let Some(to) = picture.column_of(event.to) {
+        let x = left_of(small(to));
+        if let Some(from) = picture.column_of(event.from) {
+            put_arrow(out, left_of(small(from)), x, y)?;
+        }
+        put_numbered(out, b"<circle r=\"4\" cx=\"", x)?;
+        put_numbered(out, b"\" cy=\"", y)?;
+        put(out, "\"/>")?;
+        put_text(out, x.saturating_add(ASIDE), y.saturating_sub(ABOVE))?;
+        put_front(out, &event.words)?;
+        put(out, "</text>")?;
+    }
+    put(out, "</g>\n")
+}
+
+fn put_arrow(out: &mut Vec<u8>, from: u32, to: u32, y: u32) -> Result<(), NoMemory> {
+    let tip = if from < to {
+        to.saturating_sub(ABOVE)
+    } else {
+        to.saturating_add(ABOVE)
+    };
+    put_line(out, (from, y), (tip, y))?;
+    put(out, " marker-end=\"url(#tip)\"/>")
+}
+
+// Appends the words, or the beginning of long ones.
+fn put_front(out: &mut Vec<u8>, words: &[u8]) -> Result<(), NoMemory> {
+    match words.get(..LETTERS) {
+        Some(front) if words.len() > LETTERS => {
+            out.extend_from_slice(front)?;
+            put(out, "..")
+        }
+        _ => Ok(out.extend_from_slice(words)?),
+    }
+}

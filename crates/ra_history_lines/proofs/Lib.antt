@@ -1,0 +1,13 @@
+pub mod Pieces
+pub mod Beginnings
+pub mod Numbers
+pub mod Lists
+pub mod Operations
+pub mod Commands
+pub mod Formats
+pub mod Heads
+pub mod NameLists
+pub mod NewNames
+pub mod AddedNames
+pub mod EndLines
+pub mod TheoremIndex

@@ -1,0 +1,187 @@
+//! The parser of operations with their return values.
+ghost use Rattle.std.specs.Prelude.{◌≡◌, true, ℕ, List, Some, IfOk, OnErr};
+ghost use Rattle.ra_labels.specs.declared.kind.Kind.TheVariants.{Counter, Register};
+ghost use Rattle.ra_history_lines.specs.Reading.{Reads, number_first, query_read, value_read, list_read, read_first, write_first, add_first, remove_first, plain_removal, after_first, word_first, reads_list, asks_for_list};
+
+use crate::fields::Fields;
+use crate::list::list;
+use crate::number::{number, signed_number};
+use crate::word::is_word;
+use ra_labels::{Elements, Kind, NoMemory, Op};
+use std::alloc::Global;
+
+/// Returns the operation that the word and the following fields encode in a history of this kind, or `None` if they
+/// encode none. Takes those fields.
+///
+/// # Errors
+///
+/// `NoMemory` if the allocation of a list fails.
+///
+/// # Complexity
+///
+/// O(length of the fields).
+pub fn operation(
+    alloc: Global,
+    kind: Kind,
+    word: &[u8],
+    fields: &mut Fields<'_>,
+) -> Result<Option<Op>, NoMemory>
+    ensures read { IfOk result (λ op. Reads (word_first kind word.now fields.old) op fields.new) }
+    ensures memory { OnErr result (asks_for_list kind word.now ≡ true) }
+{
+    if is_word(word, "inc") {
+        Ok(Some(Op::Inc))
+    } else if is_word(word, "dec") {
+        Ok(Some(Op::Dec))
+    } else if is_word(word, "read") {
+        read(alloc, kind, fields)
+    } else if is_word(word, "write") {
+        Ok(write(fields))
+    } else if is_word(word, "add") {
+        Ok(add(fields))
+    } else if is_word(word, "remove") {
+        remove(alloc, kind, fields)
+    } else if is_word(word, "after") {
+        Ok(after(fields))
+    } else {
+        Ok(None)
+    }
+}
+
+// A read is always of the history's own kind.
+fn read(alloc: Global, kind: Kind, fields: &mut Fields<'_>) -> Result<Option<Op>, NoMemory>
+    ensures read { IfOk result (λ op. Reads (read_first kind fields.old) op fields.new) }
+    ensures memory { OnErr result (reads_list kind ≡ true) }
+{
+    match fields.take() {
+        Some(field) => query(alloc, kind, field),
+        None => Ok(None),
+    }
+}
+
+fn query(alloc: Global, kind: Kind, field: &[u8]) -> Result<Option<Op>, NoMemory>
+    ensures read { IfOk result (λ op. op ≡ query_read kind field.now) }
+    ensures memory { OnErr result (reads_list kind ≡ true) }
+{
+    match kind {
+        Kind::Counter => Ok(count(field)),
+        Kind::Register => Ok(last(field)),
+        Kind::LwwSet | Kind::OrSet | Kind::Rga => match list(alloc, field)? {
+            Some(elements) => Ok(Some(list_query(kind, elements))),
+            None => Ok(None),
+        },
+    }
+}
+
+// Returns the read with this list as its answer, of a kind whose reads return lists.
+fn list_query(kind: Kind, elements: Elements) -> Op
+    requires { reads_list kind ≡ true }
+    ensures { (field : List ℕ) → list_read field ≡ Some elements → query_read kind field ≡ Some result }
+{
+    match kind {
+        Kind::LwwSet => Op::LwwRead(elements),
+        Kind::OrSet => Op::OrRead(elements),
+        Kind::Rga => Op::RgaRead(elements),
+        Kind::Counter | Kind::Register => unreachable!(),
+    }
+}
+
+fn count(field: &[u8]) -> Option<Op>
+    ensures { result ≡ query_read Counter field.now }
+{
+    match signed_number(field) {
+        Some(value) => Some(Op::Count(value)),
+        None => None,
+    }
+}
+
+fn last(field: &[u8]) -> Option<Op>
+    ensures { result ≡ query_read Register field.now }
+{
+    match value(field) {
+        Some(value) => Some(Op::Last(value)),
+        None => None,
+    }
+}
+
+fn value(field: &[u8]) -> Option<Option<u32>>
+    ensures { result ≡ value_read field.now }
+{
+    if is_word(field, "none") {
+        Some(None)
+    } else {
+        match number(field) {
+            Some(value) => Some(Some(value)),
+            None => None,
+        }
+    }
+}
+
+fn next_number(fields: &mut Fields<'_>) -> Option<u32>
+    ensures { Reads (number_first fields.old) result fields.new }
+{
+    match fields.take() {
+        Some(field) => number(field),
+        None => None,
+    }
+}
+
+fn write(fields: &mut Fields<'_>) -> Option<Op>
+    ensures { Reads (write_first fields.old) result fields.new }
+{
+    match next_number(fields) {
+        Some(value) => Some(Op::Write(value)),
+        None => None,
+    }
+}
+
+fn add(fields: &mut Fields<'_>) -> Option<Op>
+    ensures { Reads (add_first fields.old) result fields.new }
+{
+    let Some(element) = next_number(fields) else {
+        return None;
+    };
+    match fields.take_marked() {
+        None => Some(Op::LwwAdd(element)),
+        Some(word) => match number(word) {
+            Some(id) => Some(Op::OrAdd { element, id }),
+            None => None,
+        },
+    }
+}
+
+fn remove(alloc: Global, kind: Kind, fields: &mut Fields<'_>) -> Result<Option<Op>, NoMemory>
+    ensures { IfOk result (λ op. Reads (remove_first kind fields.old) op fields.new) }
+{
+    let Some(element) = next_number(fields) else {
+        return Ok(None);
+    };
+    let Some(word) = fields.take_marked() else {
+        return Ok(Some(plain_removal(kind, element)));
+    };
+    match list(alloc, word)? {
+        Some(ids) => Ok(Some(Op::OrRemove { element, ids })),
+        None => Ok(None),
+    }
+}
+
+fn plain_removal(kind: Kind, element: u32) -> Op
+    ensures { result ≡ plain_removal kind element }
+{
+    match kind {
+        Kind::Rga => Op::RgaRemove(element),
+        Kind::Counter | Kind::Register | Kind::LwwSet | Kind::OrSet => Op::LwwRemove(element),
+    }
+}
+
+fn after(fields: &mut Fields<'_>) -> Option<Op>
+    ensures { Reads (after_first fields.old) result fields.new }
+{
+    let Some(anchor) = next_number(fields) else {
+        return None;
+    };
+    match next_number(fields) {
+        Some(element) => Some(Op::After { anchor, element }),
+        None => None,
+    }
+}

@@ -1,5 +1,0 @@
-use Rattle.ra_history_text.proofs.Prefixes.{each_is_answered}
-use Rattle.ra_history_text.proofs.laws.each_line_read_is_answered.Goals as goal
-
-pub returns : goal.returns
-returns c = each_is_answered

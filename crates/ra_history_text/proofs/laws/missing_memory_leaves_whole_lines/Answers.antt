@@ -1,5 +1,0 @@
-use Rattle.ra_history_text.proofs.Prefixes.{whole_lines}
-use Rattle.ra_history_text.proofs.laws.missing_memory_leaves_whole_lines.Goals as goal
-
-pub returns : goal.returns
-returns c = whole_lines

@@ -1,6 +1,0 @@
-use Rattle.ra_history_text.proofs.Endings.{long_only}
-use Rattle.ra_history_text.proofs.StoppedBytes.{long_found}
-use Rattle.ra_history_text.proofs.laws.too_long_iff_a_line_has_a_byte_too_many.Goals as goal
-
-pub returns : goal.returns
-returns c = λ text said number. (λ both. long_found text said number both.0 both.1, long_only text said number)

@@ -1,9 +1,0 @@
-use Rattle.ra_laws.proofs.TheLaws.{a_new_update_is_admitted_where_a_label_below_it_put_in_what_it_needs-insertion}
-use Rattle.ra_laws.proofs.TheLaws.{a_new_update_is_admitted_where_a_label_below_it_put_in_what_it_needs-removal}
-use Rattle.ra_laws.proofs.laws.arriving.a_new_update_is_admitted_where_a_label_below_it_put_in_what_it_needs.Goals as goal
-
-pub returns-clause-insertion : goal.returns-clause-insertion
-returns-clause-insertion c = a_new_update_is_admitted_where_a_label_below_it_put_in_what_it_needs-insertion
-
-pub returns-clause-removal : goal.returns-clause-removal
-returns-clause-removal c = a_new_update_is_admitted_where_a_label_below_it_put_in_what_it_needs-removal

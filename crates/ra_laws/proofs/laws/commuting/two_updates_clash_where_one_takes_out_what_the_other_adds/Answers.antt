@@ -1,5 +1,0 @@
-use Rattle.ra_laws.proofs.TheLaws.{two_updates_clash_where_one_takes_out_what_the_other_adds}
-use Rattle.ra_laws.proofs.laws.commuting.two_updates_clash_where_one_takes_out_what_the_other_adds.Goals as goal
-
-pub returns : goal.returns
-returns c = two_updates_clash_where_one_takes_out_what_the_other_adds

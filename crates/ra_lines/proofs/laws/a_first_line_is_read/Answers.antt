@@ -1,7 +1,0 @@
-use Rattle.std.proofs.Common.{ap, ◌∙◌}
-use Rattle.ra_lines.specs.Reading.{head_read}
-use Rattle.ra_lines.proofs.Heads.{head_found, head_only}
-use Rattle.ra_lines.proofs.laws.a_first_line_is_read.Goals as goal
-
-pub returns : goal.returns
-returns c = λ format kind line. (head_found line format kind, λ is. ap head_read is ∙ head_only format kind)

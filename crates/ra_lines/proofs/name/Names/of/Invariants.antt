@@ -1,7 +1,0 @@
-use Rattle.std.proofs.Common.{◌≡◌, take}
-use Rattle.ra_lines.specs.Names.{texts_of}
-use Rattle.ra_lines.proofs.name.Names.of.Given as goal
-
--- the names so far are those that were passed
-abbrev pub invariant-loop-name : goal.invariant-loop-name
-invariant-loop-name l = l.list ≡ texts_of (take l.name-index l.names)

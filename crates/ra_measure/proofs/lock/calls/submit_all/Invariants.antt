@@ -1,5 +1,0 @@
-use Rattle.ra_ticket.specs.Passes.{IsPassOf}
-use Rattle.ra_measure.proofs.lock.calls.submit_all.Given as goal
-
-abbrev pub invariant-loop-call : goal.invariant-loop-call
-invariant-loop-call g l = IsPassOf l.lock l.pass

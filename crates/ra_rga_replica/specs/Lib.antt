@@ -1,0 +1,5 @@
+pub mod PendingLabels
+pub mod Edits
+pub mod ReplicaList
+pub mod NumberSet
+pub mod Cascade

@@ -1,0 +1,199 @@
+//! The right answers of violating labels, in worked examples.
+
+use crate::commands::{reply_behind, reporter_of};
+use crate::rows::{Step, command_of};
+use ra_explain::right_answer;
+use ra_labels::{Command, Kind, Op};
+use ra_monitor::Monitor;
+use std::alloc::Global;
+use std::process::Abort;
+
+// A history with three initial replicas, and what its last label had to be.
+struct Row {
+    name: &'static str,
+    kind: Kind,
+    says: &'static [Step],
+    right: Option<Step>,
+}
+
+static ROWS: [Row; 14] = [
+    Row {
+        name: "a counter that was read before an increment counted",
+        kind: Kind::Counter,
+        says: &[Step::Inc(0), Step::Got(1, 0), Step::Read(1, 0)],
+        right: Some(Step::Read(1, 1)),
+    },
+    Row {
+        name: "a counter that counts what did not come",
+        kind: Kind::Counter,
+        says: &[
+            Step::Inc(0),
+            Step::Dec(0),
+            Step::Inc(0),
+            Step::Got(2, 0),
+            Step::Got(2, 1),
+            Step::Read(2, 1),
+        ],
+        right: Some(Step::Read(2, 0)),
+    },
+    Row {
+        name: "a register that keeps the older write",
+        kind: Kind::Register,
+        says: &[
+            Step::Write(0, 7, 1),
+            Step::Write(1, 9, 2),
+            Step::Got(0, 1),
+            Step::Last(0, Some(7)),
+        ],
+        right: Some(Step::Last(0, Some(9))),
+    },
+    Row {
+        name: "a register that nothing was written to",
+        kind: Kind::Register,
+        says: &[Step::Write(0, 7, 1), Step::Last(1, Some(7))],
+        right: Some(Step::Last(1, None)),
+    },
+    Row {
+        name: "an LWW set that lacks an element",
+        kind: Kind::LwwSet,
+        says: &[
+            Step::Add(0, 4, 1),
+            Step::Add(0, 2, 2),
+            Step::Elements(0, &[4]),
+        ],
+        right: Some(Step::Elements(0, &[2, 4])),
+    },
+    Row {
+        name: "an LWW set that shows what was removed later",
+        kind: Kind::LwwSet,
+        says: &[
+            Step::Add(0, 4, 1),
+            Step::Remove(1, 4, 2),
+            Step::Got(0, 1),
+            Step::Elements(0, &[4]),
+        ],
+        right: Some(Step::Elements(0, &[])),
+    },
+    Row {
+        name: "an OR-Set that lacks an element, which is there twice",
+        kind: Kind::OrSet,
+        says: &[
+            Step::OrAdd(0, 4, 1),
+            Step::OrAdd(1, 4, 2),
+            Step::OrAdd(1, 2, 3),
+            Step::Got(0, 1),
+            Step::Got(0, 2),
+            Step::OrRead(0, &[2]),
+        ],
+        right: Some(Step::OrRead(0, &[2, 4])),
+    },
+    Row {
+        name: "a removal from an OR-Set that leaves an identifier out",
+        kind: Kind::OrSet,
+        says: &[
+            Step::OrAdd(0, 4, 2),
+            Step::OrAdd(1, 4, 1),
+            Step::OrAdd(1, 5, 3),
+            Step::Got(0, 1),
+            Step::Got(0, 2),
+            Step::OrRemove(0, 4, &[2]),
+        ],
+        right: Some(Step::OrRemove(0, 4, &[1, 2])),
+    },
+    Row {
+        name: "a list that is shown in another order",
+        kind: Kind::Rga,
+        says: &[
+            Step::After(0, 0, 1, 1),
+            Step::After(0, 1, 2, 2),
+            Step::After(0, 1, 3, 3),
+            Step::RgaRead(0, &[1, 2, 3]),
+        ],
+        right: Some(Step::RgaRead(0, &[1, 3, 2])),
+    },
+    Row {
+        name: "a list that shows what was removed",
+        kind: Kind::Rga,
+        says: &[
+            Step::After(0, 0, 1, 1),
+            Step::After(0, 1, 2, 2),
+            Step::RgaRemove(0, 1),
+            Step::RgaRead(0, &[1, 2]),
+        ],
+        right: Some(Step::RgaRead(0, &[2])),
+    },
+    Row {
+        name: "a list whose replica has not what its element stands behind, so that no answer would do",
+        kind: Kind::Rga,
+        says: &[
+            Step::After(0, 0, 1, 1),
+            Step::After(1, 1, 2, 2),
+            Step::RgaRead(1, &[2]),
+        ],
+        right: None,
+    },
+    Row {
+        name: "an update that is not admitted, which asks nothing",
+        kind: Kind::Rga,
+        says: &[Step::After(0, 5, 6, 1)],
+        right: None,
+    },
+    Row {
+        name: "a stamp below one that was seen",
+        kind: Kind::Register,
+        says: &[Step::Write(0, 7, 5), Step::Got(1, 0), Step::Write(1, 9, 3)],
+        right: None,
+    },
+    Row {
+        name: "no fault",
+        kind: Kind::Counter,
+        says: &[Step::Inc(0), Step::Got(1, 0), Step::Read(1, 1)],
+        right: None,
+    },
+];
+
+// Returns what the label at the monitor's fault had to be. If an allocation fails, it is computed once more.
+fn told(rt: &impl Abort, alloc: Global, monitor: &Monitor) -> Option<Op> {
+    for _attempt in 0..2 {
+        if let Ok(right) = right_answer(alloc, monitor) {
+            return right;
+        }
+    }
+    panic!(rt; "no memory")
+}
+
+// Returns the operation of this report.
+fn operation_of(rt: &impl Abort, alloc: Global, say: Step) -> Op {
+    match command_of(rt, alloc, say) {
+        Command::Operate { op, .. } => op,
+        _ => panic!(rt; "no operation"),
+    }
+}
+
+// Asserts that this is the right answer, at the fault and after a further call, which has the same reply.
+fn is_told(rt: &impl Abort, alloc: Global, row: &Row) {
+    let mut reporter = reporter_of(rt, alloc, row.kind, 3, 100);
+    for say in row.says {
+        reply_behind(rt, &mut reporter, command_of(rt, alloc, *say), None);
+    }
+    for _call in 0..2 {
+        is_right(rt, alloc, reporter.monitor(), row);
+        reply_behind(rt, &mut reporter, Command::Verdict, None);
+    }
+}
+
+fn is_right(rt: &impl Abort, alloc: Global, monitor: &Monitor, row: &Row) {
+    let right = told(rt, alloc, monitor);
+    let want = match row.right {
+        Some(say) => Some(operation_of(rt, alloc, say)),
+        None => None,
+    };
+    assert!(rt; right == want, "{}", row.name);
+}
+
+#[test]
+fn a_no_is_told_the_right_answer(rt: HostRuntime) {
+    for row in &ROWS {
+        is_told(&rt, rt.alloc(), row);
+    }
+}

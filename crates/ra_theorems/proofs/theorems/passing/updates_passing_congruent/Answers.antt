@@ -1,0 +1,5 @@
+use Rattle.ra_theorems.proofs.TheoremIndex.{updates_passing_congruent}
+use Rattle.ra_theorems.proofs.theorems.passing.updates_passing_congruent.Goals as goal
+
+pub returns : goal.returns
+returns c = updates_passing_congruent

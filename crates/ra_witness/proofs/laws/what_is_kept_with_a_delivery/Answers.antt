@@ -1,5 +1,0 @@
-use Rattle.ra_witness.proofs.ReplicaStates.{kept-counter, kept-or_set}
-use Rattle.ra_witness.proofs.laws.what_is_kept_with_a_delivery.Goals as goal
-
-pub returns : goal.returns
-returns c = record { counter = kept-counter; or_set = kept-or_set }

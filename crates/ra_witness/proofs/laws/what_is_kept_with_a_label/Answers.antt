@@ -1,6 +1,0 @@
-use Rattle.ra_witness.proofs.ReplicaStates.{kept-label}
-use Rattle.ra_witness.proofs.laws.what_is_kept_with_a_label.Goals as goal
-
-pub returns : goal.returns
-returns c = λ updates states past next not_rga kept there of_kind extended.
-    kept-label updates states past kept next not_rga there of_kind extended
