@@ -1,0 +1,98 @@
+"""The tests of the two clients by name, and which of them only one of the two has.
+
+A test is named by its file and its own name: test_F.py of clients/python goes with F.test.js of clients/javascript,
+and within them `def test_NAME` with `test("name", ..)`. A name of JavaScript is normalized by one rule: lower-case
+letters, no apostrophes, and one underscore for each run of characters that are neither letters nor digits. So "the
+bounds of a counter's read" goes with `test_the_bounds_of_a_counters_read`. Python's classes, and cases within a test
+(`subTest`, `t.test`), are ignored.
+"""
+import ast
+import re
+from pathlib import Path
+
+CLIENTS = Path(__file__).resolve().parents[2] / "clients"
+
+# Tests that one language alone can have, each with the reason.
+PYTHON_ALONE = {
+    ("recorder", "a_value_that_is_not_hashable_is_rejected"): "in JavaScript anything can be the key of a Map",
+    ("recorder", "an_exception_in_the_block_is_raised_unchanged"): "JavaScript has no `with` that closes a recorder",
+}
+JAVASCRIPT_ALONE = {
+    ("recorder", "an_asynchronous_act_is_one_step_with_its_report"): "Python's acts are not awaited",
+    ("limits", "a_clock_that_no_number_represents_exactly_is_a_bigint"): "Python has whole numbers of any size",
+}
+
+# A call that makes a test; one whose name can be read, which is one plain text; and what a file may import from Node.
+ANY_CALL = re.compile(r"(?<![.\w])test(?:\.\w+)*\(")
+NAMED_CALL = re.compile(r'test(?:\.(?:skip|todo))?\(\s*"([^"\\]+)"')
+IMPORTS = re.compile(r'^import \{([^}]*)\} from "node:test"', re.MULTILINE)
+MAY_IMPORT = {"after", "test"}
+READABLE = {
+    "python": "the file has a syntax error",
+    "javascript": 'each is a `test("NAME", ..)` at the beginning of a line, and `test` is imported from "node:test"',
+}
+
+
+def normalized(name):
+    """The name by the rule above."""
+    return re.sub(r"[^a-z0-9]+", "_", re.sub("['’]", "", name.lower())).strip("_")
+
+
+def python_tests(clients=CLIENTS):
+    """The tests of Python, as pairs of a file and a name, in their order. Of a file that cannot be read the name is
+    None."""
+    for path in sorted((clients / "python" / "tests").glob("test_*.py")):
+        file = path.name[len("test_") : -len(".py")]
+        try:
+            classes = [it for it in ast.walk(ast.parse(path.read_text(), str(path))) if isinstance(it, ast.ClassDef)]
+        except SyntaxError:
+            yield file, None
+            continue
+        names = (it.name for each in classes for it in each.body if isinstance(it, ast.FunctionDef))
+        yield from ((file, name[len("test_") :]) for name in names if name.startswith("test_"))
+
+
+def javascript_tests(clients=CLIENTS):
+    """The same of JavaScript. A test whose name cannot be read has the name None."""
+    for path in sorted((clients / "javascript" / "test").glob("*.test.js")):
+        file, text = path.name[: -len(".test.js")], path.read_text()
+        imported = {it.strip() for names in IMPORTS.findall(text) for it in names.split(",")}
+        if not {"test"} <= imported <= MAY_IMPORT:
+            yield file, None
+        for call in ANY_CALL.finditer(text):
+            named = NAMED_CALL.match(text, call.start())
+            is_first = text[call.start() - 1] == "\n"
+            yield file, normalized(named[1]) if named and is_first else None
+
+
+def faults_of(client, tests):
+    """What is wrong with the names of one client's tests: no tests, an unreadable name, or a duplicate."""
+    if not tests:
+        yield f"clients/{client} has no tests"
+    for file in sorted({file for file, name in tests if name is None}):
+        yield f"clients/{client}, {file}: not every test has a name that can be read ({READABLE[client]})"
+    for file, name in sorted({it for it in tests if it[1] is not None and tests.count(it) > 1}):
+        yield f"clients/{client}, {file}: there is more than one test {name}"
+
+
+def differences(python, javascript):
+    """A line for each test that one client lacks, and for each exception that is not needed."""
+    sides = [
+        ("python", python, "javascript", javascript, PYTHON_ALONE),
+        ("javascript", javascript, "python", python, JAVASCRIPT_ALONE),
+    ]
+    for client, own, other, theirs, alone in sides:
+        lacking = {it for it in own if it[1] is not None} - {*theirs}
+        for file, name in sorted(lacking - {*alone}):
+            yield f"clients/{other}, {file}: lacks the test {name} of clients/{client}"
+        for file, name in sorted({*alone} - lacking):
+            which = "both clients have" if (file, name) in theirs else f"clients/{client} does not have"
+            yield f"{file}: the exception {name} is not needed: {which} this test"
+
+
+def compared(clients=CLIENTS):
+    """How many tests both clients have or one may have alone, and a line for each fault."""
+    python, javascript = [*python_tests(clients)], [*javascript_tests(clients)]
+    faults = [*faults_of("python", python), *faults_of("javascript", javascript), *differences(python, javascript)]
+    allowed = {*PYTHON_ALONE} & {*python} - {*javascript} | {*JAVASCRIPT_ALONE} & {*javascript} - {*python}
+    return len({*python} & {*javascript} | allowed), faults

@@ -1,0 +1,221 @@
+"""Explanations of histories too long for the model, whose facts are known from how they are made; and what those cost.
+
+A cost is compared with that of a check of the same text, in runs made in turns on the same machine.
+"""
+import json
+import subprocess
+import sys
+from pathlib import Path
+from tempfile import TemporaryDirectory
+from types import SimpleNamespace
+
+from assertions import require
+from expected import TYPES, UPDATES, History, crossing
+from explanation_case import MOST_STEPS, MOST_TRIED, listed
+from explanation_drawings import MOST_BYTES
+from explanation_faults import Stop
+from explanation_text import cut, headed, with_label
+from program import CHECK, EXPLAIN, SECONDS, Program
+
+# The labels of long histories, the deliveries of the longest, and the labels of those whose memory is measured.
+LABELS, DELIVERIES, OF_EACH = 100_000, 500_000, 300_000
+# How many times the time and the memory of its check an explanation may take; one of this number of turns has to.
+TIMES, TIMES_MEMORY, TURNS = 4, 1.5, 5
+# What no read of these histories answers.
+WRONG = {"counter": "-77777", "register": "none", "lwwset": "-", "orset": "-", "rga": "-"}
+# The update with this number, behind the one before.
+UPDATES = {**UPDATES, "rga": "after {1} {0} @{0}"}
+STAMPED = ("register", "lwwset", "rga")
+# Runs the words behind it, the last of which is the file that is read, and prints what that took.
+MEASURED = """
+import os, sys
+*words, text = sys.argv[1:]
+ways = [(os.POSIX_SPAWN_OPEN, 0, text, os.O_RDONLY, 0)]
+_, status, used = os.wait4(os.posix_spawn(words[0], words, {}, file_actions=ways), 0)
+print(used.ru_utime + used.ru_stime, used.ru_maxrss * 1_024, file=sys.stderr)
+sys.exit(0 if os.waitstatus_to_exitcode(status) == 1 else 1)
+"""
+
+
+# How many changes are tried.
+
+
+def read_of_a_front(kind, count):
+    """The answer of a read that sees this number of first updates of a replica."""
+    if kind in ("counter", "register"):
+        return str(count) if count or kind == "counter" else "none"
+    return listed(range(count, 0, -1) if kind == "rga" else range(1, count + 1))
+
+
+def late_read(kind, count, lacks, commands):
+    """One replica makes updates, another one gets them all and reads what it would without the latest ones of them. The
+    history has this number of commands."""
+    made = History(kind, "ab")
+    update = "after 0 {0} @{0}" if kind == "rga" else UPDATES[kind]
+    for number in range(1, count + 1):
+        made.does("a", update.format(number, number - 1))
+    made.lines += ["verdict"] * (commands - 2 * count - 1)
+    made.gets("b", range(count))
+    made.does("b", f"read {read_of_a_front(kind, count - lacks)}")
+    return made
+
+
+def look_at_tries(program, kind, count, lacks, commands):
+    """Exactly two changes help: not to get the first of the updates that the read does not answer, and to have read
+    before it came. Each is found where it is among the latest that are tried."""
+    made, last = late_read(kind, count, lacks, commands), commands + 2
+    most = min(MOST_STEPS // commands, MOST_TRIED if kind == "rga" else MOST_STEPS)
+    line = last - lacks
+    helps = [{"misses_line": line}] * (lacks <= most) + [{"comes_before_line": line}] * (2 <= lacks <= most + 1)
+    tried = min(count, most) + min(count - 1, most)
+    told = json.loads(program(["explain", "--json"], made.text())[0])
+    called = f"{kind}, {count} deliveries, {lacks} too many, {commands} commands"
+    found = told["would_be_right"], told["tried"]
+    require(found == (helps, tried), called, "changes that help, and how many are tried", found, (helps, tried))
+    page = program(["explain"], made.text())[0].decode().splitlines()
+    case = SimpleNamespace(places=range(count), said=lambda place: made.lines[place + 2])
+    front, behind = headed("explained if", ""), f" had not been delivered to b in line {line}"
+    lines = [with_label(case, front, count - lacks, behind)] if lacks <= most else []
+    head = "or" if lines else "explained if"
+    lines += [headed(head, f"line {last} had come before line {line}")] if 2 <= lacks <= most + 1 else []
+    lines = lines or [headed("tried", f"no single change of deliveries explains it ({tried} tried)")]
+    found = [it for it in page if it.startswith(("explained if  ", "or              ", "tried  "))]
+    require(found == [cut(it) for it in lines], called, found, lines)
+
+
+def look_at_each_try(program):
+    """The last change that is tried, that one of a list, of any kind, and of a long history; and the one behind it."""
+    for lacks in (1, 2, 24, 25, 26, 27, 255, 256, 257, 258):
+        look_at_tries(program, "rga", 300, lacks, 601)
+    for commands in (4_095, 4_096, 4_097, 4_112):
+        for lacks in (254, 255, 256, 257):
+            look_at_tries(program, "rga", 300, lacks, commands)
+    for kind in TYPES:
+        look_at_tries(program, kind, 300, 256, 601)
+    for kind in ("counter", "register", "lwwset", "orset"):
+        look_at_tries(program, kind, 300, 257, 601)
+        look_at_tries(program, kind, 300, 300, 601)
+    for kind in ("counter", "register"):
+        for commands in (8_191, 8_192, 8_193):
+            for lacks in (127, 128, 129, 130):
+                look_at_tries(program, kind, 200, lacks, commands)
+
+
+def look_at_deliveries_that_could_have_come(program):
+    """Each of many replicas has an update that the reading one lacks: the latest are tried, the fewer the longer the
+    history is."""
+    names = [f"n{it}" for it in range(63)]
+    for commands, most in ((32_767, 32), (32_768, 32), (32_769, 31)):
+        for helps in (most - 1, most, most + 1):
+            made = History("register", ("b", *names), form=2)
+            for number, name in enumerate(names, 1):
+                made.does(name, f"write {number} @{number}")
+            made.lines += ["verdict"] * (commands - 64)
+            made.does("b", f"read {64 - helps}")
+            told = json.loads(program(["explain", "--json"], made.text())[0])
+            found = [{"gets": 63 - helps}] if helps <= most else []
+            require((told["would_be_right"], told["tried"]) == (found, most), commands, helps, told)
+
+
+def look_at_many_that_lack(program):
+    """A counter that reads one too many, while each of many replicas has an update that it lacks: all are tried."""
+    names = [f"n{it}" for it in range(12)]
+    made = History("counter", ("ann", "bob", *names))
+    lacked = [made.does(it, "inc") for it in names]
+    made.gets("bob", [made.does("ann", "inc") for _ in range(DELIVERIES // 4)])
+    made.does("bob", f"read {DELIVERIES // 4 + 1}")
+    told = json.loads(program(["explain", "--json"], made.text())[0])
+    require(told["right"] == f"bob read {DELIVERIES // 4}", told)
+    require([it for it in told["would_be_right"] if "gets" in it] == [{"gets": it} for it in lacked[::-1]], told)
+
+
+# What it costs.
+
+
+def require_soon(program, text):
+    """The object of a long history, which has to be made soon, in one of some turns."""
+    check = Program(CHECK)
+    for _ in range(TURNS):
+        _, _, status = check(["check"], text)
+        wrote, said, explained = program(["explain", "--json"], text)
+        require((said, explained) == (b"", status), said, explained)
+        if program.seconds <= TIMES * check.seconds:
+            return json.loads(wrote)
+    raise AssertionError("too slow", program.seconds, check.seconds)
+
+
+def look_at_long(program, kind):
+    """A read of a long history that is repeated with another answer."""
+    lines = crossing(kind, LABELS).text().decode().splitlines()
+    last = max(at for at, it in enumerate(lines) if it.split(" ")[1] == "read")
+    name, _, answer = lines[last].split(" ")
+    require(answer != WRONG[kind], kind)
+    text = "".join(f"{it}\n" for it in [*lines[: last + 1], f"{name} read {WRONG[kind]}"])
+    told = require_soon(program, text.encode())
+    require((told["right"], told["line"], told["cause"]) == (lines[last], last + 2, "query"), kind, told["line"])
+
+
+def look_at_late_report(program):
+    """A read at the end of a million commands that does not know of the last delivery."""
+    made = History("counter", ("ann", "bob"))
+    made.gets("bob", [made.does("ann", "inc") for _ in range(DELIVERIES)])
+    made.does("bob", f"read {DELIVERIES - 1}")
+    told = require_soon(program, made.text())
+    require(told["right"] == f"bob read {DELIVERIES}", told)
+    require((told["would_be_right"], told["tried"]) == ([{"misses_line": 2 * DELIVERIES + 2}], 2), told)
+
+
+def costs(path, word, text):
+    """The seconds and the peak of memory of a run on the text in this file, and what it writes. A process of its own
+    starts it: what this one has would count as the program's."""
+    words = [sys.executable, "-c", MEASURED, path, word, text]
+    ran = subprocess.run(words, capture_output=True, timeout=SECONDS)
+    require(ran.returncode == 0, ran.stderr[-200:])
+    seconds, peak = ran.stderr.split()
+    return float(seconds), int(peak), ran.stdout
+
+
+def look_at_costs(kind, last, says):
+    """A replica got all that another one did, and ends with a line that is wrong: two changes are tried."""
+    made = History(kind, "ab")
+    for number in range(1, OF_EACH + 1):
+        made.does("a", UPDATES[kind].format(number, number - 1))
+    made.gets("b", range(OF_EACH))
+    made.does("b", last)
+    with TemporaryDirectory() as folder:
+        text = Path(folder) / f"{kind}.rah"
+        text.write_bytes(made.text())
+        for _ in range(TURNS):
+            check, checked, _ = costs(CHECK, "check", text)
+            explain, explained, page = costs(EXPLAIN, "explain", text)
+            if explain <= TIMES * check:
+                break
+    require(says in page and len(page) <= MOST_BYTES, kind, last, len(page), page[:500])
+    require(explain <= TIMES * check, kind, "too slow", explain, check)
+    require(explained <= TIMES_MEMORY * checked, kind, "takes too much memory", explained, checked)
+
+
+def look_at_full(program):
+    """One command more than there may be."""
+    text = b"RAH 1 counter\nreplicas a\n" + b"verdict\n" * 1_048_576 + b"a inc\n"
+    wrote, said, status = program(["explain", "--json"], text)
+    require((said, status) == (b"line 1048579: full\n", 2), said, status)
+    stop = Stop(text, said)
+    stop.require_object(json.loads(wrote))
+    page = program(["explain"], text)[0].decode()
+    require(page == stop.page(json.loads(wrote)), page)
+
+
+def looks(program):
+    """What is called how, and looked at: a function and what it is given."""
+    for kind in TYPES:
+        yield f"a long history of {kind}", look_at_long, program, kind
+    yield "a full text", look_at_full, program
+    yield "a late report", look_at_late_report, program
+    yield "many that lack", look_at_many_that_lack, program
+    yield "how many changes are tried", look_at_each_try, program
+    yield "how many deliveries are tried", look_at_deliveries_that_could_have_come, program
+    ends = [(it, f"read {WRONG[it]}", b"no single change of deliveries explains it (2 tried)") for it in TYPES]
+    ends += [(it, UPDATES[it].format(1, 0), f"and {OF_EACH - 4} labels before them".encode()) for it in STAMPED]
+    for end in ends:
+        yield f"what it costs that b {end[1]} of {end[0]}", look_at_costs, *end
