@@ -3,7 +3,7 @@ import os
 import re
 
 PARTS = ("src", "specs", "proofs")
-# What a crate takes that tools/seconds does not name: so long, and so much for each 1,000 bytes of its sources.
+# What a crate takes that tools/lib/proof_times does not name: so long, and so much for each 1,000 bytes of its sources.
 LEAST_SECONDS, SECONDS_FOR_1000_BYTES = 25.0, 0.25
 
 
@@ -56,9 +56,10 @@ class Crates:
         return ""
 
     def seconds(self):
-        """The processor-seconds that each crate takes: by tools/seconds, or guessed by the length of its sources."""
+        """The processor-seconds that each crate takes: by tools/lib/proof_times, or guessed by the length of its
+        sources."""
         told = {}
-        table = self.top / "tools" / "seconds"
+        table = self.top / "tools" / "lib" / "proof_times"
         for line in table.read_text().splitlines() if table.is_file() else []:
             words = line.split("#")[0].split()
             if len(words) == 2:

@@ -4,8 +4,8 @@
 that stand on one crate would wait for one another. Each is therefore proved in a room: a folder with the sources of
 this crate and of those below it, as they were when all began, and with the libraries that were built of these. The
 files of sources and libraries are the same ones everywhere (hard links), since `rt` puts new ones in place of those
-that it changes. Libraries hold statements alone (tools/statements). For the next build they are kept in the crates'
-`out/`, beside those of `rt`: that one may build over a library only what was built with it.
+that it changes. Libraries hold statements alone (tools/lib/build_interfaces). For the next build they are kept in the
+crates' `out/`, beside those of `rt`: that one may build over a library only what was built with it.
 """
 import fcntl
 import os
@@ -20,7 +20,7 @@ from crates import PARTS, Crates
 # Where rt looks in a crate's out/ for the library with its stamp, and where it is kept for the next build.
 LIBRARY, KEPT = "rlib", "statements"
 # What proves a library.
-STATEMENTS = Path(__file__).resolve().parent / "statements"
+BUILD_INTERFACES = Path(__file__).resolve().parent / "build_interfaces"
 # What would change how rt builds.
 NOT_PASSED_ON = ("RT_ALLOW_C", "RT_BACKEND", "RT_SECONDS", "RT_JOBS")
 # How much later the proofs of crates come to their turn that none waits for.
@@ -115,7 +115,7 @@ class Rooms:
     def begin(self, name, verb, jobs, urgent):
         """Has the crate proved in its room, and returns at once."""
         self.furnish(name)
-        words = [STATEMENTS, str(jobs)] if verb == "lib" else ["rt", verb, "--jobs", str(jobs)]
+        words = [BUILD_INTERFACES, str(jobs)] if verb == "lib" else ["rt", verb, "--jobs", str(jobs)]
         words = words if urgent else ["nice", "-n", str(NICE), *words]
         passed_on = {key: value for key, value in os.environ.items() if key not in NOT_PASSED_ON}
         how = {"cwd": self.crate(name), "env": passed_on, "stdin": subprocess.DEVNULL, "start_new_session": True}

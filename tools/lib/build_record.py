@@ -1,8 +1,9 @@
 """What is built, and whether it is still what its sources say.
 
 Beside a built program lie two files. NAME.built tells what it was made from: a sum over the sources of all crates that
-it stands on, their lines of crates.txt, HANDLES and the kit; and the program's own sum. NAME.seen has what tools/seen
-printed when these sums were last compared: where that is unchanged, so are they, and nothing has to be read.
+it stands on, their lines of crates.txt, HANDLES and the kit; and the program's own sum. NAME.fingerprint has what
+tools/lib/fingerprint printed when these sums were last compared: where that is unchanged, so are they, and nothing has
+to be read.
 """
 import hashlib
 import os
@@ -22,7 +23,7 @@ class Target:
         self.file, self.verb = (f"{name}_tests", "test") if of_tests else (name, "run")
         self.folder = top / "crates" / name / "out"
         self.program = self.folder / self.file
-        self.record, self.seen = self.folder / f"{self.file}.built", self.folder / f"{self.file}.seen"
+        self.record, self.fingerprint = self.folder / f"{self.file}.built", self.folder / f"{self.file}.fingerprint"
 
     def facts(self):
         """What NAME.built tells, each line's first word with the rest; nothing where there is none."""
@@ -30,7 +31,7 @@ class Target:
         return dict(it.partition(" ")[::2] for it in lines)
 
     def forget(self):
-        for it in (self.record, self.seen):
+        for it in (self.record, self.fingerprint):
             if it.exists():
                 it.unlink()
 
@@ -71,9 +72,9 @@ def sum_of_sources(crates, name, identity):
     return found.hexdigest()
 
 
-def seen(target, names):
-    """What tools/seen prints."""
-    words = ["bash", target.top / "tools" / "seen", target.program.relative_to(target.top), *names]
+def fingerprint(target, names):
+    """What tools/lib/fingerprint prints."""
+    words = ["bash", target.top / "tools" / "lib" / "fingerprint", target.program.relative_to(target.top), *names]
     return subprocess.run(words, cwd=target.top, stdin=subprocess.DEVNULL, capture_output=True, text=True).stdout
 
 
@@ -89,14 +90,14 @@ def is_built(target, crates):
     facts, names = target.facts(), crates.up_to(target.name)
     if not facts or not os.access(target.program, os.X_OK):
         return False
-    before = seen(target, names)
-    if target.seen.is_file() and target.seen.read_text() == before:
+    before = fingerprint(target, names)
+    if target.fingerprint.is_file() and target.fingerprint.read_text() == before:
         return True
     sources = sum_of_sources(crates, target.name, kit() or facts.get("kit", ""))
     if facts.get("sources") != sources or facts.get("program") != sum_of(target.program):
         return False
     try:
-        write(target.seen, before)
+        write(target.fingerprint, before)
     except OSError:
         # Nobody may write here. So the sums are taken anew each time.
         pass
